@@ -1,0 +1,88 @@
+-- Dates of the proleptic Gregorian calendar from year 1 to year 9999, and their day numbers.
+use Rattle.std.specs.Prelude.{nat_lt, zero, suc, unsigned_abs, ◌+ℤ◌, ◌≡◌, ◌≤◌, ◌==◌, ◌+◌, ◌-◌, ◌*◌, ◌/◌, ◌%◌, ◌&&◌, ◌||◌, Bool, not, ℕ, ℤ, pos, neg_ℤ, ◌-ℤ◌, ◌≤ℤ◌, List, [], ◌∷◌, ◌++◌, Option, Some, None, sum, take, get_or, if◌then◌else◌}
+use Rattle.std.specs.Ordering.{int_cmp, is_lt}
+
+-- a multiple of 4 that is not one of 100, or a multiple of 400
+abbrev pub is_leap_year : ℕ → Bool
+is_leap_year y = ((y % 4 == 0) && not (y % 100 == 0)) || (y % 400 == 0)
+
+abbrev pub month_lengths : ℕ → List ℕ
+month_lengths y = 31 ∷ (if is_leap_year y then 29 else 28) ∷ 31 ∷ 30 ∷ 31 ∷ 30 ∷ 31 ∷ 31 ∷ 30 ∷ 31 ∷ 30 ∷ 31 ∷ []
+
+abbrev pub month_length : ℕ → ℕ → ℕ
+month_length y m = get_or (month_lengths y) (m - 1) 0
+
+-- the days of the year before the month
+abbrev pub days_before : ℕ → ℕ → ℕ
+days_before y m = sum (take (m - 1) (month_lengths y))
+
+-- there is such a date
+pub record IsDate (y m d : ℕ) : Type 0 where
+  pub year : (1 ≤ y) × (y ≤ 9999)
+  pub month : (1 ≤ m) × (m ≤ 12)
+  pub day : (1 ≤ d) × (d ≤ month_length y m)
+
+-- the days of the first n years
+abbrev pub days_of_years : ℕ → ℕ
+days_of_years n = 365 * n + n / 4 - n / 100 + n / 400
+
+-- the number of a date, counted from 1970-01-01
+abbrev pub day_number : ℕ → ℕ → ℕ → ℤ
+day_number y m d = pos (days_of_years (y - 1) + days_before y m + d) -ℤ pos 719_163
+
+-- the numbers of 0001-01-01 and 9999-12-31 are the least and the greatest
+abbrev pub IsDayNumber : ℤ → Type 0
+IsDayNumber n = (neg_ℤ (pos 719_162) ≤ℤ n) × (n ≤ℤ pos 2_932_896)
+
+-- the day before, which 0001-01-01 has not
+abbrev pub day_before : ℤ → Option ℤ
+day_before n = if is_lt (int_cmp (neg_ℤ (pos 719_162)) n) then Some (n -ℤ pos 1) else None
+
+-- the day after, which 9999-12-31 has not
+abbrev pub day_after : ℤ → Option ℤ
+day_after n = if is_lt (int_cmp n (pos 2_932_896)) then Some (n +ℤ pos 1) else None
+
+abbrev pub two_digits : ℕ → List ℕ
+two_digits n = (48 + n / 10) ∷ (48 + n % 10) ∷ []
+
+-- YYYY-MM-DD
+abbrev pub date_text : ℕ → ℕ → ℕ → List ℕ
+date_text y m d = two_digits (y / 100) ++ two_digits (y % 100) ++ 45 ∷ [] ++ two_digits m ++ 45 ∷ [] ++ two_digits d
+
+-- the text of the date that has this number
+abbrev pub IsDayText : ℤ → List ℕ → Type 0
+IsDayText n text = (y : ℕ) × (m : ℕ) × (d : ℕ) × IsDate y m d × (day_number y m d ≡ n) × (text ≡ date_text y m d)
+
+-- how many of the numbers below a bound pass the test
+unfoldable pub count_below : (ℕ → Bool) → ℕ → ℕ
+count_below test zero = 0
+count_below test (suc k) = count_below test k + (if test k then 1 else 0)
+
+-- the days from 0001-01-01 to the day, both counted
+abbrev pub serial_of : ℤ → ℕ
+serial_of n = unsigned_abs (n +ℤ pos 719_163)
+
+-- how many years have begun by the day with this serial number
+abbrev pub years_begun : ℕ → ℕ
+years_begun s = count_below (λ k. nat_lt (days_of_years k) s) 9999
+
+abbrev pub year_of : ℤ → ℕ
+year_of n = years_begun (serial_of n)
+
+-- how many days of its year have begun
+abbrev pub day_in_year : ℤ → ℕ
+day_in_year n = serial_of n - days_of_years (year_of n - 1)
+
+-- how many months of the year have begun by its r-th day
+abbrev pub months_begun : ℕ → ℕ → ℕ
+months_begun y r = count_below (λ k. nat_lt (days_before y (k + 1)) r) 12
+
+abbrev pub month_of : ℤ → ℕ
+month_of n = months_begun (year_of n) (day_in_year n)
+
+abbrev pub day_of : ℤ → ℕ
+day_of n = day_in_year n - days_before (year_of n) (month_of n)
+
+-- the text of the day with this number
+abbrev pub day_text : ℤ → List ℕ
+day_text n = date_text (year_of n) (month_of n) (day_of n)

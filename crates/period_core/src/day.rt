@@ -1,0 +1,112 @@
+//! Days by their numbers, over the dates of jiff.
+
+ghost use Rattle.std.specs.Prelude.{◌≡◌, ◌↔◌, IsSome, IfSome, ℤ, pos, ◌+ℤ◌, ◌-ℤ◌, neg_ℤ, ◌<ℤ◌};
+ghost use Rattle.period_core.specs.Calendar.{IsDate, IsDayNumber, IsDayText, day_after, day_before, day_number, day_text};
+
+use jiff::civil::Date;
+use jiff_core::civil;
+use std::marker::Model;
+
+/// A day from 0001-01-01 to 9999-12-31, by its number from 1970-01-01.
+#[derive(Clone, Copy, PartialEq, Eq, PartialOrd, Ord, Debug)]
+pub struct Day {
+    number: i32,
+}
+
+impl Model for Day {
+    ghost Value = { ℤ };
+
+    ghost view = { λ d. d.number };
+
+    ghost invariant = { λ d. IsDayNumber d.number };
+
+    ghost inverse = { λ n. record { number = n } };
+}
+
+const FIRST: i32 = -719_162;
+
+const LAST: i32 = 2_932_896;
+
+impl Day {
+    /// The day with this number.
+    pub fn new(number: i32) -> Option<Day>
+        ensures there { IsSome result ↔ IsDayNumber number }
+        ensures value { IfSome result (λ d. d ≡ number) }
+    {
+        if number < FIRST || number > LAST {
+            return None;
+        }
+        Some(Day { number })
+    }
+
+    /// The day with this date, if the calendar has it in these years.
+    pub fn from_date(year: u16, month: u8, day: u8) -> Option<Day>
+        ensures there { IsSome result ↔ IsDate year month day }
+        ensures value { IfSome result (λ d. d ≡ day_number year month day) }
+    {
+        if year == 0 || year > 9999 || month > 12 || day > 31 {
+            return None;
+        }
+        match Date::new(year as i16, month as i8, day as i8) {
+            Ok(date) => Some(Day {
+                number: date.to_plain().to_unix_epoch_day(),
+            }),
+            Err(_) => None,
+        }
+    }
+
+    /// The number of the day.
+    pub fn number(self) -> i32
+        ensures value { result ≡ self }
+        ensures in_range { IsDayNumber self }
+    {
+        self.number
+    }
+
+    /// The day before, which 0001-01-01 has not.
+    pub fn prev(self) -> Option<Day>
+        ensures { result ≡ day_before self }
+    {
+        if self.number > FIRST {
+            Some(Day {
+                number: self.number - 1,
+            })
+        } else {
+            None
+        }
+    }
+
+    /// The day after, which 9999-12-31 has not.
+    pub fn next(self) -> Option<Day>
+        ensures { result ≡ day_after self }
+    {
+        if self.number < LAST {
+            Some(Day {
+                number: self.number + 1,
+            })
+        } else {
+            None
+        }
+    }
+
+    /// Writes the date as YYYY-MM-DD.
+    pub fn write_text(self, text: &mut [u8; 10])
+        ensures date { IsDayText self text.new }
+        ensures text { text.new ≡ day_text self }
+    {
+        let date = civil::Date::from_unix_epoch_day(i64::from(self.number)).unwrap();
+        let year = date.year.unsigned_abs();
+        *text = [
+            b'0' + (year / 1000) as u8,
+            b'0' + (year / 100 % 10) as u8,
+            b'0' + (year / 10 % 10) as u8,
+            b'0' + (year % 10) as u8,
+            b'-',
+            b'0' + date.month / 10,
+            b'0' + date.month % 10,
+            b'-',
+            b'0' + date.day / 10,
+            b'0' + date.day % 10,
+        ];
+    }
+}

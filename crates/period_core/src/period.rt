@@ -1,0 +1,49 @@
+//! Periods of days, closed at their start and open at their end (ISO/IEC 9075-2:2011, 4.14.1).
+
+ghost use Rattle.std.specs.Prelude.{◌≡◌, ◌↔◌, ◌<ℤ◌, ◌≤ℤ◌, IsSome, IfSome, IsTrue};
+
+use crate::day::Day;
+
+/// The days from `start` on and before `end`: at least one day.
+#[derive(Clone, Copy, PartialEq, Eq, PartialOrd, Ord, Debug)]
+pub struct Period {
+    pub start: Day,
+    pub end: Day,
+    pub ghost ordered: { start <ℤ end },
+}
+
+impl Period {
+    /// The period from one day on and before another, where it has a day.
+    pub fn new(start: Day, end: Day) -> Option<Period>
+        ensures there { IsSome result ↔ (start <ℤ end) }
+        ensures start { IfSome result (λ p. p.start ≡ start) }
+        ensures end { IfSome result (λ p. p.end ≡ end) }
+    {
+        if start < end {
+            Some(Period { start, end })
+        } else {
+            None
+        }
+    }
+
+    /// The first day.
+    pub fn start(self) -> Day
+        ensures { result ≡ self.start }
+    {
+        self.start
+    }
+
+    /// The day after the last.
+    pub fn end(self) -> Day
+        ensures { result ≡ self.end }
+    {
+        self.end
+    }
+
+    /// Whether the day lies in the period.
+    pub fn contains_day(self, day: Day) -> bool
+        ensures { IsTrue result ↔ ((self.start ≤ℤ day) × (day <ℤ self.end)) }
+    {
+        self.start <= day && day < self.end
+    }
+}

@@ -1,0 +1,131 @@
+//! Values of columns, with their order.
+
+ghost use Rattle.std.specs.Prelude.{◌≡◌, ◌↔◌, IfOk, IsTrue};
+
+use crate::day::Day;
+use crate::memory::Memory;
+use crate::text::Text;
+use std::alloc::Global;
+use std::cmp::Ordering;
+use std::marker::Model;
+
+/// A value of a column. Integers come before texts, and texts before dates.
+#[derive(Drop, Debug, PartialEq, Eq, PartialOrd, Ord)]
+pub enum Value {
+    Int(i64),
+    Text(Text),
+    Date(Day),
+}
+
+impl Value {
+    /// An equal value.
+    pub fn copy(&self, alloc: Global) -> Result<Value, Memory>
+        ensures { IfOk result (λ v. v ≡ self.now) }
+    {
+        match self {
+            Value::Int(n) => Ok(Value::Int(*n)),
+            Value::Text(text) => Ok(Value::Text(text.copy(alloc)?)),
+            Value::Date(day) => Ok(Value::Date(*day)),
+        }
+    }
+}
+
+/// The values of a row, column by column, which contracts see as their list.
+#[derive(Drop, Debug)]
+pub struct Values {
+    items: Vec<Value>,
+}
+
+impl Model for Values {
+    ghost use Rattle.std.specs.Prelude.{List};
+    ghost use Rattle.period_core.specs.declared.value.Value.{Value as ColumnValue};
+
+    ghost Value = { List ColumnValue };
+
+    ghost view = { λ v. v.items.items };
+}
+
+impl Values {
+    /// The list of a vector.
+    pub fn from_vec(items: Vec<Value>) -> Values
+        ensures { result ≡ items.items }
+    {
+        Values { items }
+    }
+
+    /// The values.
+    pub fn as_slice(&self) -> &[Value]
+        ensures { result.now ≡ self.now }
+    {
+        self.items.as_slice()
+    }
+
+    /// An equal list.
+    pub fn copy(&self, alloc: Global) -> Result<Values, Memory>
+        ensures { IfOk result (λ v. v ≡ self.now) }
+    {
+        let mut items = Vec::new(alloc);
+        for value in self.as_slice() {
+            items.push(value.copy(alloc)?)?;
+        }
+        Ok(Values { items })
+    }
+}
+
+impl PartialEq for Values {
+    ghost use Rattle.std.specs.Cmp.{partial_equiv_from_equiv, eq_by_cmp_equiv};
+    ghost use Rattle.std.specs.Ordering.{eq_by_cmp};
+    ghost use Rattle.period_core.specs.Order.{values_cmp};
+    ghost use Rattle.period_core.specs.OrderLaws.{values_cmp_total};
+
+    ghost eq = { eq_by_cmp values_cmp };
+
+    ghost laws = { partial_equiv_from_equiv (eq_by_cmp_equiv values_cmp_total) };
+
+    fn eq(&self, other: &Values) -> bool
+        ensures value { result ≡ eq_by_cmp values_cmp self.now other.now }
+        ensures same { IsTrue result ↔ (self.now ≡ other.now) }
+    {
+        self.cmp(other) == Ordering::Equal
+    }
+}
+
+impl Eq for Values {
+    ghost use Rattle.std.specs.Cmp.{eq_by_cmp_equiv};
+    ghost use Rattle.period_core.specs.OrderLaws.{values_cmp_total};
+
+    ghost laws = { eq_by_cmp_equiv values_cmp_total };
+}
+
+impl Ord for Values {
+    ghost use Rattle.std.specs.Prelude.{refl};
+    ghost use Rattle.period_core.specs.Order.{values_cmp};
+    ghost use Rattle.period_core.specs.OrderLaws.{values_cmp_total};
+
+    ghost cmp = { values_cmp };
+
+    ghost total = { values_cmp_total };
+
+    ghost matches_partial_cmp = { λ x y. refl };
+
+    ghost matches_eq = { λ x y. refl };
+
+    fn cmp(&self, other: &Values) -> Ordering {
+        self.as_slice().cmp(other.as_slice())
+    }
+}
+
+impl PartialOrd for Values {
+    ghost use Rattle.std.specs.Cmp.{partial_order_from_total};
+    ghost use Rattle.std.specs.Ordering.{as_partial_cmp};
+    ghost use Rattle.period_core.specs.Order.{values_cmp};
+    ghost use Rattle.period_core.specs.OrderLaws.{values_cmp_total};
+
+    ghost partial_cmp = { as_partial_cmp values_cmp };
+
+    ghost laws = { partial_order_from_total values_cmp_total };
+
+    fn partial_cmp(&self, other: &Values) -> Option<Ordering> {
+        Some(self.cmp(other))
+    }
+}
