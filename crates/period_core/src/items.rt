@@ -1,7 +1,9 @@
 //! A list in a field.
 
-ghost use Rattle.std.specs.Prelude.{◌≡◌, length};
+ghost use Rattle.std.specs.Prelude.{◌≡◌, ◌++◌, ◌∷◌, [], length, IfOk, OnErr, OnOk};
 
+use crate::memory::Memory;
+use std::alloc::Global;
 use std::marker::Model;
 
 /// A list, which contracts see as its elements.
@@ -19,6 +21,15 @@ impl<T> Model for Items<T> {
 }
 
 impl<T> Items<T> {
+    /// The list of no elements.
+    pub fn empty(alloc: Global) -> Items<T>
+        ensures { result ≡ [] }
+    {
+        Items {
+            items: Vec::new(alloc),
+        }
+    }
+
     /// The list of a vector.
     pub fn from_vec(items: Vec<T>) -> Items<T>
         ensures { result ≡ items.items }
@@ -45,5 +56,28 @@ impl<T> Items<T> {
         ensures { result ≡ length self.now }
     {
         self.items.len()
+    }
+
+    /// Adds an element at the end. An `Err` changes nothing.
+    pub fn push(&mut self, item: T) -> Result<(), Memory>
+    where
+        T: Drop,
+        ensures ok { OnOk result (self.new ≡ self.old ++ item ∷ []) }
+        ensures err { OnErr result (self.new ≡ self.old) }
+    {
+        self.items.push(item)?;
+        Ok(())
+    }
+
+    /// Adds the elements of another list at the end. An `Err` changes nothing.
+    pub fn append(&mut self, others: Items<T>) -> Result<(), Memory>
+    where
+        T: Drop,
+        ensures ok { OnOk result (self.new ≡ self.old ++ others) }
+        ensures err { OnErr result (self.new ≡ self.old) }
+    {
+        let mut others = others.items;
+        self.items.append(&mut others)?;
+        Ok(())
     }
 }

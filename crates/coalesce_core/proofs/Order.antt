@@ -1,0 +1,113 @@
+-- The order of answer rows: it is total, and what it says of rows of the same values.
+use Rattle.std.proofs.Common.{◌≡◌, ◌<ℤ◌, ◌≤ℤ◌, false, true, refl, sym, ◌∙◌, ap, subst, arith, List, Ordering, get_or}
+use Rattle.std.specs.List.{AllPairs}
+use Rattle.std.specs.List.Sorted.{IsSorted}
+use Rattle.std.proofs.lemmas.List.Sorted.{sorted_far, ranks_by}
+use Rattle.std.specs.declared.cmp.Ordering.TheVariants.{Less, Equal, Greater}
+use Rattle.std.specs.Cmp.{IsTotalOrder}
+use Rattle.std.specs.Ordering.{int_cmp, is_lt, is_gt, ordering_then, ordering_reverse}
+use Rattle.std.proofs.lemmas.Cmp.{then_total, on_total, int_cmp_total, upto, tied_itself}
+use Rattle.std.proofs.lemmas.Int.{ints, by_lt_z}
+use Rattle.period_core.specs.Order.{values_cmp}
+use Rattle.period_core.specs.OrderLaws.{values_cmp_total, values_cmp-same}
+use Rattle.period_core.specs.declared.row.PeriodRow.{PeriodRow}
+use Rattle.temporal_model.specs.Answer.{answer_cmp}
+use Rattle.temporal_model.proofs.AnswerOrder.{answer_cmp_total, answer_cmp-same, int_cmp-Less}
+use Rattle.coalesce_core.specs.Coalesced.{PrecedesWithGap, NotAfter}
+
+-- a row that does not come after one of the same values begins no later
+pub NotAfter-start : (a b : PeriodRow) → a.values ≡ b.values → NotAfter a b → a.period.start ≤ℤ b.period.start
+NotAfter-start a b e h =
+    by_lt_z {P = a.period.start ≤ℤ b.period.start} b.period.start a.period.start
+    (λ less. let first : answer_cmp b a ≡ Less = answer_cmp-same b a (sym e) ∙ int_cmp-Less b.period.start a.period.start less in
+    absurd (let wrong : is_lt (answer_cmp b a) ≡ true = ap is_lt first in cc))
+    (λ upto. upto)
+
+is_lt-reverse : (o : Ordering) → is_lt (ordering_reverse o) ≡ is_gt o
+is_lt-reverse Less = refl
+is_lt-reverse Equal = refl
+is_lt-reverse Greater = refl
+
+-- the same test with the rows in their order
+pub flip : (a b : PeriodRow) → is_lt (answer_cmp b a) ≡ is_gt (answer_cmp a b)
+flip a b = ap is_lt (answer_cmp_total.antisymm b a) ∙ is_lt-reverse (answer_cmp a b)
+
+pub NotAfter-trans : (a b c : PeriodRow) → NotAfter a b → NotAfter b c → NotAfter a c
+NotAfter-trans a b c p q = flip a c ∙ upto answer_cmp_total a b c (sym (flip a b) ∙ p) (sym (flip b c) ∙ q)
+
+-- what does not come after a row does so of one of the same values and first day
+pub NotAfter-same_start :
+    (a b c : PeriodRow) → a.values ≡ b.values → a.period.start ≡ b.period.start → NotAfter a c
+    → NotAfter b c
+NotAfter-same_start a b c v s h = (λ i. is_lt (ordering_then (values_cmp c.values (sym v i)) (int_cmp c.period.start (sym s i)))) ∙ h
+
+-- a gap between rows of the same values
+pub PrecedesWithGap-gap :
+    (a b : PeriodRow) → a.values ≡ b.values → a.period.end <ℤ b.period.start → PrecedesWithGap a b
+PrecedesWithGap-gap a b e gap =
+    let first : a.period.start <ℤ a.period.end = a.period.ordered in
+    let less : a.period.start <ℤ b.period.start = omega (arith, ints) in
+    (answer_cmp-same a b e ∙ int_cmp-Less a.period.start b.period.start less, λ _. gap)
+
+-- rows of different values
+pub PrecedesWithGap-other : (a b : PeriodRow) → (a.values ≡ b.values → ⊥) → NotAfter a b → PrecedesWithGap a b
+PrecedesWithGap-other a b other h =
+    elim (values_cmp a.values b.values) as (λ o. values_cmp a.values b.values ≡ o → PrecedesWithGap a b) [
+      | Less ↦ λ e. (ap (λ o. ordering_then o (int_cmp a.period.start b.period.start)) e, λ v. absurd (other v))
+      | Equal ↦ λ e. absurd (other (values_cmp-same a.values b.values e))
+      | Greater ↦ λ e. absurd (let after : is_gt (answer_cmp a b) ≡ true = ap (λ o. is_gt (ordering_then o (int_cmp a.period.start b.period.start))) e in
+          let upto : is_gt (answer_cmp a b) ≡ false = sym (flip a b) ∙ h in cc)
+    ] refl
+
+pub PrecedesWithGap-trans :
+    (a b c : PeriodRow) → PrecedesWithGap a b → PrecedesWithGap b c → PrecedesWithGap a c
+PrecedesWithGap-trans a b c p q = (
+  answer_cmp_total.trans a b c p.0 q.0,
+  λ v.
+      elim (values_cmp a.values b.values) as (λ o. values_cmp a.values b.values ≡ o → a.period.end <ℤ c.period.start) [
+        | Less ↦ λ e. absurd (let back : values_cmp b.values c.values ≡ Greater = subst (λ vs. values_cmp b.values vs ≡ Greater) v (values_cmp_total.antisymm b.values a.values ∙ ap ordering_reverse e) in
+            let after : answer_cmp b c ≡ Greater = ap (λ o. ordering_then o (int_cmp b.period.start c.period.start)) back in
+            let before : answer_cmp b c ≡ Less = q.0 in cc)
+        | Equal ↦ λ e. let same : a.values ≡ b.values = values_cmp-same a.values b.values e in
+            let one : a.period.end <ℤ b.period.start = p.1 same in
+            let two : b.period.end <ℤ c.period.start = q.1 (sym same ∙ v) in
+            let first : b.period.start <ℤ b.period.end = b.period.ordered in
+            omega (arith, ints)
+        | Greater ↦ λ e. absurd (let after : answer_cmp a b ≡ Greater = ap (λ o. ordering_then o (int_cmp a.period.start b.period.start)) e in
+            let before : answer_cmp a b ≡ Less = p.0 in cc)
+      ] refl,
+)
+
+-- what precedes a row with a gap so precedes one of the same values and first day
+pub PrecedesWithGap-same_start :
+    (a b c : PeriodRow) → b.values ≡ c.values → b.period.start ≡ c.period.start
+    → PrecedesWithGap a b → PrecedesWithGap a c
+PrecedesWithGap-same_start a b c v s p =
+    ((λ i. ordering_then (values_cmp a.values (sym v i)) (int_cmp a.period.start (sym s i))) ∙ p.0, λ e. subst (λ d. a.period.end <ℤ d) s (p.1 (e ∙ sym v)))
+
+pub NotAfter-refl : (a : PeriodRow) → NotAfter a a
+NotAfter-refl a = ap is_lt (tied_itself answer_cmp_total a)
+
+-- the order of rows by which the code sorts: the end breaks ties
+abbrev pub row_cmp : PeriodRow → PeriodRow → Ordering
+row_cmp a b = ordering_then (values_cmp a.values b.values) (ordering_then (int_cmp a.period.start b.period.start) (int_cmp a.period.end b.period.end))
+
+pub row_cmp_total : IsTotalOrder row_cmp
+row_cmp_total = then_total (on_total (λ (r : PeriodRow). r.values) values_cmp_total) (then_total (on_total (λ (r : PeriodRow). r.period.start) int_cmp_total) (on_total (λ (r : PeriodRow). r.period.end) int_cmp_total))
+
+coarser :
+    (v s e : Ordering) → is_lt (ordering_then v (ordering_then s e)) ≡ false
+    → is_lt (ordering_then v s) ≡ false
+coarser Less s e h = h
+coarser Equal Less e h = h
+coarser Equal Equal e h = refl
+coarser Equal Greater e h = refl
+coarser Greater s e h = refl
+
+-- after the sort no row comes after a later one
+pub sorted_rows : (rows : List PeriodRow) → IsSorted row_cmp rows → AllPairs NotAfter rows
+sorted_rows rows up = λ i j d lt below.
+    let a : PeriodRow = get_or rows i d in
+    let b : PeriodRow = get_or rows j d in
+    coarser (values_cmp b.values a.values) (int_cmp b.period.start a.period.start) (int_cmp b.period.end a.period.end)
+    (sorted_far (λ x y. is_lt (row_cmp x y)) (ranks_by row_cmp_total (λ (r : PeriodRow). r)) rows up i j d (omega arith) below)

@@ -1,0 +1,8 @@
+pub mod Members
+pub mod AnswerOrder
+pub mod Snapshots
+pub mod Days
+pub mod Certificate
+pub mod OneToOne
+pub mod Witnesses
+mod Examples

@@ -1,0 +1,34 @@
+-- What a list of period rows holds on a day. A day is its number, and a row's start comes before its end.
+use Rattle.std.specs.Prelude.{◌≡◌, ◌↔◌, ◌≤ℤ◌, ◌<ℤ◌, ℤ, pos, neg_ℤ, List, Contains}
+use Rattle.period_core.specs.Calendar.{IsDayNumber}
+use Rattle.period_core.specs.declared.value.Value.{Value}
+use Rattle.period_core.specs.declared.row.PeriodRow.{PeriodRow}
+
+-- the day lies in the row's period, which is closed at its start and open at its end
+abbrev pub CoversDay : PeriodRow → ℤ → Type 0
+CoversDay row day = (row.period.start ≤ℤ day) × (day <ℤ row.period.end)
+
+-- the snapshot of the rows on a day, as a set: the values that some row of the list holds on that day
+abbrev pub InSnapshot : List PeriodRow → ℤ → List Value → Type 0
+InSnapshot rows day values = (row : PeriodRow) × Contains rows row × (row.values ≡ values) × CoversDay row day
+
+-- the two lists have the same snapshot on every day: they are snapshot-equivalent
+abbrev pub Equivalent : List PeriodRow → List PeriodRow → Type 0
+Equivalent xs ys = (day : ℤ) (values : List Value) → (InSnapshot xs day values ↔ InSnapshot ys day values)
+
+-- the days that a period can cover: 0001-01-01 to 9999-12-30, since 9999-12-31 is only an end
+abbrev pub IsDay : ℤ → Type 0
+IsDay day = (neg_ℤ (pos 719_162) ≤ℤ day) × (day <ℤ pos 2_932_896)
+
+-- the start and the end of each row are days of the calendar
+abbrev pub AreInRange : List PeriodRow → Type 0
+AreInRange rows = (row : PeriodRow) → Contains rows row → IsDayNumber row.period.start × IsDayNumber row.period.end
+
+-- neither end of the row lies after the first day and up to the second
+abbrev pub NoEndBetween : ℤ → ℤ → PeriodRow → Type 0
+NoEndBetween first second row =
+    (first <ℤ row.period.start → second <ℤ row.period.start) × (first <ℤ row.period.end → second <ℤ row.period.end)
+
+-- no row of the list begins or ends after the first day and up to the second
+abbrev pub NoChangeBetween : List PeriodRow → ℤ → ℤ → Type 0
+NoChangeBetween rows first second = (row : PeriodRow) → Contains rows row → NoEndBetween first second row
