@@ -1,0 +1,17 @@
+use Rattle.std.proofs.Common.{◌≡◌, ◌≤◌, ◌<◌, [], length, take, refl, rules}
+use Rattle.bitemporal_cli.proofs.ReadFacts.{taken-front, taken-whole}
+use Rattle.bitemporal_cli.proofs.reading.read_script.Goals as goal
+
+pub returns-then-count-eq0-clause-bytes : goal.returns-then-count-eq0-clause-bytes
+returns-then-count-eq0-clause-bytes g c =
+    let bytes = c.in-Ok.ensures.bytes in
+    let none : take c.in-Ok.count c.read.new.buf ≡ [] = rw c.if-count-eq0.true refl in
+    let room : 0 < length c.read.new.buf = search rules in
+    let low : length c.loop-buffer.text.items ≤ 4_194_305 = search rules in
+    taken-whole (g.R.Read.remaining c.args.input.now) (g.R.Read.remaining c.loop-buffer.input) (g.R.Read.remaining c.read.new.self) c.loop-buffer.text.items (take c.in-Ok.count c.read.new.buf) 4_194_305
+    c.loop-buffer.invariant.taken bytes.0 none (bytes.1 c.if-count-eq0.true room) low
+
+pub returns-clause-bytes : goal.returns-clause-bytes
+returns-clause-bytes g c =
+    let full : length c.loop-buffer.text.items ≡ 4_194_305 = search rules in
+    taken-front (g.R.Read.remaining c.args.input.now) (g.R.Read.remaining c.loop-buffer.input) c.loop-buffer.text.items 4_194_305 c.loop-buffer.invariant.taken full

@@ -1,0 +1,31 @@
+-- The command line, and what it chooses.
+use Rattle.std.specs.Prelude.{◌≡◌, List, Option, Some, None, codes, true}
+use Rattle.clap.specs.Words.{App, Row, Rule, Text, first_of, new_app, new_rule, with_rule, with_subcommand}
+use Rattle.clap.specs.declared.builder.action.ArgAction.TheVariants.{Set}
+use Rattle.bitemporal_cli.specs.declared.command.Mode.{Mode}
+use Rattle.bitemporal_cli.specs.declared.command.Mode.TheVariants.{Run}
+
+-- FILE, which may be left out
+abbrev pub file_word : Rule
+file_word = record (new_rule (codes "FILE")) { action = Some Set }
+
+-- run [FILE]
+abbrev pub run_command : App
+run_command = with_rule (new_app (codes "run")) file_word
+
+-- a command that is refused without a subcommand
+abbrev pub requiring : App → App
+requiring a = record a { top = record a.top { subcommand_required = true } }
+
+-- bitemporal run [FILE]
+abbrev pub bitemporal : App
+bitemporal = with_subcommand (requiring (new_app (codes "bitemporal"))) run_command.top
+
+-- the mode that a subcommand chooses
+abbrev pub IsMode : Text → Mode → Type 0
+IsMode name Run = name ≡ codes "run"
+
+-- the mode and the file that a subcommand with its matches chooses
+abbrev pub Chooses : Option (Text × List Row) → Mode → Option Text → Type 0
+Chooses None mode file = ⊥
+Chooses (Some chosen) mode file = IsMode chosen.0 mode × (file ≡ first_of (codes "FILE") chosen.1)

@@ -1,0 +1,38 @@
+-- The lines that standard error gets.
+use Rattle.std.specs.Prelude.{◌++◌, [], ℕ, List, Option, Some, None, codes, take}
+use Rattle.std.specs.Fmt.{decimal}
+use Rattle.std.specs.Io.KnownBytes.{Appends}
+use Rattle.period_core.specs.Codes.{code_of, name_of}
+use Rattle.period_core.specs.declared.refusal.Refusal.{Refusal}
+use Rattle.period_core.specs.declared.refusal.Refusal.TheVariants.{BadToken, Memory as WantOfMemory}
+use Rattle.bitemporal_cli.specs.declared.fault.RunFault.{RunFault}
+use Rattle.bitemporal_cli.specs.declared.fault.RunFault.TheVariants.{Script, Memory, Read, Write}
+
+-- the byte of the script that a refusal names
+abbrev pub offset_of : Refusal → Option ℕ
+offset_of (BadToken offset) = Some offset
+offset_of _ = None
+
+-- that byte's offset behind a space
+abbrev pub detail_of : Option ℕ → List ℕ
+detail_of None = []
+detail_of (Some offset) = codes " " ++ decimal offset
+
+-- bitemporal: CODE NAME, and the detail
+abbrev pub line_of : ℕ → List ℕ → List ℕ → List ℕ
+line_of code name detail = codes "bitemporal: " ++ decimal code ++ codes " " ++ name ++ detail ++ codes "\n"
+
+-- the line of a refusal, for a bad token with its offset
+abbrev pub refusal_line : Refusal → List ℕ
+refusal_line refusal = line_of (code_of refusal) (name_of refusal) (detail_of (offset_of refusal))
+
+-- the line of a fault
+abbrev pub fault_line : RunFault → List ℕ
+fault_line (Script refusal) = refusal_line refusal
+fault_line Memory = refusal_line WantOfMemory
+fault_line Read = codes "bitemporal: cannot read the script\n"
+fault_line Write = codes "bitemporal: cannot write the report\n"
+
+-- known bytes grow by the first bytes of the line, all of them or fewer
+abbrev pub GetsFrontOf : Option (List ℕ) → Option (List ℕ) → List ℕ → Type 0
+GetsFrontOf old new line = (count : ℕ) × Appends old new (take count line)

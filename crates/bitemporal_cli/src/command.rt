@@ -1,0 +1,149 @@
+//! The command line: what it may say, and what it chooses.
+
+ghost use Rattle.std.specs.Prelude.{◌≡◌, ◌≢◌, false, codes, IfSome, IfNone, IfOk, map, option_map};
+ghost use Rattle.std.specs.String.{string_bytes};
+ghost use Rattle.clap.specs.Words.{app_of, first_of, found_of, rows_of, rule_of, subcommand_of};
+ghost use Rattle.clap.specs.declared.builder.Command.TheViews.{out-Command};
+ghost use Rattle.bitemporal_cli.specs.CommandLine.{Chooses, IsMode, bitemporal, file_word, run_command};
+
+use clap::error::ErrorKind;
+use clap::{Arg, ArgAction, ArgMatches, Command};
+use std::alloc::{AllocError, Global};
+use std::convert::AsStr;
+use thiserror::Error;
+
+/// What the program does.
+#[derive(Clone, Copy, PartialEq, Eq, Debug)]
+pub enum Mode {
+    /// Runs a script and prints its report.
+    Run,
+}
+
+/// Why a command line chooses nothing.
+#[derive(Debug, Drop, Error)]
+pub enum CommandFault {
+    /// It is refused, or asks for help; the fault says which, and has the text.
+    #[error(transparent)]
+    Clap(clap::Error),
+    /// Want of memory.
+    #[error("out of memory")]
+    Memory,
+}
+
+const ABOUT: &str =
+    "Runs SQL over tables with a period of validity and a history, and prints a report.";
+
+const RUN_ABOUT: &str = "Runs the statements of a script in order, and prints what each gives.";
+
+const STATUSES: &str = "\
+Exit status:
+  0  every statement was accepted
+  1  a statement was refused
+  2  the command line, the file, the whole script, the store or the output was refused
+
+A refusal has a number and a name. docs/PROFILE.md lists them all.";
+
+fn file_argument<'a>(alloc: Global) -> Arg<'a>
+    ensures rule { rule_of result ≡ file_word }
+    ensures local { result.global ≡ false }
+{
+    Arg::new(alloc, "FILE")
+        .help("The script; without it, standard input is read")
+        .action(ArgAction::Set)
+}
+
+fn run_subcommand<'a>(alloc: Global) -> Result<Command<'a>, AllocError>
+    ensures app { IfOk result (λ c. app_of c ≡ run_command) }
+    ensures local { IfOk result (λ c. (out-Command c).has_globals ≡ false) }
+{
+    let file = file_argument(alloc);
+    let named = Command::new(alloc, "run")
+        .about(RUN_ABOUT)
+        .after_help(STATUSES);
+    let run = named.arg(file)?;
+    Ok(run)
+}
+
+fn command<'a>(alloc: Global) -> Result<Command<'a>, AllocError>
+    ensures { IfOk result (λ c. app_of c ≡ bitemporal) }
+{
+    let run = run_subcommand(alloc)?;
+    let named = Command::new(alloc, "bitemporal")
+        .about(ABOUT)
+        .after_help(STATUSES);
+    let top = named.subcommand_required(true);
+    let whole = top.subcommand(run)?;
+    Ok(whole)
+}
+
+// The first value of an argument.
+fn value_of<'a>(matches: &ArgMatches<'a>, id: &str) -> Option<&'a str>
+    ensures { option_map (λ s. s.now) result ≡ first_of id.now (rows_of (found_of matches.now)) }
+{
+    matches.get_str(id)
+}
+
+fn mode_of(name: &str) -> Option<Mode>
+    ensures mode { IfSome result (IsMode name.now) }
+    ensures other { IfNone result (name.now ≢ codes "run") }
+{
+    match name {
+        "run" => Some(Mode::Run),
+        _ => None,
+    }
+}
+
+fn file_of(alloc: Global, matches: &ArgMatches<'_>) -> Result<Option<String>, AllocError>
+    ensures { IfOk result
+        (λ file. option_map string_bytes file
+        ≡ first_of (codes "FILE") (rows_of (found_of matches.now))) }
+{
+    match value_of(matches, "FILE") {
+        Some(file) => Ok(Some(String::from_str(alloc, file)?)),
+        None => Ok(None),
+    }
+}
+
+/// What a command line, with the program's name as its first word, asks for: the mode, and the
+/// file where one is named.
+pub fn command_line<S: AsStr>(
+    alloc: Global,
+    words: &[S],
+) -> Result<(Mode, Option<String>), CommandFault>
+    ensures { IfOk result
+        (λ r. Chooses (subcommand_of bitemporal (map S.text words.now)) r.0
+        (option_map string_bytes r.1)) }
+{
+    let Ok(mut command) = command(alloc) else {
+        return Err(CommandFault::Memory);
+    };
+    let matches = match command.try_get_matches_from_mut(words) {
+        Ok(matches) => matches,
+        Err(fault) => return Err(of_clap(fault)),
+    };
+    let Some((name, inner)) = matches.subcommand() else {
+        return Err(usage_fault(&mut command));
+    };
+    let Some(mode) = mode_of(name) else {
+        return Err(usage_fault(&mut command));
+    };
+    match file_of(alloc, inner) {
+        Ok(file) => Ok((mode, file)),
+        Err(_) => Err(CommandFault::Memory),
+    }
+}
+
+// Want of memory in clap is want of memory here.
+fn of_clap(fault: clap::Error) -> CommandFault {
+    if fault.kind() == ErrorKind::OutOfMemory {
+        return CommandFault::Memory;
+    }
+    CommandFault::Clap(fault)
+}
+
+fn usage_fault(command: &mut Command<'_>) -> CommandFault {
+    match command.error(ErrorKind::MissingSubcommand, "a subcommand is required") {
+        Ok(fault) => CommandFault::Clap(fault),
+        Err(_) => CommandFault::Memory,
+    }
+}

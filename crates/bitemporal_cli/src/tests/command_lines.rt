@@ -1,0 +1,52 @@
+//! Command lines, and what they choose.
+
+use crate::command::{CommandFault, Mode, command_line};
+use std::alloc::Global;
+use std::process::Abort;
+
+// The exit status that a refused command line gives.
+fn status_of(alloc: Global, words: &[&str]) -> Option<i32> {
+    match command_line(alloc, words) {
+        Ok(_chosen) => None,
+        Err(fault) => match fault {
+            CommandFault::Clap(error) => Some(error.exit_code()),
+            CommandFault::Memory => None,
+        },
+    }
+}
+
+fn expect_choice(rt: &(impl Abort + AllocGlobal), words: &[&str], want_file: Option<&str>) {
+    let (mode, file) = command_line(rt.alloc(), words).expect(rt, "a choice");
+    assert_eq!(rt; mode, Mode::Run);
+    match file {
+        Some(name) => assert!(rt; want_file == Some(name.as_str())),
+        None => assert!(rt; want_file.is_none()),
+    }
+}
+
+#[test]
+fn chosen(rt: HostRuntime) {
+    expect_choice(&rt, &["bitemporal", "run"], None);
+    expect_choice(&rt, &["bitemporal", "run", "a.sql"], Some("a.sql"));
+    expect_choice(&rt, &["bitemporal", "run", "--", "--help"], Some("--help"));
+    expect_choice(&rt, &["bitemporal", "run", "run"], Some("run"));
+}
+
+#[test]
+fn refused(rt: HostRuntime) {
+    let alloc = rt.alloc();
+    assert_eq!(rt; status_of(alloc, &["bitemporal"]), Some(2));
+    assert_eq!(rt; status_of(alloc, &["bitemporal", "walk"]), Some(2));
+    assert_eq!(rt; status_of(alloc, &["bitemporal", "run", "a", "b"]), Some(2));
+    assert_eq!(rt;
+        status_of(alloc, &["bitemporal", "run", "--audited"]),
+        Some(2)
+    );
+}
+
+#[test]
+fn helped(rt: HostRuntime) {
+    let alloc = rt.alloc();
+    assert_eq!(rt; status_of(alloc, &["bitemporal", "--help"]), Some(0));
+    assert_eq!(rt; status_of(alloc, &["bitemporal", "run", "--help"]), Some(0));
+}

@@ -1,0 +1,14 @@
+pub mod Least
+pub mod Sound
+pub mod Finds
+pub mod Kept
+pub mod Places
+pub mod Numbered
+pub mod Positions
+pub mod RowFacts
+pub mod Shape
+pub mod Tables
+pub mod CreateExamples
+pub mod InsertExamples
+pub mod SelectExamples
+pub mod HistoryLemmas

@@ -1,0 +1,24 @@
+use Rattle.std.proofs.Common.{◌≡◌, ◌∙◌, ℕ, Option, ap, false, sym}
+use Rattle.std.specs.Prelude.{is_none, option_copied}
+use Rattle.std.specs.Option.{option_and_then}
+use Rattle.std.proofs.lemmas.Bool.{false≢true}
+use Rattle.catalog_core.proofs.Sound.{are_false}
+use Rattle.catalog_core.specs.Insertion.{insert_conditions, lacks_table}
+use Rattle.catalog_core.specs.TableWords.{table_of, table_of_name}
+use Rattle.catalog_core.proofs.resolution.numbered.Goals as goal
+
+pub unreachable-requires : goal.unreachable-requires
+unfolding lacks_table table_of_name
+unreachable-requires c =
+    let catalog = c.args.catalog.now.tables in
+    let there : lacks_table catalog c.args.insert.now ≡ false = (are_false (insert_conditions catalog c.args.insert.now) c.requires).0 in
+    false≢true (sym there ∙ ap (λ (o : Option ℕ). is_none (option_and_then (table_of catalog) o)) (sym c.find.ensures ∙ c.in_default.is))
+
+pub unreachable-requires-in_default-def : goal.unreachable-requires-in_default-def
+unfolding lacks_table table_of_name
+unreachable-requires-in_default-def c =
+    let catalog = c.args.catalog.now.tables in
+    let there : lacks_table catalog c.args.insert.now ≡ false = (are_false (insert_conditions catalog c.args.insert.now) c.requires).0 in
+    false≢true (sym there
+    ∙ ap (λ (o : Option ℕ). is_none (option_and_then (table_of catalog) o)) (sym c.find.ensures ∙ c.in-Some.is)
+    ∙ ap is_none (sym c.def.ensures ∙ ap option_copied c.in_default-def.is))

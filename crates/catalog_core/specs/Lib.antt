@@ -1,0 +1,13 @@
+pub mod Judged
+pub mod Matches
+pub mod Naming
+pub mod Kinds
+pub mod TableWords
+pub mod Creation
+pub mod Definition
+pub mod Insertion
+pub mod Selection
+pub mod Resolution
+pub mod Effects
+pub mod Histories
+pub mod Answers

@@ -1,0 +1,99 @@
+//! The catalog: the tables by their numbers.
+
+ghost use Rattle.std.specs.Prelude.{◌≡◌, ◌↔◌, ◌≤◌, ◌<◌, ◌++◌, ◌∷◌, [], IfOk, IfSome, IsSome, OnErr, length, option_copied};
+ghost use Rattle.catalog_core.specs.TableWords.{number_of, table_of, table_of_name};
+
+use crate::table::TableDef;
+use period_core::{Items, Memory, Text};
+use std::alloc::Global;
+use std::mem;
+
+/// The tables in the order of their creation, numbered from 1.
+#[derive(Drop, Debug)]
+pub struct Catalog {
+    pub tables: Items<TableDef>,
+    pub ghost few: { length tables ≤ 64 },
+}
+
+/// How many tables a catalog may have.
+const MOST_TABLES: usize = 64;
+
+impl Catalog {
+    /// The catalog without a table.
+    pub fn new(alloc: Global) -> Catalog
+        ensures { result.tables ≡ [] }
+    {
+        Catalog {
+            tables: Items::from_vec(Vec::new(alloc)),
+        }
+    }
+
+    /// The catalog of these tables, unless they are more than 64.
+    pub fn from_tables(tables: Items<TableDef>) -> Option<Catalog>
+        ensures there { IsSome result ↔ (length tables ≤ 64) }
+        ensures value { IfSome result (λ catalog. catalog.tables ≡ tables) }
+    {
+        if tables.len() > MOST_TABLES {
+            return None;
+        }
+        Some(Catalog { tables })
+    }
+
+    /// Adds a table, whose number is then that of all tables.
+    pub fn push(&mut self, alloc: Global, definition: TableDef) -> Result<(), Memory>
+        requires { length self.old.tables < 64 }
+        ensures pushed { IfOk result (λ _. self.new.tables ≡ self.old.tables ++ definition ∷ []) }
+        ensures kept { OnErr result (self.new ≡ self.old) }
+    {
+        let mut tables = mem::replace(
+            &mut self.tables,
+            Items::from_vec(Vec::new(alloc)),
+        ).into_vec();
+        let pushed = tables.push(definition);
+        self.tables = Items::from_vec(tables);
+        pushed?;
+        Ok(())
+    }
+
+    /// How many tables there are.
+    pub fn len(&self) -> usize
+        ensures { result ≡ length self.now.tables }
+    {
+        self.tables.len()
+    }
+
+    /// The number of the table of this name.
+    #[tactic(auto, unfolding(crate::specs::TableWords::number_of))]
+    pub fn find(&self, name: &Text) -> Option<u8>
+        ensures { result ≡ number_of self.now.tables name.now }
+    {
+        let tables = self.tables.as_slice();
+        for i in 0..tables.len() {
+            if name.is(&tables[i].name) {
+                return Some(i as u8 + 1);
+            }
+        }
+        None
+    }
+
+    /// The definition of the table of this number.
+    pub fn def(&self, number: u8) -> Option<&TableDef>
+        ensures { option_copied result ≡ table_of self.now.tables number }
+    {
+        if number == 0 {
+            return None;
+        }
+        self.tables.as_slice().get(usize::from(number) - 1)
+    }
+
+    /// The definition of the table of this name.
+    #[tactic(auto, unfolding(crate::specs::TableWords::table_of_name))]
+    pub fn table_named(&self, name: &Text) -> Option<&TableDef>
+        ensures { option_copied result ≡ table_of_name self.now.tables name.now }
+    {
+        match self.find(name) {
+            Some(number) => self.def(number),
+            None => None,
+        }
+    }
+}

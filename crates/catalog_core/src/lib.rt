@@ -1,0 +1,29 @@
+//! The tables of a store, and the statements about them with positions in place of names, or the
+//! refusal of the least number.
+#![tactic(auto)]
+
+mod building;
+mod catalog;
+mod change;
+mod columns;
+mod create_names;
+mod create_shape;
+mod creation;
+mod given_rows;
+mod insert_names;
+mod insert_values;
+mod insertion;
+mod kinds;
+mod matching;
+mod query;
+mod resolution;
+mod selection;
+mod table;
+
+pub use catalog::Catalog;
+pub use change::{Action, Change, GivenRow};
+pub use creation::define;
+pub use query::{Item, Query, Select};
+pub use resolution::resolve_change;
+pub use selection::resolve_query;
+pub use table::{Column, ColumnKind, Kind, PeriodColumns, Reference, TableDef};

@@ -1,0 +1,73 @@
+//! A change: its refusal, or the change with positions in place of names.
+
+ghost use Rattle.std.specs.Prelude.{◌≡◌, IfErr, IfOk, OnOk};
+ghost use Rattle.period_core.specs.Leasts.{MayAnswer, NoneApplies};
+ghost use Rattle.catalog_core.specs.Insertion.{gives_empty_row, insert_conditions};
+ghost use Rattle.catalog_core.specs.Judged.{Holds};
+ghost use Rattle.catalog_core.specs.Resolution.{IsChange, ResolvesChange, ResolvesInsert, change_conditions, empty_period, has_empty_row};
+
+use crate::catalog::Catalog;
+use crate::change::{Action, Change};
+use crate::given_rows::given_rows;
+use crate::insertion::insert_fault;
+use period_core::{Items, Memory, Refusal};
+use sql_front::{InsertRows, Statement};
+use std::alloc::Global;
+
+/// A sound INSERT by numbers.
+fn numbered(alloc: Global, catalog: &Catalog, insert: &InsertRows) -> Result<Change, Memory>
+    requires { NoneApplies (Holds (insert_conditions catalog.now.tables insert.now)) }
+    ensures { IfOk result (λ change. ResolvesInsert catalog.now.tables insert.now change) }
+{
+    let Some(number) = catalog.find(&insert.table) else {
+        unreachable!()
+    };
+    let Some(table) = catalog.def(number) else {
+        unreachable!()
+    };
+    let rows = given_rows(alloc, table, &insert.columns, insert.rows.as_slice())?;
+    Ok(Change {
+        table: number,
+        action: Action::Insert(Items::from_vec(rows)),
+    })
+}
+
+/// An INSERT by numbers, or its refusal.
+fn resolve_insert(alloc: Global, catalog: &Catalog, insert: &InsertRows) -> Result<Change, Refusal>
+    ensures sound { OnOk result
+        (NoneApplies (Holds (insert_conditions catalog.now.tables insert.now))) }
+    ensures resolved { IfOk result
+        (λ change. ResolvesInsert catalog.now.tables insert.now change) }
+    ensures empty { IfOk result
+        (λ change. gives_empty_row catalog.now.tables insert.now ≡ has_empty_row change.action) }
+    ensures refused { IfErr result
+        (MayAnswer (Holds (insert_conditions catalog.now.tables insert.now))) }
+{
+    if let Some(fault) = insert_fault(catalog, insert) {
+        return Err(fault);
+    }
+    Ok(numbered(alloc, catalog, insert)?)
+}
+
+/// The change that a statement makes, or its refusal. Whether a row's period ends after its start is
+/// not yet judged: `empty` says that the given rows decide it.
+pub fn resolve_change(
+    alloc: Global,
+    catalog: &Catalog,
+    statement: &Statement,
+) -> Result<Change, Refusal>
+    requires { IsChange statement.now }
+    ensures sound { OnOk result
+        (NoneApplies (Holds (change_conditions catalog.now.tables statement.now))) }
+    ensures resolved { IfOk result
+        (λ change. ResolvesChange catalog.now.tables statement.now change) }
+    ensures empty { IfOk result (λ change.
+        (empty_period catalog.now.tables statement.now).1 ≡ has_empty_row change.action) }
+    ensures refused { IfErr result
+        (MayAnswer (Holds (change_conditions catalog.now.tables statement.now))) }
+{
+    let Statement::Insert(insert) = statement else {
+        unreachable!()
+    };
+    resolve_insert(alloc, catalog, insert)
+}

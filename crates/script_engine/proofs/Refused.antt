@@ -1,0 +1,87 @@
+-- Which refusals a statement may get, from those that its parts give.
+use Rattle.std.proofs.Common.{◌≡◌, ◌≢◌, ◌≤◌, ◌<◌, ◌++◌, ◌∷◌, ◌⊎◌, ◌&&◌, ◌||◌, ℕ, Bool, true, false, List, [], map, Result, Ok, Err, refl, sym, ap, ◌∙◌, subst, inl, inr, int_le, nat_le, arith}
+use Rattle.std.proofs.lemmas.Int.{ints}
+use Rattle.std.specs.Prelude.{IsTrue}
+use Rattle.std.specs.List.{list_all, list_any}
+use Rattle.period_core.specs.Codes.{code_of}
+use Rattle.period_core.specs.Leasts.{IsLeast, MayAnswer, NoneApplies}
+use Rattle.period_core.specs.declared.refusal.Refusal.{Refusal}
+use Rattle.period_core.specs.declared.refusal.Refusal.TheVariants.{EmptyPeriod, Memory}
+use Rattle.period_core.specs.declared.row.PeriodRow.{PeriodRow}
+use Rattle.catalog_core.specs.Judged.{Holds, Judged}
+use Rattle.catalog_core.specs.Resolution.{has_empty_row, is_empty_row}
+use Rattle.catalog_core.specs.Effects.{given_of}
+use Rattle.catalog_core.specs.declared.change.Action.{Action}
+use Rattle.catalog_core.specs.declared.change.Action.TheVariants.{Insert}
+use Rattle.catalog_core.specs.declared.change.GivenRow.{GivenRow}
+use Rattle.script_engine.specs.Rows.{PlainRow, plain_given, plain_row}
+
+-- a refusal among more conditions
+pub holds_before : (conditions more : List Judged) (refusal : Refusal) → Holds conditions refusal → Holds (conditions ++ more) refusal
+holds_before [] more refusal h = absurd h
+holds_before (first ∷ conditions) more refusal (inl h) = inl h
+holds_before (first ∷ conditions) more refusal (inr h) = inr (holds_before conditions more refusal h)
+
+pub holds_after : (conditions more : List Judged) (refusal : Refusal) → Holds more refusal → Holds (conditions ++ more) refusal
+holds_after [] more refusal h = h
+holds_after (first ∷ conditions) more refusal h = inr (holds_after conditions more refusal h)
+
+pub holds_cases : (conditions more : List Judged) (refusal : Refusal) → Holds (conditions ++ more) refusal → Holds conditions refusal ⊎ Holds more refusal
+holds_cases [] more refusal h = inr h
+holds_cases (first ∷ conditions) more refusal (inl h) = inl (inl h)
+holds_cases (first ∷ conditions) more refusal (inr h) = elim (holds_cases conditions more refusal h) [ inl k ↦ inl (inr k) | inr k ↦ inr k ]
+
+-- the numbers of the conditions are at most this one
+abbrev pub are_at_most : ℕ → List Judged → Bool
+are_at_most number conditions = list_all (λ (j : Judged). nat_le (code_of j.0) number) conditions
+
+pub code-at_most : (number : ℕ) (conditions : List Judged) (refusal : Refusal) → are_at_most number conditions ≡ true → Holds conditions refusal → code_of refusal ≤ number
+code-at_most number [] refusal all h = absurd h
+code-at_most number ((judged, holds) ∷ conditions) refusal all (inl (same, held)) = subst (λ r. code_of r ≤ number) same (grind (arith, all))
+code-at_most number ((judged, holds) ∷ conditions) refusal all (inr h) = code-at_most number conditions refusal (grind (arith, all)) h
+
+-- rows that are made of given rows have days
+days-given : (given : List GivenRow) (rows : List PeriodRow) → map plain_row rows ≡ map plain_given given → list_any is_empty_row given ≡ false
+days-given [] rows e = refl
+days-given (first ∷ given) [] e = cc
+days-given (first ∷ given) (row ∷ rows) e =
+    let head : plain_row row ≡ plain_given first = cc in
+    let tail : map plain_row rows ≡ map plain_given given = cc in
+    let start : row.period.start ≡ first.start = ap (λ (p : PlainRow). p.start) head in
+    let end : row.period.end ≡ first.end = ap (λ (p : PlainRow). p.end) head in
+    let ordered = row.period.ordered in
+    let here : is_empty_row first ≡ false = grind (arith, ints, start, end, ordered) in
+    rw here (days-given given rows tail)
+
+-- rows that are made of an action's rows have days
+pub days-action : (action : Action) (rows : List PeriodRow) → map plain_row rows ≡ map plain_given (given_of action) → has_empty_row action ≡ false
+days-action (Insert given) rows e = days-given given rows e
+
+-- what may be answered by the conditions alone may be answered where that of an empty period stands behind them
+pub may_answer-before : (conditions : List Judged) (holds : Bool) (refusal : Refusal) → are_at_most 41 conditions ≡ true → MayAnswer (Holds conditions) refusal → MayAnswer (Holds (conditions ++ (EmptyPeriod, holds) ∷ [])) refusal
+may_answer-before conditions holds refusal low (inr memory) = inr memory
+may_answer-before conditions holds refusal low (inl least) = inl (record {
+  applies = holds_before conditions ((EmptyPeriod, holds) ∷ []) refusal least.applies;
+  least = λ other h.
+      elim (holds_cases conditions ((EmptyPeriod, holds) ∷ []) other h) [
+        | inl k ↦ least.least other k
+        | inr k ↦ elim k [
+          | inl both ↦ subst (λ r. code_of refusal ≤ code_of r) both.0 (code-at_most 41 conditions refusal low least.applies)
+          | inr nothing ↦ absurd nothing
+        ]
+      ];
+})
+
+-- that of an empty period is answered where it holds and none of the others does
+pub may_answer-empty : (conditions : List Judged) (holds : Bool) → NoneApplies (Holds conditions) → holds ≡ true → MayAnswer (Holds (conditions ++ (EmptyPeriod, holds) ∷ [])) EmptyPeriod
+may_answer-empty conditions holds none held = inl (record {
+  applies = holds_after conditions ((EmptyPeriod, holds) ∷ []) EmptyPeriod (inl (refl, held));
+  least = λ other h.
+      elim (holds_cases conditions ((EmptyPeriod, holds) ∷ []) other h) [
+        | inl k ↦ absurd (none other k)
+        | inr k ↦ elim k [
+          | inl both ↦ subst (λ r. 41 ≤ code_of r) both.0 (omega arith)
+          | inr nothing ↦ absurd nothing
+        ]
+      ];
+})

@@ -1,0 +1,55 @@
+-- A script that has tokens is not refused as a whole, and a new engine represents a history without events.
+use Rattle.std.proofs.Common.{◌≡◌, ◌<◌, ◌≤◌, ℕ, ℤ, List, [], length, map, Result, Ok, Err, append-nil, subst, sym, arith}
+use Rattle.std.specs.Prelude.{IfOk}
+use Rattle.std.specs.Str.{IsUtf8}
+use Rattle.period_core.specs.Leasts.{NoneApplies}
+use Rattle.period_core.specs.declared.refusal.Refusal.{Refusal}
+use Rattle.period_core.specs.declared.refusal.Refusal.TheVariants.{BadToken, NotUtf8, ScriptTooLarge}
+use Rattle.period_core.specs.declared.value.Value.{Value}
+use Rattle.temporal_model.specs.Snapshot.{InSnapshot}
+use Rattle.sql_front.specs.Lexemes.{Lexeme, lexemes}
+use Rattle.sql_front.specs.Pieces.{HasPieces, spanned}
+use Rattle.sql_front.specs.declared.pieces.Span.{Span}
+use Rattle.sql_front.specs.declared.token.Token.{Token}
+use Rattle.sql_front.specs.Lexis.{TokensOf}
+use Rattle.sql_front.proofs.TokenLists.{never_both_of}
+use Rattle.catalog_core.specs.Histories.{Database, History, last_state, new_database, opened, rows_in}
+use Rattle.script_engine.specs.Runs.{Represents}
+use Rattle.script_engine.specs.Script.{IsRunOf, RunPieces, ScriptApplies, most_bytes}
+use Rattle.script_engine.specs.declared.outcome.Outcome.{Outcome}
+use Rattle.script_engine.proofs.Snapshots.{held_in_snapshot, snapshot_of_held}
+
+pub none_of_script : (script : List ℕ) (tokens : List Lexeme) → length script ≤ most_bytes → IsUtf8 script → TokensOf script tokens → NoneApplies (ScriptApplies script)
+none_of_script script tokens small utf8 lexed NotUtf8 h = h.1 utf8
+none_of_script script tokens small utf8 lexed ScriptTooLarge h = omega arith
+none_of_script script tokens small utf8 lexed (BadToken offset) h = never_both_of script tokens offset lexed h.2
+none_of_script script tokens small utf8 lexed _ h = h
+
+-- what is kept represents the history in which nothing was done to it
+pub represents_opened : (database : Database) → Represents (opened database) database
+represents_opened database = record {
+  catalog = sym (append-nil database.catalog);
+  daily = λ table day values. (held_in_snapshot (rows_in database table) day values, snapshot_of_held (rows_in database table) day values);
+}
+
+-- what follows from what an Ok is said to hold
+pub IfOk-implies : {T E : Type 0} (P Q : T → Type 0) (result : Result T E) → ((value : T) → P value → Q value) → IfOk result P → IfOk result Q
+IfOk-implies P Q (Ok value) follows h = follows value h
+IfOk-implies P Q (Err fault) follows h = tt
+
+-- the results of a script's pieces are a run of the script
+pub run_of : (script text : List ℕ) (tokens seen others : List Token) (spans gone : List Span) (results : List (Result Outcome Refusal)) → text ≡ script → seen ≡ tokens → others ≡ tokens → gone ≡ spans →
+    length script ≤ most_bytes → IsUtf8 script → TokensOf text (lexemes tokens) → HasPieces (lexemes seen) (map (spanned (lexemes seen)) spans) →
+    (last : History) × RunPieces (opened new_database) (map (spanned (lexemes others)) gone) results last → IsRunOf script results
+run_of script text tokens seen others spans gone results same first second third small utf8 lexed pieces (last, run) =
+    let its : TokensOf script (lexemes tokens) = subst (λ (s : List ℕ). TokensOf s (lexemes tokens)) same lexed in
+    record {
+      sound = none_of_script script (lexemes tokens) small utf8 its;
+      tokens = lexemes tokens;
+      lexed = its;
+      pieces = map (spanned (lexemes tokens)) spans;
+      cut = subst (λ (ts : List Token). HasPieces (lexemes ts) (map (spanned (lexemes ts)) spans)) first pieces;
+      last = last;
+      run = subst (λ (ps : List Span). RunPieces (opened new_database) (map (spanned (lexemes tokens)) ps) results last) third
+          (subst (λ (ts : List Token). RunPieces (opened new_database) (map (spanned (lexemes ts)) gone) results last) second run);
+    }

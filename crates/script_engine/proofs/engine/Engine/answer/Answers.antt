@@ -1,0 +1,38 @@
+use Rattle.std.proofs.Common.{◌≡◌, ◌∙◌, List, ap, map, subst, sym}
+use Rattle.period_core.specs.Leasts.{NoneApplies}
+use Rattle.period_core.specs.declared.row.PeriodRow.{PeriodRow}
+use Rattle.temporal_model.specs.Snapshot.{Equivalent}
+use Rattle.temporal_model.specs.Answer.{IsCertified, IsInAnswerOrder, IsShortest}
+use Rattle.temporal_model.specs.Witness.{witness_of}
+use Rattle.catalog_core.specs.Histories.{Database}
+use Rattle.catalog_core.specs.Judged.{Holds}
+use Rattle.catalog_core.specs.Selection.{ResolvesQuery, query_conditions}
+use Rattle.catalog_core.specs.declared.query.Item.{Item}
+use Rattle.catalog_core.specs.declared.table.TableDef.{TableDef}
+use Rattle.script_engine.specs.Rows.{plain_row, projected_row}
+use Rattle.script_engine.proofs.Answered.{answered_step}
+use Rattle.script_engine.proofs.engine.Engine.answer.Goals as goal
+
+pub returns : goal.returns
+returns g c history kept =
+    let same : c.self.inside.catalog.tables ≡ c.args.self.now.catalog = ap (λ (d : Database). d.catalog) c.self.view_is in
+    let found = c.in_ok-rows-2.ensures in
+    let rows : c.in_ok-rows-2.rows.items ≡ c.from_vec.result = sym c.from_vec.ensures in
+    let seen : c.as_slice.result.now ≡ c.in_ok-rows-2.rows.items = c.as_slice.ensures.value in
+    answered_step history c.args.self.now c.args.statement.now c.in_ok-query.query c.in_ok-rows.rows.items
+    (record { columns = c.in_ok-column_names.field-0; rows = c.from_vec.result; witnesses = c.from_vec-2.result })
+    c.requires kept
+    (subst (λ (tables : List TableDef). NoneApplies (Holds (query_conditions tables c.args.statement.now))) same c.in_ok-query.ensures.sound)
+    (subst (λ (tables : List TableDef). ResolvesQuery tables c.args.statement.now c.in_ok-query.query) same c.in_ok-query.ensures.resolved)
+    (record {
+      made =
+          c.in_ok-rows.ensures
+          ∙ ap (λ (items : List Item). map (projected_row items) c.table_rows.result.now) c.as_slice-items.ensures
+          ∙ ap (map (projected_row c.in_ok-query.query.items)) c.table_rows.ensures;
+      equivalent = subst (λ (r : List PeriodRow). Equivalent c.in_ok-rows.rows.items r) rows found.equivalent;
+      shortest = subst IsShortest rows found.shortest;
+      ordered = subst IsInAnswerOrder rows found.ordered;
+      certified = subst IsCertified rows found.certified;
+      witnesses = c.from_vec-2.ensures ∙ c.in_ok-witnesses.ensures.days ∙ ap (map witness_of) (seen ∙ rows);
+      columns = c.in_ok-column_names.ensures ∙ ap (map (λ (item : Item). item.name)) c.as_slice-items.ensures;
+    })

@@ -1,0 +1,14 @@
+use Rattle.std.proofs.Common.{◌≡◌, ◌≤◌, length, map, take, vec_capacity, vec_len}
+use Rattle.sql_front.specs.Lexemes.{lexemes}
+use Rattle.sql_front.specs.Pieces.{spanned}
+use Rattle.catalog_core.specs.Histories.{History, new_database, opened}
+use Rattle.script_engine.specs.Runs.{Represents}
+use Rattle.script_engine.specs.Script.{RunPieces}
+use Rattle.script_engine.proofs.script.run_pieces.Given as goal
+
+abbrev pub invariant-loop-piece : goal.invariant-loop-piece
+invariant-loop-piece g l = record {
+  room : length l.pieces ≤ vec_capacity l.results;
+  count : vec_len l.results ≡ l.piece-index;
+  run : (last : History) × RunPieces (opened new_database) (map (spanned (lexemes l.tokens)) (take l.piece-index l.pieces)) l.results.items last × Represents last l.engine;
+}

@@ -1,0 +1,77 @@
+-- Which outcomes a statement may have in a history, and which history follows.
+use Rattle.std.specs.Prelude.{◌≡◌, ◌↔◌, ◌++◌, ◌∷◌, ℕ, ℤ, List, [], Contains, Result, Ok, Err, length, map}
+use Rattle.period_core.specs.Leasts.{MayAnswer, NoneApplies}
+use Rattle.period_core.specs.declared.answer.Answer.{Answer}
+use Rattle.period_core.specs.declared.refusal.Refusal.{Refusal}
+use Rattle.period_core.specs.declared.value.Value.{Value}
+use Rattle.temporal_model.specs.Snapshot.{InSnapshot}
+use Rattle.sql_front.specs.declared.create.CreateTable.{CreateTable}
+use Rattle.sql_front.specs.declared.statement.Statement.{Statement}
+use Rattle.sql_front.specs.declared.statement.Statement.TheVariants as statement
+use Rattle.catalog_core.specs.Creation.{create_conditions}
+use Rattle.catalog_core.specs.Definition.{Defines}
+use Rattle.catalog_core.specs.Judged.{Holds}
+use Rattle.catalog_core.specs.Resolution.{ResolvesChange, change_conditions, empty_period}
+use Rattle.catalog_core.specs.Selection.{ResolvesQuery, query_conditions}
+use Rattle.catalog_core.specs.Answers.{InAnswerOn}
+use Rattle.catalog_core.specs.Effects.{given_of}
+use Rattle.catalog_core.specs.Histories.{Asked, Changed, Created, Database, History, catalog_of, last_state, rows_in, with_event}
+use Rattle.catalog_core.specs.declared.change.Change.{Change}
+use Rattle.catalog_core.specs.declared.query.Item.{Item}
+use Rattle.catalog_core.specs.declared.query.Select.{Select}
+use Rattle.catalog_core.specs.declared.table.TableDef.{TableDef}
+use Rattle.script_engine.specs.Headline.{IsSequencedAnswer}
+use Rattle.script_engine.specs.declared.outcome.Outcome.{Outcome}
+use Rattle.script_engine.specs.declared.outcome.Outcome.TheVariants.{Done, Answer as Answered}
+use Rattle.script_engine.specs.declared.outcome.Word.TheVariants as word
+
+-- the condition of each refusal, for a statement over a catalog
+abbrev pub StatementApplies : List TableDef → Statement → Refusal → Type 0
+StatementApplies catalog (statement.Create create) = Holds (create_conditions catalog create)
+StatementApplies catalog (statement.Insert insert) =
+    Holds (change_conditions catalog (statement.Insert insert) ++ empty_period catalog (statement.Insert insert) ∷ [])
+StatementApplies catalog (statement.Sequenced select) = Holds (query_conditions catalog (statement.Sequenced select))
+
+-- CREATE adds the definition that it gives
+pub record Creates (history : History) (create : CreateTable) (outcome : Outcome) (new : History) : Type 0 where
+  pub definition : TableDef
+  pub defined : Defines (catalog_of history) create definition
+  pub done : outcome ≡ Done word.Create 0
+  pub after : new ≡ with_event history (Created definition)
+
+-- a change is carried out as it is resolved; its count is that of the rows that it gives
+pub record Changes (history : History) (s : Statement) (outcome : Outcome) (new : History) : Type 0 where
+  pub change : Change
+  pub resolved : ResolvesChange (catalog_of history) s change
+  pub done : outcome ≡ Done word.Insert (length (given_of change.action))
+  pub after : new ≡ with_event history (Changed change)
+
+-- a sequenced query is answered by the sets that the ordinary query gives on each day
+pub record Answers (history : History) (s : Statement) (answer : Answer) (new : History) : Type 0 where
+  pub query : Select
+  pub resolved : ResolvesQuery (catalog_of history) s query
+  pub columns : answer.columns ≡ map (λ (item : Item). item.name) query.items
+  pub right : IsSequencedAnswer (InAnswerOn history query) answer
+  pub after : new ≡ with_event history Asked
+
+-- what follows where no condition of a refusal holds
+abbrev pub Accepts : History → Statement → Outcome → History → Type 0
+Accepts history (statement.Create create) outcome new = Creates history create outcome new
+Accepts history (statement.Insert insert) outcome new = Changes history (statement.Insert insert) outcome new
+Accepts history (statement.Sequenced select) outcome new =
+    (answer : Answer) × (outcome ≡ Answered answer) × Answers history (statement.Sequenced select) answer new
+
+-- a statement's result: refused, and the history stays; or accepted, and added to the history
+abbrev pub Step : History → Statement → Result Outcome Refusal → History → Type 0
+Step history s (Err refusal) new = MayAnswer (StatementApplies (catalog_of history) s) refusal × (new ≡ history)
+Step history s (Ok outcome) new = NoneApplies (StatementApplies (catalog_of history) s) × Accepts history s outcome new
+
+-- what is kept is what the history says: its tables, and on each day the set of each
+pub record Represents (history : History) (database : Database) : Type 0 where
+  pub catalog : database.catalog ≡ catalog_of history
+  pub daily : (table : ℕ) (day : ℤ) (values : List Value) →
+      (InSnapshot (rows_in database table) day values ↔ Contains (last_state history table day) values)
+
+-- the statement's result is a step of the history, and what is kept then is what the new history says
+abbrev pub StepsTo : History → Statement → Result Outcome Refusal → Database → Type 0
+StepsTo history s result database = (new : History) × Step history s result new × Represents new database

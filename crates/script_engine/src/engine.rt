@@ -1,0 +1,145 @@
+//! The engine: a catalog, the rows of its tables, and the statements that it carries out.
+
+ghost use Rattle.std.specs.Prelude.{◌≡◌, ◌<◌, ◌≤◌, ◌+◌, ◌-◌, ◌++◌, ◌∷◌, [], ℕ, List, length, IfOk, IfErr, OnOk, OnErr, slice_set, slice_index_or};
+ghost use Rattle.catalog_core.specs.Histories.{History, Database, opened, new_database, rows_in};
+ghost use Rattle.catalog_core.specs.Resolution.{IsChange};
+ghost use Rattle.catalog_core.specs.Selection.{IsSequenced};
+ghost use Rattle.script_engine.specs.Runs.{Represents, StepsTo};
+ghost use Rattle.sql_front.specs.declared.statement.Statement.TheVariants as statement;
+
+use crate::outcome::{Outcome, Word};
+use crate::rows::{column_names, given_rows, projected_rows};
+use catalog_core::{Catalog, Change, TableDef, define, resolve_change, resolve_query};
+use coalesce_core::{coalesce, witnesses};
+use period_core::{Answer, Items, Memory, PeriodRow, Refusal};
+use sql_front::{CreateTable, Statement};
+use sqlite::Connection;
+use sqlite_trees::store::Alter;
+use std::alloc::Global;
+use std::marker::Model;
+
+/// What was stored and what is asked: the tables' definitions, and in the same places their rows.
+/// It holds the connection that it was handed.
+#[derive(Drop)]
+pub struct Engine<S: Alter> {
+    connection: Connection<S>,
+    catalog: Catalog,
+    rows: Vec<Items<PeriodRow>>,
+}
+
+impl<S: Alter> Model for Engine<S> {
+    ghost use Rattle.std.specs.Prelude.{◌≡◌, length};
+    ghost use Rattle.catalog_core.specs.Histories.{Database};
+
+    ghost Value = { Database };
+
+    ghost view = { λ e. record { catalog = e.catalog.tables; rows = e.rows.items } };
+
+    ghost invariant = { λ e. length e.rows.items ≡ length e.catalog.tables };
+}
+
+impl<S: Alter> Engine<S> {
+    /// An engine without tables over a connection.
+    pub fn new(alloc: Global, connection: Connection<S>) -> Engine<S>
+        ensures { result ≡ new_database }
+    {
+        Engine {
+            connection,
+            catalog: Catalog::new(alloc),
+            rows: Vec::new(alloc),
+        }
+    }
+
+    /// The tables' definitions in the order of their creation.
+    fn catalog(&self) -> &Catalog
+        ensures { result.now.tables ≡ self.now.catalog }
+    {
+        &self.catalog
+    }
+
+    /// Adds a table without rows. An `Err` changes nothing.
+    fn add_table(&mut self, alloc: Global, definition: TableDef) -> Result<(), Memory>
+        requires { length self.old.catalog < 64 }
+        ensures catalog { OnOk result (self.new.catalog ≡ self.old.catalog ++ definition ∷ []) }
+        ensures rows { OnOk result (self.new.rows ≡ self.old.rows ++ [] ∷ []) }
+        ensures err { OnErr result (self.new ≡ self.old) }
+    {
+        self.rows.reserve(1)?;
+        self.catalog.push(alloc, definition)?;
+        self.rows.push_reserved(Items::empty(alloc));
+        Ok(())
+    }
+
+    /// The rows of the table of a number.
+    fn table_rows(&self, table: u8) -> &[PeriodRow]
+        requires low { 0 < table }
+        requires high { table ≤ length self.now.catalog }
+        ensures { result.now ≡ rows_in self.now table }
+    {
+        self.rows[usize::from(table) - 1].as_slice()
+    }
+
+    /// Adds rows to the table of a number. An `Err` changes nothing.
+    fn add_rows(&mut self, table: u8, added: Items<PeriodRow>) -> Result<(), Memory>
+        requires low { 0 < table }
+        requires high { table ≤ length self.old.catalog }
+        ensures catalog { self.new.catalog ≡ self.old.catalog }
+        ensures rows { OnOk result (self.new.rows ≡ slice_set self.old.rows (table - 1) (slice_index_or self.old.rows (table - 1) [] ++ added)) }
+        ensures err { OnErr result (self.new ≡ self.old) }
+    {
+        self.rows[usize::from(table) - 1].append(added)
+    }
+
+    /// Carries out a CREATE. An `Err` changes nothing.
+    fn create(&mut self, alloc: Global, create: &CreateTable) -> Result<Outcome, Refusal>
+        ensures step { (history : History) → Represents history self.old → StepsTo history (statement.Create create.now) result self.new }
+        ensures err { OnErr result (self.new ≡ self.old) }
+    {
+        let definition = define(alloc, &self.catalog, create)?;
+        self.add_table(alloc, definition)?;
+        Ok(Outcome::Done(Word::Create, 0))
+    }
+
+    /// Carries out an INSERT. An `Err` changes nothing.
+    fn insert(&mut self, alloc: Global, statement: &Statement) -> Result<Outcome, Refusal>
+        requires { IsChange statement.now }
+        ensures step { (history : History) → Represents history self.old → StepsTo history statement.now result self.new }
+        ensures err { OnErr result (self.new ≡ self.old) }
+    {
+        let Change { table, action } = resolve_change(alloc, &self.catalog, statement)?;
+        let added = given_rows(alloc, action)?;
+        let count = added.len() as u64;
+        self.add_rows(table, added)?;
+        Ok(Outcome::Done(Word::Insert, count))
+    }
+
+    /// Answers a sequenced query.
+    fn answer(&self, alloc: Global, statement: &Statement) -> Result<Outcome, Refusal>
+        requires { IsSequenced statement.now }
+        ensures { (history : History) → Represents history self.now → StepsTo history statement.now result self.now }
+    {
+        let query = resolve_query(alloc, &self.catalog, statement)?;
+        let items = query.items.as_slice();
+        let rows = projected_rows(alloc, items, self.table_rows(query.table))?;
+        let rows = coalesce(alloc, rows)?;
+        let witnesses = witnesses(alloc, rows.as_slice())?;
+        Ok(Outcome::Answer(Answer {
+            columns: column_names(alloc, items)?,
+            rows: Items::from_vec(rows),
+            witnesses: Items::from_vec(witnesses),
+        }))
+    }
+
+    /// Carries out a statement. An `Err` changes nothing.
+    pub fn execute(&mut self, alloc: Global, statement: &Statement) -> Result<Outcome, Refusal>
+        // Whatever history the engine represents, the call is a step of it, and the engine represents the new one.
+        ensures step { (history : History) → Represents history self.old → StepsTo history statement.now result self.new }
+        ensures err { OnErr result (self.new ≡ self.old) }
+    {
+        match statement {
+            Statement::Create(create) => self.create(alloc, create),
+            Statement::Insert(_) => self.insert(alloc, statement),
+            Statement::Sequenced(_) => self.answer(alloc, statement),
+        }
+    }
+}

@@ -1,0 +1,19 @@
+//! What follows from the theorem of sequenced answers. Each function does nothing: its contract is a law.
+
+ghost use Rattle.script_engine.specs.Laws.{AnswersAreUnique, AnswersMapOneToOne, SameSnapshotsSameAnswers};
+
+/// A list with the same snapshots has a row of its own for each row of an answer, of the same values
+/// and first day. So no such list is shorter.
+pub fn answers_map_one_to_one()
+    ensures { AnswersMapOneToOne }
+{}
+
+/// A list with the same snapshots and as many rows is the answer in another order.
+pub fn answers_are_unique()
+    ensures { AnswersAreUnique }
+{}
+
+/// Two answers with the same snapshots have the same rows in the same order.
+pub fn same_snapshots_same_answers()
+    ensures { SameSnapshotsSameAnswers }
+{}

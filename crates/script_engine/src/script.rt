@@ -1,0 +1,117 @@
+//! Scripts: their text, their pieces, and the results of these.
+
+ghost use Rattle.std.specs.Prelude.{◌≡◌, ◌<◌, ◌≤◌, ◌⊎◌, ℕ, All, IfErr, IfOk, OnErr, OnOk, length, map};
+ghost use Rattle.std.specs.Str.{IsUtf8};
+ghost use Rattle.period_core.specs.Leasts.{MayAnswer};
+ghost use Rattle.period_core.specs.declared.refusal.Refusal.TheVariants.{NotUtf8, ScriptTooLarge};
+ghost use Rattle.sql_front.specs.Lexemes.{lexemes};
+ghost use Rattle.sql_front.specs.Lexis.{TokensOf};
+ghost use Rattle.sql_front.specs.Pieces.{IsWithin, spanned};
+ghost use Rattle.catalog_core.specs.Histories.{History, new_database, opened};
+ghost use Rattle.script_engine.specs.Runs.{Represents};
+ghost use Rattle.script_engine.specs.Script.{IsRunOf, MayRefuseScript, PieceStepsTo, RunPieces, ScriptApplies, most_bytes};
+
+use crate::engine::Engine;
+use crate::outcome::Outcome;
+use period_core::Refusal;
+use sql_front::{LexFault, Span, Token, cut, lex, parse};
+use sqlite::Connection;
+use sqlite_trees::store::Alter;
+use std::alloc::Global;
+use std::str;
+
+/// The most bytes that a script may have.
+pub const MOST_BYTES: usize = 4_194_304;
+
+/// The most tokens that a statement may have.
+pub const MOST_TOKENS: usize = 10_000;
+
+/// The text of a script.
+fn script_text(script: &[u8]) -> Result<&str, Refusal>
+    ensures text { IfOk result (λ text. text.now ≡ script.now) }
+    ensures utf8 { OnOk result (IsUtf8 script.now) }
+    ensures small { OnOk result (length script.now ≤ most_bytes) }
+    ensures refused { IfErr result (MayRefuseScript script.now) }
+{
+    if script.len() > MOST_BYTES {
+        return Err(Refusal::ScriptTooLarge);
+    }
+    match str::from_utf8(script) {
+        Ok(text) => Ok(text),
+        Err(_) => Err(Refusal::NotUtf8),
+    }
+}
+
+/// The tokens of a script that is not too large.
+fn script_tokens<'a>(alloc: Global, script: &'a str) -> Result<Vec<Token<'a>>, Refusal>
+    requires { length script.now ≤ most_bytes }
+    ensures tokens { IfOk result (λ tokens. TokensOf script.now (lexemes tokens.items)) }
+    ensures refused { IfErr result (MayRefuseScript script.now) }
+{
+    match lex(alloc, script) {
+        Ok(tokens) => Ok(tokens),
+        Err(LexFault::BadToken(offset)) => Err(Refusal::BadToken(offset)),
+        Err(LexFault::Memory) => Err(Refusal::Memory),
+    }
+}
+
+/// The result of a piece of a script. An `Err` changes nothing.
+fn run_piece<S: Alter>(
+    alloc: Global,
+    engine: &mut Engine<S>,
+    script: &str,
+    piece: &[Token<'_>],
+) -> Result<Outcome, Refusal>
+    ensures step { (history : History) → Represents history engine.old → PieceStepsTo history (lexemes piece.now) result engine.new }
+    ensures err { OnErr result (engine.new ≡ engine.old) }
+{
+    if piece.len() > MOST_TOKENS {
+        return Err(Refusal::LimitReached);
+    }
+    let statement = parse(alloc, script, piece)?;
+    engine.execute(alloc, &statement)
+}
+
+/// The results of the pieces of a script, one after the other, over a new engine.
+fn run_pieces<S: Alter>(
+    alloc: Global,
+    engine: &mut Engine<S>,
+    script: &str,
+    tokens: &[Token<'_>],
+    pieces: &[Span],
+) -> Result<Vec<Result<Outcome, Refusal>>, Refusal>
+    requires within { All (IsWithin (length tokens.now)) pieces.now }
+    requires new { Represents (opened new_database) engine.old }
+    ensures run { IfOk result (λ results. (last : History) × RunPieces (opened new_database) (map (spanned (lexemes tokens.now)) pieces.now) results.items last) }
+    ensures memory { IfErr result (λ refusal. refusal ≡ Refusal.Memory) }
+{
+    let mut results = Vec::with_capacity(alloc, pieces.len())?;
+    for piece in pieces {
+        let result = run_piece(alloc, engine, script, &tokens[piece.start..piece.end]);
+        results.push_reserved(result);
+    }
+    Ok(results)
+}
+
+/// Carries out a script over a new engine. The results are those of its statements, refused ones too, in order;
+/// an `Err` is the refusal of the whole script, of which nothing is carried out, or want of memory.
+pub fn run_script<S: Alter + Drop>(
+    alloc: Global,
+    connection: Connection<S>,
+    script: &[u8],
+) -> Result<Vec<Result<Outcome, Refusal>>, Refusal>
+    ensures run { IfOk result (λ results. IsRunOf script.now results.items) }
+    ensures refused { IfErr result (MayRefuseScript script.now) }
+{
+    let text = script_text(script)?;
+    let tokens = script_tokens(alloc, text)?;
+    let pieces = cut(alloc, tokens.as_slice())?;
+    let mut engine = Engine::new(alloc, connection);
+    run_pieces(
+        alloc,
+        &mut engine,
+        text,
+        tokens.as_slice(),
+        pieces.as_slice(),
+    )
+}

@@ -1,0 +1,42 @@
+-- One more white space, comment or token.
+use Rattle.std.proofs.Common.{◌≡◌, ℕ, ◌+◌, ◌<◌, List, [], ◌∷◌, ◌++◌, length, take, drop, subst, append_assoc, arith}
+use Rattle.std.proofs.lemmas.List.{append-nil, nil_from_length}
+use Rattle.sql_front.specs.declared.token.Kind.{Kind}
+use Rattle.sql_front.specs.declared.lexeme.Front.TheVariants as front
+use Rattle.sql_front.specs.Lexemes.{Lexeme}
+use Rattle.sql_front.specs.Lexis as lexis
+use Rattle.sql_front.specs.Lexis.{first_lexeme, TokensFrom, StopsFrom}
+
+module _ (start : ℕ) (script : List ℕ) (at : ℕ) (rest after : List ℕ) (n : ℕ) (so_far : List Lexeme) where
+  pub blank_tokens : first_lexeme rest ≡ front.Blank n → after ≡ drop n rest
+      → ((more : List Lexeme) → TokensFrom at rest more → TokensFrom start script (so_far ++ more))
+      → (more : List Lexeme) → TokensFrom (at + n) after more → TokensFrom start script (so_far ++ more)
+  blank_tokens e f before more t = before more (lexis.TokensFrom.blank n e (subst (λ (w : List ℕ). TokensFrom (at + n) w more) f t))
+
+  pub blank_stops : first_lexeme rest ≡ front.Blank n → after ≡ drop n rest
+      → ((bad : ℕ) → StopsFrom at rest bad → StopsFrom start script bad) → (bad : ℕ) → StopsFrom (at + n) after bad → StopsFrom start script bad
+  blank_stops e f before bad t = before bad (lexis.StopsFrom.blank n e (subst (λ (w : List ℕ). StopsFrom (at + n) w bad) f t))
+
+  pub token_tokens : (k : Kind) (text : List ℕ) → first_lexeme rest ≡ front.Lexeme k n → after ≡ drop n rest → text ≡ take n rest
+      → ((more : List Lexeme) → TokensFrom at rest more → TokensFrom start script (so_far ++ more))
+      → (more : List Lexeme) → TokensFrom (at + n) after more
+      → TokensFrom start script ((so_far ++ record { kind = k; text = text; start = at; end = at + n } ∷ []) ++ more)
+  token_tokens k text e f g before more t =
+      let one : TokensFrom at rest (record { kind = k; text = take n rest; start = at; end = at + n } ∷ more) =
+      lexis.TokensFrom.token k n e (subst (λ (w : List ℕ). TokensFrom (at + n) w more) f t) in
+      rw (append_assoc so_far (record { kind = k; text = text; start = at; end = at + n } ∷ []) more, g)
+      (before (record { kind = k; text = take n rest; start = at; end = at + n } ∷ more) one)
+
+  pub token_stops : (k : Kind) → first_lexeme rest ≡ front.Lexeme k n → after ≡ drop n rest
+      → ((bad : ℕ) → StopsFrom at rest bad → StopsFrom start script bad) → (bad : ℕ) → StopsFrom (at + n) after bad → StopsFrom start script bad
+  token_stops k e f before bad t = before bad (lexis.StopsFrom.token k n e (subst (λ (w : List ℕ). StopsFrom (at + n) w bad) f t))
+
+pub stops_here : (at : ℕ) (rest : List ℕ) → 0 < length rest → first_lexeme rest ≡ front.Bad → StopsFrom at rest at
+stops_here at [] h e = absurd (omega arith)
+stops_here at (b ∷ rest) h e = lexis.StopsFrom.here e
+
+pub all_done : (start : ℕ) (script : List ℕ) (at : ℕ) (rest : List ℕ) (so_far : List Lexeme) → length rest ≡ 0
+    → ((more : List Lexeme) → TokensFrom at rest more → TokensFrom start script (so_far ++ more)) → TokensFrom start script so_far
+all_done start script at rest so_far h before =
+    let end : TokensFrom at rest [] = rw (nil_from_length rest h) lexis.TokensFrom.ended in
+    rw append-nil at (before [] end)

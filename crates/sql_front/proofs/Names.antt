@@ -1,0 +1,34 @@
+-- Names and reserved words.
+use Rattle.std.proofs.Common.{◌≡◌, ℕ, Bool, true, false, not, List, refl, ◌∙◌, inl, inr, ◌&&◌}
+use Rattle.std.proofs.lemmas.Bool.{and_parts, cases_Bool, both_ways}
+use Rattle.std.proofs.lemmas.Slice.Eq.{bytes_eq-Decides}
+use Rattle.std.specs.Str.{bytes_eq}
+use Rattle.sql_front.specs.Words.{folded, is_among, reserved, is_reserved}
+use Rattle.sql_front.specs.declared.token.Kind.TheVariants.{Word}
+use Rattle.sql_front.specs.Language.{keyword, is_word}
+use Rattle.sql_front.specs.Grammar.{name}
+use Rattle.sql_front.proofs.WordsFacts.{listed, reserved_same}
+use Rattle.sql_front.proofs.First.{Apart, OfKind, is_word-kind}
+
+pub name_kind : OfKind name Word
+name_kind = record { is = λ t e. is_word-kind t.kind (and_parts (is_word t.kind) (not (is_reserved t.text)) e).0 }
+
+-- a reserved word is no name
+not_name : (k : Bool) (b : Bool) → b ≡ true → (k && not b) ≡ false
+not_name true b e = rw e refl
+not_name false b e = refl
+
+pub keyword_not_name : (w : List ℕ) → is_among w reserved ≡ true → Apart (keyword w) name
+keyword_not_name w h = record {
+  apart = λ t e.
+      let same : folded t.text ≡ folded w = (bytes_eq-Decides (folded t.text) (folded w)).0 (and_parts (is_word t.kind) (bytes_eq (folded t.text) (folded w)) e).1 in
+      not_name (is_word t.kind) (is_reserved t.text) (reserved_same t.text w same ∙ listed w h);
+}
+
+pub name_not_keyword : (w : List ℕ) → is_among w reserved ≡ true → Apart name (keyword w)
+name_not_keyword w h = record {
+  apart = λ t e. elim (cases_Bool (keyword w t)) [
+    | inl k ↦ absurd (both_ways (name t) ((keyword_not_name w h).apart t k) e)
+    | inr k ↦ k
+  ];
+}

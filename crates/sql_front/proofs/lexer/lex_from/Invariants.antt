@@ -1,0 +1,18 @@
+use Rattle.std.proofs.Common.{ℕ, ◌+◌, ◌<◌, ◌^◌, List, ◌++◌, length}
+use denote.Shadow.{shadow}
+use denote.Text.{Utf8}
+use Rattle.sql_front.specs.Lexemes.{Lexeme, lexemes}
+use Rattle.sql_front.specs.Lexis.{TokensFrom, StopsFrom}
+use Rattle.sql_front.proofs.lexer.lex_from.Given as goal
+
+-- whatever the rest has completes the whole
+abbrev pub invariant-fronts : goal.invariant-fronts
+invariant-fronts l = record {
+  fits : l.at + length l.rest < 2 ^ 63;
+  text : shadow (Utf8 l.rest);
+  tokens : (more : List Lexeme) → TokensFrom l.at l.rest more → TokensFrom l.start l.text (lexemes l.tokens.items ++ more);
+  stops : (bad : ℕ) → StopsFrom l.at l.rest bad → StopsFrom l.start l.text bad;
+}
+
+abbrev pub decreases-fronts : goal.decreases-fronts
+decreases-fronts l = length l.rest

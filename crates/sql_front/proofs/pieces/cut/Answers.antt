@@ -1,0 +1,43 @@
+use Rattle.std.proofs.Common.{length, map, sym, ap, ◌∙◌}
+use Rattle.std.specs.List.{All}
+use Rattle.sql_front.specs.Lexemes.{lexemes}
+use Rattle.sql_front.specs.Pieces.{HasPieces, IsWithin, spanned}
+use Rattle.sql_front.proofs.PiecesFacts.{cut_start, cut_token, cut_piece, cut_empty, cut_last, cut_all}
+use Rattle.sql_front.proofs.pieces.cut.Goals.{then-is_semicolon, then-start-i+in_ok-push, else-start-i, else-is_semicolon, then-start-tokens+in_ok-push-2, else-start-tokens}
+use Rattle.sql_front.proofs.pieces.cut.Goals as goal
+
+pub tokens-init : goal.tokens-init
+tokens-init c = rw c.new-spans.ensures.items (cut_start c.args.tokens.now)
+
+pub tokens-preserved : goal.tokens-preserved
+tokens-preserved c =
+    elim c.if-is_semicolon.branch [
+      | then-is_semicolon w ↦ elim w.if-start-i.branch [
+        | then-start-i+in_ok-push x ↦ rw (w.start-is, w.spans-is, x.spans-is)
+            (cut_piece c.args.tokens.now c.tokens.start c.tokens.i c.tokens.spans.items x.push.new.self.items _ c.tokens.invariant c.tokens-test.true
+            (sym c.is_semicolon.ensures ∙ w.if-is_semicolon.true) x.if-start-i.true x.in_ok-push.ensures.items)
+        | else-start-i x ↦ rw (w.start-is, w.spans-is, x.spans-is)
+            (cut_empty c.args.tokens.now c.tokens.start c.tokens.i c.tokens.spans.items _ c.tokens.invariant c.tokens-test.true
+            (sym c.is_semicolon.ensures ∙ w.if-is_semicolon.true) x.if-start-i.false)
+      ]
+      | else-is_semicolon w ↦ rw (w.start-is, w.spans-is)
+          (cut_token c.args.tokens.now c.tokens.start c.tokens.i c.tokens.spans.items _ c.tokens.invariant c.tokens-test.true
+          (sym c.is_semicolon.ensures ∙ w.if-is_semicolon.false))
+    ]
+
+-- what both clauses say
+done : (c : goal.Joined-start-tokens) → HasPieces (lexemes c.args.tokens.now) (map (spanned (lexemes c.args.tokens.now)) c.if-start-tokens.spans.items)
+    × All (IsWithin (length c.args.tokens.now)) c.if-start-tokens.spans.items
+done c =
+    elim c.if-start-tokens.branch [
+      | then-start-tokens+in_ok-push-2 w ↦ cut_last c.args.tokens.now c.tokens.start c.tokens.i c.tokens.spans.items c.if-start-tokens.spans.items c.tokens.invariant
+          c.tokens-test.false c.tokens.auto.i-end w.if-start-tokens.true (ap (λ v. v.items) w.spans-is ∙ w.in_ok-push-2.ensures.items)
+      | else-start-tokens w ↦ rw w.spans-is (cut_all c.args.tokens.now c.tokens.start c.tokens.i c.tokens.spans.items c.tokens.invariant
+          c.tokens-test.false c.tokens.auto.i-end w.if-start-tokens.false)
+    ]
+
+pub returns-clause-pieces : goal.returns-clause-pieces
+returns-clause-pieces c = (done c).0
+
+pub returns-clause-within : goal.returns-clause-within
+returns-clause-within c = (done c).1

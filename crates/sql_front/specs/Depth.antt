@@ -1,0 +1,27 @@
+-- How deep parentheses stand.
+use Rattle.std.specs.Prelude.{◌≡◌, ℕ, zero, suc, ◌+◌, ◌<◌, Bool, cond, List, [], ◌∷◌, ◌++◌, Option, Some, None, codes}
+use Rattle.sql_front.specs.Lexemes.{Lexeme}
+use Rattle.sql_front.specs.Language.{symbol}
+
+-- an opening parenthesis
+abbrev pub opens : Lexeme → Bool
+opens = symbol (codes "(")
+
+-- a closing parenthesis
+abbrev pub closes : Lexeme → Bool
+closes = symbol (codes ")")
+
+-- how many tokens pass a test
+abbrev pub counted : (Lexeme → Bool) → List Lexeme → ℕ
+counted test [] = 0
+counted test (t ∷ ts) = cond (test t) (suc (counted test ts)) (counted test ts)
+
+-- some of the first tokens have over n more opening parentheses than closing ones
+abbrev pub IsDeeper : ℕ → List Lexeme → Type 0
+IsDeeper n lexemes = (front : List Lexeme) × (rest : List Lexeme) × (lexemes ≡ front ++ rest) × (n + counted closes front < counted opens front)
+
+-- how many more may still open after these tokens, where so many may open before them
+unfoldable pub room : ℕ → List Lexeme → Option ℕ
+room k [] = Some k
+room zero (t ∷ ts) = cond (opens t) None (cond (closes t) (room 1 ts) (room zero ts))
+room (suc k) (t ∷ ts) = cond (opens t) (room k ts) (cond (closes t) (room (suc (suc k)) ts) (room (suc k) ts))

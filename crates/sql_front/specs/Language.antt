@@ -1,0 +1,91 @@
+-- The ways in which a language is made of others. A language says which lists of tokens spell which value.
+use Rattle.std.specs.Prelude.{◌≡◌, ℕ, Bool, true, false, List, [], ◌∷◌, ◌++◌, ◌⊎◌, ◌&&◌, ◌||◌, codes, Option, Some, None}
+use Rattle.std.specs.Str.{bytes_eq}
+use Rattle.sql_front.specs.Lexemes.{Lexeme}
+use Rattle.sql_front.specs.Words.{folded}
+use Rattle.sql_front.specs.declared.token.Kind.{Kind}
+use Rattle.sql_front.specs.declared.token.Kind.TheVariants.{Word, Number, Text, Symbol}
+
+abbrev pub is_word : Kind → Bool
+is_word Word = true
+is_word Number = false
+is_word Text = false
+is_word Symbol = false
+
+abbrev pub is_number : Kind → Bool
+is_number Word = false
+is_number Number = true
+is_number Text = false
+is_number Symbol = false
+
+abbrev pub is_text : Kind → Bool
+is_text Word = false
+is_text Number = false
+is_text Text = true
+is_text Symbol = false
+
+abbrev pub is_symbol : Kind → Bool
+is_symbol Word = false
+is_symbol Number = false
+is_symbol Text = false
+is_symbol Symbol = true
+
+-- this word, in any case
+abbrev pub keyword : List ℕ → Lexeme → Bool
+keyword word lexeme = is_word lexeme.kind && bytes_eq (folded lexeme.text) (folded word)
+
+-- this symbol
+abbrev pub symbol : List ℕ → Lexeme → Bool
+symbol sign lexeme = is_symbol lexeme.kind && bytes_eq lexeme.text sign
+
+abbrev pub number : Lexeme → Bool
+number lexeme = is_number lexeme.kind
+
+abbrev pub text : Lexeme → Bool
+text lexeme = is_text lexeme.kind
+
+-- one test or the other
+abbrev pub or_test : (Lexeme → Bool) → (Lexeme → Bool) → Lexeme → Bool
+or_test a b lexeme = a lexeme || b lexeme
+
+-- one token that meets a test, by its text
+abbrev pub OneToken : (Lexeme → Bool) → List Lexeme → List ℕ → Type 0
+OneToken test lexemes written = (one : Lexeme) × (test one ≡ true) × (lexemes ≡ one ∷ []) × (written ≡ one.text)
+
+-- one token that meets a test, and stands for nothing
+abbrev pub Fixed : (Lexeme → Bool) → List Lexeme → Unit {0} → Type 0
+Fixed test lexemes nothing = (one : Lexeme) × (test one ≡ true) × (lexemes ≡ one ∷ [])
+
+-- the one, then the other: the tokens are split at some place
+abbrev pub Sequence : {A B : Type 0} → (List Lexeme → A → Type 0) → (List Lexeme → B → Type 0) → List Lexeme → A × B → Type 0
+Sequence L M lexemes pair = (x : List Lexeme) × (y : List Lexeme) × (lexemes ≡ x ++ y) × L x pair.0 × M y pair.1
+
+-- what is built of a value
+abbrev pub Built : {A B : Type 0} → (A → B) → (List Lexeme → A → Type 0) → List Lexeme → B → Type 0
+Built {A} build L lexemes b = (a : A) × (b ≡ build a) × L lexemes a
+
+-- the one or the other
+abbrev pub Choice : {A : Type 0} → (List Lexeme → A → Type 0) → (List Lexeme → A → Type 0) → List Lexeme → A → Type 0
+Choice L M lexemes a = L lexemes a ⊎ M lexemes a
+
+-- any number of times
+abbrev pub Repetition : {A : Type 0} → (List Lexeme → A → Type 0) → List Lexeme → List A → Type 0
+Repetition L lexemes [] = lexemes ≡ []
+Repetition L lexemes (a ∷ more) = (x : List Lexeme) × (y : List Lexeme) × (lexemes ≡ x ++ y) × L x a × Repetition L y more
+
+-- once or not at all
+abbrev pub Optional : {A : Type 0} → (List Lexeme → A → Type 0) → List Lexeme → Option A → Type 0
+Optional L lexemes None = lexemes ≡ []
+Optional L lexemes (Some a) = L lexemes a
+
+-- a token that stands for nothing, then the language
+abbrev pub Preceded : {A : Type 0} → (Lexeme → Bool) → (List Lexeme → A → Type 0) → List Lexeme → A → Type 0
+Preceded {A} test L = Built (λ (pair : Unit {0} × A). pair.1) (Sequence (Fixed test) L)
+
+-- one or more, with a separator between each two
+abbrev pub Separated : {A : Type 0} → (Lexeme → Bool) → (List Lexeme → A → Type 0) → List Lexeme → List A → Type 0
+Separated {A} separator L = Built (λ (pair : A × List A). pair.0 ∷ pair.1) (Sequence L (Repetition (Preceded separator L)))
+
+-- in parentheses
+abbrev pub Enclosed : {A : Type 0} → (List Lexeme → A → Type 0) → List Lexeme → A → Type 0
+Enclosed {A} L = Preceded (symbol (codes "(")) (Built (λ (pair : A × Unit {0}). pair.0) (Sequence L (Fixed (symbol (codes ")")))))

@@ -1,0 +1,10 @@
+-- The tokens that a mark of the code stands for.
+use Rattle.std.specs.Prelude.{Bool}
+use Rattle.sql_front.specs.declared.mark.Mark.{Mark}
+use Rattle.sql_front.specs.declared.mark.Mark.TheVariants as marks
+use Rattle.sql_front.specs.Lexemes.{Lexeme}
+use Rattle.sql_front.specs.Language.{keyword, symbol}
+
+abbrev pub mark : Mark → Lexeme → Bool
+mark (marks.Keyword word) = keyword word.now
+mark (marks.Symbol sign) = symbol sign.now

@@ -1,0 +1,39 @@
+-- Pieces: what stands between the semicolons of a script.
+use Rattle.std.specs.Prelude.{◌≡◌, ℕ, ◌<◌, ◌≤◌, Bool, true, false, List, [], ◌∷◌, ◌++◌, codes, filter}
+use Rattle.std.specs.List.{list_any, slice_range}
+use Rattle.std.specs.Str.{bytes_eq}
+use Rattle.sql_front.specs.declared.pieces.Span.{Span}
+use Rattle.sql_front.specs.Lexemes.{Lexeme}
+
+-- a semicolon: no other token has this text
+abbrev pub is_semicolon : Lexeme → Bool
+is_semicolon token = bytes_eq token.text (codes ";")
+
+-- none of these is a semicolon
+abbrev pub HasNoSemicolon : List Lexeme → Type 0
+HasNoSemicolon tokens = list_any is_semicolon tokens ≡ false
+
+-- parts without semicolons make these tokens, joined with one semicolon between each two
+pub data Joined : List (List Lexeme) → List Lexeme → Type 0 where
+  one : (part : List Lexeme) → HasNoSemicolon part → Joined (part ∷ []) part
+  more : (part : List Lexeme) (semicolon : Lexeme) {parts : List (List Lexeme)} {rest : List Lexeme}
+      → HasNoSemicolon part → is_semicolon semicolon ≡ true → Joined parts rest
+      → Joined (part ∷ parts) (part ++ semicolon ∷ rest)
+
+-- a list of one token or more
+abbrev pub is_nonempty : List Lexeme → Bool
+is_nonempty [] = false
+is_nonempty (token ∷ tokens) = true
+
+-- the pieces of these tokens: the parts that are not empty, in order
+abbrev pub HasPieces : List Lexeme → List (List Lexeme) → Type 0
+HasPieces tokens pieces =
+    (parts : List (List Lexeme)) × Joined parts tokens × (pieces ≡ filter is_nonempty parts)
+
+-- the tokens of a span
+abbrev pub spanned : List Lexeme → Span → List Lexeme
+spanned tokens span = slice_range tokens span.start span.end
+
+-- a span of one token or more, out of this many
+abbrev pub IsWithin : ℕ → Span → Type 0
+IsWithin count span = (span.start < span.end) × (span.end ≤ count)

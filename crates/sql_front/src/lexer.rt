@@ -1,0 +1,85 @@
+//! The tokens of a script.
+
+ghost use Rattle.std.specs.Prelude.{◌≡◌, ℕ, ◌+◌, ◌<◌, ◌^◌, length, All, IfOk};
+ghost use Rattle.sql_front.specs.declared.lexer.LexFault.TheVariants.{BadToken, Memory};
+ghost use Rattle.sql_front.specs.Lexemes.{lexemes};
+ghost use Rattle.sql_front.specs.Lexis.{TokensFrom, StopsFrom, TokensOf, StopsAt, IsTokenAt};
+
+use crate::lexeme::{Front, first_lexeme};
+use crate::scan::mark_size;
+use crate::token::Token;
+use std::alloc::{AllocError, AllocFailed, Global};
+use thiserror::Error;
+
+/// Why a script has no tokens.
+#[derive(Debug, Drop, Error)]
+pub enum LexFault {
+    /// At this byte no token begins, or a text that does not end.
+    #[error("no token begins at byte {0}")]
+    BadToken(usize),
+    /// An allocation was refused.
+    #[error("out of memory")]
+    Memory,
+}
+
+impl From<AllocError> for LexFault {
+    ghost from_gives = { λ _ e. e ≡ Memory };
+
+    fn from(_error: AllocError) -> LexFault {
+        LexFault::Memory
+    }
+}
+
+impl<T: Drop> From<AllocFailed<T>> for LexFault {
+    ghost from_gives = { λ _ e. e ≡ Memory };
+
+    fn from(_error: AllocFailed<T>) -> LexFault {
+        LexFault::Memory
+    }
+}
+
+/// The tokens of a text that stands at this offset of a script.
+fn lex_from<'a>(alloc: Global, start: usize, text: &'a str) -> Result<Vec<Token<'a>>, LexFault>
+    requires { start + length text.now < 2 ^ 63 }
+    ensures tokens { IfOk result (λ tokens. TokensFrom start text.now (lexemes tokens.items)) }
+    ensures bad { (offset : ℕ) → result ≡ Err (BadToken offset) → StopsFrom start text.now offset }
+{
+    let mut tokens = Vec::new(alloc);
+    let mut rest = text;
+    let mut at = start;
+    'fronts: while !rest.is_empty() {
+        match first_lexeme(rest) {
+            Front::Blank(size) => {
+                let (_, after) = rest.split_at(size);
+                rest = after;
+                at += size;
+            }
+            Front::Lexeme(kind, size) => {
+                let (text, after) = rest.split_at(size);
+                tokens.push(Token {
+                    kind,
+                    text,
+                    start: at,
+                    end: at + size,
+                })?;
+                rest = after;
+                at += size;
+            }
+            Front::Bad => return Err(LexFault::BadToken(at)),
+        }
+    }
+    Ok(tokens)
+}
+
+/// The tokens of a script, in order. Offsets count bytes of the whole script.
+///
+/// Where at some place no case fits, the first such offset is the fault.
+pub fn lex<'a>(alloc: Global, script: &'a str) -> Result<Vec<Token<'a>>, LexFault>
+    ensures tokens { IfOk result (λ tokens. TokensOf script.now (lexemes tokens.items)) }
+    ensures slices { IfOk result (λ tokens. All (IsTokenAt script.now) (lexemes tokens.items)) }
+    ensures bad { (offset : ℕ) → result ≡ Err (BadToken offset) → StopsAt script.now offset }
+{
+    let start = mark_size(script.as_bytes());
+    let (_, text) = script.split_at(start);
+    lex_from(alloc, start, text)
+}

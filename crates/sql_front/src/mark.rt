@@ -1,0 +1,120 @@
+//! Single tokens, read from the front.
+
+ghost use Rattle.std.specs.Prelude.{◌≡◌, List, ◌≤◌, ◌<◌, length, IfOk};
+ghost use Rattle.sql_front.specs.Lexemes.{lexeme, lexemes};
+ghost use Rattle.sql_front.specs.Language.{number, text};
+ghost use Rattle.sql_front.specs.Grammar.{name};
+ghost use Rattle.sql_front.specs.Reading.{begins, third_is, fixed_read, one_read};
+ghost use Rattle.sql_front.specs.Marks.{mark};
+ghost use Rattle.sql_front.specs.Views.{Gives};
+
+use crate::token::{Kind, Token};
+use crate::unread::Unread;
+use crate::words::{is_reserved, is_same_word};
+
+/// A token that stands for nothing but itself.
+#[derive(Clone, Copy)]
+pub enum Mark<'m> {
+    Keyword(&'m str),
+    Symbol(&'m str),
+}
+
+/// Is the token this mark?
+pub fn is_mark(token: &Token<'_>, want: Mark<'_>) -> bool
+    ensures { result ≡ mark want.entry (lexeme token.now) }
+{
+    match want {
+        Mark::Keyword(word) => token.kind == Kind::Word && is_same_word(token.text, word),
+        Mark::Symbol(symbol) => token.kind == Kind::Symbol && token.text == symbol,
+    }
+}
+
+/// Do the tokens begin with this mark?
+pub fn starts(tokens: &[Token<'_>], want: Mark<'_>) -> bool
+    ensures { result ≡ begins (mark want.entry) (lexemes tokens.now) }
+{
+    match tokens {
+        [] => false,
+        [first, ..] => is_mark(first, want),
+    }
+}
+
+/// Is the third token this mark?
+pub fn third(tokens: &[Token<'_>], want: Mark<'_>) -> bool
+    ensures { result ≡ third_is (mark want.entry) (lexemes tokens.now) }
+{
+    match tokens {
+        [_, _, rest @ ..] => starts(rest, want),
+        _ => false,
+    }
+}
+
+/// The tokens after this mark.
+pub fn skip<'a, 'b>(tokens: &'b [Token<'a>], want: Mark<'_>) -> Result<&'b [Token<'a>], Unread>
+    ensures value { Gives (λ rest. (tt, lexemes rest.now)) result (fixed_read (mark want.entry) (lexemes tokens.now)) }
+    ensures rest { IfOk result (λ r. length r.now < length tokens.now) }
+{
+    match tokens {
+        [first, rest @ ..] if is_mark(first, want) => Ok(rest),
+        _ => Err(Unread::Syntax),
+    }
+}
+
+fn is_name(token: &Token<'_>) -> bool
+    ensures { result ≡ name (lexeme token.now) }
+{
+    token.kind == Kind::Word && !is_reserved(token.text)
+}
+
+/// A name, as it is written, and the tokens after it.
+pub fn name<'a, 'b>(tokens: &'b [Token<'a>]) -> Result<(&'a str, &'b [Token<'a>]), Unread>
+    ensures value { Gives (λ x. (x.0.now, lexemes x.1.now)) result (one_read name (lexemes tokens.now)) }
+    ensures rest { IfOk result (λ x. length x.1.now < length tokens.now) }
+{
+    match tokens {
+        [first, rest @ ..] if is_name(first) => Ok((first.text, rest)),
+        _ => Err(Unread::Syntax),
+    }
+}
+
+/// A number's digits, and the tokens after it.
+pub fn number<'a, 'b>(tokens: &'b [Token<'a>]) -> Result<(&'a str, &'b [Token<'a>]), Unread>
+    ensures value { Gives (λ x. (x.0.now, lexemes x.1.now)) result (one_read number (lexemes tokens.now)) }
+    ensures rest { IfOk result (λ x. length x.1.now < length tokens.now) }
+{
+    match tokens {
+        [first, rest @ ..] if first.kind == Kind::Number => Ok((first.text, rest)),
+        _ => Err(Unread::Syntax),
+    }
+}
+
+/// A text with its quotes, and the tokens after it.
+pub fn text<'a, 'b>(tokens: &'b [Token<'a>]) -> Result<(&'a str, &'b [Token<'a>]), Unread>
+    ensures value { Gives (λ x. (x.0.now, lexemes x.1.now)) result (one_read text (lexemes tokens.now)) }
+    ensures rest { IfOk result (λ x. length x.1.now < length tokens.now) }
+{
+    match tokens {
+        [first, rest @ ..] if first.kind == Kind::Text => Ok((first.text, rest)),
+        _ => Err(Unread::Syntax),
+    }
+}
+
+/// Do the tokens begin with a number?
+pub fn starts_number(tokens: &[Token<'_>]) -> bool
+    ensures { result ≡ begins number (lexemes tokens.now) }
+{
+    match tokens {
+        [] => false,
+        [first, ..] => first.kind == Kind::Number,
+    }
+}
+
+/// Do the tokens begin with a text?
+pub fn starts_text(tokens: &[Token<'_>]) -> bool
+    ensures { result ≡ begins text (lexemes tokens.now) }
+{
+    match tokens {
+        [] => false,
+        [first, ..] => first.kind == Kind::Text,
+    }
+}

@@ -1,0 +1,40 @@
+//! The statement that tokens spell, or why there is none.
+
+ghost use Rattle.std.specs.Prelude.{IfOk, IfErr, OnOk};
+ghost use Rattle.period_core.specs.Leasts.{MayAnswer, NoneApplies};
+ghost use Rattle.sql_front.specs.Grammar as grammar;
+ghost use Rattle.sql_front.specs.Grammar.{IsStatement};
+ghost use Rattle.sql_front.specs.Lexemes.{lexemes};
+ghost use Rattle.sql_front.specs.Meaning.{Means};
+ghost use Rattle.sql_front.specs.PieceRefusals.{PieceApplies};
+
+use crate::depth::is_too_deep;
+use crate::meanings::decided;
+use crate::statement::Statement;
+use crate::statement_forms::spelled;
+use crate::token::Token;
+use crate::unread::Unread;
+use period_core::Refusal;
+use std::alloc::Global;
+
+/// The statement that the tokens of a piece of the script spell, all of them; else the refusal of
+/// the least number whose condition holds, or want of memory.
+pub fn parse(alloc: Global, _script: &str, tokens: &[Token<'_>]) -> Result<Statement, Refusal>
+    // What is answered is what the tokens spell.
+    ensures found { IfOk result (λ s. (written : grammar.Written) × IsStatement (lexemes tokens.now) written × Means written s) }
+
+    // No refusal applies to what is answered.
+    ensures sound { OnOk result (NoneApplies (PieceApplies (lexemes tokens.now))) }
+
+    // A refusal is the least that applies, or want of memory.
+    ensures refused { IfErr result (MayAnswer (PieceApplies (lexemes tokens.now))) }
+{
+    if is_too_deep(tokens) {
+        return Err(Refusal::TooDeep);
+    }
+    match spelled(alloc, tokens) {
+        Ok(written) => decided(alloc, &written),
+        Err(Unread::Memory) => Err(Refusal::Memory),
+        Err(Unread::Syntax) => Err(Refusal::Syntax),
+    }
+}
