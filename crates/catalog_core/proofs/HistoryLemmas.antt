@@ -1,8 +1,7 @@
 -- What one more event makes of a history's catalog and last state.
-use Rattle.std.proofs.Common.{◌≡◌, ℕ, ℤ, List, [], ◌∷◌, ◌++◌, fold, filter_map, refl, sym, ap, ◌∙◌, append_assoc, append-nil}
+use Rattle.std.proofs.Common.{◌≡◌, ℕ, ℤ, List, [], ◌∷◌, ◌++◌, fold, filter_map, sym, ap, ◌∙◌, append_assoc, append-nil}
 use Rattle.std.proofs.lemmas.List.Elements.{filter_map-append}
 use Rattle.std.proofs.lemmas.List.Sums.{fold-append}
-use Rattle.period_core.specs.declared.value.Value.{Value}
 use Rattle.catalog_core.specs.Effects.{effect}
 use Rattle.catalog_core.specs.Histories.{Asked, Changed, Created, Event, History, catalog_of, changed_by, created_by, last_state, rows_in, values_on, with_event}
 use Rattle.catalog_core.specs.declared.table.TableDef.{TableDef}

@@ -1,6 +1,6 @@
 -- A sequenced answer is certified by its witnesses, so the laws of certified lists are its laws.
-use Rattle.std.proofs.Common.{◌≡◌, ℤ, List, [], ◌∷◌, inl, inr, subst}
-use Rattle.std.specs.List.{AllZip, Contains}
+use Rattle.std.proofs.Common.{ℤ, List, [], ◌∷◌, inl, inr, subst}
+use Rattle.std.specs.List.{Contains}
 use Rattle.period_core.specs.declared.answer.Answer.{Answer}
 use Rattle.period_core.specs.declared.answer.Witness.{Witness}
 use Rattle.period_core.specs.declared.row.PeriodRow.{PeriodRow}
@@ -12,8 +12,6 @@ use Rattle.temporal_model.proofs.Members.{Contains-nil, Contains-cons_cases}
 use Rattle.temporal_model.proofs.OneToOne.{maps_one_to_one}
 use Rattle.temporal_model.proofs.Witnesses.{certified_by_witnesses}
 use Rattle.catalog_core.specs.Answers.{InAnswerOn}
-use Rattle.catalog_core.specs.Histories.{History}
-use Rattle.catalog_core.specs.declared.query.Select.{Select}
 use Rattle.script_engine.specs.Headline.{IsSequencedAnswer}
 use Rattle.script_engine.specs.Laws.{AnswersAreUnique, AnswersMapOneToOne, SameSnapshotsSameAnswers}
 

@@ -1,5 +1,5 @@
 -- An answer is right in the histories that the engine represents.
-use Rattle.std.proofs.Common.{◌≡◌, ◌↔◌, ℕ, ℤ, List, [], map, Result, Ok, Err, refl, sym, ap, ◌∙◌, subst}
+use Rattle.std.proofs.Common.{◌≡◌, ◌↔◌, ℤ, List, map, Ok, Err, refl, sym, ◌∙◌, subst}
 use Rattle.std.specs.List.{Contains}
 use Rattle.period_core.specs.Leasts.{MayAnswer, NoneApplies}
 use Rattle.period_core.specs.declared.answer.Answer.{Answer}
@@ -15,13 +15,13 @@ use Rattle.sql_front.specs.declared.statement.Statement.TheVariants as statement
 use Rattle.catalog_core.specs.Judged.{Holds}
 use Rattle.catalog_core.specs.Selection.{IsSequenced, ResolvesQuery, query_conditions}
 use Rattle.catalog_core.specs.Answers.{InAnswerOn, projected}
-use Rattle.catalog_core.specs.Histories.{Asked, Database, History, catalog_of, last_state, rows_in, values_on, with_event}
+use Rattle.catalog_core.specs.Histories.{Asked, Database, History, last_state, rows_in, values_on, with_event}
 use Rattle.catalog_core.proofs.HistoryLemmas.{catalog_of-asked, last_state-asked}
 use Rattle.catalog_core.specs.declared.query.Item.{Item}
 use Rattle.catalog_core.specs.declared.query.Select.{Select}
 use Rattle.script_engine.specs.Headline.{IsSequencedAnswer}
 use Rattle.script_engine.specs.Rows.{plain_row, projected_row}
-use Rattle.script_engine.specs.Runs.{Represents, StepsTo, StatementApplies}
+use Rattle.script_engine.specs.Runs.{Represents, StepsTo}
 use Rattle.script_engine.specs.declared.outcome.Outcome.TheVariants.{Answer as Answered}
 use Rattle.script_engine.proofs.Snapshots.{held_in_snapshot, image_from, image_of, snapshot_of_held}
 use Rattle.script_engine.proofs.Given.{values_on-projected}

@@ -1,12 +1,10 @@
 -- A change that is carried out is a step of the histories that the engine represents.
-use Rattle.std.proofs.Common.{◌≡◌, ◌==◌, ◌<◌, ◌≤◌, ◌-◌, ◌++◌, ◌∷◌, ◌⊎◌, ◌↔◌, ℕ, zero, suc, ℤ, Bool, true, false, List, [], length, map, Result, Ok, Err, refl, sym, ap, ◌∙◌, subst, inl, inr, arith, get_or, set, nat_eq}
+use Rattle.std.proofs.Common.{◌≡◌, ◌<◌, ◌≤◌, ◌-◌, ◌++◌, ◌∷◌, ◌↔◌, ℕ, zero, suc, ℤ, Bool, true, false, List, [], length, map, Ok, refl, sym, ap, ◌∙◌, subst, inl, inr, arith, get_or, set, nat_eq}
 use Rattle.std.proofs.lemmas.List.{get_or-set_same, get_or-set_other, length-map}
 use Rattle.std.proofs.lemmas.Bool.Decides.{nat_tests}
 use Rattle.std.specs.List.{Contains}
 use Rattle.std.proofs.lemmas.List.Elements.{Contains-append_left, Contains-append_right, Contains-append_cases}
 use Rattle.period_core.specs.Leasts.{NoneApplies}
-use Rattle.period_core.specs.declared.refusal.Refusal.{Refusal}
-use Rattle.period_core.specs.declared.refusal.Refusal.TheVariants.{EmptyPeriod}
 use Rattle.period_core.specs.declared.row.PeriodRow.{PeriodRow}
 use Rattle.period_core.specs.declared.value.Value.{Value}
 use Rattle.temporal_model.specs.Snapshot.{InSnapshot}
@@ -15,13 +13,11 @@ use Rattle.sql_front.specs.declared.statement.Statement.TheVariants as statement
 use Rattle.catalog_core.specs.Judged.{Holds}
 use Rattle.catalog_core.specs.Resolution.{IsChange, ResolvesChange, change_conditions, empty_period, has_empty_row}
 use Rattle.catalog_core.specs.Effects.{Traced, effect, given_of, traced}
-use Rattle.catalog_core.specs.Histories.{Changed, Database, History, catalog_of, last_state, rows_in, values_on, with_event}
+use Rattle.catalog_core.specs.Histories.{Changed, Database, History, last_state, rows_in, values_on, with_event}
 use Rattle.catalog_core.proofs.HistoryLemmas.{catalog_of-changed, last_state-changed}
 use Rattle.catalog_core.specs.declared.table.TableDef.{TableDef}
 use Rattle.catalog_core.specs.declared.change.Action.{Action}
-use Rattle.catalog_core.specs.declared.change.Action.TheVariants.{Insert}
 use Rattle.catalog_core.specs.declared.change.Change.{Change}
-use Rattle.catalog_core.specs.declared.change.GivenRow.{GivenRow}
 use Rattle.script_engine.specs.Rows.{plain_given, plain_row}
 use Rattle.script_engine.specs.Runs.{Represents, StepsTo, StatementApplies}
 use Rattle.script_engine.specs.declared.outcome.Outcome.TheVariants.{Done}

@@ -1,6 +1,6 @@
 -- The rows that are made of given rows hold on each day what a change traces of these, and a
 -- projection holds the projected values.
-use Rattle.std.proofs.Common.{◌≡◌, ◌+◌, ◌++◌, ◌∷◌, ℕ, ℤ, Bool, true, false, List, [], map, filter, refl, sym, ap, ap₂, ◌∙◌, int_le, int_lt, ◌&&◌, cond}
+use Rattle.std.proofs.Common.{◌≡◌, ◌+◌, ◌++◌, ◌∷◌, ℕ, ℤ, Bool, true, false, List, [], map, filter, refl, sym, ap, ap₂, ◌∙◌, int_le, int_lt, ◌&&◌}
 use Rattle.std.specs.List.{enumerate_from}
 use Rattle.std.proofs.lemmas.List.{map-append}
 use Rattle.period_core.specs.declared.row.PeriodRow.{PeriodRow}

@@ -1,18 +1,15 @@
 -- The refusals that an INSERT gets are those of the histories that the engine represents.
-use Rattle.std.proofs.Common.{◌≡◌, ◌⊎◌, ◌∷◌, Bool, true, List, [], Err, refl, sym, ap, ◌∙◌, subst, inl, inr}
-use Rattle.std.specs.List.{list_any}
+use Rattle.std.proofs.Common.{◌≡◌, ◌⊎◌, true, List, Err, refl, sym, ◌∙◌, subst, inl, inr}
 use Rattle.period_core.specs.Leasts.{MayAnswer, NoneApplies}
 use Rattle.period_core.specs.declared.refusal.Refusal.{Refusal}
 use Rattle.period_core.specs.declared.refusal.Refusal.TheVariants.{EmptyPeriod, Memory}
 use Rattle.sql_front.specs.declared.statement.Statement.{Statement}
 use Rattle.sql_front.specs.declared.statement.Statement.TheVariants as statement
 use Rattle.catalog_core.specs.Judged.{Holds}
-use Rattle.catalog_core.specs.Resolution.{IsChange, change_conditions, empty_period, has_empty_row, is_empty_row}
+use Rattle.catalog_core.specs.Resolution.{IsChange, change_conditions, empty_period, has_empty_row}
 use Rattle.catalog_core.specs.Histories.{Database, History}
 use Rattle.catalog_core.specs.declared.table.TableDef.{TableDef}
-use Rattle.catalog_core.specs.declared.change.Action.TheVariants.{Insert}
 use Rattle.catalog_core.specs.declared.change.Change.{Change}
-use Rattle.catalog_core.specs.declared.change.GivenRow.{GivenRow}
 use Rattle.script_engine.specs.Runs.{Represents, StatementApplies, StepsTo}
 use Rattle.script_engine.proofs.Refused.{are_at_most, may_answer-before, may_answer-empty}
 use Rattle.script_engine.proofs.Steps.{refused_step}

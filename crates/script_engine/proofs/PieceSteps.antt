@@ -1,7 +1,7 @@
 -- The results of pieces, one after the other.
-use Rattle.std.proofs.Common.{◌≡◌, ◌<◌, ◌+◌, ◌-◌, ◌++◌, ◌∷◌, ◌⊎◌, ℕ, List, [], get_or, length, map, take, drop, Result, Ok, Err, refl, sym, ap, ◌∙◌, subst, inl, inr}
+use Rattle.std.proofs.Common.{◌≡◌, ◌<◌, ◌+◌, ◌-◌, ◌++◌, ◌∷◌, ℕ, List, [], get_or, length, map, take, drop, Result, refl, sym, ap, ◌∙◌, subst, inl, inr}
 use Rattle.std.proofs.lemmas.List.{drop-map, map-append, take-map, take_more}
-use Rattle.period_core.specs.Leasts.{MayAnswer, NoneApplies}
+use Rattle.period_core.specs.Leasts.{NoneApplies}
 use Rattle.period_core.specs.declared.refusal.Refusal.{Refusal}
 use Rattle.sql_front.specs.Grammar.{IsStatement, Written}
 use Rattle.sql_front.specs.Meaning.{Means}
@@ -12,7 +12,7 @@ use Rattle.sql_front.specs.declared.pieces.Span.{Span}
 use Rattle.sql_front.specs.declared.token.Token.{Token}
 use Rattle.sql_front.specs.declared.statement.Statement.{Statement}
 use Rattle.catalog_core.specs.Histories.{Database, History}
-use Rattle.script_engine.specs.Runs.{Represents, StepsTo}
+use Rattle.script_engine.specs.Runs.{StepsTo}
 use Rattle.script_engine.specs.Script.{IsOverlong, PieceStep, PieceStepsTo, RunPieces, TextApplies}
 use Rattle.script_engine.specs.declared.outcome.Outcome.{Outcome}
 

@@ -1,12 +1,11 @@
 -- Which refusals a statement may get, from those that its parts give.
-use Rattle.std.proofs.Common.{◌≡◌, ◌≢◌, ◌≤◌, ◌<◌, ◌++◌, ◌∷◌, ◌⊎◌, ◌&&◌, ◌||◌, ℕ, Bool, true, false, List, [], map, Result, Ok, Err, refl, sym, ap, ◌∙◌, subst, inl, inr, int_le, nat_le, arith}
+use Rattle.std.proofs.Common.{◌≡◌, ◌≤◌, ◌++◌, ◌∷◌, ◌⊎◌, ℕ, Bool, true, false, List, [], map, refl, ap, subst, inl, inr, nat_le, arith}
 use Rattle.std.proofs.lemmas.Int.{ints}
-use Rattle.std.specs.Prelude.{IsTrue}
 use Rattle.std.specs.List.{list_all, list_any}
 use Rattle.period_core.specs.Codes.{code_of}
-use Rattle.period_core.specs.Leasts.{IsLeast, MayAnswer, NoneApplies}
+use Rattle.period_core.specs.Leasts.{MayAnswer, NoneApplies}
 use Rattle.period_core.specs.declared.refusal.Refusal.{Refusal}
-use Rattle.period_core.specs.declared.refusal.Refusal.TheVariants.{EmptyPeriod, Memory}
+use Rattle.period_core.specs.declared.refusal.Refusal.TheVariants.{EmptyPeriod}
 use Rattle.period_core.specs.declared.row.PeriodRow.{PeriodRow}
 use Rattle.catalog_core.specs.Judged.{Holds, Judged}
 use Rattle.catalog_core.specs.Resolution.{has_empty_row, is_empty_row}

@@ -1,19 +1,17 @@
 -- A script that has tokens is not refused as a whole, and a new engine represents a history without events.
-use Rattle.std.proofs.Common.{◌≡◌, ◌<◌, ◌≤◌, ℕ, ℤ, List, [], length, map, Result, Ok, Err, append-nil, subst, sym, arith}
+use Rattle.std.proofs.Common.{◌≡◌, ◌≤◌, ℕ, List, length, map, Result, Ok, Err, append-nil, subst, sym, arith}
 use Rattle.std.specs.Prelude.{IfOk}
 use Rattle.std.specs.Str.{IsUtf8}
 use Rattle.period_core.specs.Leasts.{NoneApplies}
 use Rattle.period_core.specs.declared.refusal.Refusal.{Refusal}
 use Rattle.period_core.specs.declared.refusal.Refusal.TheVariants.{BadToken, NotUtf8, ScriptTooLarge}
-use Rattle.period_core.specs.declared.value.Value.{Value}
-use Rattle.temporal_model.specs.Snapshot.{InSnapshot}
 use Rattle.sql_front.specs.Lexemes.{Lexeme, lexemes}
 use Rattle.sql_front.specs.Pieces.{HasPieces, spanned}
 use Rattle.sql_front.specs.declared.pieces.Span.{Span}
 use Rattle.sql_front.specs.declared.token.Token.{Token}
 use Rattle.sql_front.specs.Lexis.{TokensOf}
 use Rattle.sql_front.proofs.TokenLists.{never_both_of}
-use Rattle.catalog_core.specs.Histories.{Database, History, last_state, new_database, opened, rows_in}
+use Rattle.catalog_core.specs.Histories.{Database, History, new_database, opened, rows_in}
 use Rattle.script_engine.specs.Runs.{Represents}
 use Rattle.script_engine.specs.Script.{IsRunOf, RunPieces, ScriptApplies, most_bytes}
 use Rattle.script_engine.specs.declared.outcome.Outcome.{Outcome}

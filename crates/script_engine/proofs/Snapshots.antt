@@ -1,17 +1,13 @@
 -- The snapshot of a list of rows, as the list of the values that it holds on a day.
-use Rattle.std.proofs.Common.{◌≡◌, ◌+◌, ◌++◌, ◌∷◌, ℕ, ℤ, suc, Bool, true, false, List, [], map, filter, refl, sym, ap, ap₂, ◌∙◌, subst, inl, inr, ◌⊎◌, int_le, int_lt, ◌≤ℤ◌, ◌<ℤ◌, ◌&&◌, cond, arith}
-use Rattle.std.specs.Prelude.{IsTrue}
-use Rattle.std.specs.List.{Contains, enumerate_from}
+use Rattle.std.proofs.Common.{◌≡◌, ◌++◌, ◌∷◌, ℤ, Bool, true, false, List, [], map, filter, refl, sym, ap, ◌∙◌, subst, inl, inr, arith}
+use Rattle.std.specs.List.{Contains}
 use Rattle.std.proofs.lemmas.List.Elements.{filter-append}
 use Rattle.std.proofs.lemmas.List.{map-append}
 use Rattle.period_core.specs.declared.row.PeriodRow.{PeriodRow}
 use Rattle.period_core.specs.declared.value.Value.{Value}
 use Rattle.temporal_model.specs.Snapshot.{CoversDay, InSnapshot}
 use Rattle.temporal_model.proofs.Members.{Contains-here, Contains-there, Contains-nil, Contains-cons_cases}
-use Rattle.catalog_core.specs.Effects.{Traced, given_covers, given_row}
 use Rattle.catalog_core.specs.Histories.{row_covers, values_on}
-use Rattle.catalog_core.specs.declared.change.GivenRow.{GivenRow}
-use Rattle.script_engine.specs.Rows.{PlainRow, plain_given, plain_row}
 
 covers : (row : PeriodRow) (day : ℤ) → CoversDay row day → row_covers day row ≡ true
 covers row day h = grind (arith, h)

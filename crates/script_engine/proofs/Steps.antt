@@ -1,8 +1,6 @@
 -- Each way in which the engine carries out a statement is a step of the histories that it represents.
-use Rattle.std.proofs.Common.{◌≡◌, ◌≢◌, ◌≤◌, ◌<◌, ◌+◌, ◌-◌, ◌++◌, ◌∷◌, ◌⊎◌, ◌↔◌, ℕ, zero, suc, ℤ, Bool, true, false, List, [], length, map, Result, Ok, Err, refl, sym, ap, ◌∙◌, subst, inl, inr, arith, get_or, set, nat_eq, eqb}
-use Rattle.std.proofs.lemmas.List.{get_or-set_same, get_or-set_other}
+use Rattle.std.proofs.Common.{◌≡◌, ◌++◌, ◌∷◌, ◌↔◌, ℕ, zero, suc, ℤ, List, [], Ok, Err, refl, sym, ap, ◌∙◌, subst, get_or}
 use Rattle.std.specs.List.{Contains}
-use Rattle.std.proofs.lemmas.List.Elements.{Contains-append_left, Contains-append_right, Contains-append_cases}
 use Rattle.period_core.specs.Leasts.{MayAnswer, NoneApplies}
 use Rattle.period_core.specs.declared.refusal.Refusal.{Refusal}
 use Rattle.period_core.specs.declared.row.PeriodRow.{PeriodRow}
@@ -14,14 +12,12 @@ use Rattle.sql_front.specs.declared.statement.Statement.TheVariants as statement
 use Rattle.catalog_core.specs.Creation.{create_conditions}
 use Rattle.catalog_core.specs.Definition.{Defines}
 use Rattle.catalog_core.specs.Judged.{Holds}
-use Rattle.catalog_core.specs.Histories.{Asked, Changed, Created, Database, Event, History, catalog_of, last_state, rows_in, values_on, with_event}
-use Rattle.catalog_core.proofs.HistoryLemmas.{catalog_of-created, catalog_of-changed, catalog_of-asked, last_state-created, last_state-changed, last_state-asked}
+use Rattle.catalog_core.specs.Histories.{Created, Database, History, last_state, rows_in, with_event}
+use Rattle.catalog_core.proofs.HistoryLemmas.{catalog_of-created, last_state-created}
 use Rattle.catalog_core.specs.declared.table.TableDef.{TableDef}
-use Rattle.script_engine.specs.Runs.{Represents, Step, StepsTo, StatementApplies}
-use Rattle.script_engine.specs.declared.outcome.Outcome.{Outcome}
-use Rattle.script_engine.specs.declared.outcome.Outcome.TheVariants.{Done, Answer as Answered}
+use Rattle.script_engine.specs.Runs.{Represents, StepsTo, StatementApplies}
+use Rattle.script_engine.specs.declared.outcome.Outcome.TheVariants.{Done}
 use Rattle.script_engine.specs.declared.outcome.Word.TheVariants as word
-use Rattle.script_engine.proofs.Snapshots.{held_in_snapshot, snapshot_of_held, values_on-append}
 
 -- a refusal leaves the history and what is kept as they were
 pub refused_step : (history : History) (database : Database) (s : Statement) (refusal : Refusal) → Represents history database → MayAnswer (StatementApplies database.catalog s) refusal → StepsTo history s (Err refusal) database

@@ -1,5 +1,5 @@
 -- Rows as the definitions see them: plain values, with no proof inside.
-use Rattle.std.specs.Prelude.{ℤ, List, map}
+use Rattle.std.specs.Prelude.{ℤ, List}
 use Rattle.period_core.specs.declared.row.PeriodRow.{PeriodRow}
 use Rattle.period_core.specs.declared.value.Value.{Value}
 use Rattle.catalog_core.specs.Answers.{projected}

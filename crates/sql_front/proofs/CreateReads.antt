@@ -1,11 +1,11 @@
 -- CREATE TABLE is read.
-use Rattle.std.proofs.Common.{◌≡◌, ℕ, Bool, true, false, List, [], ◌∷◌, ◌++◌, refl, sym, ap, ◌∙◌, codes, append_assoc}
+use Rattle.std.proofs.Common.{◌≡◌, ℕ, Bool, true, false, List, [], ◌∷◌, ◌++◌, refl, ap, ◌∙◌, codes, append_assoc}
 use Rattle.sql_front.specs.declared.create.Generated.{Generated}
 use Rattle.sql_front.specs.declared.create.Generated.TheVariants.{Start, End}
 use Rattle.sql_front.specs.Lexemes.{Lexeme}
 use Rattle.sql_front.specs.Language.{keyword, symbol, number, Fixed, Preceded, Separated, Sequence}
 use Rattle.sql_front.specs.Grammar.{name, comma, IsName, WrittenColumn, WrittenType, plain_column, integer_type, date_type, system_column, columns_of, pair_of, period_of, key_of, table_of, IsInteger, IsDate, IsDigits, IsGenerated, IsSystem, IsRowStart, IsRowEnd, IsColumns, IsPair, IsPeriod, IsSystemPeriod, IsKey, IsElements, IsVersioning, IsCreate}
-use Rattle.sql_front.specs.Reading.{Reader, begins, third_is, goes_further}
+use Rattle.sql_front.specs.Reading.{goes_further}
 use Rattle.sql_front.specs.Readers.{integer_read, date_read, before_integer, integers_read, digits_read, generated_read, system_read, dates_read, columns_read, pair_read, period_read, system_period_read, key_read, elements_read, versioning_read, create_read}
 use Rattle.sql_front.proofs.Laws.{Reads, Any, Not, reads_one, reads_fixed, reads_built, reads_sequence, reads_both, reads_preceded, reads_separated_by, reads_enclosed, reads_optional}
 use Rattle.sql_front.proofs.First.{keywords_apart, starts_preceded, begins_apart}

@@ -1,7 +1,7 @@
 -- INSERT and queries are read.
 use Rattle.std.proofs.Common.{codes, ◌++◌}
-use Rattle.sql_front.specs.Language.{keyword, symbol, Separated}
-use Rattle.sql_front.specs.Grammar.{name, comma, rows_of, select_of, IsName, IsTuple, IsInsert, IsSelect, IsSequenced}
+use Rattle.sql_front.specs.Language.{keyword}
+use Rattle.sql_front.specs.Grammar.{name, comma, rows_of, select_of, IsName, IsInsert, IsSelect, IsSequenced}
 use Rattle.sql_front.specs.Readers.{insert_read, select_read, sequenced_read}
 use Rattle.sql_front.proofs.Laws.{Reads, Any, Not, reads_one, reads_built, reads_sequence, reads_both, reads_preceded, reads_separated}
 use Rattle.sql_front.proofs.First.{starts_preceded, begins_apart}

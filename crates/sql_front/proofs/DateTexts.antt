@@ -1,8 +1,8 @@
 -- The text of a date, and the three numbers that it is read as.
-use Rattle.std.proofs.Common.{◌≡◌, ℕ, zero, suc, ◌+◌, ◌-◌, ◌*◌, ◌/◌, ◌%◌, ◌<◌, ◌≤◌, Bool, true, false, cond, nat_lt, List, [], ◌∷◌, ◌++◌, length, take, drop, get_or, Option, Some, None, refl, sym, ap, subst, ◌∙◌, inl, inr, arith, lit<, length-take, length-drop, min, ◌↔◌, ℤ}
+use Rattle.std.proofs.Common.{◌≡◌, ℕ, zero, suc, ◌+◌, ◌-◌, ◌*◌, ◌/◌, ◌%◌, ◌<◌, ◌≤◌, Bool, true, false, cond, nat_lt, List, [], ◌∷◌, length, take, drop, get_or, Option, Some, None, refl, sym, ap, subst, ◌∙◌, inl, inr, arith, lit<, length-take, length-drop, ◌↔◌, ℤ}
 use Rattle.std.specs.Prelude.{◌==◌, IsSome, IfSome}
 use Rattle.std.proofs.lemmas.Bool.Decides.{nat_tests}
-use Rattle.period_core.specs.Calendar.{IsDate, date_text, day_number, two_digits, month_length, month_lengths, is_leap_year}
+use Rattle.period_core.specs.Calendar.{IsDate, date_text, day_number, is_leap_year}
 use Rattle.sql_front.specs.DateForms.{digit_of, two_of, parts_of, date_parts}
 use Rattle.sql_front.specs.Meaning.{between_quotes, date_number, decimal}
 use Rattle.sql_front.specs.Literals.{IsDateText}

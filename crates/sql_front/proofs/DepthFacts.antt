@@ -5,7 +5,6 @@ use Rattle.std.proofs.lemmas.List.{at_drop_more}
 use Rattle.std.specs.Prelude.{IsTrue, is_none}
 use Rattle.sql_front.specs.declared.token.Token.{Token}
 use Rattle.sql_front.specs.Lexemes.{Lexeme, lexeme, lexemes}
-use Rattle.sql_front.specs.Language.{symbol}
 use Rattle.sql_front.specs.Depth.{opens, closes, counted, room, IsDeeper}
 use Rattle.sql_front.proofs.Laws.{none_some}
 use Rattle.sql_front.proofs.First.{Apart, symbols_apart}

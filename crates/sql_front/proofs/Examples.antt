@@ -1,6 +1,5 @@
 -- Worked rows.
-use Rattle.std.proofs.Common.{◌≡◌, ℕ, ℤ, pos, neg_ℤ, List, [], ◌∷◌, Some, None, codes, refl, sym, ◌∙◌}
-use Rattle.sql_front.specs.declared.token.Kind.{Kind}
+use Rattle.std.proofs.Common.{◌≡◌, ℕ, pos, neg_ℤ, List, [], ◌∷◌, Some, None, codes, refl, sym, ◌∙◌}
 use Rattle.sql_front.specs.declared.token.Kind.TheVariants.{Word, Number, Text, Symbol}
 use Rattle.period_core.specs.declared.value.Value.TheVariants as value
 use Rattle.sql_front.specs.Lexemes.{Lexeme}

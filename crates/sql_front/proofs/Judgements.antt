@@ -1,7 +1,6 @@
 -- Values and faults of trees.
-use Rattle.std.proofs.Common.{◌≡◌, List, [], ◌∷◌, map, Result, Ok, Err, refl, sym, ap, ap₂, ◌∙◌, inl, inr, ◌⊎◌}
+use Rattle.std.proofs.Common.{◌≡◌, List, [], ◌∷◌, map, Result, Ok, Err, refl, ap, ap₂, ◌∙◌, inl, inr, ◌⊎◌}
 use Rattle.period_core.specs.declared.refusal.Refusal.{Refusal}
-use Rattle.sql_front.specs.declared.written.Literal as literal_code
 use Rattle.sql_front.specs.declared.written.Tuple as tuple_code
 use Rattle.sql_front.specs.Grammar.{Literal, unsigned, plus, minus, quoted, dated, Written, create, insert, sequenced}
 use Rattle.sql_front.specs.Meaning.{literal_value}

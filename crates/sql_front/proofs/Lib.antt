@@ -14,13 +14,11 @@ pub mod LexisExamples
 pub mod LiteralReads
 pub mod Loop
 pub mod ByteOrderMark
-pub mod Names
 pub mod Parsing
 pub mod PiecesFacts
 pub mod PiecesOnce
 pub mod Quotes
 pub mod Somes
-pub mod Sorts
 pub mod StatementReads
 pub mod TokenLists
 pub mod TokenShapes

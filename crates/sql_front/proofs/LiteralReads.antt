@@ -1,5 +1,5 @@
 -- Literals and their tuples are read.
-use Rattle.std.proofs.Common.{◌≡◌, ℕ, Bool, true, List, refl, codes}
+use Rattle.std.proofs.Common.{◌≡◌, ℕ, true, List, refl, codes}
 use Rattle.sql_front.specs.Lexemes.{Lexeme}
 use Rattle.sql_front.specs.Language.{keyword, symbol, number, text, OneToken}
 use Rattle.sql_front.specs.Grammar.{unsigned, plus, minus, quoted, dated, comma, IsLiteral, IsTuple}

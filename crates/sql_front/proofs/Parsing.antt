@@ -1,10 +1,10 @@
 -- What parse may answer.
-use Rattle.std.proofs.Common.{◌≡◌, ◌≤◌, List, Result, Ok, Err, refl, sym, subst, inl, inr, lit≤}
+use Rattle.std.proofs.Common.{◌≤◌, List, Result, Ok, Err, subst, inl, inr, lit≤}
 use Rattle.std.specs.Prelude.{IfOk, IfErr, OnOk}
 use Rattle.period_core.specs.Codes.{code_of}
-use Rattle.period_core.specs.Leasts.{IsLeast, MayAnswer, NoneApplies}
+use Rattle.period_core.specs.Leasts.{MayAnswer, NoneApplies}
 use Rattle.period_core.specs.declared.refusal.Refusal.{Refusal}
-use Rattle.period_core.specs.declared.refusal.Refusal.TheVariants.{NotUtf8, ScriptTooLarge, BadToken, Syntax, TooDeep, BadDate, BadMoment, NumberRange, LimitReached, TableExists, UnknownTable, UnknownColumn, AmbiguousColumn, DuplicateName, PeriodColumn, BadDefinition, ColumnCount, TypeMismatch, TextTooLong, MomentBack, EmptyPeriod, KeyOverlap, PeriodReference, BadStore, Memory, Store}
+use Rattle.period_core.specs.declared.refusal.Refusal.TheVariants.{Syntax, TooDeep, BadDate, NumberRange}
 use Rattle.sql_front.specs.declared.statement.Statement.{Statement}
 use Rattle.sql_front.specs.Lexemes.{Lexeme}
 use Rattle.sql_front.specs.Grammar.{Written, IsStatement}

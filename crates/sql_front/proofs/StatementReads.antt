@@ -1,7 +1,7 @@
 -- Statements are read, and no list of tokens spells two.
 use Rattle.std.proofs.Common.{◌≡◌, List, [], refl, codes}
 use Rattle.sql_front.specs.Lexemes.{Lexeme}
-use Rattle.sql_front.specs.Language.{keyword, Sequence, Preceded}
+use Rattle.sql_front.specs.Language.{keyword}
 use Rattle.sql_front.specs.Grammar.{comma, create, insert, sequenced, Written, IsStatement}
 use Rattle.sql_front.specs.Readers.{statement_read}
 use Rattle.sql_front.proofs.Laws.{Reads, Any, Not, reads_built, reads_choice, reads_weaken}

@@ -1,5 +1,5 @@
 -- The year, the month and the day of YYYY-MM-DD.
-use Rattle.std.specs.Prelude.{ℕ, ◌+◌, ◌-◌, ◌*◌, ◌==◌, ◌&&◌, nat_lt, cond, List, length, slice_index, Option, Some, None}
+use Rattle.std.specs.Prelude.{ℕ, ◌+◌, ◌-◌, ◌*◌, ◌==◌, nat_lt, cond, List, length, slice_index, Option, Some, None}
 use Rattle.sql_front.specs.Reading.{◌>>=◌}
 
 -- the value of an ASCII digit

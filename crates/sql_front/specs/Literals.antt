@@ -1,5 +1,5 @@
 -- What is wrong with the literals of a written statement.
-use Rattle.std.specs.Prelude.{ℕ, ℤ, ◌<◌, List, [], ◌∷◌, ◌⊎◌, Option, Some, None}
+use Rattle.std.specs.Prelude.{ℕ, ℤ, ◌<◌, List, [], ◌∷◌, ◌⊎◌, Some, None}
 use Rattle.period_core.specs.Calendar.{IsDayText}
 use Rattle.sql_front.specs.Grammar.{Literal, unsigned, plus, minus, quoted, dated, WrittenType, integer_type, date_type, timestamp_type, WrittenColumn, Written, create, insert, sequenced}
 use Rattle.sql_front.specs.Meaning.{decimal, between_quotes}

@@ -1,5 +1,5 @@
 -- The statement that a written one stands for.
-use Rattle.std.specs.Prelude.{ℕ, ℤ, pos, neg_ℤ, ◌+◌, ◌-◌, ◌*◌, ◌==◌, ◌≡◌, Bool, cond, List, [], ◌∷◌, map, take, drop, length, Option, Some, None}
+use Rattle.std.specs.Prelude.{ℕ, ℤ, pos, neg_ℤ, ◌+◌, ◌-◌, ◌*◌, ◌==◌, ◌≡◌, Bool, cond, List, [], ◌∷◌, map, take, drop, length, Some, None}
 use Rattle.std.specs.Char.{to_ascii_uppercase}
 use Rattle.period_core.specs.Calendar.{day_number}
 use Rattle.period_core.specs.declared.value.Value.{Value}

@@ -1,4 +1,4 @@
-use Rattle.std.proofs.Common.{subst, sym, refl, ◌∙◌}
+use Rattle.std.proofs.Common.{subst, sym, refl}
 use Rattle.sql_front.proofs.Somes.{some_here, some_after, some_nowhere, not_both}
 use Rattle.sql_front.proofs.judged.one_has_bad_date.Goals as goal
 

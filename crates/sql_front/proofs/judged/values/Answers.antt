@@ -1,6 +1,6 @@
 use Rattle.std.proofs.Common.{subst, inl, inr}
 use Rattle.std.proofs.lemmas.Result.{err_from_is_err_and}
-use Rattle.sql_front.proofs.Somes.{some_here, some_after, some_nowhere}
+use Rattle.sql_front.proofs.Somes.{some_here}
 use Rattle.sql_front.proofs.judged.values.Goals as goal
 
 pub returns-in_err-value : goal.returns-in_err-value

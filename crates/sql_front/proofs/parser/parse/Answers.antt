@@ -1,7 +1,6 @@
 use Rattle.std.proofs.Common.{ap, Err}
-use Rattle.sql_front.specs.Lexemes.{Lexeme, lexemes}
+use Rattle.sql_front.specs.Lexemes.{lexemes}
 use Rattle.sql_front.specs.Views.{view_written}
-use Rattle.sql_front.specs.PieceRefusals.{IsTooDeep}
 use Rattle.sql_front.proofs.Parsing.{no_statement, decided_found, decided_sound, decided_refused}
 use Rattle.sql_front.proofs.Somes.{not_both}
 use Rattle.sql_front.proofs.parser.parse.Goals as goal

@@ -1,6 +1,6 @@
-use Rattle.std.proofs.Common.{◌<◌, length, arith}
+use Rattle.std.proofs.Common.{arith}
 use Rattle.std.proofs.lemmas.Bool.Decides.{nat_tests}
-use Rattle.sql_front.proofs.Quotes.{no_cut, last_cut, closing_cut, doubled_cut, doubled_shorter}
+use Rattle.sql_front.proofs.Quotes.{no_cut, last_cut, closing_cut, doubled_cut}
 use Rattle.sql_front.proofs.texts.part.Goals as goal
 
 pub returns-in_default-clause-value : goal.returns-in_default-clause-value

@@ -1,5 +1,4 @@
-use Rattle.std.proofs.Common.{ℕ, List, subst, sym, ap, ◌∙◌}
-use Rattle.sql_front.specs.Judging.{Judges}
+use Rattle.std.proofs.Common.{sym, ap, ◌∙◌}
 use Rattle.sql_front.specs.Meaning.{unquoted}
 use Rattle.sql_front.proofs.Quotes.{behind_none, behind_some}
 use Rattle.sql_front.proofs.texts.text_of.Goals as goal

@@ -9,7 +9,7 @@ use Rattle.catalog_core.specs.Judged.{Holds}
 use Rattle.catalog_core.specs.Selection.{ResolvesQuery, query_conditions}
 use Rattle.catalog_core.specs.declared.query.Item.{Item}
 use Rattle.catalog_core.specs.declared.table.TableDef.{TableDef}
-use Rattle.script_engine.specs.Rows.{plain_row, projected_row}
+use Rattle.script_engine.specs.Rows.{projected_row}
 use Rattle.script_engine.proofs.Answered.{answered_step}
 use Rattle.script_engine.proofs.engine.Engine.answer.Goals as goal
 
