@@ -1,4 +1,4 @@
--- Dates of the proleptic Gregorian calendar from year 1 to year 9999, and their day numbers.
+-- Dates of ISO 8601's proleptic Gregorian calendar, years 1 to 9999: their numbers and texts.
 use Rattle.std.specs.Prelude.{nat_lt, zero, suc, unsigned_abs, ◌+ℤ◌, ◌≡◌, ◌≤◌, ◌==◌, ◌+◌, ◌-◌, ◌*◌, ◌/◌, ◌%◌, ◌&&◌, ◌||◌, Bool, not, ℕ, ℤ, pos, neg_ℤ, ◌-ℤ◌, ◌≤ℤ◌, List, [], ◌∷◌, ◌++◌, Option, Some, None, sum, take, get_or, if◌then◌else◌}
 use Rattle.std.specs.Ordering.{int_cmp, is_lt}
 
@@ -6,9 +6,13 @@ use Rattle.std.specs.Ordering.{int_cmp, is_lt}
 abbrev pub is_leap_year : ℕ → Bool
 is_leap_year y = ((y % 4 == 0) && not (y % 100 == 0)) || (y % 400 == 0)
 
+-- the days of each month of the year, January first
 abbrev pub month_lengths : ℕ → List ℕ
-month_lengths y = 31 ∷ (if is_leap_year y then 29 else 28) ∷ 31 ∷ 30 ∷ 31 ∷ 30 ∷ 31 ∷ 31 ∷ 30 ∷ 31 ∷ 30 ∷ 31 ∷ []
+month_lengths y =
+    31 ∷ (if is_leap_year y then 29 else 28) ∷
+    31 ∷ 30 ∷ 31 ∷ 30 ∷ 31 ∷ 31 ∷ 30 ∷ 31 ∷ 30 ∷ 31 ∷ []
 
+-- the days of a month from 1 to 12
 abbrev pub month_length : ℕ → ℕ → ℕ
 month_length y m = get_or (month_lengths y) (m - 1) 0
 
@@ -16,7 +20,7 @@ month_length y m = get_or (month_lengths y) (m - 1) 0
 abbrev pub days_before : ℕ → ℕ → ℕ
 days_before y m = sum (take (m - 1) (month_lengths y))
 
--- there is such a date
+-- there is such a date, in these years
 pub record IsDate (y m d : ℕ) : Type 0 where
   pub year : (1 ≤ y) × (y ≤ 9999)
   pub month : (1 ≤ m) × (m ≤ 12)
@@ -42,16 +46,21 @@ day_before n = if is_lt (int_cmp (neg_ℤ (pos 719_162)) n) then Some (n -ℤ po
 abbrev pub day_after : ℤ → Option ℤ
 day_after n = if is_lt (int_cmp n (pos 2_932_896)) then Some (n +ℤ pos 1) else None
 
+-- the digits of a number below 100, in ASCII
 abbrev pub two_digits : ℕ → List ℕ
 two_digits n = (48 + n / 10) ∷ (48 + n % 10) ∷ []
 
--- YYYY-MM-DD
+-- YYYY-MM-DD, in ASCII
 abbrev pub date_text : ℕ → ℕ → ℕ → List ℕ
-date_text y m d = two_digits (y / 100) ++ two_digits (y % 100) ++ 45 ∷ [] ++ two_digits m ++ 45 ∷ [] ++ two_digits d
+date_text y m d =
+    two_digits (y / 100) ++ two_digits (y % 100) ++
+    45 ∷ [] ++ two_digits m ++ 45 ∷ [] ++ two_digits d
 
 -- the text of the date that has this number
 abbrev pub IsDayText : ℤ → List ℕ → Type 0
-IsDayText n text = (y : ℕ) × (m : ℕ) × (d : ℕ) × IsDate y m d × (day_number y m d ≡ n) × (text ≡ date_text y m d)
+IsDayText n text =
+    (y : ℕ) × (m : ℕ) × (d : ℕ) ×
+    IsDate y m d × (day_number y m d ≡ n) × (text ≡ date_text y m d)
 
 -- how many of the numbers below a bound pass the test
 unfoldable pub count_below : (ℕ → Bool) → ℕ → ℕ
@@ -66,10 +75,11 @@ serial_of n = unsigned_abs (n +ℤ pos 719_163)
 abbrev pub years_begun : ℕ → ℕ
 years_begun s = count_below (λ k. nat_lt (days_of_years k) s) 9999
 
+-- the year of the day with this number
 abbrev pub year_of : ℤ → ℕ
 year_of n = years_begun (serial_of n)
 
--- how many days of its year have begun
+-- how many days of its year have begun by the day with this number
 abbrev pub day_in_year : ℤ → ℕ
 day_in_year n = serial_of n - days_of_years (year_of n - 1)
 
@@ -77,9 +87,11 @@ day_in_year n = serial_of n - days_of_years (year_of n - 1)
 abbrev pub months_begun : ℕ → ℕ → ℕ
 months_begun y r = count_below (λ k. nat_lt (days_before y (k + 1)) r) 12
 
+-- the month of the day with this number
 abbrev pub month_of : ℤ → ℕ
 month_of n = months_begun (year_of n) (day_in_year n)
 
+-- its day in its month
 abbrev pub day_of : ℤ → ℕ
 day_of n = day_in_year n - days_before (year_of n) (month_of n)
 

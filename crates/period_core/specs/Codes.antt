@@ -1,8 +1,9 @@
--- The number and the name of each refusal. A lower number comes first.
+-- The number and the name of each refusal, the same whatever it carries.
 use Rattle.std.specs.Prelude.{ℕ, List, codes}
 use Rattle.period_core.specs.declared.refusal.Refusal.{Refusal}
 use Rattle.period_core.specs.declared.refusal.Refusal.TheVariants.{NotUtf8, ScriptTooLarge, BadToken, Syntax, TooDeep, BadDate, BadMoment, NumberRange, LimitReached, TableExists, UnknownTable, UnknownColumn, AmbiguousColumn, DuplicateName, PeriodColumn, BadDefinition, ColumnCount, TypeMismatch, TextTooLong, MomentBack, EmptyPeriod, KeyOverlap, PeriodReference, BadStore, Memory, Store}
 
+-- of several refusals, the one of the least number is answered
 abbrev pub code_of : Refusal → ℕ
 code_of NotUtf8 = 1
 code_of ScriptTooLarge = 2
@@ -31,7 +32,7 @@ code_of BadStore = 60
 code_of Memory = 61
 code_of Store = 62
 
--- as a report prints it
+-- the name, as a report prints it
 abbrev pub name_of : Refusal → List ℕ
 name_of NotUtf8 = codes "NotUtf8"
 name_of ScriptTooLarge = codes "ScriptTooLarge"

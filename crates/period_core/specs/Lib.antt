@@ -1,5 +1,5 @@
 pub mod Calendar
 pub mod Order
-pub mod OrderLaws
 pub mod Codes
 pub mod Leasts
+pub mod OrderLaws

@@ -13,20 +13,25 @@ use std::alloc::Global;
 /// on which they are not. 0001-01-01 has no day before.
 #[derive(Clone, Copy, Debug, PartialEq, Eq)]
 pub struct Witness {
+    /// The first day of the row.
     pub held: Day,
+    /// The day before it, where there is one.
     pub absent: Option<Day>,
 }
 
-/// The answer of a sequenced query. The witnesses stand in their rows' places.
+/// The answer of a sequenced query.
 #[derive(Drop, Debug)]
 pub struct Answer {
+    /// The names of the columns, in their order.
     pub columns: Items<Text>,
+    /// The rows, each with a value for each column.
     pub rows: Items<PeriodRow>,
+    /// The witness of each row, in the row's place.
     pub witnesses: Items<Witness>,
 }
 
 impl Answer {
-    /// An equal answer.
+    /// An equal answer. An `Err` says that memory was refused.
     pub fn copy(&self, alloc: Global) -> Result<Answer, Memory>
         ensures { IfOk result (λ answer. answer ≡ self.now) }
     {

@@ -1,4 +1,4 @@
-//! Days by their numbers, over the dates of jiff.
+//! Days of the proleptic Gregorian calendar of ISO 8601, by their numbers; their dates are jiff's.
 
 ghost use Rattle.std.specs.Prelude.{◌≡◌, ◌↔◌, IsSome, IfSome, ℤ, pos, ◌+ℤ◌, ◌-ℤ◌, neg_ℤ, ◌<ℤ◌};
 ghost use Rattle.period_core.specs.Calendar.{IsDate, IsDayNumber, IsDayText, day_after, day_before, day_number, day_text};
@@ -7,7 +7,8 @@ use jiff::civil::Date;
 use jiff_core::civil;
 use std::marker::Model;
 
-/// A day from 0001-01-01 to 9999-12-31, by its number from 1970-01-01.
+/// A day from 0001-01-01 to 9999-12-31, by its number: 1970-01-01 is 0, and each day has the number
+/// after that of the day before.
 #[derive(Clone, Copy, PartialEq, Eq, PartialOrd, Ord, Debug)]
 pub struct Day {
     number: i32,
@@ -23,12 +24,14 @@ impl Model for Day {
     ghost inverse = { λ n. record { number = n } };
 }
 
+/// 0001-01-01.
 const FIRST: i32 = -719_162;
 
+/// 9999-12-31.
 const LAST: i32 = 2_932_896;
 
 impl Day {
-    /// The day with this number.
+    /// The day with this number: `None` below 0001-01-01 and above 9999-12-31.
     pub fn new(number: i32) -> Option<Day>
         ensures there { IsSome result ↔ IsDayNumber number }
         ensures value { IfSome result (λ d. d ≡ number) }
@@ -39,7 +42,8 @@ impl Day {
         Some(Day { number })
     }
 
-    /// The day with this date, if the calendar has it in these years.
+    /// The day with this date of the proleptic Gregorian calendar: `None` exactly where the years
+    /// 1 to 9999 have no such date. Months and days count from 1.
     pub fn from_date(year: u16, month: u8, day: u8) -> Option<Day>
         ensures there { IsSome result ↔ IsDate year month day }
         ensures value { IfSome result (λ d. d ≡ day_number year month day) }
@@ -55,7 +59,7 @@ impl Day {
         }
     }
 
-    /// The number of the day.
+    /// The number of the day, counted from 1970-01-01.
     pub fn number(self) -> i32
         ensures value { result ≡ self }
         ensures in_range { IsDayNumber self }
@@ -63,7 +67,7 @@ impl Day {
         self.number
     }
 
-    /// The day before, which 0001-01-01 has not.
+    /// The day before: `None` for 0001-01-01.
     pub fn prev(self) -> Option<Day>
         ensures { result ≡ day_before self }
     {
@@ -76,7 +80,7 @@ impl Day {
         }
     }
 
-    /// The day after, which 9999-12-31 has not.
+    /// The day after: `None` for 9999-12-31.
     pub fn next(self) -> Option<Day>
         ensures { result ≡ day_after self }
     {
@@ -89,7 +93,7 @@ impl Day {
         }
     }
 
-    /// Writes the date as YYYY-MM-DD.
+    /// Writes the date as YYYY-MM-DD, the extended format of ISO 8601, in ASCII.
     pub fn write_text(self, text: &mut [u8; 10])
         ensures date { IsDayText self text.new }
         ensures text { text.new ≡ day_text self }

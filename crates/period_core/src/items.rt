@@ -1,4 +1,4 @@
-//! A list in a field.
+//! Lists in the fields of other types.
 
 ghost use Rattle.std.specs.Prelude.{◌≡◌, ◌++◌, ◌∷◌, [], length, IfOk, OnErr, OnOk};
 
@@ -6,7 +6,7 @@ use crate::memory::Memory;
 use std::alloc::Global;
 use std::marker::Model;
 
-/// A list, which contracts see as its elements.
+/// A list in a field, which contracts see as its elements.
 #[derive(Drop, Debug)]
 pub struct Items<T> {
     items: Vec<T>,
@@ -58,7 +58,7 @@ impl<T> Items<T> {
         self.items.len()
     }
 
-    /// Adds an element at the end. An `Err` changes nothing.
+    /// Adds an element at the end. An `Err` says that memory was refused, and changes nothing.
     pub fn push(&mut self, item: T) -> Result<(), Memory>
     where
         T: Drop,
@@ -69,7 +69,8 @@ impl<T> Items<T> {
         Ok(())
     }
 
-    /// Adds the elements of another list at the end. An `Err` changes nothing.
+    /// Adds the elements of another list at the end. An `Err` says that memory was refused, and
+    /// changes nothing.
     pub fn append(&mut self, others: Items<T>) -> Result<(), Memory>
     where
         T: Drop,

@@ -8,6 +8,8 @@ pub mod memory;
 pub mod period;
 pub mod refusal;
 pub mod row;
+#[cfg(test)]
+mod tests;
 pub mod text;
 pub mod value;
 

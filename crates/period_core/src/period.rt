@@ -1,19 +1,22 @@
-//! Periods of days, closed at their start and open at their end (ISO/IEC 9075-2:2011, 4.14.1).
+//! Periods of days, closed at their start and open at their end, as those of application time in ISO/IEC 9075-2:2011.
 
 ghost use Rattle.std.specs.Prelude.{◌≡◌, ◌↔◌, ◌<ℤ◌, ◌≤ℤ◌, IsSome, IfSome, IsTrue};
 
 use crate::day::Day;
 
-/// The days from `start` on and before `end`: at least one day.
+/// The days from `start` on and before `end`: at least one day. The application-time periods of
+/// ISO/IEC 9075-2:2011 are such.
 #[derive(Clone, Copy, PartialEq, Eq, PartialOrd, Ord, Debug)]
 pub struct Period {
+    /// The first day.
     pub start: Day,
+    /// The day after the last.
     pub end: Day,
     pub ghost ordered: { start <ℤ end },
 }
 
 impl Period {
-    /// The period from one day on and before another, where it has a day.
+    /// The period from `start` on and before `end`: `None` exactly where it would have no day.
     pub fn new(start: Day, end: Day) -> Option<Period>
         ensures there { IsSome result ↔ (start <ℤ end) }
         ensures start { IfSome result (λ p. p.start ≡ start) }

@@ -1,4 +1,4 @@
-//! Why a script, a statement or a store is refused. Each refusal has a number; where several hold, the least is answered.
+//! The numbered refusals of scripts, statements and stores; the least that applies is answered.
 
 ghost use Rattle.std.specs.Prelude.{◌≡◌};
 ghost use Rattle.period_core.specs.declared.refusal.Refusal.TheVariants.{Memory as WantOfMemory};
@@ -7,14 +7,15 @@ use crate::day::Day;
 use crate::memory::Memory;
 use std::alloc::{AllocError, AllocFailed};
 
-/// Why a script, a statement or a store was refused.
+/// Why a script, a statement or a store was refused. What it carries is said beside each variant.
 #[derive(Clone, Copy, Debug, PartialEq, Eq)]
 pub enum Refusal {
     /// A script of at most 4 MiB that is not UTF-8.
     NotUtf8,
     /// A script of more than 4,194,304 bytes.
     ScriptTooLarge,
-    /// No token begins at this byte of the script, or a text that is opened here does not end.
+    /// No token begins at this byte of the script, or a text that is opened here does not end. It
+    /// carries the byte's offset, the least such, from 0.
     BadToken(usize),
     /// No statement is spelled so.
     Syntax,
@@ -67,7 +68,7 @@ pub enum Refusal {
 impl Refusal {
     ghost use Rattle.period_core.specs.Codes.{code_of, name_of};
 
-    /// The number of the refusal.
+    /// The number of the refusal, the same whatever it carries.
     pub fn code(&self) -> u8
         ensures { result ≡ code_of self.now }
     {
@@ -101,7 +102,7 @@ impl Refusal {
         }
     }
 
-    /// The name of the refusal, as a report prints it.
+    /// The name of the refusal, as a report prints it, without what it carries.
     pub fn name(&self) -> &'static str
         ensures { result.now ≡ name_of self.now }
     {

@@ -7,15 +7,17 @@ use crate::period::Period;
 use crate::value::Values;
 use std::alloc::Global;
 
-/// Values that hold on each day of a period.
+/// Values that hold on each day of a period. Rows stand by their values, then by their periods.
 #[derive(Drop, Debug, PartialEq, Eq, PartialOrd, Ord)]
 pub struct PeriodRow {
+    /// The values, column by column.
     pub values: Values,
+    /// The days on which they hold.
     pub period: Period,
 }
 
 impl PeriodRow {
-    /// An equal row.
+    /// An equal row. An `Err` says that memory was refused.
     pub fn copy(&self, alloc: Global) -> Result<PeriodRow, Memory>
         ensures { IfOk result (λ r. r ≡ self.now) }
     {

@@ -12,7 +12,7 @@ use std::alloc::Global;
 use std::cmp::Ordering;
 use std::marker::Model;
 
-/// A text, which contracts see as its UTF-8 bytes.
+/// A text, which contracts see as its UTF-8 bytes. Texts stand in the order of these bytes.
 #[derive(Drop, Debug)]
 pub struct Text {
     string: String,
@@ -41,7 +41,7 @@ impl Text {
         self.string.as_str()
     }
 
-    /// An equal text.
+    /// An equal text. An `Err` says that memory was refused.
     pub fn copy(&self, alloc: Global) -> Result<Text, Memory>
         ensures { IfOk result (λ t. t ≡ self.now) }
     {
@@ -50,15 +50,15 @@ impl Text {
         Ok(Text { string })
     }
 
-    /// How many code points it has.
+    /// How many code points it has, whatever they look like together.
     #[tactic(auto, using(std::proofs::lemmas::Str::chars_from_encodes))]
     pub fn char_count(&self) -> usize
         ensures { result ≡ length (chars self.now) }
     {
-        self.string.as_str().chars().count()
+        self.as_str().chars().count()
     }
 
-    /// Whether the bytes are the same.
+    /// Whether the two have the same bytes.
     pub fn is(&self, other: &Text) -> bool
         ensures { result ≡ bytes_eq self.now other.now }
     {

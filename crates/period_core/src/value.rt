@@ -9,16 +9,19 @@ use std::alloc::Global;
 use std::cmp::Ordering;
 use std::marker::Model;
 
-/// A value of a column. Integers come before texts, and texts before dates.
+/// A value of a column, of one of three kinds. Integers come before texts, and texts before dates.
 #[derive(Drop, Debug, PartialEq, Eq, PartialOrd, Ord)]
 pub enum Value {
+    /// An integer of 64 bits.
     Int(i64),
+    /// A text.
     Text(Text),
+    /// A day.
     Date(Day),
 }
 
 impl Value {
-    /// An equal value.
+    /// An equal value. An `Err` says that memory was refused.
     pub fn copy(&self, alloc: Global) -> Result<Value, Memory>
         ensures { IfOk result (λ v. v ≡ self.now) }
     {
@@ -30,7 +33,8 @@ impl Value {
     }
 }
 
-/// The values of a row, column by column, which contracts see as their list.
+/// The values of a row, column by column, which contracts see as their list. Lists stand in the
+/// order of their first values that differ, and a list before those that it begins.
 #[derive(Drop, Debug)]
 pub struct Values {
     items: Vec<Value>,
@@ -46,7 +50,7 @@ impl Model for Values {
 }
 
 impl Values {
-    /// The list of a vector.
+    /// The values of a vector, in its order.
     pub fn from_vec(items: Vec<Value>) -> Values
         ensures { result ≡ items.items }
     {
@@ -60,7 +64,7 @@ impl Values {
         self.items.as_slice()
     }
 
-    /// An equal list.
+    /// An equal list. An `Err` says that memory was refused.
     pub fn copy(&self, alloc: Global) -> Result<Values, Memory>
         ensures { IfOk result (λ v. v ≡ self.now) }
     {
