@@ -10,5 +10,6 @@ pub mod Shape
 pub mod Tables
 pub mod CreateExamples
 pub mod InsertExamples
+pub mod ModelExamples
 pub mod SelectExamples
 pub mod HistoryLemmas
