@@ -98,7 +98,7 @@ fn tables(rt: HostRuntime) {
     let mut script = String::new(rt.alloc());
     let mut report = String::new(rt.alloc());
     for at in 1..65u32 {
-        let name = format!(in rt.alloc(); "CREATE TABLE T{at}").expect(&rt, "memory");
+        let name = format!(in rt.alloc(); "CREATE TABLE TAB{at}").expect(&rt, "memory");
         script.push_str(name.as_str()).expect(&rt, "memory");
         script.push_str(REST).expect(&rt, "memory");
         let record = format!(in rt.alloc(); "done,{at},create,0\n").expect(&rt, "memory");
@@ -110,7 +110,7 @@ fn tables(rt: HostRuntime) {
             script.as_str(),
             "CREATE TABLE U",
             REST,
-            "CREATE TABLE T1",
+            "CREATE TABLE TAB1",
             REST,
         ],
     );
