@@ -20,4 +20,5 @@ plain_given given = record { values = given.values; start = given.start; end = g
 
 -- the row with the values of a select list
 abbrev pub projected_row : List Item → PeriodRow → PlainRow
-projected_row items row = record { values = projected items row.values; start = row.period.start; end = row.period.end }
+projected_row items row =
+    record { values = projected items row.values; start = row.period.start; end = row.period.end }

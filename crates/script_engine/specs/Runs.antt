@@ -29,8 +29,10 @@ use Rattle.script_engine.specs.declared.outcome.Word.TheVariants as word
 abbrev pub StatementApplies : List TableDef → Statement → Refusal → Type 0
 StatementApplies catalog (statement.Create create) = Holds (create_conditions catalog create)
 StatementApplies catalog (statement.Insert insert) =
-    Holds (change_conditions catalog (statement.Insert insert) ++ empty_period catalog (statement.Insert insert) ∷ [])
-StatementApplies catalog (statement.Sequenced select) = Holds (query_conditions catalog (statement.Sequenced select))
+    Holds (change_conditions catalog (statement.Insert insert)
+    ++ empty_period catalog (statement.Insert insert) ∷ [])
+StatementApplies catalog (statement.Sequenced select) =
+    Holds (query_conditions catalog (statement.Sequenced select))
 
 -- CREATE adds the definition that it gives
 pub record Creates (history : History) (create : CreateTable) (outcome : Outcome) (new : History) : Type 0 where
@@ -57,14 +59,18 @@ pub record Answers (history : History) (s : Statement) (answer : Answer) (new : 
 -- what follows where no condition of a refusal holds
 abbrev pub Accepts : History → Statement → Outcome → History → Type 0
 Accepts history (statement.Create create) outcome new = Creates history create outcome new
-Accepts history (statement.Insert insert) outcome new = Changes history (statement.Insert insert) outcome new
+Accepts history (statement.Insert insert) outcome new =
+    Changes history (statement.Insert insert) outcome new
 Accepts history (statement.Sequenced select) outcome new =
-    (answer : Answer) × (outcome ≡ Answered answer) × Answers history (statement.Sequenced select) answer new
+    (answer : Answer) × (outcome ≡ Answered answer)
+    × Answers history (statement.Sequenced select) answer new
 
 -- a statement's result: refused, and the history stays; or accepted, and added to the history
 abbrev pub Step : History → Statement → Result Outcome Refusal → History → Type 0
-Step history s (Err refusal) new = MayAnswer (StatementApplies (catalog_of history) s) refusal × (new ≡ history)
-Step history s (Ok outcome) new = NoneApplies (StatementApplies (catalog_of history) s) × Accepts history s outcome new
+Step history s (Err refusal) new =
+    MayAnswer (StatementApplies (catalog_of history) s) refusal × (new ≡ history)
+Step history s (Ok outcome) new =
+    NoneApplies (StatementApplies (catalog_of history) s) × Accepts history s outcome new
 
 -- what is kept is what the history says: its tables, and on each day the set of each
 pub record Represents (history : History) (database : Database) : Type 0 where
@@ -72,6 +78,8 @@ pub record Represents (history : History) (database : Database) : Type 0 where
   pub daily : (table : ℕ) (day : ℤ) (values : List Value) →
       (InSnapshot (rows_in database table) day values ↔ Contains (last_state history table day) values)
 
--- the statement's result is a step of the history, and what is kept then is what the new history says
+-- the statement's result is a step of the history, and what is kept then is what the new history
+-- says
 abbrev pub StepsTo : History → Statement → Result Outcome Refusal → Database → Type 0
-StepsTo history s result database = (new : History) × Step history s result new × Represents new database
+StepsTo history s result database =
+    (new : History) × Step history s result new × Represents new database

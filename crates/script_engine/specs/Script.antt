@@ -19,15 +19,20 @@ use Rattle.script_engine.specs.declared.outcome.Outcome.{Outcome}
 abbrev pub IsOverlong : List Lexeme → Type 0
 IsOverlong piece = 10_000 < length piece
 
--- the condition of each refusal over the tokens of a piece: of one that is overlong nothing else is judged
+-- the condition of each refusal over the tokens of a piece: of one that is overlong nothing else
+-- is judged
 abbrev pub TextApplies : List Lexeme → Refusal → Type 0
-TextApplies piece refusal = (IsOverlong piece × (refusal ≡ LimitReached)) ⊎ ((IsOverlong piece → ⊥) × PieceApplies piece refusal)
+TextApplies piece refusal =
+    (IsOverlong piece × (refusal ≡ LimitReached))
+    ⊎ ((IsOverlong piece → ⊥) × PieceApplies piece refusal)
 
--- a piece that spells no sound statement is refused, and the history stays; the result of another is that of its statement
+-- a piece that spells no sound statement is refused, and the history stays; the result of another
+-- is that of its statement
 abbrev pub PieceStep : History → List Lexeme → Result Outcome Refusal → History → Type 0
 PieceStep history piece result new =
     ((refusal : Refusal) × (result ≡ Err refusal) × MayAnswer (TextApplies piece) refusal × (new ≡ history))
-    ⊎ ((written : Written) × (s : Statement) × NoneApplies (TextApplies piece) × IsStatement piece written × Means written s × Step history s result new)
+    ⊎ ((written : Written) × (s : Statement) × NoneApplies (TextApplies piece)
+    × IsStatement piece written × Means written s × Step history s result new)
 
 -- the results of the pieces, one after the other
 abbrev pub RunPieces : History → List (List Lexeme) → List (Result Outcome Refusal) → History → Type 0
@@ -41,7 +46,8 @@ RunPieces history (piece ∷ pieces) [] new = ⊥
 abbrev pub most_bytes : ℕ
 most_bytes = 4_194_304
 
--- the condition of each refusal of a whole script: of one that is too large nothing else is judged, and of one that isn't UTF-8 no token
+-- the condition of each refusal of a whole script: of one that is too large nothing else is judged,
+-- and of one that isn't UTF-8 no token
 abbrev pub ScriptApplies : List ℕ → Refusal → Type 0
 ScriptApplies script NotUtf8 = (length script ≤ most_bytes) × (IsUtf8 script → ⊥)
 ScriptApplies script ScriptTooLarge = most_bytes < length script
@@ -64,4 +70,5 @@ pub record IsRunOf (script : List ℕ) (results : List (Result Outcome Refusal))
 
 -- a piece's result is a step of the history, and what is kept then is what the new history says
 abbrev pub PieceStepsTo : History → List Lexeme → Result Outcome Refusal → Database → Type 0
-PieceStepsTo history piece result database = (new : History) × PieceStep history piece result new × Represents new database
+PieceStepsTo history piece result database =
+    (new : History) × PieceStep history piece result new × Represents new database
