@@ -12,6 +12,3 @@ pub use engine::Engine;
 pub use outcome::{Outcome, Word};
 pub use report::{ReportFault, write_report};
 pub use script::{MOST_BYTES, MOST_TOKENS, run_script};
-
-#[cfg(test)]
-mod tests;
