@@ -3,27 +3,31 @@ use Rattle.std.specs.Prelude.{◌≡◌, List, Option, Some, None, codes, true}
 use Rattle.clap.specs.Words.{App, Row, Rule, Text, first_of, new_app, new_rule, with_rule, with_subcommand}
 use Rattle.clap.specs.declared.builder.action.ArgAction.TheVariants.{Set}
 use Rattle.bitemporal_cli.specs.declared.command.Mode.{Mode}
-use Rattle.bitemporal_cli.specs.declared.command.Mode.TheVariants.{Run}
+use Rattle.bitemporal_cli.specs.declared.command.Mode.TheVariants.{Run, Check}
 
 -- FILE, which may be left out
 abbrev pub file_word : Rule
 file_word = record (new_rule (codes "FILE")) { action = Some Set }
 
--- run [FILE]
-abbrev pub run_command : App
-run_command = with_rule (new_app (codes "run")) file_word
+-- a subcommand of this name, with [FILE]
+abbrev pub script_command : Text → App
+script_command name = with_rule (new_app name) file_word
 
 -- a command that is refused without a subcommand
 abbrev pub requiring : App → App
 requiring a = record a { top = record a.top { subcommand_required = true } }
 
--- bitemporal run [FILE]
+-- bitemporal run [FILE], and bitemporal check [FILE]
 abbrev pub bitemporal : App
-bitemporal = with_subcommand (requiring (new_app (codes "bitemporal"))) run_command.top
+bitemporal =
+    with_subcommand
+    (with_subcommand (requiring (new_app (codes "bitemporal"))) (script_command (codes "run")).top)
+    (script_command (codes "check")).top
 
 -- the mode that a subcommand chooses
 abbrev pub IsMode : Text → Mode → Type 0
 IsMode name Run = name ≡ codes "run"
+IsMode name Check = name ≡ codes "check"
 
 -- the mode and the file that a subcommand with its matches chooses
 abbrev pub Chooses : Option (Text × List Row) → Mode → Option Text → Type 0

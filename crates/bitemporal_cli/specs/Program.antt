@@ -3,9 +3,12 @@ use Rattle.std.specs.Prelude.{◌≡◌, ◌⊎◌, ℕ, List, Option, Result, I
 use Rattle.std.specs.List.{list_any}
 use Rattle.std.specs.Io.KnownBytes.{Appends, Keeps}
 use Rattle.period_core.specs.declared.refusal.Refusal.{Refusal}
+use Rattle.script_engine.specs.Check.{IsCheckOf}
+use Rattle.script_engine.specs.CheckReport.{check_text}
 use Rattle.script_engine.specs.Report.{report}
 use Rattle.script_engine.specs.Script.{IsRunOf, MayRefuseScript}
-use Rattle.script_engine.specs.declared.outcome.Outcome.{Outcome}
+use Rattle.bitemporal_cli.specs.declared.command.Mode.{Mode}
+use Rattle.bitemporal_cli.specs.declared.command.Mode.TheVariants.{Run, Check}
 use Rattle.bitemporal_cli.specs.declared.fault.RunFault.{RunFault}
 use Rattle.bitemporal_cli.specs.declared.fault.RunFault.TheVariants.{Script, Memory, Read, Write}
 
@@ -14,28 +17,37 @@ abbrev pub read_of : List ℕ → List ℕ
 read_of all = take 4_194_305 all
 
 -- 1 where a statement was refused, else 0
-abbrev pub status_of : List (Result Outcome Refusal) → ℕ
+abbrev pub status_of : {T : Type 0} → List (Result T Refusal) → ℕ
 status_of results = if list_any is_err results then 1 else 0
 
--- the results are a run of the script that the reader has, where its bytes are known
-abbrev pub IsRunOfReader : Option (List ℕ) → List (Result Outcome Refusal) → Type 0
-IsRunOfReader input results = IfSome input (λ all. IsRunOf (read_of all) results)
+-- the results are of this kind for the script that the reader has, where its bytes are known
+abbrev pub AreOfReader :
+    {T : Type 0} → (List ℕ → List (Result T Refusal) → Type 0)
+    → Option (List ℕ) → List (Result T Refusal) → Type 0
+AreOfReader IsOf input results = IfSome input (λ all. IsOf (read_of all) results)
 
--- the status is that of a run of the script, whose report was written, and nothing else
-abbrev pub Reports : Option (List ℕ) → Option (List ℕ) → Option (List ℕ) → ℕ → Type 0
-Reports input old new status =
-    (results : List (Result Outcome Refusal)) × IsRunOfReader input results
-    × Appends old new (report results) × (status ≡ status_of results)
+-- results of this kind have the status, and their text was written, and nothing else
+abbrev pub ReportsText :
+    {T : Type 0} → (List ℕ → List (Result T Refusal) → Type 0) → (List (Result T Refusal) → List ℕ)
+    → Option (List ℕ) → Option (List ℕ) → Option (List ℕ) → ℕ → Type 0
+ReportsText {T} IsOf text_of input old new status =
+    (results : List (Result T Refusal)) × AreOfReader IsOf input results
+    × Appends old new (text_of results) × (status ≡ status_of results)
 
--- a fault of a script that was not run
+-- a run of the script is reported, or its check
+abbrev pub Reports : Mode → Option (List ℕ) → Option (List ℕ) → Option (List ℕ) → ℕ → Type 0
+Reports Run = ReportsText IsRunOf report
+Reports Check = ReportsText IsCheckOf check_text
+
+-- a fault of a script that gave no results
 abbrev pub MayEndSilently : Option (List ℕ) → RunFault → Type 0
 MayEndSilently input (Script refusal) = IfSome input (λ all. MayRefuseScript (read_of all) refusal)
 MayEndSilently input Memory = ⊤
 MayEndSilently input Read = ⊤
 MayEndSilently input Write = ⊥
 
--- a fault that a run may end in: the script was not run, and the output got nothing; or memory or
--- the writer failed as the report was written, and nothing is said of the output
+-- a fault that the program may end in: the script gave no results, and the output got nothing; or
+-- memory or the writer failed as the report was written, and nothing is said of the output
 abbrev pub MayEndIn : Option (List ℕ) → Option (List ℕ) → Option (List ℕ) → RunFault → Type 0
 MayEndIn input old new fault =
     (MayEndSilently input fault × Keeps old new) ⊎ ((fault ≡ Memory) ⊎ (fault ≡ Write))

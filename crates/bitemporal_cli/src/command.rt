@@ -4,7 +4,7 @@ ghost use Rattle.std.specs.Prelude.{◌≡◌, ◌≢◌, false, codes, IfSome, 
 ghost use Rattle.std.specs.String.{string_bytes};
 ghost use Rattle.clap.specs.Words.{app_of, first_of, found_of, rows_of, rule_of, subcommand_of};
 ghost use Rattle.clap.specs.declared.builder.Command.TheViews.{out-Command};
-ghost use Rattle.bitemporal_cli.specs.CommandLine.{Chooses, IsMode, bitemporal, file_word, run_command};
+ghost use Rattle.bitemporal_cli.specs.CommandLine.{Chooses, IsMode, bitemporal, file_word, script_command};
 
 use clap::error::ErrorKind;
 use clap::{Arg, ArgAction, ArgMatches, Command};
@@ -17,6 +17,8 @@ use thiserror::Error;
 pub enum Mode {
     /// Runs a script and prints its report.
     Run,
+    /// Says which statements of a script are not spelled right, and runs none.
+    Check,
 }
 
 /// Why a command line chooses nothing.
@@ -31,9 +33,12 @@ pub enum CommandFault {
 }
 
 const ABOUT: &str =
-    "Runs SQL over tables with a period of validity and a history, and prints a report.";
+    "Runs or checks SQL over tables with a period of validity and a history, and prints a report.";
 
 const RUN_ABOUT: &str = "Runs the statements of a script in order, and prints what each gives.";
+
+const CHECK_ABOUT: &str =
+    "Says which statements of a script are not spelled right, and runs none of them.";
 
 const STATUSES: &str = "\
 Exit status:
@@ -52,27 +57,32 @@ fn file_argument<'a>(alloc: Global) -> Arg<'a>
         .action(ArgAction::Set)
 }
 
-fn run_subcommand<'a>(alloc: Global) -> Result<Command<'a>, AllocError>
-    ensures app { IfOk result (λ c. app_of c ≡ run_command) }
+// A subcommand that takes a script.
+fn script_subcommand<'a>(
+    alloc: Global,
+    name: &'a str,
+    about: &'a str,
+) -> Result<Command<'a>, AllocError>
+    ensures app { IfOk result (λ c. app_of c ≡ script_command name.now) }
     ensures local { IfOk result (λ c. (out-Command c).has_globals ≡ false) }
 {
     let file = file_argument(alloc);
-    let named = Command::new(alloc, "run")
-        .about(RUN_ABOUT)
-        .after_help(STATUSES);
-    let run = named.arg(file)?;
-    Ok(run)
+    let named = Command::new(alloc, name).about(about).after_help(STATUSES);
+    let whole = named.arg(file)?;
+    Ok(whole)
 }
 
 fn command<'a>(alloc: Global) -> Result<Command<'a>, AllocError>
     ensures { IfOk result (λ c. app_of c ≡ bitemporal) }
 {
-    let run = run_subcommand(alloc)?;
+    let run = script_subcommand(alloc, "run", RUN_ABOUT)?;
+    let check = script_subcommand(alloc, "check", CHECK_ABOUT)?;
     let named = Command::new(alloc, "bitemporal")
         .about(ABOUT)
         .after_help(STATUSES);
     let top = named.subcommand_required(true);
-    let whole = top.subcommand(run)?;
+    let running = top.subcommand(run)?;
+    let whole = running.subcommand(check)?;
     Ok(whole)
 }
 
@@ -85,10 +95,11 @@ fn value_of<'a>(matches: &ArgMatches<'a>, id: &str) -> Option<&'a str>
 
 fn mode_of(name: &str) -> Option<Mode>
     ensures mode { IfSome result (IsMode name.now) }
-    ensures other { IfNone result (name.now ≢ codes "run") }
+    ensures other { IfNone result ((name.now ≢ codes "run") × (name.now ≢ codes "check")) }
 {
     match name {
         "run" => Some(Mode::Run),
+        "check" => Some(Mode::Check),
         _ => None,
     }
 }

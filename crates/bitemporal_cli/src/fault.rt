@@ -5,6 +5,7 @@ ghost use Rattle.std.specs.String.{string_bytes};
 ghost use Rattle.bitemporal_cli.specs.Lines.{GetsFrontOf, detail_of, fault_line, line_of, offset_of, refusal_line};
 
 use period_core::Refusal;
+use script_engine::ReportFault;
 use std::alloc::{AllocError, Global};
 use std::io::Write;
 
@@ -19,6 +20,20 @@ pub enum RunFault {
     Read,
     /// The writer of the report failed.
     Write,
+}
+
+impl From<ReportFault> for RunFault {
+    ghost use Rattle.std.specs.Prelude.{◌≡◌, ◌⊎◌};
+    ghost use Rattle.bitemporal_cli.specs.declared.fault.RunFault.TheVariants.{Memory, Write};
+
+    ghost from_gives = { λ _ fault. (fault ≡ Memory) ⊎ (fault ≡ Write) };
+
+    fn from(fault: ReportFault) -> RunFault {
+        match fault {
+            ReportFault::Memory => RunFault::Memory,
+            ReportFault::Write => RunFault::Write,
+        }
+    }
 }
 
 const MEMORY_LINE: &[u8] = b"bitemporal: 61 Memory\n";

@@ -1,4 +1,4 @@
-//! `bitemporal run [FILE]`.
+//! `bitemporal run [FILE]` and `bitemporal check [FILE]`.
 #![tactic(auto)]
 
 mod command;

@@ -7,8 +7,14 @@ pub mod Numbered
 pub mod Positions
 pub mod RowFacts
 pub mod Shape
+pub mod DefinitionParts
+pub mod Built
+pub mod Fronts
+pub mod DefinitionFronts
+pub mod DefinitionSpelling
 pub mod Tables
 pub mod CreateExamples
+pub mod DefinitionExamples
 pub mod InsertExamples
 pub mod ModelExamples
 pub mod SelectExamples

@@ -13,7 +13,7 @@ use Rattle.sql_front.specs.declared.create.ReferenceElement.{ReferenceElement}
 use Rattle.sql_front.specs.declared.create.SystemElement.{SystemElement}
 use Rattle.catalog_core.proofs.Positions.{placed}
 use Rattle.catalog_core.proofs.Sound.{are_false, fails_at}
-use Rattle.catalog_core.specs.Creation.{create_conditions, has_bad_column, has_bad_period, has_bad_system_period, has_other_period, is_bad_definition, lacks_name, lacks_one_of_each, lacks_parent, lacks_period, own_matches, references_no_key, some_match, some_own_match, some_parent_match, sort_count}
+use Rattle.catalog_core.specs.Creation.{create_conditions, has_bad_column, has_bad_period, has_bad_system_period, has_other_period, has_unequal_lists, is_bad_definition, lacks_name, lacks_one_of_each, lacks_parent, lacks_period, own_matches, references_no_key, some_match, some_own_match, some_parent_match, sort_count}
 use Rattle.catalog_core.specs.Definition.{declared_period, own_place}
 use Rattle.catalog_core.specs.Judged.{Holds}
 use Rattle.catalog_core.specs.Matches.{is_matching}
@@ -46,6 +46,9 @@ all_match catalog c none =
 is_one : (n : ℕ) → not (n == 1) ≡ false → n ≡ 1
 is_one n e = grind (arith, nat_tests)
 
+pub is_equal : (n m : ℕ) → not (n == m) ≡ false → n ≡ m
+is_equal n m e = grind (arith, nat_tests)
+
 -- what the definition is built from
 pub record IsSound (catalog : List TableDef) (c : CreateTable) : Type 0 where
   pub parents : lacks_parent catalog c ≡ false
@@ -53,6 +56,7 @@ pub record IsSound (catalog : List TableDef) (c : CreateTable) : Type 0 where
   pub one_period : length c.periods ≡ 1
   pub one_key : length c.keys ≡ 1
   pub columns : has_bad_column c ≡ false
+  pub equal : has_unequal_lists c ≡ false
 
 pub sound : (catalog : List TableDef) (c : CreateTable) → NoneApplies (Holds (create_conditions catalog c)) → IsSound catalog c
 unfolding lacks_name is_bad_definition lacks_one_of_each
@@ -74,7 +78,7 @@ sound catalog c none =
     let h = or_parts (one_period || one_system || one_start) one_end g.0 in
     let k = or_parts (one_period || one_system) one_start h.0 in
     let l = or_parts one_period one_system k.0 in
-    record { parents = tests.1.1.0; names = names.0; one_period = is_one (length c.periods) l.0; one_key = is_one (length c.keys) g.1; columns = d.1 }
+    record { parents = tests.1.1.0; names = names.0; one_period = is_one (length c.periods) l.0; one_key = is_one (length c.keys) g.1; columns = d.1; equal = tests.1.1.1.1.1.1.1.1.0 }
 
 -- the only element
 pub single : {X : Type 0} (xs ys : List X) (x : X) → ys ≡ xs → length xs ≡ 1 → x ≡ get_or ys 0 x → xs ≡ x ∷ []

@@ -2,10 +2,15 @@ pub mod Judged
 pub mod Matches
 pub mod Naming
 pub mod Kinds
+pub mod IsDefinition
 pub mod TableWords
 pub mod Creation
 pub mod Definition
+pub mod DefinitionValues
+pub mod DefinitionEncoding
+pub mod DefinitionReading
 pub mod Insertion
+pub mod SimpleSelects
 pub mod Selection
 pub mod Resolution
 pub mod Effects

@@ -5,8 +5,8 @@ use Rattle.period_core.specs.declared.refusal.Refusal.TheVariants.{EmptyPeriod}
 use Rattle.period_core.specs.declared.value.Value.{Value}
 use Rattle.period_core.specs.declared.value.Value.TheVariants.{Date}
 use Rattle.sql_front.specs.declared.statement.InsertRows.{InsertRows}
-use Rattle.sql_front.specs.declared.statement.Statement.{Statement}
-use Rattle.sql_front.specs.declared.statement.Statement.TheVariants as statement
+use Rattle.sql_front.specs.Trees.{Statement}
+use Rattle.sql_front.specs.Trees as statement
 use Rattle.catalog_core.specs.Insertion.{given_value, gives_empty_row, insert_conditions, value_for}
 use Rattle.catalog_core.specs.Judged.{Judged}
 use Rattle.catalog_core.specs.Naming.{Name}
@@ -17,23 +17,20 @@ use Rattle.catalog_core.specs.declared.change.Change.{Change}
 use Rattle.catalog_core.specs.declared.change.GivenRow.{GivenRow}
 use Rattle.catalog_core.specs.declared.table.TableDef.{TableDef}
 
--- the statement changes a table
+-- the statement is an INSERT, the one change that is carried out so far
 abbrev pub IsChange : Statement → Type 0
-IsChange (statement.Insert i) = Unit {0}
-IsChange (statement.Create _) = ⊥
-IsChange (statement.Sequenced _) = ⊥
+IsChange (statement.insert i) = Unit {0}
+IsChange _ = ⊥
 
 -- the refusals that a change may get by its statement and the catalog, each with its condition, but for an empty period; other statements have none
 abbrev pub change_conditions : List TableDef → Statement → List Judged
-change_conditions catalog (statement.Insert i) = insert_conditions catalog i
-change_conditions catalog (statement.Create _) = []
-change_conditions catalog (statement.Sequenced _) = []
+change_conditions catalog (statement.insert i) = insert_conditions catalog i
+change_conditions catalog _ = []
 
 -- the one more: a period that does not end after its start
 abbrev pub empty_period : List TableDef → Statement → Judged
-empty_period catalog (statement.Insert i) = (EmptyPeriod, gives_empty_row catalog i)
-empty_period catalog (statement.Create _) = (EmptyPeriod, false)
-empty_period catalog (statement.Sequenced _) = (EmptyPeriod, false)
+empty_period catalog (statement.insert i) = (EmptyPeriod, gives_empty_row catalog i)
+empty_period catalog _ = (EmptyPeriod, false)
 
 -- what stands for a row: the values of the value columns in declared order, and its period's start and end
 pub record RowParts : Type 0 where
@@ -66,9 +63,8 @@ pub record ResolvesInsert (catalog : List TableDef) (i : InsertRows) (change : C
   pub action : ResolvesAction definition i change.action
 
 abbrev pub ResolvesChange : List TableDef → Statement → Change → Type 0
-ResolvesChange catalog (statement.Insert i) change = ResolvesInsert catalog i change
-ResolvesChange catalog (statement.Create _) change = ⊥
-ResolvesChange catalog (statement.Sequenced _) change = ⊥
+ResolvesChange catalog (statement.insert i) change = ResolvesInsert catalog i change
+ResolvesChange catalog _ change = ⊥
 
 -- the given row ends at or before its start
 abbrev pub is_empty_row : GivenRow → Bool

@@ -1,20 +1,22 @@
 //! The definition that a sound CREATE gives.
 
-ghost use Rattle.std.specs.Prelude.{◌≡◌, IfOk, Some, false, is_none, is_some, length, map};
-ghost use Rattle.catalog_core.specs.Creation.{has_bad_column, is_bad_type, lacks_parent, parent_of, some_match, some_own_match, some_parent_match};
+ghost use Rattle.std.specs.Prelude.{◌≡◌, ◌<◌, ◌^◌, IfOk, IfSome, Some, false, true, is_none, is_some, length, map};
+ghost use Rattle.std.specs.List.{list_all};
+ghost use Rattle.catalog_core.specs.Creation.{has_bad_column, has_unequal_lists, is_bad_type, lacks_parent, parent_of, some_match, some_own_match, some_parent_match};
 ghost use Rattle.catalog_core.specs.Definition.{Defines, column_parts, declared_column, declared_kind, declared_reference, own_place, reference_parts};
+ghost use Rattle.catalog_core.specs.IsDefinition.{are_places, is_reference, most_columns};
 ghost use Rattle.catalog_core.specs.TableWords.{def_place, some_def_match};
 ghost use Rattle.catalog_core.specs.declared.matching.Matching.TheVariants.{Nothing};
 
 use crate::catalog::Catalog;
 use crate::table::{Column, ColumnKind, PeriodColumns, Reference, TableDef};
-use period_core::{Items, Memory, Text};
-use sql_front::{ColumnElement, CreateTable, Generated, ReferenceElement, TypeName};
+use period_core::{Items, Memory};
+use sql_front::{ColumnElement, CreateTable, Generated, Name, ReferenceElement, TypeName};
 use std::alloc::Global;
 
 /// The place of the statement's column that a name stands for.
 #[tactic(auto, unfolding(crate::specs::Definition::own_place))]
-fn own_place(create: &CreateTable, name: &Text) -> Option<usize>
+fn own_place(create: &CreateTable, name: &Name) -> Option<usize>
     ensures { result ≡ own_place create.now name.now }
 {
     let columns = create.columns.as_slice();
@@ -28,8 +30,9 @@ fn own_place(create: &CreateTable, name: &Text) -> Option<usize>
 
 /// The place of a table's column that a name stands for.
 #[tactic(auto, unfolding(crate::specs::TableWords::def_place))]
-fn def_place(table: &TableDef, name: &Text) -> Option<usize>
-    ensures { result ≡ def_place table.now name.now }
+fn def_place(table: &TableDef, name: &Name) -> Option<usize>
+    ensures value { result ≡ def_place table.now name.now }
+    ensures small { IfSome result (λ place. place < 2 ^ 63) }
 {
     let columns = table.columns.as_slice();
     for i in 0..columns.len() {
@@ -41,7 +44,7 @@ fn def_place(table: &TableDef, name: &Text) -> Option<usize>
 }
 
 /// The places of the statement's columns that the names stand for.
-fn own_places(alloc: Global, create: &CreateTable, names: &[Text]) -> Result<Vec<usize>, Memory>
+fn own_places(alloc: Global, create: &CreateTable, names: &[Name]) -> Result<Vec<usize>, Memory>
     requires { some_own_match create.now Nothing names.now ≡ false }
     ensures { IfOk result (λ v. map (own_place create.now) names.now ≡ map (λ i. Some i) v.items) }
 {
@@ -56,9 +59,11 @@ fn own_places(alloc: Global, create: &CreateTable, names: &[Text]) -> Result<Vec
 }
 
 /// The places of a table's columns that the names stand for.
-fn def_places(alloc: Global, table: &TableDef, names: &[Text]) -> Result<Vec<usize>, Memory>
+fn def_places(alloc: Global, table: &TableDef, names: &[Name]) -> Result<Vec<usize>, Memory>
     requires { some_def_match table.now Nothing names.now ≡ false }
-    ensures { IfOk result (λ v. map (def_place table.now) names.now ≡ map (λ i. Some i) v.items) }
+    ensures value { IfOk result
+        (λ v. map (def_place table.now) names.now ≡ map (λ i. Some i) v.items) }
+    ensures small { IfOk result (λ v. are_places most_columns v.items ≡ true) }
 {
     let mut places = Vec::new(alloc);
     for name in names {
@@ -125,8 +130,10 @@ fn declared_reference(
     requires there { is_none (parent_of catalog.now.tables element.now) ≡ false }
     requires own { some_own_match create.now Nothing element.now.columns ≡ false }
     requires keys { some_parent_match catalog.now.tables Nothing element.now ≡ false }
-    ensures { IfOk result
+    requires equal { length element.now.columns ≡ length element.now.parent_columns }
+    ensures value { IfOk result
         (λ x. declared_reference catalog.now.tables create.now element.now ≡ reference_parts x) }
+    ensures kept { IfOk result (λ x. is_reference (length create.now.columns) x ≡ true) }
 {
     let Some(parent) = catalog.find(&element.parent) else {
         unreachable!()
@@ -151,9 +158,12 @@ fn declared_references(
 ) -> Result<Vec<Reference>, Memory>
     requires there { lacks_parent catalog.now.tables create.now ≡ false }
     requires names { some_match catalog.now.tables create.now Nothing ≡ false }
-    ensures { IfOk result
+    requires equal { has_unequal_lists create.now ≡ false }
+    ensures value { IfOk result
         (λ v. map (declared_reference catalog.now.tables create.now) create.now.references
         ≡ map reference_parts v.items) }
+    ensures kept { IfOk result
+        (λ v. list_all (is_reference (length create.now.columns)) v.items ≡ true) }
 {
     let mut references = Vec::new(alloc);
     for element in create.references.as_slice() {
@@ -169,6 +179,7 @@ pub fn build(alloc: Global, catalog: &Catalog, create: &CreateTable) -> Result<T
     requires columns { has_bad_column create.now ≡ false }
     requires parents { lacks_parent catalog.now.tables create.now ≡ false }
     requires names { some_match catalog.now.tables create.now Nothing ≡ false }
+    requires equal { has_unequal_lists create.now ≡ false }
     ensures { IfOk result (λ d. Defines catalog.now.tables create.now d) }
 {
     let [period] = create.periods.as_slice() else {

@@ -4,7 +4,8 @@ ghost use Rattle.std.specs.Prelude.{◌≡◌, ◌↔◌, ◌≤◌, ◌<◌, �
 ghost use Rattle.catalog_core.specs.TableWords.{number_of, table_of, table_of_name};
 
 use crate::table::TableDef;
-use period_core::{Items, Memory, Text};
+use period_core::{Items, Memory};
+use sql_front::Name;
 use std::alloc::Global;
 use std::mem;
 
@@ -64,7 +65,7 @@ impl Catalog {
 
     /// The number of the table of this name.
     #[tactic(auto, unfolding(crate::specs::TableWords::number_of))]
-    pub fn find(&self, name: &Text) -> Option<u8>
+    pub fn find(&self, name: &Name) -> Option<u8>
         ensures { result ≡ number_of self.now.tables name.now }
     {
         let tables = self.tables.as_slice();
@@ -88,7 +89,7 @@ impl Catalog {
 
     /// The definition of the table of this name.
     #[tactic(auto, unfolding(crate::specs::TableWords::table_of_name))]
-    pub fn table_named(&self, name: &Text) -> Option<&TableDef>
+    pub fn table_named(&self, name: &Name) -> Option<&TableDef>
         ensures { option_copied result ≡ table_of_name self.now.tables name.now }
     {
         match self.find(name) {

@@ -6,7 +6,7 @@ ghost use Rattle.catalog_core.specs.TableWords.{is_value_column};
 
 use crate::kinds::is_system;
 use crate::table::{Column, TableDef};
-use period_core::Text;
+use sql_front::Name;
 
 /// Whether the column that is declared at a place is a value column.
 #[tactic(auto, unfolding(crate::specs::TableWords::is_value_column))]
@@ -17,7 +17,7 @@ pub fn is_value_column(table: &TableDef, place: usize, column: &Column) -> bool
 }
 
 /// Whether the column that is declared at a place has this name and is no value column.
-fn is_other_column(table: &TableDef, place: usize, column: &Column, name: &Text) -> bool
+fn is_other_column(table: &TableDef, place: usize, column: &Column, name: &Name) -> bool
     ensures { result
         ≡ (bytes_eq name.now column.now.name && not (is_value_column table.now (place, column.now))) }
 {
@@ -26,7 +26,7 @@ fn is_other_column(table: &TableDef, place: usize, column: &Column, name: &Text)
 
 /// Whether a column of this name is no value column.
 #[tactic(auto, unfolding(crate::specs::Selection::names_no_value))]
-pub fn names_no_value(table: &TableDef, name: &Text) -> bool
+pub fn names_no_value(table: &TableDef, name: &Name) -> bool
     ensures { result ≡ names_no_value table.now name.now }
 {
     let columns = table.columns.as_slice();
@@ -40,7 +40,7 @@ pub fn names_no_value(table: &TableDef, name: &Text) -> bool
 
 /// The position of the value column of this name among a row's values.
 #[tactic(auto, unfolding(crate::specs::Selection::value_position))]
-pub fn value_position(table: &TableDef, name: &Text) -> Option<usize>
+pub fn value_position(table: &TableDef, name: &Name) -> Option<usize>
     ensures { result ≡ value_position table.now name.now }
 {
     let columns = table.columns.as_slice();

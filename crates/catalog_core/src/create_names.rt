@@ -9,8 +9,7 @@ use crate::matching::{
     some_def_match, some_own_match,
 };
 use crate::table::TableDef;
-use period_core::Text;
-use sql_front::{CreateTable, ReferenceElement};
+use sql_front::{CreateTable, Name, ReferenceElement};
 
 /// The table that a reference names.
 #[tactic(auto)]
@@ -150,7 +149,7 @@ pub fn is_ambiguous(catalog: &Catalog, create: &CreateTable) -> bool
 
 /// Whether a name stands for several of the columns and periods.
 #[tactic(auto, unfolding(crate::specs::Creation::is_shared, crate::specs::Matches::is_matching))]
-pub fn is_shared(create: &CreateTable, name: &Text) -> bool
+pub fn is_shared(create: &CreateTable, name: &Name) -> bool
     ensures { result ≡ is_shared create.now name.now }
 {
     let columns = own_matches(create, name);
@@ -188,7 +187,7 @@ pub fn repeats_name(create: &CreateTable) -> bool
 
 /// Whether a name is a period or system column's.
 #[tactic(auto, unfolding(crate::specs::Creation::is_no_value_column))]
-pub fn is_no_value_column(create: &CreateTable, name: &Text) -> bool
+pub fn is_no_value_column(create: &CreateTable, name: &Name) -> bool
     ensures { result ≡ is_no_value_column create.now name.now }
 {
     for period in create.periods.as_slice() {
@@ -206,7 +205,7 @@ pub fn is_no_value_column(create: &CreateTable, name: &Text) -> bool
 
 /// Whether one of the names is.
 #[tactic(auto, unfolding(crate::specs::Creation::some_no_value))]
-pub fn some_no_value(create: &CreateTable, names: &[Text]) -> bool
+pub fn some_no_value(create: &CreateTable, names: &[Name]) -> bool
     ensures { result ≡ some_no_value create.now names.now }
 {
     for x in names {

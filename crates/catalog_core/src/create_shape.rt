@@ -8,8 +8,7 @@ use crate::create_names::{names_other_period, parent_of};
 use crate::kinds::{def_kind, differ, own_kind};
 use crate::matching::{ColumnSort, has_sort, sort_count};
 use crate::table::TableDef;
-use period_core::Text;
-use sql_front::{CreateTable, ReferenceElement, TypeName};
+use sql_front::{CreateTable, Name, ReferenceElement, TypeName};
 
 /// Whether there is not exactly one of each: application period, SYSTEM_TIME period, ROW START
 /// column, ROW END column and PRIMARY KEY.
@@ -84,7 +83,7 @@ pub fn has_bad_column(create: &CreateTable) -> bool
 
 /// Whether a key or reference is over another period.
 #[tactic(auto, unfolding(crate::specs::Creation::is_used_otherwise))]
-pub fn is_used_otherwise(create: &CreateTable, period: &Text) -> bool
+pub fn is_used_otherwise(create: &CreateTable, period: &Name) -> bool
     ensures { result ≡ is_used_otherwise create.now period.now }
 {
     for key in create.keys.as_slice() {
@@ -120,7 +119,7 @@ pub fn has_other_period(catalog: &Catalog, create: &CreateTable) -> bool
 
 /// Whether the name is that of the column at a place.
 #[tactic(auto, unfolding(crate::specs::Creation::is_at))]
-pub fn is_at(table: &TableDef, place: usize, name: &Text) -> bool
+pub fn is_at(table: &TableDef, place: usize, name: &Name) -> bool
     ensures { result ≡ is_at table.now place name.now }
 {
     match table.columns.as_slice().get(place) {
@@ -131,7 +130,7 @@ pub fn is_at(table: &TableDef, place: usize, name: &Text) -> bool
 
 /// Whether a name is that of a key column.
 #[tactic(auto, unfolding(crate::specs::Creation::is_key_name))]
-pub fn is_key_name(table: &TableDef, name: &Text) -> bool
+pub fn is_key_name(table: &TableDef, name: &Name) -> bool
     ensures { result ≡ is_key_name table.now name.now }
 {
     for place in table.key.as_slice() {
@@ -144,7 +143,7 @@ pub fn is_key_name(table: &TableDef, name: &Text) -> bool
 
 /// Whether a column of the table is among the names.
 #[tactic(auto, unfolding(crate::specs::Creation::is_named))]
-pub fn is_named(table: &TableDef, names: &[Text], place: usize) -> bool
+pub fn is_named(table: &TableDef, names: &[Name], place: usize) -> bool
     ensures { result ≡ is_named table.now names.now place }
 {
     for x in names {
@@ -157,7 +156,7 @@ pub fn is_named(table: &TableDef, names: &[Text], place: usize) -> bool
 
 /// Whether the names are the key's columns, in some order.
 #[tactic(auto, unfolding(crate::specs::Creation::are_key))]
-pub fn are_key(table: &TableDef, names: &[Text]) -> bool
+pub fn are_key(table: &TableDef, names: &[Name]) -> bool
     ensures { result ≡ are_key table.now names.now }
 {
     for x in names {
@@ -228,8 +227,8 @@ pub fn has_unequal_lists(create: &CreateTable) -> bool
 pub fn have_other_kinds(
     create: &CreateTable,
     table: &TableDef,
-    own: &[Text],
-    others: &[Text],
+    own: &[Name],
+    others: &[Name],
 ) -> bool
     ensures { result ≡ have_other_kinds create.now table.now own.now others.now }
 {

@@ -14,13 +14,14 @@ use crate::change::GivenRow;
 use crate::columns::is_value_column;
 use crate::insert_values::{given_value, value_for};
 use crate::table::TableDef;
-use period_core::{Day, Items, Memory, Text, Value, Values};
+use period_core::{Day, Items, Memory, Value, Values};
+use sql_front::{Name, NonEmpty};
 use std::alloc::Global;
 
 /// The date that a row gives for the column at a place.
 fn date_for(
     table: &TableDef,
-    list: &Option<Items<Text>>,
+    list: &Option<NonEmpty<Name>>,
     row: &[Value],
     place: usize,
 ) -> Option<Day>
@@ -37,7 +38,7 @@ fn date_for(
 fn row_values(
     alloc: Global,
     table: &TableDef,
-    list: &Option<Items<Text>>,
+    list: &Option<NonEmpty<Name>>,
     row: &[Value],
 ) -> Result<Vec<Value>, Memory>
     ensures { IfOk result
@@ -62,7 +63,7 @@ fn row_values(
 fn given_row(
     alloc: Global,
     table: &TableDef,
-    list: &Option<Items<Text>>,
+    list: &Option<NonEmpty<Name>>,
     row: &[Value],
 ) -> Result<GivenRow, Memory>
     ensures { IfOk result
@@ -82,8 +83,8 @@ fn given_row(
 pub fn given_rows(
     alloc: Global,
     table: &TableDef,
-    list: &Option<Items<Text>>,
-    rows: &[Values],
+    list: &Option<NonEmpty<Name>>,
+    rows: &[NonEmpty<Value>],
 ) -> Result<Vec<GivenRow>, Memory>
     ensures { IfOk result
         (λ v. map (written_row table.now list.now) rows.now ≡ map row_parts v.items) }

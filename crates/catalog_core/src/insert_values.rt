@@ -6,8 +6,8 @@ ghost use Rattle.catalog_core.specs.Insertion.{given_value, gives_no_period, giv
 use crate::insert_names::given_name;
 use crate::kinds::{def_kind, differ, kind_of_value};
 use crate::table::{ColumnKind, Kind, TableDef};
-use period_core::{Items, Text, Value};
-use sql_front::InsertRows;
+use period_core::{Items, Value};
+use sql_front::{InsertRows, Name, NonEmpty};
 
 /// What may be wrong with a value.
 #[derive(Clone, Copy)]
@@ -19,7 +19,7 @@ pub enum Wrong {
 impl Wrong {
     /// Whether a value that is given for a column is wrong in this way.
     #[tactic(auto, unfolding(crate::specs::Insertion::is_wrong))]
-    pub fn is(self, table: &TableDef, name: &Text, value: &Value) -> bool
+    pub fn is(self, table: &TableDef, name: &Name, value: &Value) -> bool
         ensures { result ≡ is_wrong self table.now (name.now, value.now) }
     {
         match self {
@@ -31,7 +31,7 @@ impl Wrong {
 
 /// Whether a value is of another kind than its column.
 #[tactic(auto, unfolding(crate::specs::Insertion::is_of_other_kind))]
-pub fn is_of_other_kind(table: &TableDef, name: &Text, value: &Value) -> bool
+pub fn is_of_other_kind(table: &TableDef, name: &Name, value: &Value) -> bool
     ensures { result ≡ is_of_other_kind table.now (name.now, value.now) }
 {
     differ(def_kind(table, name), Some(kind_of_value(value)))
@@ -50,7 +50,7 @@ pub fn is_longer(kind: ColumnKind, value: &Value) -> bool
 
 /// Whether a value is a text that the column of this name does not take.
 #[tactic(auto, unfolding(crate::specs::Insertion::is_too_long))]
-pub fn is_too_long(table: &TableDef, name: &Text, value: &Value) -> bool
+pub fn is_too_long(table: &TableDef, name: &Name, value: &Value) -> bool
     ensures { result ≡ is_too_long table.now (name.now, value.now) }
 {
     for x in table.columns.as_slice() {
@@ -65,7 +65,7 @@ pub fn is_too_long(table: &TableDef, name: &Text, value: &Value) -> bool
 pub fn gives_wrong(
     wrong: Wrong,
     table: &TableDef,
-    list: &Option<Items<Text>>,
+    list: &Option<NonEmpty<Name>>,
     row: &[Value],
 ) -> bool
     ensures { result ≡ gives_wrong wrong table.now list.now row.now }
@@ -97,9 +97,9 @@ pub fn has_wrong(wrong: Wrong, table: &TableDef, insert: &InsertRows) -> bool
 /// The value that a row gives for a column of this name.
 pub fn given_value<'a>(
     table: &TableDef,
-    list: &Option<Items<Text>>,
+    list: &Option<NonEmpty<Name>>,
     row: &'a [Value],
-    name: &Text,
+    name: &Name,
 ) -> Option<&'a Value>
     ensures { option_copied result ≡ given_value table.now list.now row.now name.now }
 {
@@ -119,7 +119,7 @@ pub fn given_value<'a>(
 #[tactic(auto, unfolding(crate::specs::Insertion::value_for))]
 pub fn value_for<'a>(
     table: &TableDef,
-    list: &Option<Items<Text>>,
+    list: &Option<NonEmpty<Name>>,
     row: &'a [Value],
     place: usize,
 ) -> Option<&'a Value>
@@ -144,7 +144,7 @@ pub fn is_no_period(start: Option<&Value>, end: Option<&Value>) -> bool
 
 /// Whether a row's period does not end after its start.
 #[tactic(auto, unfolding(crate::specs::Insertion::gives_no_period))]
-pub fn gives_no_period(table: &TableDef, list: &Option<Items<Text>>, row: &[Value]) -> bool
+pub fn gives_no_period(table: &TableDef, list: &Option<NonEmpty<Name>>, row: &[Value]) -> bool
     ensures { result ≡ gives_no_period table.now list.now row.now }
 {
     is_no_period(

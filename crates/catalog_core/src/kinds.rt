@@ -6,8 +6,8 @@ ghost use Rattle.catalog_core.specs.Kinds.{differ, kind_of_column, kind_of_type,
 ghost use Rattle.catalog_core.specs.TableWords.{def_kind, is_system};
 
 use crate::table::{ColumnKind, Kind, TableDef};
-use period_core::{Text, Value};
-use sql_front::{CreateTable, TypeName};
+use period_core::Value;
+use sql_front::{CreateTable, Name, TypeName};
 
 /// Whether it is a system column's.
 pub fn is_system(kind: ColumnKind) -> bool
@@ -88,7 +88,7 @@ pub fn differ(left: Option<Kind>, right: Option<Kind>) -> bool
 
 /// The kind of the statement's column of this name.
 #[tactic(auto, unfolding(crate::specs::Creation::own_kind))]
-pub fn own_kind(create: &CreateTable, name: &Text) -> Option<Kind>
+pub fn own_kind(create: &CreateTable, name: &Name) -> Option<Kind>
     ensures { result ≡ own_kind create.now name.now }
 {
     for x in create.columns.as_slice() {
@@ -101,7 +101,7 @@ pub fn own_kind(create: &CreateTable, name: &Text) -> Option<Kind>
 
 /// The kind of a table's column of this name.
 #[tactic(auto, unfolding(crate::specs::TableWords::def_kind))]
-pub fn def_kind(table: &TableDef, name: &Text) -> Option<Kind>
+pub fn def_kind(table: &TableDef, name: &Name) -> Option<Kind>
     ensures { result ≡ def_kind table.now name.now }
 {
     for x in table.columns.as_slice() {

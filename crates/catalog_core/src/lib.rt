@@ -1,5 +1,5 @@
-//! The tables of a store, and the statements about them with positions in place of names, or the
-//! refusal of the least number.
+//! The tables of a store and their bytes, and the statements about them with positions in place of
+//! names, or the refusal of the least number.
 #![tactic(auto)]
 
 mod building;
@@ -9,6 +9,9 @@ mod columns;
 mod create_names;
 mod create_shape;
 mod creation;
+mod definition_bytes;
+mod definition_list;
+mod definition_reader;
 mod given_rows;
 mod insert_names;
 mod insert_values;
@@ -18,11 +21,16 @@ mod matching;
 mod query;
 mod resolution;
 mod selection;
+mod simple_select;
 mod table;
+#[cfg(test)]
+mod tests;
+mod value_reader;
 
 pub use catalog::Catalog;
 pub use change::{Action, Change, GivenRow};
 pub use creation::define;
+pub use definition_bytes::{decode_def, encode_def};
 pub use query::{Item, Query, Select};
 pub use resolution::resolve_change;
 pub use selection::resolve_query;

@@ -7,8 +7,7 @@ ghost use Rattle.catalog_core.specs.Naming.{match_count, repeats};
 ghost use Rattle.catalog_core.specs.TableWords.{def_matches, some_def_match};
 
 use crate::table::TableDef;
-use period_core::Text;
-use sql_front::{ColumnElement, CreateTable, Generated, TypeName};
+use sql_front::{ColumnElement, CreateTable, Generated, Name, TypeName};
 
 /// How many columns a test wants a name to match: none, or more than one.
 #[derive(Clone, Copy)]
@@ -69,7 +68,7 @@ impl ColumnSort {
 
 /// How many of the statement's columns a name matches.
 #[tactic(auto, unfolding(crate::specs::Creation::own_matches))]
-pub fn own_matches(create: &CreateTable, name: &Text) -> usize
+pub fn own_matches(create: &CreateTable, name: &Name) -> usize
     ensures { result ≡ own_matches create.now name.now }
 {
     let mut count = 0;
@@ -83,7 +82,7 @@ pub fn own_matches(create: &CreateTable, name: &Text) -> usize
 
 /// How many of its periods.
 #[tactic(auto, unfolding(crate::specs::Creation::period_matches))]
-pub fn period_matches(create: &CreateTable, name: &Text) -> usize
+pub fn period_matches(create: &CreateTable, name: &Name) -> usize
     ensures { result ≡ period_matches create.now name.now }
 {
     let mut count = 0;
@@ -97,7 +96,7 @@ pub fn period_matches(create: &CreateTable, name: &Text) -> usize
 
 /// How many of a table's columns.
 #[tactic(auto, unfolding(crate::specs::TableWords::def_matches))]
-pub fn def_matches(table: &TableDef, name: &Text) -> usize
+pub fn def_matches(table: &TableDef, name: &Name) -> usize
     ensures { result ≡ def_matches table.now name.now }
 {
     let mut count = 0;
@@ -111,7 +110,7 @@ pub fn def_matches(table: &TableDef, name: &Text) -> usize
 
 /// How many of a list of names.
 #[tactic(auto, unfolding(crate::specs::Naming::match_count))]
-pub fn match_count(names: &[Text], name: &Text) -> usize
+pub fn match_count(names: &[Name], name: &Name) -> usize
     ensures { result ≡ match_count names.now name.now }
 {
     let mut count = 0;
@@ -139,7 +138,7 @@ pub fn sort_count(create: &CreateTable, sort: ColumnSort) -> usize
 
 /// Whether one of the names matches so many of the statement's columns.
 #[tactic(auto, unfolding(crate::specs::Creation::some_own_match))]
-pub fn some_own_match(create: &CreateTable, wanted: Matching, names: &[Text]) -> bool
+pub fn some_own_match(create: &CreateTable, wanted: Matching, names: &[Name]) -> bool
     ensures { result ≡ some_own_match create.now wanted names.now }
 {
     for x in names {
@@ -152,7 +151,7 @@ pub fn some_own_match(create: &CreateTable, wanted: Matching, names: &[Text]) ->
 
 /// Whether one of the names matches so many of a table's columns.
 #[tactic(auto, unfolding(crate::specs::TableWords::some_def_match))]
-pub fn some_def_match(table: &TableDef, wanted: Matching, names: &[Text]) -> bool
+pub fn some_def_match(table: &TableDef, wanted: Matching, names: &[Name]) -> bool
     ensures { result ≡ some_def_match table.now wanted names.now }
 {
     for x in names {
@@ -165,7 +164,7 @@ pub fn some_def_match(table: &TableDef, wanted: Matching, names: &[Text]) -> boo
 
 /// Whether one of two names matches so many of the statement's columns.
 #[tactic(auto, unfolding(crate::specs::Creation::some_own_match))]
-pub fn either_matches(create: &CreateTable, wanted: Matching, start: &Text, end: &Text) -> bool
+pub fn either_matches(create: &CreateTable, wanted: Matching, start: &Name, end: &Name) -> bool
     ensures { result ≡ some_own_match create.now wanted (start.now ∷ end.now ∷ []) }
 {
     wanted.takes(own_matches(create, start)) || wanted.takes(own_matches(create, end))
@@ -173,7 +172,7 @@ pub fn either_matches(create: &CreateTable, wanted: Matching, start: &Text, end:
 
 /// Whether a column of this name is of the sort.
 #[tactic(auto, unfolding(crate::specs::Creation::has_sort))]
-pub fn has_sort(create: &CreateTable, sort: ColumnSort, name: &Text) -> bool
+pub fn has_sort(create: &CreateTable, sort: ColumnSort, name: &Name) -> bool
     ensures { result ≡ has_sort create.now sort name.now }
 {
     for x in create.columns.as_slice() {
@@ -186,7 +185,7 @@ pub fn has_sort(create: &CreateTable, sort: ColumnSort, name: &Text) -> bool
 
 /// Whether a name stands in the list again.
 #[tactic(auto, unfolding(crate::specs::Naming::repeats))]
-pub fn repeats(names: &[Text]) -> bool
+pub fn repeats(names: &[Name]) -> bool
     ensures { result ≡ repeats names.now }
 {
     for x in names {

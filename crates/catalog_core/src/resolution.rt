@@ -2,6 +2,7 @@
 
 ghost use Rattle.std.specs.Prelude.{◌≡◌, IfErr, IfOk, OnOk};
 ghost use Rattle.period_core.specs.Leasts.{MayAnswer, NoneApplies};
+ghost use Rattle.sql_front.specs.Plain.{plain};
 ghost use Rattle.catalog_core.specs.Insertion.{gives_empty_row, insert_conditions};
 ghost use Rattle.catalog_core.specs.Judged.{Holds};
 ghost use Rattle.catalog_core.specs.Resolution.{IsChange, ResolvesChange, ResolvesInsert, change_conditions, empty_period, has_empty_row};
@@ -11,7 +12,7 @@ use crate::change::{Action, Change};
 use crate::given_rows::given_rows;
 use crate::insertion::insert_fault;
 use period_core::{Items, Memory, Refusal};
-use sql_front::{InsertRows, Statement};
+use sql_front::{InsertRows, Statement, StatementForm};
 use std::alloc::Global;
 
 /// A sound INSERT by numbers.
@@ -56,17 +57,17 @@ pub fn resolve_change(
     catalog: &Catalog,
     statement: &Statement,
 ) -> Result<Change, Refusal>
-    requires { IsChange statement.now }
+    requires { IsChange (plain statement.now) }
     ensures sound { OnOk result
-        (NoneApplies (Holds (change_conditions catalog.now.tables statement.now))) }
+        (NoneApplies (Holds (change_conditions catalog.now.tables (plain statement.now)))) }
     ensures resolved { IfOk result
-        (λ change. ResolvesChange catalog.now.tables statement.now change) }
+        (λ change. ResolvesChange catalog.now.tables (plain statement.now) change) }
     ensures empty { IfOk result (λ change.
-        (empty_period catalog.now.tables statement.now).1 ≡ has_empty_row change.action) }
+        (empty_period catalog.now.tables (plain statement.now)).1 ≡ has_empty_row change.action) }
     ensures refused { IfErr result
-        (MayAnswer (Holds (change_conditions catalog.now.tables statement.now))) }
+        (MayAnswer (Holds (change_conditions catalog.now.tables (plain statement.now)))) }
 {
-    let Statement::Insert(insert) = statement else {
+    let StatementForm::Insert(insert) = statement.form() else {
         unreachable!()
     };
     resolve_insert(alloc, catalog, insert)

@@ -2,6 +2,7 @@
 
 ghost use Rattle.std.specs.Prelude.{◌≡◌, IfErr, IfOk, MatchOption, OnOk, false, map};
 ghost use Rattle.period_core.specs.Leasts.{IsLeast, MayAnswer, NoneApplies};
+ghost use Rattle.sql_front.specs.Plain.{plain};
 ghost use Rattle.catalog_core.specs.TableWords.{some_def_match};
 ghost use Rattle.catalog_core.specs.declared.matching.Matching.TheVariants.{Nothing};
 ghost use Rattle.catalog_core.specs.Judged.{Holds, first_holding};
@@ -11,9 +12,10 @@ use crate::catalog::Catalog;
 use crate::columns::{names_no_value, value_position};
 use crate::matching::{Matching, some_def_match};
 use crate::query::{Item, Query, Select};
+use crate::simple_select::{SimpleSelect, simple_select_of};
 use crate::table::TableDef;
-use period_core::{Items, Memory, Refusal, Text};
-use sql_front::{SelectDistinct, Statement};
+use period_core::{Items, Memory, Refusal};
+use sql_front::{Name, Statement, StatementForm};
 use std::alloc::Global;
 
 /// How many items a select may have.
@@ -21,7 +23,7 @@ const MOST_ITEMS: usize = 32;
 
 /// Whether a period or system column is among the items.
 #[tactic(auto, unfolding(crate::specs::Selection::selects_no_value))]
-fn selects_no_value(table: &TableDef, names: &[Text]) -> bool
+fn selects_no_value(table: &TableDef, names: &[Name]) -> bool
     ensures { result ≡ selects_no_value table.now names.now }
 {
     for x in names {
@@ -34,7 +36,7 @@ fn selects_no_value(table: &TableDef, names: &[Text]) -> bool
 
 /// The first refusal whose condition holds.
 #[tactic(auto, unfolding(crate::specs::Selection::has_many_items, crate::specs::Selection::lacks_source, crate::specs::Selection::selects_unknown, crate::specs::Selection::selects_ambiguous))]
-fn first_fault(catalog: &Catalog, select: &SelectDistinct) -> Option<Refusal>
+fn first_fault(catalog: &Catalog, select: &SimpleSelect) -> Option<Refusal>
     ensures { result ≡ first_holding (select_conditions catalog.now.tables select.now) }
 {
     if select.columns.len() > MOST_ITEMS {
@@ -56,7 +58,7 @@ fn first_fault(catalog: &Catalog, select: &SelectDistinct) -> Option<Refusal>
 }
 
 /// The refusal of a select, if it is refused.
-fn select_fault(catalog: &Catalog, select: &SelectDistinct) -> Option<Refusal>
+fn select_fault(catalog: &Catalog, select: &SimpleSelect) -> Option<Refusal>
     ensures { let holds = Holds (select_conditions catalog.now.tables select.now)
         in MatchOption result (NoneApplies holds) (IsLeast holds) }
 {
@@ -64,7 +66,7 @@ fn select_fault(catalog: &Catalog, select: &SelectDistinct) -> Option<Refusal>
 }
 
 /// The items by their positions.
-fn resolve_items(alloc: Global, table: &TableDef, names: &[Text]) -> Result<Vec<Item>, Memory>
+fn resolve_items(alloc: Global, table: &TableDef, names: &[Name]) -> Result<Vec<Item>, Memory>
     requires there { some_def_match table.now Nothing names.now ≡ false }
     requires values { selects_no_value table.now names.now ≡ false }
     ensures { IfOk result
@@ -86,7 +88,7 @@ fn resolve_items(alloc: Global, table: &TableDef, names: &[Text]) -> Result<Vec<
 
 /// A sound select by numbers.
 #[tactic(auto, unfolding(crate::specs::TableWords::table_of_name))]
-fn numbered(alloc: Global, catalog: &Catalog, select: &SelectDistinct) -> Result<Select, Memory>
+fn numbered(alloc: Global, catalog: &Catalog, select: &SimpleSelect) -> Result<Select, Memory>
     requires { NoneApplies (Holds (select_conditions catalog.now.tables select.now)) }
     ensures { IfOk result (λ s. ResolvesSelect catalog.now.tables select.now s) }
 {
@@ -107,7 +109,7 @@ fn numbered(alloc: Global, catalog: &Catalog, select: &SelectDistinct) -> Result
 fn resolve_select(
     alloc: Global,
     catalog: &Catalog,
-    select: &SelectDistinct,
+    select: &SimpleSelect,
 ) -> Result<Select, Refusal>
     ensures sound { OnOk result
         (NoneApplies (Holds (select_conditions catalog.now.tables select.now))) }
@@ -127,16 +129,19 @@ pub fn resolve_query(
     catalog: &Catalog,
     statement: &Statement,
 ) -> Result<Query, Refusal>
-    requires { IsSequenced statement.now }
+    requires { IsSequenced (plain statement.now) }
     ensures sound { OnOk result
-        (NoneApplies (Holds (query_conditions catalog.now.tables statement.now))) }
+        (NoneApplies (Holds (query_conditions catalog.now.tables (plain statement.now)))) }
     ensures resolved { IfOk result
-        (λ query. ResolvesQuery catalog.now.tables statement.now query) }
+        (λ query. ResolvesQuery catalog.now.tables (plain statement.now) query) }
     ensures refused { IfErr result
-        (MayAnswer (Holds (query_conditions catalog.now.tables statement.now))) }
+        (MayAnswer (Holds (query_conditions catalog.now.tables (plain statement.now)))) }
 {
-    let Statement::Sequenced(select) = statement else {
+    let StatementForm::Sequenced(query) = statement.form() else {
         unreachable!()
     };
-    resolve_select(alloc, catalog, select)
+    match simple_select_of(alloc, query)? {
+        Some(select) => resolve_select(alloc, catalog, &select),
+        None => Err(Refusal::Syntax),
+    }
 }

@@ -1,8 +1,10 @@
 //! Tables by their definitions.
 
 ghost use Rattle.std.specs.Prelude.{◌≡◌, IfOk};
+ghost use Rattle.catalog_core.specs.IsDefinition.{IsDefinition};
 
-use period_core::{Items, Memory, Text};
+use period_core::{Items, Memory};
+use sql_front::Name;
 use std::alloc::Global;
 
 /// What a column holds. The last two are the system columns, each with its precision where one was
@@ -29,7 +31,7 @@ pub enum Kind {
 /// A declared column.
 #[derive(Drop, Debug)]
 pub struct Column {
-    pub name: Text,
+    pub name: Name,
     pub kind: ColumnKind,
 }
 
@@ -37,7 +39,7 @@ pub struct Column {
 /// from 0.
 #[derive(Drop, Debug)]
 pub struct PeriodColumns {
-    pub name: Text,
+    pub name: Name,
     pub start: usize,
     pub end: usize,
 }
@@ -54,11 +56,12 @@ pub struct Reference {
 /// A table's definition. The places of the key are among the declared columns.
 #[derive(Drop, Debug)]
 pub struct TableDef {
-    pub name: Text,
+    pub name: Name,
     pub columns: Items<Column>,
     pub period: PeriodColumns,
     pub key: Items<usize>,
     pub references: Items<Reference>,
+    pub ghost sound: { IsDefinition columns period key references },
 }
 
 impl Column {

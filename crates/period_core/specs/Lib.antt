@@ -1,5 +1,10 @@
 pub mod Calendar
+pub mod Moments
+pub mod Windows
 pub mod Order
 pub mod Codes
 pub mod Leasts
 pub mod OrderLaws
+pub mod Encoding
+pub mod EncodingLaws
+pub mod Decoding

@@ -25,7 +25,7 @@ impl Model for Day {
 }
 
 /// 0001-01-01.
-const FIRST: i32 = -719_162;
+pub(crate) const FIRST: i32 = -719_162;
 
 /// 9999-12-31.
 const LAST: i32 = 2_932_896;

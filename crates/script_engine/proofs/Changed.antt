@@ -8,8 +8,8 @@ use Rattle.period_core.specs.Leasts.{NoneApplies}
 use Rattle.period_core.specs.declared.row.PeriodRow.{PeriodRow}
 use Rattle.period_core.specs.declared.value.Value.{Value}
 use Rattle.temporal_model.specs.Snapshot.{InSnapshot}
-use Rattle.sql_front.specs.declared.statement.Statement.{Statement}
-use Rattle.sql_front.specs.declared.statement.Statement.TheVariants as statement
+use Rattle.sql_front.specs.Trees.{Statement}
+use Rattle.sql_front.specs.Trees as statement
 use Rattle.catalog_core.specs.Judged.{Holds}
 use Rattle.catalog_core.specs.Resolution.{IsChange, ResolvesChange, change_conditions, empty_period, has_empty_row}
 use Rattle.catalog_core.specs.Effects.{Traced, effect, given_of, traced}
@@ -115,15 +115,14 @@ changed_after history old new change made kept adds = record {
 none_of_insert : (catalog : List TableDef) (s : Statement) (change : Change) (made : List PeriodRow) → IsChange s →
     NoneApplies (Holds (change_conditions catalog s)) → (empty_period catalog s).1 ≡ has_empty_row change.action → map plain_row made ≡ map plain_given (given_of change.action) →
     NoneApplies (StatementApplies catalog s)
-none_of_insert catalog (statement.Create create) change made form sound empty values refusal h = absurd form
-none_of_insert catalog (statement.Sequenced select) change made form sound empty values refusal h = absurd form
-none_of_insert catalog (statement.Insert insert) change made form sound empty values refusal h =
-    elim (holds_cases (change_conditions catalog (statement.Insert insert)) (empty_period catalog (statement.Insert insert) ∷ []) refusal h) [
+none_of_insert catalog (statement.insert insert) change made form sound empty values refusal h =
+    elim (holds_cases (change_conditions catalog (statement.insert insert)) (empty_period catalog (statement.insert insert) ∷ []) refusal h) [
       | inl k ↦ sound refusal k
       | inr k ↦
-          let none : (empty_period catalog (statement.Insert insert)).1 ≡ false = empty ∙ days-action change.action made values in
+          let none : (empty_period catalog (statement.insert insert)).1 ≡ false = empty ∙ days-action change.action made values in
           elim k [ inl both ↦ absurd cc | inr nothing ↦ nothing ]
     ]
+none_of_insert catalog other change made form sound empty values refusal h = absurd form
 
 given_length : (action : Action) (made : List PeriodRow) → map plain_row made ≡ map plain_given (given_of action) → length made ≡ length (given_of action)
 given_length action made e = simp length-map at (ap length e)
@@ -132,19 +131,18 @@ given_length action made e = simp length-map at (ap length e)
 pub changed_step : (history : History) (old new : Database) (s : Statement) (change : Change) (made : List PeriodRow) → IsChange s → Represents history old →
     NoneApplies (Holds (change_conditions old.catalog s)) → ResolvesChange old.catalog s change → (empty_period old.catalog s).1 ≡ has_empty_row change.action → Adds old new change made →
     StepsTo history s (Ok (Done word.Insert (length made))) new
-changed_step history old new (statement.Create create) change made form kept sound resolved empty adds = absurd form
-changed_step history old new (statement.Sequenced select) change made form kept sound resolved empty adds = absurd form
-changed_step history old new (statement.Insert insert) change made form kept sound resolved empty adds = (
+changed_step history old new (statement.insert insert) change made form kept sound resolved empty adds = (
   with_event history (Changed change),
   (
-    subst (λ c. NoneApplies (StatementApplies c (statement.Insert insert))) kept.catalog
-        (none_of_insert old.catalog (statement.Insert insert) change made form sound empty adds.values),
+    subst (λ c. NoneApplies (StatementApplies c (statement.insert insert))) kept.catalog
+        (none_of_insert old.catalog (statement.insert insert) change made form sound empty adds.values),
     record {
       change = change;
-      resolved = subst (λ c. ResolvesChange c (statement.Insert insert) change) kept.catalog resolved;
+      resolved = subst (λ c. ResolvesChange c (statement.insert insert) change) kept.catalog resolved;
       done = ap (λ (n : ℕ). Done word.Insert n) (given_length change.action made adds.values);
       after = refl;
     },
   ),
   changed_after history old new change made kept adds,
 )
+changed_step history old new other change made form kept sound resolved empty adds = absurd form

@@ -1,22 +1,26 @@
 -- The rows that are made of given rows hold on each day what a change traces of these, and a
--- projection holds the projected values.
-use Rattle.std.proofs.Common.{◌≡◌, ◌+◌, ◌++◌, ◌∷◌, ℕ, ℤ, Bool, true, false, List, [], map, filter, refl, sym, ap, ap₂, ◌∙◌, int_le, int_lt, ◌&&◌}
-use Rattle.std.specs.List.{enumerate_from}
-use Rattle.std.proofs.lemmas.List.{map-append}
+-- projection holds what its select list reads.
+use Rattle.std.proofs.Common.{◌≡◌, ◌<◌, ◌+◌, ◌++◌, ◌∷◌, ℕ, ℤ, Bool, true, false, List, [], Option, Some, get_or, length, map, take, filter, refl, sym, ap, ap₂, ◌∙◌, int_le, int_lt, ◌&&◌}
+use Rattle.std.specs.List.{enumerate_from, slice_get}
+use Rattle.std.proofs.lemmas.List.{map-append, map_more, map_push}
+use Rattle.std.proofs.lemmas.Option.{slice_get_read}
 use Rattle.period_core.specs.declared.row.PeriodRow.{PeriodRow}
 use Rattle.period_core.specs.declared.value.Value.{Value}
-use Rattle.catalog_core.specs.Answers.{projected}
+use Rattle.catalog_core.specs.Answers.{IsProjection, read_items}
 use Rattle.catalog_core.specs.Effects.{Traced, given_covers, given_of, given_row, kept, traced}
 use Rattle.catalog_core.specs.Histories.{row_covers, values_on}
 use Rattle.catalog_core.specs.declared.change.Action.{Action}
 use Rattle.catalog_core.specs.declared.change.Action.TheVariants.{Insert}
 use Rattle.catalog_core.specs.declared.change.GivenRow.{GivenRow}
 use Rattle.catalog_core.specs.declared.query.Item.{Item}
-use Rattle.script_engine.specs.Rows.{PlainRow, plain_given, plain_row, projected_row}
+use Rattle.script_engine.specs.Rows.{PlainRow, ReadRow, plain_given, plain_row, read_row, whole_row}
 
 -- a plain row holds the day
 abbrev plain_covers : ℤ → PlainRow → Bool
 plain_covers day row = int_le row.start day && int_lt day row.end
+
+abbrev read_covers : ℤ → ReadRow → Bool
+read_covers day row = int_le row.start day && int_lt day row.end
 
 abbrev row_of : Traced → List Value
 row_of t = t.row
@@ -51,20 +55,40 @@ rows_of-inserted (Insert given) made day rows e =
     map-append row_of (map kept rows) (map given_row (filter (given_covers day) (enumerate_from 0 given)))
     ∙ ap₂ (λ (a b : List (List Value)). a ++ b) (rows_of-kept rows) (sym (values_on-given 0 given made day e))
 
--- a projection holds on each day the projected values
-pub values_on-projected : (items : List Item) (rows projections : List PeriodRow) (day : ℤ) → map plain_row projections ≡ map (projected_row items) rows →
-    values_on projections day ≡ map (projected items) (values_on rows day)
-values_on-projected items [] [] day e = refl
-values_on-projected items [] (projection ∷ projections) day e = cc
-values_on-projected items (row ∷ rows) [] day e = cc
-values_on-projected items (row ∷ rows) (projection ∷ projections) day e =
-    let head : plain_row projection ≡ projected_row items row = cc in
-    let tail : map plain_row projections ≡ map (projected_row items) rows = cc in
-    let more = values_on-projected items rows projections day tail in
-    by_day (row_covers day row) refl (ap (plain_covers day) head) (ap (λ (p : PlainRow). p.values) head) more
+-- the values of a list of projections on a day are what the select list reads in the rows on this day
+pub values_on-read : (items : List Item) (rows projections : List PeriodRow) (day : ℤ) → map (read_row items) rows ≡ map whole_row projections →
+    map (read_items items) (values_on rows day) ≡ map (map Some) (values_on projections day)
+values_on-read items [] [] day e = refl
+values_on-read items [] (projection ∷ projections) day e = cc
+values_on-read items (row ∷ rows) [] day e = cc
+values_on-read items (row ∷ rows) (projection ∷ projections) day e =
+    let head : read_row items row ≡ whole_row projection = cc in
+    let tail : map (read_row items) rows ≡ map whole_row projections = cc in
+    let more = values_on-read items rows projections day tail in
+    by_day (row_covers day row) refl (ap (read_covers day) (sym head)) (ap (λ (p : ReadRow). p.values) head) more
   where
-    by_day : (b : Bool) → row_covers day row ≡ b → row_covers day projection ≡ row_covers day row → projection.values ≡ projected items row.values →
-        values_on projections day ≡ map (projected items) (values_on rows day) →
-        values_on (projection ∷ projections) day ≡ map (projected items) (values_on (row ∷ rows) day)
-    by_day true here covers values more = let there : row_covers day projection ≡ true = covers ∙ here in rw (there, here) (ap₂ (λ (v : List Value) (vs : List (List Value)). v ∷ vs) values more)
+    by_day : (b : Bool) → row_covers day row ≡ b → row_covers day projection ≡ row_covers day row → read_items items row.values ≡ map Some projection.values →
+        map (read_items items) (values_on rows day) ≡ map (map Some) (values_on projections day) →
+        map (read_items items) (values_on (row ∷ rows) day) ≡ map (map Some) (values_on (projection ∷ projections) day)
+    by_day true here covers values more = let there : row_covers day projection ≡ true = covers ∙ here in rw (there, here) (ap₂ (λ (v : List (Option Value)) (vs : List (List (Option Value))). v ∷ vs) values more)
     by_day false here covers values more = let there : row_covers day projection ≡ false = covers ∙ here in rw (there, here) more
+
+-- two lists of values that read alike are the same
+pub same_values : (values others : List Value) → map (λ (v : Value). Some v) values ≡ map (λ (v : Value). Some v) others → values ≡ others
+same_values [] [] e = refl
+same_values [] (other ∷ others) e = cc
+same_values (value ∷ values) [] e = cc
+same_values (value ∷ values) (other ∷ others) e =
+    let head : value ≡ other = cc in
+    let tail : map (λ (v : Value). Some v) values ≡ map (λ (v : Value). Some v) others = cc in
+    ap₂ (λ (v : Value) (vs : List Value). v ∷ vs) head (same_values values others tail)
+
+-- one item more
+pub projected_more : (items : List Item) (values row : List Value) (place : ℕ) (item : Item) (value : Value) → place < length items → item ≡ get_or items place item →
+    item.position < length values → value ≡ get_or values item.position value → IsProjection (take place items) values row → IsProjection (take (place + 1) items) values (row ++ value ∷ [])
+projected_more items values row place item value inside its within read so_far =
+    let at : Item → Option Value = λ (i : Item). slice_get values i.position in
+    let here : at (get_or items place item) ≡ Some value = ap at (sym its) ∙ slice_get_read values (length values) item.position value refl within read in
+    map_more at items place item inside
+    ∙ ap₂ (λ (a : List (Option Value)) (b : Option Value). a ++ b ∷ []) so_far here
+    ∙ sym (map_push (λ (v : Value). Some v) row value)

@@ -3,8 +3,8 @@ use Rattle.std.proofs.Common.{◌≡◌, ◌⊎◌, true, List, Err, refl, sym, 
 use Rattle.period_core.specs.Leasts.{MayAnswer, NoneApplies}
 use Rattle.period_core.specs.declared.refusal.Refusal.{Refusal}
 use Rattle.period_core.specs.declared.refusal.Refusal.TheVariants.{EmptyPeriod, Memory}
-use Rattle.sql_front.specs.declared.statement.Statement.{Statement}
-use Rattle.sql_front.specs.declared.statement.Statement.TheVariants as statement
+use Rattle.sql_front.specs.Trees.{Statement}
+use Rattle.sql_front.specs.Trees as statement
 use Rattle.catalog_core.specs.Judged.{Holds}
 use Rattle.catalog_core.specs.Resolution.{IsChange, change_conditions, empty_period, has_empty_row}
 use Rattle.catalog_core.specs.Histories.{Database, History}
@@ -16,26 +16,23 @@ use Rattle.script_engine.proofs.Steps.{refused_step}
 
 -- the numbers of an INSERT's conditions on names and values are below that of an empty period
 insert_numbers : (catalog : List TableDef) (s : Statement) → are_at_most 41 (change_conditions catalog s) ≡ true
-insert_numbers catalog (statement.Create create) = refl
-insert_numbers catalog (statement.Insert insert) = refl
-insert_numbers catalog (statement.Sequenced select) = refl
+insert_numbers catalog (statement.insert insert) = refl
+insert_numbers catalog other = refl
 
 pub unresolved_step : (history : History) (database : Database) (s : Statement) (refusal : Refusal) → IsChange s → Represents history database →
     MayAnswer (Holds (change_conditions database.catalog s)) refusal → StepsTo history s (Err refusal) database
-unresolved_step history database (statement.Create create) refusal form kept may = absurd form
-unresolved_step history database (statement.Sequenced select) refusal form kept may = absurd form
-unresolved_step history database (statement.Insert insert) refusal form kept may =
-    refused_step history database (statement.Insert insert) refusal kept
-    (may_answer-before (change_conditions database.catalog (statement.Insert insert)) ((empty_period database.catalog (statement.Insert insert)).1) refusal (insert_numbers database.catalog (statement.Insert insert)) may)
+unresolved_step history database (statement.insert insert) refusal form kept may =
+    refused_step history database (statement.insert insert) refusal kept
+    (may_answer-before (change_conditions database.catalog (statement.insert insert)) ((empty_period database.catalog (statement.insert insert)).1) refusal (insert_numbers database.catalog (statement.insert insert)) may)
+unresolved_step history database other refusal form kept may = absurd form
 
 pub empty_step : (history : History) (database : Database) (s : Statement) (change : Change) (refusal : Refusal) → IsChange s → Represents history database →
     NoneApplies (Holds (change_conditions database.catalog s)) → (empty_period database.catalog s).1 ≡ has_empty_row change.action →
     ((refusal ≡ EmptyPeriod) × (has_empty_row change.action ≡ true)) ⊎ (refusal ≡ Memory) → StepsTo history s (Err refusal) database
-empty_step history database (statement.Create create) change refusal form kept sound empty why = absurd form
-empty_step history database (statement.Sequenced select) change refusal form kept sound empty why = absurd form
-empty_step history database (statement.Insert insert) change refusal form kept sound empty (inr memory) =
-    refused_step history database (statement.Insert insert) refusal kept (inr memory)
-empty_step history database (statement.Insert insert) change refusal form kept sound empty (inl why) =
-    let holds : (empty_period database.catalog (statement.Insert insert)).1 ≡ true = empty ∙ why.1 in
-    refused_step history database (statement.Insert insert) refusal kept
-    (subst (λ r. MayAnswer (StatementApplies database.catalog (statement.Insert insert)) r) (sym why.0) (may_answer-empty (change_conditions database.catalog (statement.Insert insert)) ((empty_period database.catalog (statement.Insert insert)).1) sound holds))
+empty_step history database (statement.insert insert) change refusal form kept sound empty (inr memory) =
+    refused_step history database (statement.insert insert) refusal kept (inr memory)
+empty_step history database (statement.insert insert) change refusal form kept sound empty (inl why) =
+    let holds : (empty_period database.catalog (statement.insert insert)).1 ≡ true = empty ∙ why.1 in
+    refused_step history database (statement.insert insert) refusal kept
+    (subst (λ r. MayAnswer (StatementApplies database.catalog (statement.insert insert)) r) (sym why.0) (may_answer-empty (change_conditions database.catalog (statement.insert insert)) ((empty_period database.catalog (statement.insert insert)).1) sound holds))
+empty_step history database other change refusal form kept sound empty why = absurd form

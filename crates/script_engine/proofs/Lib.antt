@@ -1,14 +1,18 @@
 mod AnswerLaws
 mod Answered
 mod Changed
+mod CheckSteps
 mod Given
 mod InsertRefused
+mod PieceFacts
 mod PieceSteps
 mod Refused
 mod ScriptFacts
 mod Snapshots
 mod Steps
 mod TableNumbers
+mod Widths
 pub mod AppendFacts
+pub mod CheckExamples
 pub mod CsvFacts
 pub mod ReportExamples

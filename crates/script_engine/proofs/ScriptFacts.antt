@@ -1,9 +1,7 @@
--- A script that has tokens is not refused as a whole, and a new engine represents a history without events.
-use Rattle.std.proofs.Common.{◌≡◌, ◌≤◌, ℕ, List, length, map, Result, Ok, Err, append-nil, subst, sym, arith}
-use Rattle.std.specs.Prelude.{IfOk}
+-- A script that has tokens is not refused as a whole and is cut into pieces, and a new engine represents a history without events.
+use Rattle.std.proofs.Common.{◌≡◌, ◌≤◌, ℕ, List, length, map, append-nil, subst, sym, arith}
 use Rattle.std.specs.Str.{IsUtf8}
 use Rattle.period_core.specs.Leasts.{NoneApplies}
-use Rattle.period_core.specs.declared.refusal.Refusal.{Refusal}
 use Rattle.period_core.specs.declared.refusal.Refusal.TheVariants.{BadToken, NotUtf8, ScriptTooLarge}
 use Rattle.sql_front.specs.Lexemes.{Lexeme, lexemes}
 use Rattle.sql_front.specs.Pieces.{HasPieces, spanned}
@@ -11,10 +9,9 @@ use Rattle.sql_front.specs.declared.pieces.Span.{Span}
 use Rattle.sql_front.specs.declared.token.Token.{Token}
 use Rattle.sql_front.specs.Lexis.{TokensOf}
 use Rattle.sql_front.proofs.TokenLists.{never_both_of}
-use Rattle.catalog_core.specs.Histories.{Database, History, new_database, opened, rows_in}
+use Rattle.catalog_core.specs.Histories.{Database, opened, rows_in}
 use Rattle.script_engine.specs.Runs.{Represents}
-use Rattle.script_engine.specs.Script.{IsRunOf, RunPieces, ScriptApplies, most_bytes}
-use Rattle.script_engine.specs.declared.outcome.Outcome.{Outcome}
+use Rattle.script_engine.specs.Script.{IsCutInto, ScriptApplies, most_bytes}
 use Rattle.script_engine.proofs.Snapshots.{held_in_snapshot, snapshot_of_held}
 
 pub none_of_script : (script : List ℕ) (tokens : List Lexeme) → length script ≤ most_bytes → IsUtf8 script → TokensOf script tokens → NoneApplies (ScriptApplies script)
@@ -30,24 +27,16 @@ represents_opened database = record {
   daily = λ table day values. (held_in_snapshot (rows_in database table) day values, snapshot_of_held (rows_in database table) day values);
 }
 
--- what follows from what an Ok is said to hold
-pub IfOk-implies : {T E : Type 0} (P Q : T → Type 0) (result : Result T E) → ((value : T) → P value → Q value) → IfOk result P → IfOk result Q
-IfOk-implies P Q (Ok value) follows h = follows value h
-IfOk-implies P Q (Err fault) follows h = tt
-
--- the results of a script's pieces are a run of the script
-pub run_of : (script text : List ℕ) (tokens seen others : List Token) (spans gone : List Span) (results : List (Result Outcome Refusal)) → text ≡ script → seen ≡ tokens → others ≡ tokens → gone ≡ spans →
+-- the pieces of a script are what the spans of its tokens span
+pub cut_of : (script text : List ℕ) (tokens seen others : List Token) (spans gone : List Span) → text ≡ script → seen ≡ tokens → others ≡ tokens → gone ≡ spans →
     length script ≤ most_bytes → IsUtf8 script → TokensOf text (lexemes tokens) → HasPieces (lexemes seen) (map (spanned (lexemes seen)) spans) →
-    (last : History) × RunPieces (opened new_database) (map (spanned (lexemes others)) gone) results last → IsRunOf script results
-run_of script text tokens seen others spans gone results same first second third small utf8 lexed pieces (last, run) =
+    IsCutInto script (map (spanned (lexemes others)) gone)
+cut_of script text tokens seen others spans gone same first second third small utf8 lexed pieces =
     let its : TokensOf script (lexemes tokens) = subst (λ (s : List ℕ). TokensOf s (lexemes tokens)) same lexed in
+    let parted : HasPieces (lexemes tokens) (map (spanned (lexemes tokens)) spans) = subst (λ (ts : List Token). HasPieces (lexemes ts) (map (spanned (lexemes ts)) spans)) first pieces in
     record {
       sound = none_of_script script (lexemes tokens) small utf8 its;
       tokens = lexemes tokens;
       lexed = its;
-      pieces = map (spanned (lexemes tokens)) spans;
-      cut = subst (λ (ts : List Token). HasPieces (lexemes ts) (map (spanned (lexemes ts)) spans)) first pieces;
-      last = last;
-      run = subst (λ (ps : List Span). RunPieces (opened new_database) (map (spanned (lexemes tokens)) ps) results last) third
-          (subst (λ (ts : List Token). RunPieces (opened new_database) (map (spanned (lexemes ts)) gone) results last) second run);
+      parted = rw (second, third) parted;
     }

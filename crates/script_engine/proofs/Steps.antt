@@ -7,8 +7,8 @@ use Rattle.period_core.specs.declared.row.PeriodRow.{PeriodRow}
 use Rattle.period_core.specs.declared.value.Value.{Value}
 use Rattle.temporal_model.specs.Snapshot.{InSnapshot}
 use Rattle.sql_front.specs.declared.create.CreateTable.{CreateTable}
-use Rattle.sql_front.specs.declared.statement.Statement.{Statement}
-use Rattle.sql_front.specs.declared.statement.Statement.TheVariants as statement
+use Rattle.sql_front.specs.Trees.{Statement}
+use Rattle.sql_front.specs.Trees as statement
 use Rattle.catalog_core.specs.Creation.{create_conditions}
 use Rattle.catalog_core.specs.Definition.{Defines}
 use Rattle.catalog_core.specs.Judged.{Holds}
@@ -44,7 +44,7 @@ rows_in-created old new e (suc place) = ap (λ (rows : List (List PeriodRow)). g
 pub created_step : (history : History) (old new : Database) (create : CreateTable) (definition : TableDef) → Represents history old →
     NoneApplies (Holds (create_conditions old.catalog create)) → Defines old.catalog create definition →
     new.catalog ≡ old.catalog ++ definition ∷ [] → new.rows ≡ old.rows ++ [] ∷ [] →
-    StepsTo history (statement.Create create) (Ok (Done word.Create 0)) new
+    StepsTo history (statement.create create) (Ok (Done word.Create 0)) new
 created_step history old new create definition kept sound defined catalog rows = (
   with_event history (Created definition),
   (

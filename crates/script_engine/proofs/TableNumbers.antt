@@ -1,16 +1,18 @@
 -- The numbers of resolved statements are those of tables, and a sound CREATE finds fewer than 64 tables.
-use Rattle.std.proofs.Common.{◌≡◌, ◌<◌, ◌≤◌, ℕ, zero, suc, Bool, true, false, List, Some, length, nat_lt, refl, inl, arith}
+use Rattle.std.proofs.Common.{◌≡◌, ◌<◌, ◌≤◌, ℕ, zero, suc, Bool, true, false, List, Option, Some, None, length, nat_lt, refl, inl, arith}
 use Rattle.std.proofs.lemmas.Bool.Decides.{nat_tests}
 use Rattle.std.proofs.lemmas.Option.{slice_get_within}
 use Rattle.period_core.specs.Leasts.{NoneApplies}
 use Rattle.period_core.specs.declared.refusal.Refusal.TheVariants.{LimitReached}
 use Rattle.sql_front.specs.declared.create.CreateTable.{CreateTable}
-use Rattle.sql_front.specs.declared.statement.Statement.{Statement}
-use Rattle.sql_front.specs.declared.statement.Statement.TheVariants as statement
+use Rattle.sql_front.specs.Trees.{Statement}
+use Rattle.sql_front.specs.Trees as statement
 use Rattle.catalog_core.specs.Creation.{create_conditions, exceeds_limits}
 use Rattle.catalog_core.specs.Judged.{Holds}
 use Rattle.catalog_core.specs.Resolution.{ResolvesChange}
-use Rattle.catalog_core.specs.Selection.{ResolvesQuery}
+use Rattle.catalog_core.specs.SimpleSelects.{simple_select}
+use Rattle.catalog_core.specs.declared.simple_select.SimpleSelect.{SimpleSelect}
+use Rattle.catalog_core.specs.Selection.{ResolvesSimple, ResolvesQuery}
 use Rattle.catalog_core.specs.TableWords.{table_of}
 use Rattle.catalog_core.specs.declared.change.Change.{Change}
 use Rattle.catalog_core.specs.declared.query.Select.{Select}
@@ -28,14 +30,16 @@ number_of_table catalog (suc place) definition e =
     record { low = omega arith; high = omega arith }
 
 pub change_number : (catalog : List TableDef) (s : Statement) (change : Change) → ResolvesChange catalog s change → IsNumber catalog change.table
-change_number catalog (statement.Create create) change resolved = absurd resolved
-change_number catalog (statement.Sequenced select) change resolved = absurd resolved
-change_number catalog (statement.Insert insert) change resolved = number_of_table catalog change.table resolved.definition resolved.table
+change_number catalog (statement.insert insert) change resolved = number_of_table catalog change.table resolved.definition resolved.table
+change_number catalog other change resolved = absurd resolved
+
+simple_number : (catalog : List TableDef) (found : Option SimpleSelect) (query : Select) → ResolvesSimple catalog found query → IsNumber catalog query.table
+simple_number catalog None query resolved = absurd resolved
+simple_number catalog (Some select) query resolved = number_of_table catalog query.table resolved.definition resolved.table
 
 pub query_number : (catalog : List TableDef) (s : Statement) (query : Select) → ResolvesQuery catalog s query → IsNumber catalog query.table
-query_number catalog (statement.Create create) query resolved = absurd resolved
-query_number catalog (statement.Insert insert) query resolved = absurd resolved
-query_number catalog (statement.Sequenced select) query resolved = number_of_table catalog query.table resolved.definition resolved.table
+query_number catalog (statement.sequenced asked) query resolved = simple_number catalog (simple_select asked) query resolved
+query_number catalog other query resolved = absurd resolved
 
 exceeds_with : (catalog : List TableDef) (create : CreateTable) → nat_lt 63 (length catalog) ≡ true → exceeds_limits catalog create ≡ true
 unfolding exceeds_limits

@@ -2,5 +2,8 @@ pub mod Headline
 pub mod Laws
 pub mod Runs
 pub mod Rows
+pub mod Widths
 pub mod Script
+pub mod Check
 pub mod Report
+pub mod CheckReport

@@ -1,8 +1,9 @@
 -- Rows as the definitions see them: plain values, with no proof inside.
-use Rattle.std.specs.Prelude.{ℤ, List}
+use Rattle.std.specs.Prelude.{◌<◌, ℤ, List, Option, Some, length, map}
+use Rattle.std.specs.List.{All}
 use Rattle.period_core.specs.declared.row.PeriodRow.{PeriodRow}
 use Rattle.period_core.specs.declared.value.Value.{Value}
-use Rattle.catalog_core.specs.Answers.{projected}
+use Rattle.catalog_core.specs.Answers.{read_items}
 use Rattle.catalog_core.specs.declared.change.GivenRow.{GivenRow}
 use Rattle.catalog_core.specs.declared.query.Item.{Item}
 
@@ -18,7 +19,21 @@ plain_row row = record { values = row.values; start = row.period.start; end = ro
 abbrev pub plain_given : GivenRow → PlainRow
 plain_given given = record { values = given.values; start = given.start; end = given.end }
 
--- the row with the values of a select list
-abbrev pub projected_row : List Item → PeriodRow → PlainRow
-projected_row items row =
-    record { values = projected items row.values; start = row.period.start; end = row.period.end }
+-- the row has a value at the position of each item
+abbrev pub HasItems : List Item → List Value → Type 0
+HasItems items values = All (λ (item : Item). item.position < length values) items
+
+-- what a select list reads in a row, over the row's period
+pub record ReadRow : Type 0 where
+  pub values : List (Option Value)
+  pub start : ℤ
+  pub end : ℤ
+
+abbrev pub read_row : List Item → PeriodRow → ReadRow
+read_row items row =
+    record { values = read_items items row.values; start = row.period.start; end = row.period.end }
+
+-- a row, as a list of all its values reads it
+abbrev pub whole_row : PeriodRow → ReadRow
+whole_row row =
+    record { values = map Some row.values; start = row.period.start; end = row.period.end }

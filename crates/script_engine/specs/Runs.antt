@@ -1,13 +1,14 @@
 -- Which outcomes a statement may have in a history, and which history follows.
-use Rattle.std.specs.Prelude.{◌≡◌, ◌↔◌, ◌++◌, ◌∷◌, ℕ, ℤ, List, [], Contains, Result, Ok, Err, length, map}
+use Rattle.std.specs.Prelude.{◌≡◌, ◌↔◌, ◌++◌, ◌∷◌, ℕ, ℤ, List, [], Contains, Result, Ok, Err, true, length, map}
 use Rattle.period_core.specs.Leasts.{MayAnswer, NoneApplies}
 use Rattle.period_core.specs.declared.answer.Answer.{Answer}
 use Rattle.period_core.specs.declared.refusal.Refusal.{Refusal}
+use Rattle.period_core.specs.declared.refusal.Refusal.TheVariants.{Syntax}
 use Rattle.period_core.specs.declared.value.Value.{Value}
 use Rattle.temporal_model.specs.Snapshot.{InSnapshot}
 use Rattle.sql_front.specs.declared.create.CreateTable.{CreateTable}
-use Rattle.sql_front.specs.declared.statement.Statement.{Statement}
-use Rattle.sql_front.specs.declared.statement.Statement.TheVariants as statement
+use Rattle.sql_front.specs.Trees.{Statement}
+use Rattle.sql_front.specs.Trees as statement
 use Rattle.catalog_core.specs.Creation.{create_conditions}
 use Rattle.catalog_core.specs.Definition.{Defines}
 use Rattle.catalog_core.specs.Judged.{Holds}
@@ -25,14 +26,16 @@ use Rattle.script_engine.specs.declared.outcome.Outcome.{Outcome}
 use Rattle.script_engine.specs.declared.outcome.Outcome.TheVariants.{Done, Answer as Answered}
 use Rattle.script_engine.specs.declared.outcome.Word.TheVariants as word
 
--- the condition of each refusal, for a statement over a catalog
+-- the condition of each refusal, for a statement over a catalog; statements of the other forms are
+-- not carried out yet, and refused as if none were spelled so
 abbrev pub StatementApplies : List TableDef → Statement → Refusal → Type 0
-StatementApplies catalog (statement.Create create) = Holds (create_conditions catalog create)
-StatementApplies catalog (statement.Insert insert) =
-    Holds (change_conditions catalog (statement.Insert insert)
-    ++ empty_period catalog (statement.Insert insert) ∷ [])
-StatementApplies catalog (statement.Sequenced select) =
-    Holds (query_conditions catalog (statement.Sequenced select))
+StatementApplies catalog (statement.create c) = Holds (create_conditions catalog c)
+StatementApplies catalog (statement.insert i) =
+    Holds (change_conditions catalog (statement.insert i)
+    ++ empty_period catalog (statement.insert i) ∷ [])
+StatementApplies catalog (statement.sequenced q) =
+    Holds (query_conditions catalog (statement.sequenced q))
+StatementApplies catalog _ = Holds ((Syntax, true) ∷ [])
 
 -- CREATE adds the definition that it gives
 pub record Creates (history : History) (create : CreateTable) (outcome : Outcome) (new : History) : Type 0 where
@@ -58,12 +61,13 @@ pub record Answers (history : History) (s : Statement) (answer : Answer) (new : 
 
 -- what follows where no condition of a refusal holds
 abbrev pub Accepts : History → Statement → Outcome → History → Type 0
-Accepts history (statement.Create create) outcome new = Creates history create outcome new
-Accepts history (statement.Insert insert) outcome new =
-    Changes history (statement.Insert insert) outcome new
-Accepts history (statement.Sequenced select) outcome new =
+Accepts history (statement.create c) outcome new = Creates history c outcome new
+Accepts history (statement.insert i) outcome new =
+    Changes history (statement.insert i) outcome new
+Accepts history (statement.sequenced q) outcome new =
     (answer : Answer) × (outcome ≡ Answered answer)
-    × Answers history (statement.Sequenced select) answer new
+    × Answers history (statement.sequenced q) answer new
+Accepts history _ outcome new = ⊥
 
 -- a statement's result: refused, and the history stays; or accepted, and added to the history
 abbrev pub Step : History → Statement → Result Outcome Refusal → History → Type 0

@@ -4,13 +4,12 @@ use Rattle.std.specs.Str.{IsUtf8}
 use Rattle.period_core.specs.Leasts.{MayAnswer, NoneApplies}
 use Rattle.period_core.specs.declared.refusal.Refusal.{Refusal}
 use Rattle.period_core.specs.declared.refusal.Refusal.TheVariants.{BadToken, LimitReached, NotUtf8, ScriptTooLarge}
-use Rattle.sql_front.specs.Grammar.{IsStatement, Written}
-use Rattle.sql_front.specs.Meaning.{Means}
+use Rattle.sql_front.specs.Grammar.{IsStatement}
 use Rattle.sql_front.specs.PieceRefusals.{PieceApplies}
 use Rattle.sql_front.specs.Lexemes.{Lexeme}
 use Rattle.sql_front.specs.Lexis.{StopsAt, TokensOf}
 use Rattle.sql_front.specs.Pieces.{HasPieces}
-use Rattle.sql_front.specs.declared.statement.Statement.{Statement}
+use Rattle.sql_front.specs.Trees.{Statement}
 use Rattle.catalog_core.specs.Histories.{Database, History, new_database, opened}
 use Rattle.script_engine.specs.Runs.{Represents, Step}
 use Rattle.script_engine.specs.declared.outcome.Outcome.{Outcome}
@@ -30,9 +29,10 @@ TextApplies piece refusal =
 -- is that of its statement
 abbrev pub PieceStep : History → List Lexeme → Result Outcome Refusal → History → Type 0
 PieceStep history piece result new =
-    ((refusal : Refusal) × (result ≡ Err refusal) × MayAnswer (TextApplies piece) refusal × (new ≡ history))
-    ⊎ ((written : Written) × (s : Statement) × NoneApplies (TextApplies piece)
-    × IsStatement piece written × Means written s × Step history s result new)
+    ((refusal : Refusal) × (result ≡ Err refusal) × MayAnswer (TextApplies piece) refusal
+    × (new ≡ history))
+    ⊎ ((s : Statement) × NoneApplies (TextApplies piece) × IsStatement piece s
+    × Step history s result new)
 
 -- the results of the pieces, one after the other
 abbrev pub RunPieces : History → List (List Lexeme) → List (Result Outcome Refusal) → History → Type 0
@@ -58,13 +58,17 @@ ScriptApplies script other = ⊥
 abbrev pub MayRefuseScript : List ℕ → Refusal → Type 0
 MayRefuseScript script refusal = MayAnswer (ScriptApplies script) refusal
 
--- the results are those of the script's pieces, from a new engine on
-pub record IsRunOf (script : List ℕ) (results : List (Result Outcome Refusal)) : Type 0 where
+-- the script has tokens, and these are its pieces
+pub record IsCutInto (script : List ℕ) (pieces : List (List Lexeme)) : Type 0 where
   pub sound : NoneApplies (ScriptApplies script)
   pub tokens : List Lexeme
   pub lexed : TokensOf script tokens
+  pub parted : HasPieces tokens pieces
+
+-- the results are those of the script's pieces, from a new engine on
+pub record IsRunOf (script : List ℕ) (results : List (Result Outcome Refusal)) : Type 0 where
   pub pieces : List (List Lexeme)
-  pub cut : HasPieces tokens pieces
+  pub cut : IsCutInto script pieces
   pub last : History
   pub run : RunPieces (opened new_database) pieces results last
 

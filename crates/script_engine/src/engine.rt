@@ -1,18 +1,22 @@
 //! The engine: a catalog, the rows of its tables, and the statements that it carries out.
 
-ghost use Rattle.std.specs.Prelude.{◌≡◌, ◌<◌, ◌≤◌, ◌+◌, ◌-◌, ◌++◌, ◌∷◌, [], ℕ, List, length, IfOk, IfErr, OnOk, OnErr, slice_set, slice_index_or};
+ghost use Rattle.std.specs.Prelude.{◌≡◌, ◌<◌, ◌≤◌, ◌+◌, ◌-◌, ◌++◌, ◌∷◌, [], ℕ, List, Some, length, IfOk, IfErr, OnOk, OnErr, slice_set, slice_index_or};
 ghost use Rattle.catalog_core.specs.Histories.{History, Database, opened, new_database, rows_in};
 ghost use Rattle.catalog_core.specs.Resolution.{IsChange};
 ghost use Rattle.catalog_core.specs.Selection.{IsSequenced};
+ghost use Rattle.catalog_core.specs.TableWords.{table_of};
+ghost use Rattle.catalog_core.specs.declared.table.TableDef.{TableDef};
 ghost use Rattle.script_engine.specs.Runs.{Represents, StepsTo};
-ghost use Rattle.sql_front.specs.declared.statement.Statement.TheVariants as statement;
+ghost use Rattle.script_engine.specs.Widths.{HaveWidth};
+ghost use Rattle.sql_front.specs.Plain.{plain};
+ghost use Rattle.sql_front.specs.Trees as statement;
 
 use crate::outcome::{Outcome, Word};
 use crate::rows::{column_names, given_rows, projected_rows};
 use catalog_core::{Catalog, Change, TableDef, define, resolve_change, resolve_query};
 use coalesce_core::{coalesce, witnesses};
 use period_core::{Answer, Items, Memory, PeriodRow, Refusal};
-use sql_front::{CreateTable, Statement};
+use sql_front::{CreateTable, Statement, StatementForm};
 use sqlite::Connection;
 use sqlite_trees::store::Alter;
 use std::alloc::Global;
@@ -28,14 +32,14 @@ pub struct Engine<S: Alter> {
 }
 
 impl<S: Alter> Model for Engine<S> {
-    ghost use Rattle.std.specs.Prelude.{◌≡◌, length};
     ghost use Rattle.catalog_core.specs.Histories.{Database};
+    ghost use Rattle.script_engine.specs.Widths.{FitCatalog};
 
     ghost Value = { Database };
 
     ghost view = { λ e. record { catalog = e.catalog.tables; rows = e.rows.items } };
 
-    ghost invariant = { λ e. length e.rows.items ≡ length e.catalog.tables };
+    ghost invariant = { λ e. FitCatalog e.catalog.tables e.rows.items };
 }
 
 impl<S: Alter> Engine<S> {
@@ -71,6 +75,7 @@ impl<S: Alter> Engine<S> {
     }
 
     /// The rows of the table of a number.
+    #[tactic(auto, using(crate::proofs::Widths::fit_lengths))]
     fn table_rows(&self, table: u8) -> &[PeriodRow]
         requires low { 0 < table }
         requires high { table ≤ length self.now.catalog }
@@ -80,9 +85,12 @@ impl<S: Alter> Engine<S> {
     }
 
     /// Adds rows to the table of a number. An `Err` changes nothing.
+    #[tactic(auto, using(crate::proofs::Widths::fit_lengths))]
     fn add_rows(&mut self, table: u8, added: Items<PeriodRow>) -> Result<(), Memory>
         requires low { 0 < table }
         requires high { table ≤ length self.old.catalog }
+        requires width { (definition : TableDef)
+            → table_of self.old.catalog table ≡ Some definition → HaveWidth definition added }
         ensures catalog { self.new.catalog ≡ self.old.catalog }
         ensures rows { OnOk result (self.new.rows ≡ slice_set self.old.rows (table - 1) (slice_index_or self.old.rows (table - 1) [] ++ added)) }
         ensures err { OnErr result (self.new ≡ self.old) }
@@ -92,7 +100,7 @@ impl<S: Alter> Engine<S> {
 
     /// Carries out a CREATE. An `Err` changes nothing.
     fn create(&mut self, alloc: Global, create: &CreateTable) -> Result<Outcome, Refusal>
-        ensures step { (history : History) → Represents history self.old → StepsTo history (statement.Create create.now) result self.new }
+        ensures step { (history : History) → Represents history self.old → StepsTo history (statement.create create.now) result self.new }
         ensures err { OnErr result (self.new ≡ self.old) }
     {
         let definition = define(alloc, &self.catalog, create)?;
@@ -102,8 +110,8 @@ impl<S: Alter> Engine<S> {
 
     /// Carries out an INSERT. An `Err` changes nothing.
     fn insert(&mut self, alloc: Global, statement: &Statement) -> Result<Outcome, Refusal>
-        requires { IsChange statement.now }
-        ensures step { (history : History) → Represents history self.old → StepsTo history statement.now result self.new }
+        requires { IsChange (plain statement.now) }
+        ensures step { (history : History) → Represents history self.old → StepsTo history (plain statement.now) result self.new }
         ensures err { OnErr result (self.new ≡ self.old) }
     {
         let Change { table, action } = resolve_change(alloc, &self.catalog, statement)?;
@@ -115,8 +123,8 @@ impl<S: Alter> Engine<S> {
 
     /// Answers a sequenced query.
     fn answer(&self, alloc: Global, statement: &Statement) -> Result<Outcome, Refusal>
-        requires { IsSequenced statement.now }
-        ensures { (history : History) → Represents history self.now → StepsTo history statement.now result self.now }
+        requires { IsSequenced (plain statement.now) }
+        ensures { (history : History) → Represents history self.now → StepsTo history (plain statement.now) result self.now }
     {
         let query = resolve_query(alloc, &self.catalog, statement)?;
         let items = query.items.as_slice();
@@ -133,13 +141,18 @@ impl<S: Alter> Engine<S> {
     /// Carries out a statement. An `Err` changes nothing.
     pub fn execute(&mut self, alloc: Global, statement: &Statement) -> Result<Outcome, Refusal>
         // Whatever history the engine represents, the call is a step of it, and the engine represents the new one.
-        ensures step { (history : History) → Represents history self.old → StepsTo history statement.now result self.new }
+        ensures step { (history : History) → Represents history self.old → StepsTo history (plain statement.now) result self.new }
         ensures err { OnErr result (self.new ≡ self.old) }
     {
-        match statement {
-            Statement::Create(create) => self.create(alloc, create),
-            Statement::Insert(_) => self.insert(alloc, statement),
-            Statement::Sequenced(_) => self.answer(alloc, statement),
+        match statement.form() {
+            StatementForm::Create(create) => self.create(alloc, create),
+            StatementForm::Insert(_) => self.insert(alloc, statement),
+            StatementForm::Sequenced(_) => self.answer(alloc, statement),
+            // The other forms are not carried out yet.
+            StatementForm::At(_)
+            | StatementForm::Update(_)
+            | StatementForm::Delete(_)
+            | StatementForm::Stored(_) => Err(Refusal::Syntax),
         }
     }
 }

@@ -4,7 +4,7 @@ ghost use Rattle.std.specs.Prelude.{◌≡◌, Err, Ok, OnOk};
 ghost use Rattle.std.specs.Io.KnownBytes.{Appends};
 ghost use Rattle.script_engine.specs.Report.{answer_record, columns_record, record_text, report, row_record, text_of, word_text};
 
-mod record;
+pub(crate) mod record;
 #[cfg(test)]
 mod tests;
 
@@ -57,7 +57,7 @@ fn write_done<W: Write>(
     line.write_to(alloc, out)
 }
 
-fn write_refused<W: Write>(
+pub(crate) fn write_refused<W: Write>(
     alloc: Global,
     line: &mut Record,
     out: &mut W,

@@ -1,12 +1,12 @@
 //! Rows made of rows: those that an INSERT gives, and those that a select list projects.
 
 ghost use Rattle.std.specs.Prelude.{◌≡◌, ◌⊎◌, List, map, IfOk, IfErr, true};
-ghost use Rattle.std.specs.List.{list_any};
+ghost use Rattle.std.specs.List.{All, list_any};
 ghost use Rattle.catalog_core.specs.Effects.{given_of};
 ghost use Rattle.period_core.specs.declared.refusal.Refusal.TheVariants.{EmptyPeriod, Memory as WantOfMemory};
-ghost use Rattle.catalog_core.specs.Answers.{projected, value_at};
+ghost use Rattle.catalog_core.specs.Answers.{IsProjection};
 ghost use Rattle.catalog_core.specs.Resolution.{has_empty_row, is_empty_row};
-ghost use Rattle.script_engine.specs.Rows.{plain_given, plain_row, projected_row};
+ghost use Rattle.script_engine.specs.Rows.{HasItems, plain_given, plain_row, read_row, whole_row};
 
 use catalog_core::{Action, GivenRow, Item};
 use period_core::{Items, Memory, Period, PeriodRow, Refusal, Text, Value, Values};
@@ -39,23 +39,14 @@ fn rows_of_given(alloc: Global, given: Items<GivenRow>) -> Result<Items<PeriodRo
     Ok(Items::from_vec(rows))
 }
 
-/// The value at a position.
-fn value_at(alloc: Global, values: &[Value], position: usize) -> Result<Value, Memory>
-    ensures { IfOk result (λ value. value ≡ value_at values.now position) }
-{
-    match values.get(position) {
-        Some(value) => value.copy(alloc),
-        None => Ok(Value::Int(0)),
-    }
-}
-
 /// The values of a select list.
 fn projected_values(alloc: Global, items: &[Item], values: &[Value]) -> Result<Values, Memory>
-    ensures { IfOk result (λ result_values. result_values ≡ projected items.now values.now) }
+    requires { HasItems items.now values.now }
+    ensures { IfOk result (IsProjection items.now values.now) }
 {
     let mut projected = Vec::new(alloc);
     for item in items {
-        projected.push(value_at(alloc, values, item.position)?)?;
+        projected.push(values[item.position].copy(alloc)?)?;
     }
     Ok(Values::from_vec(projected))
 }
@@ -66,7 +57,9 @@ pub fn projected_rows(
     items: &[Item],
     rows: &[PeriodRow],
 ) -> Result<Vec<PeriodRow>, Memory>
-    ensures { IfOk result (λ projections. map plain_row projections.items ≡ map (projected_row items.now) rows.now) }
+    requires { All (λ row. HasItems items.now row.values) rows.now }
+    ensures { IfOk result (λ projections.
+        map (read_row items.now) rows.now ≡ map whole_row projections.items) }
 {
     let mut projections = Vec::new(alloc);
     for row in rows {
@@ -84,7 +77,7 @@ pub fn column_names(alloc: Global, items: &[Item]) -> Result<Items<Text>, Memory
 {
     let mut names = Vec::new(alloc);
     for item in items {
-        names.push(item.name.copy(alloc)?)?;
+        names.push(item.name.as_text().copy(alloc)?)?;
     }
     Ok(Items::from_vec(names))
 }

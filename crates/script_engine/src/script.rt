@@ -2,19 +2,21 @@
 
 ghost use Rattle.std.specs.Prelude.{◌≡◌, ◌<◌, ◌≤◌, ◌⊎◌, ℕ, All, IfErr, IfOk, OnErr, OnOk, length, map};
 ghost use Rattle.std.specs.Str.{IsUtf8};
-ghost use Rattle.period_core.specs.Leasts.{MayAnswer};
+ghost use Rattle.period_core.specs.Leasts.{MayAnswer, NoneApplies};
 ghost use Rattle.period_core.specs.declared.refusal.Refusal.TheVariants.{NotUtf8, ScriptTooLarge};
+ghost use Rattle.sql_front.specs.Grammar.{IsStatement};
 ghost use Rattle.sql_front.specs.Lexemes.{lexemes};
 ghost use Rattle.sql_front.specs.Lexis.{TokensOf};
 ghost use Rattle.sql_front.specs.Pieces.{IsWithin, spanned};
+ghost use Rattle.sql_front.specs.Plain.{plain};
 ghost use Rattle.catalog_core.specs.Histories.{History, new_database, opened};
 ghost use Rattle.script_engine.specs.Runs.{Represents};
-ghost use Rattle.script_engine.specs.Script.{IsRunOf, MayRefuseScript, PieceStepsTo, RunPieces, ScriptApplies, most_bytes};
+ghost use Rattle.script_engine.specs.Script.{IsRunOf, MayRefuseScript, PieceStepsTo, RunPieces, ScriptApplies, TextApplies, most_bytes};
 
 use crate::engine::Engine;
 use crate::outcome::Outcome;
 use period_core::Refusal;
-use sql_front::{LexFault, Span, Token, cut, lex, parse};
+use sql_front::{LexFault, Span, Statement, Token, cut, lex, parse};
 use sqlite::Connection;
 use sqlite_trees::store::Alter;
 use std::alloc::Global;
@@ -27,7 +29,7 @@ pub const MOST_BYTES: usize = 4_194_304;
 pub const MOST_TOKENS: usize = 10_000;
 
 /// The text of a script.
-fn script_text(script: &[u8]) -> Result<&str, Refusal>
+pub(crate) fn script_text(script: &[u8]) -> Result<&str, Refusal>
     ensures text { IfOk result (λ text. text.now ≡ script.now) }
     ensures utf8 { OnOk result (IsUtf8 script.now) }
     ensures small { OnOk result (length script.now ≤ most_bytes) }
@@ -43,7 +45,7 @@ fn script_text(script: &[u8]) -> Result<&str, Refusal>
 }
 
 /// The tokens of a script that is not too large.
-fn script_tokens<'a>(alloc: Global, script: &'a str) -> Result<Vec<Token<'a>>, Refusal>
+pub(crate) fn script_tokens<'a>(alloc: Global, script: &'a str) -> Result<Vec<Token<'a>>, Refusal>
     requires { length script.now ≤ most_bytes }
     ensures tokens { IfOk result (λ tokens. TokensOf script.now (lexemes tokens.items)) }
     ensures refused { IfErr result (MayRefuseScript script.now) }
@@ -53,6 +55,23 @@ fn script_tokens<'a>(alloc: Global, script: &'a str) -> Result<Vec<Token<'a>>, R
         Err(LexFault::BadToken(offset)) => Err(Refusal::BadToken(offset)),
         Err(LexFault::Memory) => Err(Refusal::Memory),
     }
+}
+
+/// The statement that a piece of a script spells. Of a piece that is too long nothing else is
+/// judged.
+pub(crate) fn statement_of(
+    alloc: Global,
+    script: &str,
+    piece: &[Token<'_>],
+) -> Result<Statement, Refusal>
+    ensures found { IfOk result (λ statement. IsStatement (lexemes piece.now) (plain statement)) }
+    ensures sound { OnOk result (NoneApplies (TextApplies (lexemes piece.now))) }
+    ensures refused { IfErr result (MayAnswer (TextApplies (lexemes piece.now))) }
+{
+    if piece.len() > MOST_TOKENS {
+        return Err(Refusal::LimitReached);
+    }
+    parse(alloc, script, piece)
 }
 
 /// The result of a piece of a script. An `Err` changes nothing.
@@ -65,10 +84,7 @@ fn run_piece<S: Alter>(
     ensures step { (history : History) → Represents history engine.old → PieceStepsTo history (lexemes piece.now) result engine.new }
     ensures err { OnErr result (engine.new ≡ engine.old) }
 {
-    if piece.len() > MOST_TOKENS {
-        return Err(Refusal::LimitReached);
-    }
-    let statement = parse(alloc, script, piece)?;
+    let statement = statement_of(alloc, script, piece)?;
     engine.execute(alloc, &statement)
 }
 

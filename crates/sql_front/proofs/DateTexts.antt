@@ -1,11 +1,12 @@
--- The text of a date, and the three numbers that it is read as.
-use Rattle.std.proofs.Common.{◌≡◌, ℕ, zero, suc, ◌+◌, ◌-◌, ◌*◌, ◌/◌, ◌%◌, ◌<◌, ◌≤◌, Bool, true, false, cond, nat_lt, List, [], ◌∷◌, length, take, drop, get_or, Option, Some, None, refl, sym, ap, subst, ◌∙◌, inl, inr, arith, lit<, length-take, length-drop, ◌↔◌, ℤ}
-use Rattle.std.specs.Prelude.{◌==◌, IsSome, IfSome}
+-- The text of a date or a moment, and the numbers that it is read as.
+use Rattle.std.proofs.Common.{◌≡◌, ℕ, zero, suc, ◌+◌, ◌-◌, ◌*◌, ◌/◌, ◌%◌, ◌<◌, ◌≤◌, true, false, cond, nat_lt, List, [], ◌∷◌, ◌++◌, length, take, drop, get_or, Some, None, refl, ap, subst, ◌∙◌, inl, inr, arith, length-take, length-drop}
+use Rattle.std.specs.Prelude.{◌==◌}
 use Rattle.std.proofs.lemmas.Bool.Decides.{nat_tests}
-use Rattle.period_core.specs.Calendar.{IsDate, date_text, day_number, is_leap_year}
-use Rattle.sql_front.specs.DateForms.{digit_of, two_of, parts_of, date_parts}
-use Rattle.sql_front.specs.Meaning.{between_quotes, date_number, decimal}
-use Rattle.sql_front.specs.Literals.{IsDateText}
+use Rattle.std.proofs.lemmas.List.{at_drop_more}
+use Rattle.period_core.specs.Calendar.{date_text}
+use Rattle.period_core.specs.Moments.{time_text}
+use Rattle.sql_front.specs.LeafValues.{digit_of, two_of, parts_of, date_at, time_parts_of, time_at}
+use Rattle.sql_front.specs.Values.{between_quotes}
 use Rattle.sql_front.specs.Reading.{◌>>=◌}
 use Rattle.sql_front.proofs.Laws.{bind_some, if_some, none_some, some_is}
 
@@ -45,45 +46,50 @@ two_back a b n e =
     let is : s.0 * 10 + t.0 ≡ n = some_is (s.0 * 10 + t.0) n t.2 in
     (omega (arith, first, second, is), omega (arith, first, second, is), omega (arith, first, second, is))
 
--- ---- lists of twelve
+-- ---- the bytes of a token
 
-inner : (t : List ℕ) → length t ≡ 12 → between_quotes t ≡ get_or t 1 0 ∷ get_or t 2 0 ∷ get_or t 3 0 ∷ get_or t 4 0 ∷ get_or t 5 0 ∷ get_or t 6 0 ∷ get_or t 7 0 ∷ get_or t 8 0 ∷ get_or t 9 0 ∷ get_or t 10 0 ∷ []
-inner [] e = absurd (omega (arith, e))
-inner (v0 ∷ []) e = absurd (omega (arith, e))
-inner (v0 ∷ v1 ∷ []) e = absurd (omega (arith, e))
-inner (v0 ∷ v1 ∷ v2 ∷ []) e = absurd (omega (arith, e))
-inner (v0 ∷ v1 ∷ v2 ∷ v3 ∷ []) e = absurd (omega (arith, e))
-inner (v0 ∷ v1 ∷ v2 ∷ v3 ∷ v4 ∷ []) e = absurd (omega (arith, e))
-inner (v0 ∷ v1 ∷ v2 ∷ v3 ∷ v4 ∷ v5 ∷ []) e = absurd (omega (arith, e))
-inner (v0 ∷ v1 ∷ v2 ∷ v3 ∷ v4 ∷ v5 ∷ v6 ∷ []) e = absurd (omega (arith, e))
-inner (v0 ∷ v1 ∷ v2 ∷ v3 ∷ v4 ∷ v5 ∷ v6 ∷ v7 ∷ []) e = absurd (omega (arith, e))
-inner (v0 ∷ v1 ∷ v2 ∷ v3 ∷ v4 ∷ v5 ∷ v6 ∷ v7 ∷ v8 ∷ []) e = absurd (omega (arith, e))
-inner (v0 ∷ v1 ∷ v2 ∷ v3 ∷ v4 ∷ v5 ∷ v6 ∷ v7 ∷ v8 ∷ v9 ∷ []) e = absurd (omega (arith, e))
-inner (v0 ∷ v1 ∷ v2 ∷ v3 ∷ v4 ∷ v5 ∷ v6 ∷ v7 ∷ v8 ∷ v9 ∷ v10 ∷ []) e = absurd (omega (arith, e))
-inner (v0 ∷ v1 ∷ v2 ∷ v3 ∷ v4 ∷ v5 ∷ v6 ∷ v7 ∷ v8 ∷ v9 ∷ v10 ∷ v11 ∷ []) e = refl
-inner (v0 ∷ v1 ∷ v2 ∷ v3 ∷ v4 ∷ v5 ∷ v6 ∷ v7 ∷ v8 ∷ v9 ∷ v10 ∷ v11 ∷ v12 ∷ s) e = absurd (omega (arith, e))
+-- so many bytes from a place on
+abbrev pub bytes_from : ℕ → ℕ → List ℕ → List ℕ
+bytes_from zero i t = []
+bytes_from (suc n) i t = get_or t i 0 ∷ bytes_from n (i + 1) t
 
-inner_length : (t : List ℕ) → length (between_quotes t) ≡ 10 → length t ≡ 12
-inner_length t e = omega (arith, e, length-take (length t - 2) (drop 1 t), length-drop 1 t)
+taken : (n i : ℕ) (t : List ℕ) → i + n ≤ length t → take n (drop i t) ≡ bytes_from n i t
+taken zero i t h = refl
+taken (suc n) i t h =
+    at_drop_more (take (suc n)) t i 0 (omega (arith, h))
+    ∙ ap (λ (z : List ℕ). get_or t i 0 ∷ z) (taken n (i + 1) t (omega (arith, h)))
 
-equal_is : (a b : ℕ) → (a == b) ≡ true → a ≡ b
+-- what a token of n bytes and two quotes has between these
+pub inner : (n : ℕ) (t : List ℕ) → length t ≡ n + 2 → between_quotes t ≡ bytes_from n 1 t
+inner n t e =
+    let long : length t - 2 ≡ n = omega (arith, e) in
+    rw long (taken n 1 t (omega (arith, e)))
+
+pub inner_length : (n : ℕ) (t : List ℕ) → length (between_quotes t) ≡ suc n → length t ≡ suc n + 2
+inner_length n t e = omega (arith, e, length-take (length t - 2) (drop 1 t), length-drop 1 t)
+
+-- what a list has at a place
+at_place : (s r : List ℕ) (k : ℕ) → s ≡ r → get_or s k 0 ≡ get_or r k 0
+at_place s r k e = ap (λ (z : List ℕ). get_or z k 0) e
+
+pub equal_is : (a b : ℕ) → (a == b) ≡ true → a ≡ b
 equal_is a b e = grind (arith, nat_tests, e)
 
--- ---- from the three numbers to the text, and back
+-- ---- dates
 
-text_is : (a b c d first e f second g h century year month day : ℕ) → a ≡ 48 + century / 10 → b ≡ 48 + century % 10 → c ≡ 48 + year / 10 → d ≡ 48 + year % 10 → first ≡ 45
+date_is : (a b c d first e f second g h century year month day : ℕ) → a ≡ 48 + century / 10 → b ≡ 48 + century % 10 → c ≡ 48 + year / 10 → d ≡ 48 + year % 10 → first ≡ 45
     → e ≡ 48 + month / 10 → f ≡ 48 + month % 10 → second ≡ 45 → g ≡ 48 + day / 10 → h ≡ 48 + day % 10 → year < 100
     → a ∷ b ∷ c ∷ d ∷ first ∷ e ∷ f ∷ second ∷ g ∷ h ∷ [] ≡ date_text (century * 100 + year) month day
-text_is a b c d first e f second g h century year month day ea eb ec ed e1 ee ef e2 eg eh low =
+date_is a b c d first e f second g h century year month day ea eb ec ed e1 ee ef e2 eg eh low =
     let high : (century * 100 + year) / 100 ≡ century = omega (arith, low) in
     let rest : (century * 100 + year) % 100 ≡ year = omega (arith, low) in
     rw (ea, eb, ec, ed, e1, ee, ef, e2, eg, eh, high, rest) refl
 
-shown : (t : List ℕ) (v : ℕ × ℕ × ℕ) → length t ≡ 12 → get_or t 5 0 ≡ 45 → get_or t 8 0 ≡ 45
+date_parts : (t : List ℕ) (v : ℕ × ℕ × ℕ) → get_or t 5 0 ≡ 45 → get_or t 8 0 ≡ 45
     → parts_of (get_or t 1 0) (get_or t 2 0) (get_or t 3 0) (get_or t 4 0) (get_or t 6 0) (get_or t 7 0) (get_or t 9 0) (get_or t 10 0) ≡ Some v
-    → (between_quotes t ≡ date_text v.0 v.1 v.2) × (v.0 < 10000) × (v.1 < 100) × (v.2 < 100)
+    → (bytes_from 10 1 t ≡ date_text v.0 v.1 v.2) × (v.0 < 10000) × (v.1 < 100) × (v.2 < 100)
 unfolding parts_of
-shown t v long first second e =
+date_parts t v first second e =
     let century = bind_some (two_of (get_or t 1 0) (get_or t 2 0)) (λ c. two_of (get_or t 3 0) (get_or t 4 0) >>= λ y. two_of (get_or t 6 0) (get_or t 7 0) >>= λ m. two_of (get_or t 9 0) (get_or t 10 0) >>= λ d. Some (c * 100 + y, m, d)) v e in
     let year = bind_some (two_of (get_or t 3 0) (get_or t 4 0)) (λ y. two_of (get_or t 6 0) (get_or t 7 0) >>= λ m. two_of (get_or t 9 0) (get_or t 10 0) >>= λ d. Some (century.0 * 100 + y, m, d)) v century.2 in
     let month = bind_some (two_of (get_or t 6 0) (get_or t 7 0)) (λ m. two_of (get_or t 9 0) (get_or t 10 0) >>= λ d. Some (century.0 * 100 + year.0, m, d)) v year.2 in
@@ -92,39 +98,29 @@ shown t v long first second e =
     let y = two_back (get_or t 3 0) (get_or t 4 0) year.0 year.1 in
     let m = two_back (get_or t 6 0) (get_or t 7 0) month.0 month.1 in
     let d = two_back (get_or t 9 0) (get_or t 10 0) day.0 day.1 in
-    let text : between_quotes t ≡ date_text (century.0 * 100 + year.0) month.0 day.0 =
-    inner t long ∙ text_is _ _ _ _ _ _ _ _ _ _ century.0 year.0 month.0 day.0 c.0 c.1 y.0 y.1 first m.0 m.1 second d.0 d.1 y.2 in
-    subst (λ (w : ℕ × ℕ × ℕ). (between_quotes t ≡ date_text w.0 w.1 w.2) × (w.0 < 10000) × (w.1 < 100) × (w.2 < 100)) (some_is (century.0 * 100 + year.0, month.0, day.0) v day.2) (text, omega (arith, c.2, y.2), m.2, d.2)
+    let text : bytes_from 10 1 t ≡ date_text (century.0 * 100 + year.0) month.0 day.0 =
+    date_is _ _ _ _ _ _ _ _ _ _ century.0 year.0 month.0 day.0 c.0 c.1 y.0 y.1 first m.0 m.1 second d.0 d.1 y.2 in
+    subst (λ (w : ℕ × ℕ × ℕ). (bytes_from 10 1 t ≡ date_text w.0 w.1 w.2) × (w.0 < 10000) × (w.1 < 100) × (w.2 < 100)) (some_is (century.0 * 100 + year.0, month.0, day.0) v day.2) (text, omega (arith, c.2, y.2), m.2, d.2)
 
 -- the text that is read as these is the one that shows them
-pub parts_text : (t : List ℕ) (v : ℕ × ℕ × ℕ) → date_parts t ≡ Some v → (between_quotes t ≡ date_text v.0 v.1 v.2) × (v.0 < 10000) × (v.1 < 100) × (v.2 < 100)
-unfolding date_parts parts_of
-parts_text t v e =
+pub date_shown : (t : List ℕ) (v : ℕ × ℕ × ℕ) → date_at t ≡ Some v → (bytes_from 10 1 t ≡ date_text v.0 v.1 v.2) × (v.0 < 10000) × (v.1 < 100) × (v.2 < 100)
+unfolding date_at
+date_shown t v e =
     let inside = λ (k : ℕ). get_or t k 0 in
-    elim (if_some (length t == 12) (cond (inside 5 == 45) (cond (inside 8 == 45) (parts_of (inside 1) (inside 2) (inside 3) (inside 4) (inside 6) (inside 7) (inside 9) (inside 10)) None) None) None v e) [
-      | inr h ↦ absurd (none_some v h.1)
-      | inl h ↦ elim (if_some (inside 5 == 45) (cond (inside 8 == 45) (parts_of (inside 1) (inside 2) (inside 3) (inside 4) (inside 6) (inside 7) (inside 9) (inside 10)) None) None v h.1) [
-        | inr k ↦ absurd (none_some v k.1)
-        | inl k ↦ elim (if_some (inside 8 == 45) (parts_of (inside 1) (inside 2) (inside 3) (inside 4) (inside 6) (inside 7) (inside 9) (inside 10)) None v k.1) [
-          | inr l ↦ absurd (none_some v l.1)
-          | inl l ↦ shown t v (equal_is (length t) 12 h.0) (equal_is (inside 5) 45 k.0) (equal_is (inside 8) 45 l.0) l.1
-        ]
+    elim (if_some (inside 5 == 45) (cond (inside 8 == 45) (parts_of (inside 1) (inside 2) (inside 3) (inside 4) (inside 6) (inside 7) (inside 9) (inside 10)) None) None v e) [
+      | inr k ↦ absurd (none_some v k.1)
+      | inl k ↦ elim (if_some (inside 8 == 45) (parts_of (inside 1) (inside 2) (inside 3) (inside 4) (inside 6) (inside 7) (inside 9) (inside 10)) None v k.1) [
+        | inr l ↦ absurd (none_some v l.1)
+        | inl l ↦ date_parts t v (equal_is (inside 5) 45 k.0) (equal_is (inside 8) 45 l.0) l.1
       ]
     ]
 
--- what a list has at a place
-at_place : (s r : List ℕ) (k : ℕ) → s ≡ r → get_or s k 0 ≡ get_or r k 0
-at_place s r k e = ap (λ (z : List ℕ). get_or z k 0) e
-
 -- the text that shows these is read as them
-pub text_parts : (t : List ℕ) (y m d : ℕ) → y < 10000 → m < 100 → d < 100 → between_quotes t ≡ date_text y m d → date_parts t ≡ Some (y, m, d)
-unfolding date_parts parts_of
-text_parts t y m d hy hm hd e =
-    let long : length t ≡ 12 = inner_length t (ap length e) in
-    let whole = sym (inner t long) ∙ e in
+pub date_found : (t : List ℕ) (y m d : ℕ) → y < 10000 → m < 100 → d < 100 → bytes_from 10 1 t ≡ date_text y m d → date_at t ≡ Some (y, m, d)
+unfolding date_at parts_of
+date_found t y m d hy hm hd whole =
     let same : y / 100 * 100 + y % 100 ≡ y = omega arith in
     rw (
-      long,
       at_place _ _ 0 whole,
       at_place _ _ 1 whole,
       at_place _ _ 2 whole,
@@ -142,62 +138,59 @@ text_parts t y m d hy hm hd e =
     )
     (ap (λ (k : ℕ). Some (k, m, d)) same)
 
--- and its number is that of the date
-pub text_number : (y m d : ℕ) → y < 10000 → m < 100 → d < 100 → date_number (date_text y m d) ≡ day_number y m d
-text_number y m d hy hm hd =
-    let year : decimal (take 4 (date_text y m d)) ≡ y = omega (arith, hy) in
-    let month : decimal (take 2 (drop 5 (date_text y m d))) ≡ m = omega (arith, hm) in
-    let day : decimal (take 2 (drop 8 (date_text y m d))) ≡ d = omega (arith, hd) in
-    rw (year, month, day) refl
+-- ---- times of day
 
--- ---- dates
+time_is : (a b first c d second e f hour minute s : ℕ) → a ≡ 48 + hour / 10 → b ≡ 48 + hour % 10 → first ≡ 58
+    → c ≡ 48 + minute / 10 → d ≡ 48 + minute % 10 → second ≡ 58 → e ≡ 48 + s / 10 → f ≡ 48 + s % 10
+    → a ∷ b ∷ first ∷ c ∷ d ∷ second ∷ e ∷ f ∷ [] ≡ time_text hour minute s
+time_is a b first c d second e f hour minute s ea eb e1 ec ed e2 ee ef = rw (ea, eb, e1, ec, ed, e2, ee, ef) refl
 
-feb : (b : Bool) → cond b 29 28 < 100
-feb true = lit< tt
-feb false = lit< tt
+time_parts : (t : List ℕ) (v : ℕ × ℕ × ℕ) → get_or t 14 0 ≡ 58 → get_or t 17 0 ≡ 58
+    → time_parts_of (get_or t 12 0) (get_or t 13 0) (get_or t 15 0) (get_or t 16 0) (get_or t 18 0) (get_or t 19 0) ≡ Some v
+    → (bytes_from 8 12 t ≡ time_text v.0 v.1 v.2) × (v.0 < 100) × (v.1 < 100) × (v.2 < 100)
+unfolding time_parts_of
+time_parts t v first second e =
+    let hour = bind_some (two_of (get_or t 12 0) (get_or t 13 0)) (λ h. two_of (get_or t 15 0) (get_or t 16 0) >>= λ m. two_of (get_or t 18 0) (get_or t 19 0) >>= λ s. Some (h, m, s)) v e in
+    let minute = bind_some (two_of (get_or t 15 0) (get_or t 16 0)) (λ m. two_of (get_or t 18 0) (get_or t 19 0) >>= λ s. Some (hour.0, m, s)) v hour.2 in
+    let last = bind_some (two_of (get_or t 18 0) (get_or t 19 0)) (λ s. Some (hour.0, minute.0, s)) v minute.2 in
+    let h = two_back (get_or t 12 0) (get_or t 13 0) hour.0 hour.1 in
+    let m = two_back (get_or t 15 0) (get_or t 16 0) minute.0 minute.1 in
+    let s = two_back (get_or t 18 0) (get_or t 19 0) last.0 last.1 in
+    let text : bytes_from 8 12 t ≡ time_text hour.0 minute.0 last.0 =
+    time_is _ _ _ _ _ _ _ _ hour.0 minute.0 last.0 h.0 h.1 first m.0 m.1 second s.0 s.1 in
+    subst (λ (w : ℕ × ℕ × ℕ). (bytes_from 8 12 t ≡ time_text w.0 w.1 w.2) × (w.0 < 100) × (w.1 < 100) × (w.2 < 100)) (some_is (hour.0, minute.0, last.0) v last.2) (text, h.2, m.2, s.2)
 
-low_length : (b : Bool) (n : ℕ) → get_or (31 ∷ (cond b 29 28) ∷ 31 ∷ 30 ∷ 31 ∷ 30 ∷ 31 ∷ 31 ∷ 30 ∷ 31 ∷ 30 ∷ 31 ∷ []) n 0 < 100
-low_length b zero = lit< tt
-low_length b (suc zero) = feb b
-low_length b (suc (suc zero)) = lit< tt
-low_length b (suc (suc (suc zero))) = lit< tt
-low_length b (suc (suc (suc (suc zero)))) = lit< tt
-low_length b (suc (suc (suc (suc (suc zero))))) = lit< tt
-low_length b (suc (suc (suc (suc (suc (suc zero)))))) = lit< tt
-low_length b (suc (suc (suc (suc (suc (suc (suc zero))))))) = lit< tt
-low_length b (suc (suc (suc (suc (suc (suc (suc (suc zero)))))))) = lit< tt
-low_length b (suc (suc (suc (suc (suc (suc (suc (suc (suc zero))))))))) = lit< tt
-low_length b (suc (suc (suc (suc (suc (suc (suc (suc (suc (suc zero)))))))))) = lit< tt
-low_length b (suc (suc (suc (suc (suc (suc (suc (suc (suc (suc (suc zero))))))))))) = lit< tt
-low_length b (suc (suc (suc (suc (suc (suc (suc (suc (suc (suc (suc (suc n)))))))))))) = lit< tt
+pub time_shown : (t : List ℕ) (v : ℕ × ℕ × ℕ) → time_at t ≡ Some v → (bytes_from 8 12 t ≡ time_text v.0 v.1 v.2) × (v.0 < 100) × (v.1 < 100) × (v.2 < 100)
+unfolding time_at
+time_shown t v e =
+    let inside = λ (k : ℕ). get_or t k 0 in
+    elim (if_some (inside 14 == 58) (cond (inside 17 == 58) (time_parts_of (inside 12) (inside 13) (inside 15) (inside 16) (inside 18) (inside 19)) None) None v e) [
+      | inr k ↦ absurd (none_some v k.1)
+      | inl k ↦ elim (if_some (inside 17 == 58) (time_parts_of (inside 12) (inside 13) (inside 15) (inside 16) (inside 18) (inside 19)) None v k.1) [
+        | inr l ↦ absurd (none_some v l.1)
+        | inl l ↦ time_parts t v (equal_is (inside 14) 58 k.0) (equal_is (inside 17) 58 l.0) l.1
+      ]
+    ]
 
-pub date_low : (y m d : ℕ) → IsDate y m d → (y < 10000) × (m < 100) × (d < 100)
-date_low y m d h =
-    let (low, high) = h.year in
-    let (m_low, m_high) = h.month in
-    let (d_low, d_high) = h.day in
-    (omega (arith, high), omega (arith, m_high), omega (arith, d_high, low_length (is_leap_year y) (m - 1)))
+pub time_found : (t : List ℕ) (h m s : ℕ) → h < 100 → m < 100 → s < 100 → bytes_from 8 12 t ≡ time_text h m s → time_at t ≡ Some (h, m, s)
+unfolding time_at time_parts_of
+time_found t h m s hh hm hs whole =
+    rw (
+      at_place _ _ 0 whole,
+      at_place _ _ 1 whole,
+      at_place _ _ 2 whole,
+      at_place _ _ 3 whole,
+      at_place _ _ 4 whole,
+      at_place _ _ 5 whole,
+      at_place _ _ 6 whole,
+      at_place _ _ 7 whole,
+      two_at h hh,
+      two_at m hm,
+      two_at s hs,
+    )
+    refl
 
--- ---- the day that the code finds
+-- ---- moments: a date, a space and a time of day
 
-pub there_some : (t : List ℕ) (y m d : ℕ) → date_parts t ≡ Some (y, m, d) → (r : Option ℤ) → IsSome r ↔ IsDate y m d → IsSome r ↔ IsDateText (between_quotes t)
-there_some t y m d e r i = (
-  λ s. (day_number y m d, (y, m, d, i.0 s, refl, (parts_text t (y, m, d) e).0)),
-  λ h.
-      let (y2, m2, d2, date, number, text) = h.1 in
-      let low = date_low y2 m2 d2 date in
-      let same : (y2, m2, d2) ≡ (y, m, d) = some_is (y2, m2, d2) (y, m, d) (sym (text_parts t y2 m2 d2 low.0 low.1 low.2 text) ∙ e) in
-      i.1 (subst (λ (v : ℕ × ℕ × ℕ). IsDate v.0 v.1 v.2) same date),
-)
-
-pub there_none : (t : List ℕ) → date_parts t ≡ None → IsDateText (between_quotes t) → ⊥
-there_none t e h =
-    let (y, m, d, date, number, text) = h.1 in
-    let low = date_low y m d date in
-    none_some (y, m, d) (sym e ∙ text_parts t y m d low.0 low.1 low.2 text)
-
-pub value_some : (t : List ℕ) (y m d : ℕ) → date_parts t ≡ Some (y, m, d) → (r : Option ℤ) → IfSome r (λ x. x ≡ day_number y m d) → IfSome r (λ x. x ≡ date_number (between_quotes t))
-value_some t y m d e None h = tt
-value_some t y m d e (Some x) h =
-    let p = parts_text t (y, m, d) e in
-    h ∙ sym (ap date_number p.0 ∙ text_number y m d p.1 p.2 p.3)
+pub moment_bytes : (t : List ℕ) → length t ≡ 21 → between_quotes t ≡ bytes_from 10 1 t ++ get_or t 11 0 ∷ bytes_from 8 12 t
+moment_bytes t e = inner 19 t e

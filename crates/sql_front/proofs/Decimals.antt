@@ -1,7 +1,7 @@
 -- The value of digits.
 use Rattle.std.proofs.Common.{◌≡◌, ℕ, ◌+◌, ◌-◌, ◌*◌, ◌<◌, ◌≤◌, List, [], ◌∷◌, drop, get_or, length, arith}
 use Rattle.std.proofs.lemmas.List.{at_drop_more}
-use Rattle.sql_front.specs.Meaning.{decimal_from}
+use Rattle.sql_front.specs.Values.{decimal_from}
 
 decimal_grows : (v : ℕ) (bytes : List ℕ) → v ≤ decimal_from v bytes
 decimal_grows v [] = omega arith

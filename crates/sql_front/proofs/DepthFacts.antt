@@ -9,14 +9,14 @@ use Rattle.sql_front.specs.Depth.{opens, closes, counted, room, IsDeeper}
 use Rattle.sql_front.proofs.Laws.{none_some}
 use Rattle.sql_front.proofs.First.{Apart, symbols_apart}
 
-no_room : (t : Lexeme) (y : List Lexeme) → opens t ≡ true → room zero (t ∷ y) ≡ None
+pub no_room : (t : Lexeme) (y : List Lexeme) → opens t ≡ true → room zero (t ∷ y) ≡ None
 unfolding room
 no_room t y e = rw e refl
 
 open_not_close : Apart opens closes
 open_not_close = symbols_apart (codes "(") (codes ")") refl
 
-close_not_open : Apart closes opens
+pub close_not_open : Apart closes opens
 close_not_open = symbols_apart (codes ")") (codes "(") refl
 
 -- ---- too deep by a front of the tokens

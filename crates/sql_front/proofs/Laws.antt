@@ -2,8 +2,8 @@
 use Rattle.std.proofs.Common.{◌≡◌, ℕ, zero, suc, ◌≤◌, ◌<◌, Bool, true, false, cond, List, [], ◌∷◌, ◌++◌, length, Option, Some, None, refl, sym, ap, subst, ◌∙◌, append_assoc, arith, codes, inl, inr, ◌⊎◌, length-append}
 use Rattle.sql_front.proofs.First.{Apart, Starts, starts_preceded, begins_apart}
 use Rattle.sql_front.specs.Lexemes.{Lexeme}
-use Rattle.sql_front.specs.Language.{OneToken, Fixed, Sequence, Built, Choice, Repetition, Optional, Preceded, Separated, Enclosed, symbol}
-use Rattle.sql_front.specs.Reading.{◌>>=◌, Reader, one_read, fixed_read, sequence_read, built_read, begins, choice_read, bounded_read, repetition_read, optional_read, preceded_read, separated_by_read, separated_read, enclosed_read}
+use Rattle.sql_front.specs.Language.{OneToken, Fixed, Sequence, Built, Choice, Repetition, Optional, Preceded, PrecededOrNot, Related, StandsFor, Separated, Enclosed, symbol}
+use Rattle.sql_front.specs.Reading.{◌>>=◌, Reader, one_read, fixed_read, sequence_read, built_read, begins, choice_read, bounded_read, repetition_read, optional_read, preceded_read, preceded_or_not_read, stands_read, separated_read, enclosed_read}
 
 abbrev done : {A : Type 0} → A → Option A
 done x = Some x
@@ -173,19 +173,30 @@ reads_preceded {A} test r = reads_built (λ (v : Unit {0} × A). v.1) (reads_bot
 abbrev pub Not : (Lexeme → Bool) → (List Lexeme → Type 0) → List Lexeme → Type 0
 Not test F rest = F rest × (begins test rest ≡ false)
 
--- one or more, with a separator between each two, where an item may be followed by what decides for more
-pub reads_separated_by : {A : Type 0} (d : List Lexeme → Bool) (test : Lexeme → Bool) {L : List Lexeme → A → Type 0} {F : List Lexeme → Type 0} {p : Reader A} → Reads L F p
-    → ((x : List Lexeme) (a : A) (z : List Lexeme) → Preceded test L x a → d (x ++ z) ≡ true)
-    → ((z : List Lexeme) → d z ≡ true → F z)
-    → Reads (Separated test L) (λ rest. F rest × (d rest ≡ false)) (separated_by_read d test p)
-reads_separated_by {A} d test {L} {F} {p} r starts next =
-    reads_built (λ (v : A × List A). v.0 ∷ v.1)
-    (reads_sequence r (reads_repetition d (Preceded test L) F (preceded_read test p) (reads_preceded test r) starts next)
-    (λ y b rest h follow. after_one d (Preceded test L) F (preceded_read test p) (reads_preceded test r) starts next y b rest h follow.0 follow.1))
-
--- the same, where the separator decides
+-- one or more, with a separator between each two
 pub reads_separated : {A : Type 0} (test : Lexeme → Bool) {L : List Lexeme → A → Type 0} {F : List Lexeme → Type 0} {p : Reader A} → Reads L F p → ((z : List Lexeme) → begins test z ≡ true → F z) → Reads (Separated test L) (Not test F) (separated_read test p)
-reads_separated test {L} r next = reads_separated_by (begins test) test r (starts_preceded test L).at next
+reads_separated {A} test {L} {F} {p} r next =
+    reads_built (λ (v : A × List A). v.0 ∷ v.1)
+    (reads_sequence r (reads_repetition (begins test) (Preceded test L) F (preceded_read test p) (reads_preceded test r) (starts_preceded test L).at next)
+    (λ y b rest h follow. after_one (begins test) (Preceded test L) F (preceded_read test p) (reads_preceded test r) (starts_preceded test L).at next y b rest h follow.0 follow.1))
+
+-- a token or none, then the language
+pub reads_preceded_or_not : {A : Type 0} {test other : Lexeme → Bool} {L : List Lexeme → A → Type 0} {F : List Lexeme → Type 0} {p : Reader A} → Starts other L → Apart other test → Reads L F p → Reads (PrecededOrNot test L) F (preceded_or_not_read test p)
+reads_preceded_or_not {A} {test} {other} {L} s apart r = reads_choice (starts_preceded test L) s apart (reads_preceded test r) r
+
+-- a token that stands for a value
+pub reads_stands : {A : Type 0} (a : A) (test : Lexeme → Bool) → Reads (StandsFor a test) Any (stands_read a test)
+reads_stands a test = reads_built (λ (nothing : Unit {0}). a) (reads_fixed test)
+
+-- what a function gives stands in the relation, and nothing else does
+pub reads_related : {A B : Type 0} (R : A → B → Type 0) (f : A → B) {L : List Lexeme → A → Type 0} {F : List Lexeme → Type 0} {p : Reader A} → ((a : A) → R a (f a)) → ((a : A) (b : B) → R a b → b ≡ f a) → Reads L F p → Reads (Related R L) F (built_read f p)
+reads_related {A} {B} R f {L} {F} {p} holds only r = record {
+  found = λ ts v e.
+      let a = bind_some (p ts) (λ x. Some (f x.0, x.1)) v e in
+      let h = r.found ts a.0 a.1 in
+      subst (λ (w : B × List Lexeme). (front : List Lexeme) × (ts ≡ front ++ w.1) × Related R L front w.0) (some_is (f a.0.0, a.0.1) v a.2) (h.0, h.1, (a.0.0, holds a.0.0, h.2));
+  again = λ front v rest h follow. rw (r.again front h.0 rest h.2 follow, only h.0 v h.1) refl;
+}
 
 -- what is enclosed may be followed by the closing one
 pub reads_enclosed : {A : Type 0} {L : List Lexeme → A → Type 0} {F : List Lexeme → Type 0} {p : Reader A} → Reads L F p → ((y : List Lexeme) → begins (symbol (codes ")")) y ≡ true → F y) → Reads (Enclosed L) Any (enclosed_read p)

@@ -1,23 +1,48 @@
 -- What parse may answer.
-use Rattle.std.proofs.Common.{◌≤◌, List, Result, Ok, Err, subst, inl, inr, lit≤}
-use Rattle.std.specs.Prelude.{IfOk, IfErr, OnOk}
+use Rattle.std.proofs.Common.{◌≡◌, ◌≤◌, Bool, true, false, List, [], Result, Ok, Err, inl, lit≤}
+use Rattle.std.specs.Prelude.{IfOk, IsTrue}
 use Rattle.period_core.specs.Codes.{code_of}
-use Rattle.period_core.specs.Leasts.{MayAnswer, NoneApplies}
+use Rattle.period_core.specs.Leasts.{MayAnswer}
 use Rattle.period_core.specs.declared.refusal.Refusal.{Refusal}
-use Rattle.period_core.specs.declared.refusal.Refusal.TheVariants.{Syntax, TooDeep, BadDate, NumberRange}
-use Rattle.sql_front.specs.declared.statement.Statement.{Statement}
+use Rattle.period_core.specs.declared.refusal.Refusal.TheVariants.{Syntax, TooDeep, BadDate, BadMoment, NumberRange}
+use Rattle.sql_front.specs.declared.statement.Statement as statements
+use Rattle.sql_front.specs.declared.unread.Unread.{Unread}
+use Rattle.sql_front.specs.declared.unread.Unread.TheVariants as unread
 use Rattle.sql_front.specs.Lexemes.{Lexeme}
-use Rattle.sql_front.specs.Grammar.{Written, IsStatement}
-use Rattle.sql_front.specs.Literals.{HasBadDate, HasNumberOutside}
-use Rattle.sql_front.specs.Faults.{Decides}
-use Rattle.sql_front.specs.Meaning.{Means}
+use Rattle.sql_front.specs.Trees.{Statement}
+use Rattle.sql_front.specs.Plain.{plain}
+use Rattle.sql_front.specs.Gives.{Gives}
+use Rattle.sql_front.specs.Grammar.{IsStatement}
+use Rattle.sql_front.specs.Reading.{whole_read}
+use Rattle.sql_front.specs.StatementReaders.{statement_read}
 use Rattle.sql_front.specs.PieceRefusals.{IsTooDeep, SpellsNone, PieceApplies}
-use Rattle.sql_front.proofs.StatementReads.{spells_one}
+use Rattle.sql_front.proofs.StatementsRead.{at_depth, read_spelled, reads_statement}
+use Rattle.sql_front.proofs.Sorts.{next_end}
+use Rattle.sql_front.proofs.Whole.{is_none}
+
+-- ---- all of the tokens
+
+-- what is read at the greatest depth is spelled so
+pub read_is_spelled : (ls : List Lexeme) (result : Result statements.Statement Unread) → Gives plain result (whole_read (statement_read 32) ls) → IfOk result (λ s. IsStatement ls (plain s))
+read_is_spelled ls (Ok s) given = read_spelled 32 ls (plain s) given
+read_is_spelled ls (Err e) given = tt
+
+-- where it is not too deep, nothing else is spelled
+pub unread_is_none : (ls : List Lexeme) (result : Result statements.Statement Unread) → Gives plain result (whole_read (statement_read 32) ls) → result ≡ Err unread.Syntax → (IsTooDeep ls → ⊥) → SpellsNone ls
+unread_is_none ls result given e shallow s spelled = is_none (reads_statement 32) plain (next_end []) ls result given e s (at_depth 32 ls s shallow spelled)
+
+-- ---- refusals
+
+-- what a test that failed would have told does not hold
+pub untold : {D : Type 0} (told : Bool) → told ≡ false → (D → IsTrue told) → D → ⊥
+untold true e tells d = absurd cc
+untold false e tells d = let holds : IsTrue false = tells d in cc
 
 least_deep : (ls : List Lexeme) → IsTooDeep ls → (other : Refusal) → PieceApplies ls other → code_of TooDeep ≤ code_of other
 least_deep ls deep Syntax h = absurd (h.0 deep)
 least_deep ls deep TooDeep h = lit≤ tt
 least_deep ls deep BadDate h = lit≤ tt
+least_deep ls deep BadMoment h = lit≤ tt
 least_deep ls deep NumberRange h = lit≤ tt
 least_deep ls deep other h = absurd h
 
@@ -25,6 +50,7 @@ least_syntax : (ls : List Lexeme) (other : Refusal) → PieceApplies ls other �
 least_syntax ls Syntax h = lit≤ tt
 least_syntax ls TooDeep h = lit≤ tt
 least_syntax ls BadDate h = lit≤ tt
+least_syntax ls BadMoment h = lit≤ tt
 least_syntax ls NumberRange h = lit≤ tt
 least_syntax ls other h = absurd h
 
@@ -34,49 +60,6 @@ too_deep ls deep = inl (record { applies = deep; least = least_deep ls deep })
 pub no_statement : (ls : List Lexeme) → (IsTooDeep ls → ⊥) → SpellsNone ls → MayAnswer (PieceApplies ls) Syntax
 no_statement ls shallow none = inl (record { applies = (shallow, none); least = least_syntax ls })
 
--- the tokens spell this statement, and are not too deep
-module _ (ls : List Lexeme) (w : Written) (shallow : IsTooDeep ls → ⊥) (spelled : IsStatement ls w) where
-  least_date : (other : Refusal) → PieceApplies ls other → code_of BadDate ≤ code_of other
-  least_date Syntax h = absurd (h.1 w spelled)
-  least_date TooDeep h = absurd (shallow h)
-  least_date BadDate h = lit≤ tt
-  least_date NumberRange h = lit≤ tt
-  least_date other h = absurd h
-
-  bad_date_here : (HasBadDate w → ⊥) → PieceApplies ls BadDate → ⊥
-  bad_date_here never h = never (subst HasBadDate (spells_one ls h.0 w h.1 spelled) h.2)
-
-  number_here : (HasNumberOutside w → ⊥) → PieceApplies ls NumberRange → ⊥
-  number_here never h = never (subst HasNumberOutside (spells_one ls h.0 w h.1 spelled) h.2)
-
-  least_number : (HasBadDate w → ⊥) → (other : Refusal) → PieceApplies ls other → code_of NumberRange ≤ code_of other
-  least_number never Syntax h = absurd (h.1 w spelled)
-  least_number never TooDeep h = absurd (shallow h)
-  least_number never BadDate h = absurd (bad_date_here never h)
-  least_number never NumberRange h = lit≤ tt
-  least_number never other h = absurd h
-
-  none_applies : (HasBadDate w → ⊥) → (HasNumberOutside w → ⊥) → NoneApplies (PieceApplies ls)
-  none_applies dates numbers Syntax h = h.1 w spelled
-  none_applies dates numbers TooDeep h = shallow h
-  none_applies dates numbers BadDate h = bad_date_here dates h
-  none_applies dates numbers NumberRange h = number_here numbers h
-  none_applies dates numbers other h = h
-
-  pub decided_found : (r : Result Statement Refusal) → Decides w r → IfOk r (λ s. (written : Written) × IsStatement ls written × Means written s)
-  decided_found (Ok s) h = (w, spelled, h.0)
-  decided_found (Err refusal) h = tt
-
-  pub decided_sound : (r : Result Statement Refusal) → Decides w r → OnOk r (NoneApplies (PieceApplies ls))
-  decided_sound (Ok s) h = none_applies h.1 h.2
-  decided_sound (Err refusal) h = tt
-
-  pub decided_refused : (r : Result Statement Refusal) → Decides w r → IfErr r (MayAnswer (PieceApplies ls))
-  decided_refused (Ok s) h = tt
-  decided_refused (Err refusal) h = elim h [
-    | inl m ↦ inr m
-    | inr k ↦ elim k [
-      | inl b ↦ inl (rw b.0 (record { applies = (w, spelled, b.1); least = least_date }))
-      | inr n ↦ inl (rw n.0 (record { applies = (w, spelled, n.2); least = least_number n.1 }))
-    ]
-  ]
+-- what is spelled is not refused for its spelling
+pub spelled_some : (ls : List Lexeme) (s : Statement) → IsStatement ls s → SpellsNone ls → ⊥
+spelled_some ls s spelled none = none s spelled

@@ -5,7 +5,7 @@ use Rattle.std.proofs.lemmas.List.{append-nil}
 use Rattle.sql_front.specs.declared.unread.Unread.{Unread}
 use Rattle.sql_front.specs.declared.unread.Unread.TheVariants as unread
 use Rattle.sql_front.specs.Lexemes.{Lexeme}
-use Rattle.sql_front.specs.Views.{Gives}
+use Rattle.sql_front.specs.Gives.{Gives}
 use Rattle.sql_front.specs.Reading.{Reader, nothing_after, whole_read}
 use Rattle.sql_front.proofs.Laws.{bind_some, none_some, some_is, Reads}
 

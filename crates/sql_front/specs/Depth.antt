@@ -18,7 +18,9 @@ counted test (t ∷ ts) = cond (test t) (suc (counted test ts)) (counted test ts
 
 -- some of the first tokens have over n more opening parentheses than closing ones
 abbrev pub IsDeeper : ℕ → List Lexeme → Type 0
-IsDeeper n lexemes = (front : List Lexeme) × (rest : List Lexeme) × (lexemes ≡ front ++ rest) × (n + counted closes front < counted opens front)
+IsDeeper n lexemes =
+    (front : List Lexeme) × (rest : List Lexeme) × (lexemes ≡ front ++ rest)
+    × (n + counted closes front < counted opens front)
 
 -- how many more may still open after these tokens, where so many may open before them
 unfoldable pub room : ℕ → List Lexeme → Option ℕ

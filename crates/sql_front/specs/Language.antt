@@ -1,4 +1,4 @@
--- The ways in which a language is made of others. A language says which lists of tokens spell which value.
+-- The ways in which a language is made of others.
 use Rattle.std.specs.Prelude.{◌≡◌, ℕ, Bool, true, false, List, [], ◌∷◌, ◌++◌, ◌⊎◌, ◌&&◌, ◌||◌, codes, Option, Some, None}
 use Rattle.std.specs.Str.{bytes_eq}
 use Rattle.sql_front.specs.Lexemes.{Lexeme}
@@ -48,44 +48,67 @@ text lexeme = is_text lexeme.kind
 abbrev pub or_test : (Lexeme → Bool) → (Lexeme → Bool) → Lexeme → Bool
 or_test a b lexeme = a lexeme || b lexeme
 
+-- a language: which lists of tokens spell which value
+abbrev pub Language : Type 0 → Type 1
+Language A = List Lexeme → A → Type 0
+
 -- one token that meets a test, by its text
-abbrev pub OneToken : (Lexeme → Bool) → List Lexeme → List ℕ → Type 0
-OneToken test lexemes written = (one : Lexeme) × (test one ≡ true) × (lexemes ≡ one ∷ []) × (written ≡ one.text)
+abbrev pub OneToken : (Lexeme → Bool) → Language (List ℕ)
+OneToken test lexemes written =
+    (one : Lexeme) × (test one ≡ true) × (lexemes ≡ one ∷ []) × (written ≡ one.text)
 
 -- one token that meets a test, and stands for nothing
-abbrev pub Fixed : (Lexeme → Bool) → List Lexeme → Unit {0} → Type 0
+abbrev pub Fixed : (Lexeme → Bool) → Language (Unit {0})
 Fixed test lexemes nothing = (one : Lexeme) × (test one ≡ true) × (lexemes ≡ one ∷ [])
 
 -- the one, then the other: the tokens are split at some place
-abbrev pub Sequence : {A B : Type 0} → (List Lexeme → A → Type 0) → (List Lexeme → B → Type 0) → List Lexeme → A × B → Type 0
-Sequence L M lexemes pair = (x : List Lexeme) × (y : List Lexeme) × (lexemes ≡ x ++ y) × L x pair.0 × M y pair.1
+abbrev pub Sequence : {A B : Type 0} → Language A → Language B → Language (A × B)
+Sequence L M lexemes pair =
+    (x : List Lexeme) × (y : List Lexeme) × (lexemes ≡ x ++ y) × L x pair.0 × M y pair.1
 
 -- what is built of a value
-abbrev pub Built : {A B : Type 0} → (A → B) → (List Lexeme → A → Type 0) → List Lexeme → B → Type 0
+abbrev pub Built : {A B : Type 0} → (A → B) → Language A → Language B
 Built {A} build L lexemes b = (a : A) × (b ≡ build a) × L lexemes a
 
+-- what stands in this relation to a value
+abbrev pub Related : {A B : Type 0} → (A → B → Type 0) → Language A → Language B
+Related {A} R L lexemes b = (a : A) × R a b × L lexemes a
+
+-- a token that stands for this value
+abbrev pub StandsFor : {A : Type 0} → A → (Lexeme → Bool) → Language A
+StandsFor a test = Built (λ (nothing : Unit {0}). a) (Fixed test)
+
 -- the one or the other
-abbrev pub Choice : {A : Type 0} → (List Lexeme → A → Type 0) → (List Lexeme → A → Type 0) → List Lexeme → A → Type 0
+abbrev pub Choice : {A : Type 0} → Language A → Language A → Language A
 Choice L M lexemes a = L lexemes a ⊎ M lexemes a
 
 -- any number of times
-abbrev pub Repetition : {A : Type 0} → (List Lexeme → A → Type 0) → List Lexeme → List A → Type 0
+abbrev pub Repetition : {A : Type 0} → Language A → Language (List A)
 Repetition L lexemes [] = lexemes ≡ []
-Repetition L lexemes (a ∷ more) = (x : List Lexeme) × (y : List Lexeme) × (lexemes ≡ x ++ y) × L x a × Repetition L y more
+Repetition L lexemes (a ∷ more) =
+    (x : List Lexeme) × (y : List Lexeme) × (lexemes ≡ x ++ y) × L x a × Repetition L y more
 
 -- once or not at all
-abbrev pub Optional : {A : Type 0} → (List Lexeme → A → Type 0) → List Lexeme → Option A → Type 0
+abbrev pub Optional : {A : Type 0} → Language A → Language (Option A)
 Optional L lexemes None = lexemes ≡ []
 Optional L lexemes (Some a) = L lexemes a
 
 -- a token that stands for nothing, then the language
-abbrev pub Preceded : {A : Type 0} → (Lexeme → Bool) → (List Lexeme → A → Type 0) → List Lexeme → A → Type 0
+abbrev pub Preceded : {A : Type 0} → (Lexeme → Bool) → Language A → Language A
 Preceded {A} test L = Built (λ (pair : Unit {0} × A). pair.1) (Sequence (Fixed test) L)
 
+-- a token that stands for nothing, or none, then the language
+abbrev pub PrecededOrNot : {A : Type 0} → (Lexeme → Bool) → Language A → Language A
+PrecededOrNot test L = Choice (Preceded test L) L
+
 -- one or more, with a separator between each two
-abbrev pub Separated : {A : Type 0} → (Lexeme → Bool) → (List Lexeme → A → Type 0) → List Lexeme → List A → Type 0
-Separated {A} separator L = Built (λ (pair : A × List A). pair.0 ∷ pair.1) (Sequence L (Repetition (Preceded separator L)))
+abbrev pub Separated : {A : Type 0} → (Lexeme → Bool) → Language A → Language (List A)
+Separated {A} separator L =
+    Built (λ (pair : A × List A). pair.0 ∷ pair.1)
+    (Sequence L (Repetition (Preceded separator L)))
 
 -- in parentheses
-abbrev pub Enclosed : {A : Type 0} → (List Lexeme → A → Type 0) → List Lexeme → A → Type 0
-Enclosed {A} L = Preceded (symbol (codes "(")) (Built (λ (pair : A × Unit {0}). pair.0) (Sequence L (Fixed (symbol (codes ")")))))
+abbrev pub Enclosed : {A : Type 0} → Language A → Language A
+Enclosed {A} L =
+    Preceded (symbol (codes "("))
+    (Built (λ (pair : A × Unit {0}). pair.0) (Sequence L (Fixed (symbol (codes ")")))))

@@ -1,5 +1,5 @@
 -- Reading from the front: the value and the tokens after it, by each way of making a language.
-use Rattle.std.specs.Prelude.{ℕ, zero, suc, Bool, false, cond, List, [], ◌∷◌, length, Option, Some, None, option_and_then, codes, ◌&&◌}
+use Rattle.std.specs.Prelude.{ℕ, zero, suc, Bool, false, cond, List, [], ◌∷◌, length, Option, Some, None, option_and_then, codes}
 use Rattle.sql_front.specs.Lexemes.{Lexeme}
 use Rattle.sql_front.specs.Language.{symbol}
 
@@ -57,17 +57,14 @@ repetition_read d p ts = bounded_read d p (length ts) ts
 abbrev pub preceded_read : {A : Type 0} → (Lexeme → Bool) → Reader A → Reader A
 preceded_read {A} test p = built_read (λ (v : Unit {0} × A). v.1) (sequence_read (fixed_read test) p)
 
--- where a decision says whether one more follows
-abbrev pub separated_by_read : {A : Type 0} → (List Lexeme → Bool) → (Lexeme → Bool) → Reader A → Reader (List A)
-separated_by_read {A} d sep p = built_read (λ (v : A × List A). v.0 ∷ v.1) (sequence_read p (repetition_read d (preceded_read sep p)))
+abbrev pub preceded_or_not_read : {A : Type 0} → (Lexeme → Bool) → Reader A → Reader A
+preceded_or_not_read test p = choice_read (begins test) (preceded_read test p) p
 
--- a separator, before which more has to be seen
-abbrev pub goes_further : (List Lexeme → Bool) → (Lexeme → Bool) → List Lexeme → Bool
-goes_further further sep ts = further ts && begins sep ts
+abbrev pub stands_read : {A : Type 0} → A → (Lexeme → Bool) → Reader A
+stands_read a test = built_read (λ (nothing : Unit {0}). a) (fixed_read test)
 
--- where a separator says that one more follows
 abbrev pub separated_read : {A : Type 0} → (Lexeme → Bool) → Reader A → Reader (List A)
-separated_read sep p = separated_by_read (begins sep) sep p
+separated_read {A} sep p = built_read (λ (v : A × List A). v.0 ∷ v.1) (sequence_read p (repetition_read (begins sep) (preceded_read sep p)))
 
 abbrev pub enclosed_read : {A : Type 0} → Reader A → Reader A
 enclosed_read {A} p = preceded_read (symbol (codes "(")) (built_read (λ (v : A × Unit {0}). v.0) (sequence_read p (fixed_read (symbol (codes ")")))))

@@ -1,7 +1,9 @@
 //! CREATE TABLE as it is written. Its elements stand by their kinds, each list in the order of the
 //! text: no rule reads how the kinds are mixed.
 
-use period_core::{Items, Text};
+use crate::name::Name;
+use crate::nonempty::NonEmpty;
+use period_core::Items;
 
 /// A column's type. A number is what its token says, not yet judged.
 #[derive(Clone, Copy, Debug, PartialEq, Eq)]
@@ -22,7 +24,7 @@ pub enum Generated {
 /// A column, with its type, and for a system column with the end that it holds.
 #[derive(Drop, Debug)]
 pub struct ColumnElement {
-    pub name: Text,
+    pub name: Name,
     pub kind: TypeName,
     pub generated: Option<Generated>,
 }
@@ -30,39 +32,39 @@ pub struct ColumnElement {
 /// PERIOD FOR a name, with its two columns.
 #[derive(Drop, Debug)]
 pub struct PeriodElement {
-    pub name: Text,
-    pub start: Text,
-    pub end: Text,
+    pub name: Name,
+    pub start: Name,
+    pub end: Name,
 }
 
 /// PERIOD FOR SYSTEM_TIME, with its two columns.
 #[derive(Drop, Debug)]
 pub struct SystemElement {
-    pub start: Text,
-    pub end: Text,
+    pub start: Name,
+    pub end: Name,
 }
 
 /// PRIMARY KEY: its columns, and its period WITHOUT OVERLAPS.
 #[derive(Drop, Debug)]
 pub struct KeyElement {
-    pub columns: Items<Text>,
-    pub period: Text,
+    pub columns: NonEmpty<Name>,
+    pub period: Name,
 }
 
 /// FOREIGN KEY: the child's columns and period, and the parent's.
 #[derive(Drop, Debug)]
 pub struct ReferenceElement {
-    pub columns: Items<Text>,
-    pub period: Text,
-    pub parent: Text,
-    pub parent_columns: Items<Text>,
-    pub parent_period: Text,
+    pub columns: NonEmpty<Name>,
+    pub period: Name,
+    pub parent: Name,
+    pub parent_columns: NonEmpty<Name>,
+    pub parent_period: Name,
 }
 
 /// CREATE TABLE of a name with these elements.
 #[derive(Drop, Debug)]
 pub struct CreateTable {
-    pub name: Text,
+    pub name: Name,
     pub columns: Items<ColumnElement>,
     pub periods: Items<PeriodElement>,
     pub system_periods: Items<SystemElement>,

@@ -1,7 +1,11 @@
 //! Numbers of digits.
 
-ghost use Rattle.std.specs.Prelude.{◌≡◌, nat_lt, cond, Some, None};
-ghost use Rattle.sql_front.specs.Meaning.{decimal, decimal_from};
+ghost use Rattle.std.specs.Prelude.{◌≡◌, ◌≤◌, nat_lt, cond, Some, None};
+ghost use Rattle.sql_front.specs.Values as values;
+ghost use Rattle.sql_front.specs.Values.{decimal, greatest};
+
+/// The greatest number of 64 bits signed.
+pub const GREATEST: u64 = 9_223_372_036_854_775_807;
 
 /// The value of digits, if it is no more than the limit.
 pub fn decimal_up_to(digits: &str, limit: u64) -> Option<u64>
@@ -18,4 +22,25 @@ pub fn decimal_up_to(digits: &str, limit: u64) -> Option<u64>
         value = next as u64;
     }
     Some(value)
+}
+
+/// The value of a number without a minus: 0 where it is outside 64 bits signed.
+pub fn number_value(digits: &str) -> u64
+    ensures value { result ≡ values.number_value digits.now }
+    ensures fits { result ≤ greatest }
+{
+    match decimal_up_to(digits, GREATEST) {
+        Some(value) => value,
+        None => 0,
+    }
+}
+
+/// The value of a number with a minus: 0 where it is outside 64 bits signed.
+pub fn negative_value(digits: &str) -> i64
+    ensures { result ≡ values.negative_value digits.now }
+{
+    match decimal_up_to(digits, GREATEST + 1) {
+        Some(value) => (-(value as i128)) as i64,
+        None => 0,
+    }
 }

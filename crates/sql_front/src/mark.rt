@@ -1,16 +1,18 @@
 //! Single tokens, read from the front.
 
-ghost use Rattle.std.specs.Prelude.{◌≡◌, List, ◌≤◌, ◌<◌, length, IfOk};
+ghost use Rattle.std.specs.Prelude.{◌≡◌, true, List, ◌≤◌, ◌<◌, length, IfOk};
 ghost use Rattle.sql_front.specs.Lexemes.{lexeme, lexemes};
 ghost use Rattle.sql_front.specs.Language.{number, text};
 ghost use Rattle.sql_front.specs.Grammar.{name};
+ghost use Rattle.sql_front.specs.Names.{is_plain_word};
 ghost use Rattle.sql_front.specs.Reading.{begins, third_is, fixed_read, one_read};
 ghost use Rattle.sql_front.specs.Marks.{mark};
-ghost use Rattle.sql_front.specs.Views.{Gives};
+ghost use Rattle.sql_front.specs.Gives.{Gives};
 
 use crate::token::{Kind, Token};
 use crate::unread::Unread;
-use crate::words::{is_reserved, is_same_word};
+use crate::word_text::is_plain_word;
+use crate::words::is_same_word;
 
 /// A token that stands for nothing but itself.
 #[derive(Clone, Copy)]
@@ -63,13 +65,14 @@ pub fn skip<'a, 'b>(tokens: &'b [Token<'a>], want: Mark<'_>) -> Result<&'b [Toke
 fn is_name(token: &Token<'_>) -> bool
     ensures { result ≡ name (lexeme token.now) }
 {
-    token.kind == Kind::Word && !is_reserved(token.text)
+    token.kind == Kind::Word && is_plain_word(token.text)
 }
 
 /// A name, as it is written, and the tokens after it.
 pub fn name<'a, 'b>(tokens: &'b [Token<'a>]) -> Result<(&'a str, &'b [Token<'a>]), Unread>
     ensures value { Gives (λ x. (x.0.now, lexemes x.1.now)) result (one_read name (lexemes tokens.now)) }
     ensures rest { IfOk result (λ x. length x.1.now < length tokens.now) }
+    ensures plain { IfOk result (λ x. is_plain_word x.0.now ≡ true) }
 {
     match tokens {
         [first, rest @ ..] if is_name(first) => Ok((first.text, rest)),
@@ -116,5 +119,15 @@ pub fn starts_text(tokens: &[Token<'_>]) -> bool
     match tokens {
         [] => false,
         [first, ..] => first.kind == Kind::Text,
+    }
+}
+
+/// Do the tokens begin with a name?
+pub fn starts_name(tokens: &[Token<'_>]) -> bool
+    ensures { result ≡ begins name (lexemes tokens.now) }
+{
+    match tokens {
+        [] => false,
+        [first, ..] => is_name(first),
     }
 }

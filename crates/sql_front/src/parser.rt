@@ -2,16 +2,15 @@
 
 ghost use Rattle.std.specs.Prelude.{IfOk, IfErr, OnOk};
 ghost use Rattle.period_core.specs.Leasts.{MayAnswer, NoneApplies};
-ghost use Rattle.sql_front.specs.Grammar as grammar;
 ghost use Rattle.sql_front.specs.Grammar.{IsStatement};
 ghost use Rattle.sql_front.specs.Lexemes.{lexemes};
-ghost use Rattle.sql_front.specs.Meaning.{Means};
 ghost use Rattle.sql_front.specs.PieceRefusals.{PieceApplies};
+ghost use Rattle.sql_front.specs.Plain.{plain};
 
 use crate::depth::is_too_deep;
-use crate::meanings::decided;
+use crate::literal_faults::literal_fault;
 use crate::statement::Statement;
-use crate::statement_forms::spelled;
+use crate::statements::spelled;
 use crate::token::Token;
 use crate::unread::Unread;
 use period_core::Refusal;
@@ -21,7 +20,7 @@ use std::alloc::Global;
 /// the least number whose condition holds, or want of memory.
 pub fn parse(alloc: Global, _script: &str, tokens: &[Token<'_>]) -> Result<Statement, Refusal>
     // What is answered is what the tokens spell.
-    ensures found { IfOk result (λ s. (written : grammar.Written) × IsStatement (lexemes tokens.now) written × Means written s) }
+    ensures found { IfOk result (λ s. IsStatement (lexemes tokens.now) (plain s)) }
 
     // No refusal applies to what is answered.
     ensures sound { OnOk result (NoneApplies (PieceApplies (lexemes tokens.now))) }
@@ -33,7 +32,10 @@ pub fn parse(alloc: Global, _script: &str, tokens: &[Token<'_>]) -> Result<State
         return Err(Refusal::TooDeep);
     }
     match spelled(alloc, tokens) {
-        Ok(written) => decided(alloc, &written),
+        Ok(statement) => match literal_fault(tokens) {
+            None => Ok(statement),
+            Some(refusal) => Err(refusal),
+        },
         Err(Unread::Memory) => Err(Refusal::Memory),
         Err(Unread::Syntax) => Err(Refusal::Syntax),
     }

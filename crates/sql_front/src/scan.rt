@@ -27,7 +27,7 @@ pub fn is_letter(byte: u8) -> bool
     byte.is_ascii_alphabetic() || byte == b'_'
 }
 
-fn is_word_byte(byte: u8) -> bool
+pub fn is_word_byte(byte: u8) -> bool
     ensures { result ≡ lexis.is_word_byte byte }
 {
     is_letter(byte) || is_digit(byte)

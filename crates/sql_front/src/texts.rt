@@ -1,18 +1,11 @@
-//! Names in upper case, and the values of texts.
+//! The values of texts.
 
-ghost use Rattle.std.specs.Prelude.{◌≡◌, ◌++◌, ◌<◌, length, IfSome, string_bytes};
-ghost use Rattle.sql_front.specs.Judging.{Judges, continued};
-ghost use Rattle.sql_front.specs.Meaning.{text_value, unquoted, upper};
+ghost use Rattle.std.specs.Prelude.{◌≡◌, ◌++◌, ◌<◌, length, IfOk, IfSome};
+ghost use Rattle.sql_front.specs.Quoting.{continued};
+ghost use Rattle.sql_front.specs.Values.{text_value, unquoted};
 
-use period_core::{Refusal, Text};
+use period_core::{Memory, Text};
 use std::alloc::Global;
-
-/// A name in upper case.
-pub fn upper_case(alloc: Global, name: &str) -> Result<Text, Refusal>
-    ensures { Judges (λ t. t) ⊥ (upper name.now) result }
-{
-    Ok(Text::new(name.to_ascii_uppercase(alloc)?))
-}
 
 /// What stands before the next quote, and what stands behind it where it is doubled.
 fn part(rest: &str) -> (&str, Option<&str>)
@@ -31,8 +24,8 @@ fn part(rest: &str) -> (&str, Option<&str>)
     (before, None)
 }
 
-fn unquoted_text(alloc: Global, rest: &str) -> Result<Text, Refusal>
-    ensures { Judges (λ t. t) ⊥ (unquoted rest.now) result }
+fn unquoted_text(alloc: Global, rest: &str) -> Result<Text, Memory>
+    ensures { IfOk result (λ text. text ≡ unquoted rest.now) }
 {
     let mut value = String::new(alloc);
     let (before, mut next) = part(rest);
@@ -46,9 +39,9 @@ fn unquoted_text(alloc: Global, rest: &str) -> Result<Text, Refusal>
     Ok(Text::new(value))
 }
 
-/// The value of a text token.
-pub fn text_of(alloc: Global, token: &str) -> Result<Text, Refusal>
-    ensures { Judges (λ t. t) ⊥ (text_value token.now) result }
+/// The value of a text token. An `Err` says that memory was refused.
+pub fn text_of(alloc: Global, token: &str) -> Result<Text, Memory>
+    ensures { IfOk result (λ text. text ≡ text_value token.now) }
 {
     match token.split_once('\'') {
         Some((_, rest)) => unquoted_text(alloc, rest),

@@ -15,9 +15,14 @@ fn status_of(alloc: Global, words: &[&str]) -> Option<i32> {
     }
 }
 
-fn expect_choice(rt: &(impl Abort + AllocGlobal), words: &[&str], want_file: Option<&str>) {
+fn expect_choice(
+    rt: &(impl Abort + AllocGlobal),
+    words: &[&str],
+    want_mode: Mode,
+    want_file: Option<&str>,
+) {
     let (mode, file) = command_line(rt.alloc(), words).expect(rt, "a choice");
-    assert_eq!(rt; mode, Mode::Run);
+    assert_eq!(rt; mode, want_mode);
     match file {
         Some(name) => assert!(rt; want_file == Some(name.as_str())),
         None => assert!(rt; want_file.is_none()),
@@ -26,10 +31,20 @@ fn expect_choice(rt: &(impl Abort + AllocGlobal), words: &[&str], want_file: Opt
 
 #[test]
 fn chosen(rt: HostRuntime) {
-    expect_choice(&rt, &["bitemporal", "run"], None);
-    expect_choice(&rt, &["bitemporal", "run", "a.sql"], Some("a.sql"));
-    expect_choice(&rt, &["bitemporal", "run", "--", "--help"], Some("--help"));
-    expect_choice(&rt, &["bitemporal", "run", "run"], Some("run"));
+    let run = Mode::Run;
+    expect_choice(&rt, &["bitemporal", "run"], run, None);
+    expect_choice(&rt, &["bitemporal", "run", "a.sql"], run, Some("a.sql"));
+    expect_choice(
+        &rt,
+        &["bitemporal", "run", "--", "--help"],
+        run,
+        Some("--help"),
+    );
+    expect_choice(&rt, &["bitemporal", "run", "check"], run, Some("check"));
+    let check = Mode::Check;
+    expect_choice(&rt, &["bitemporal", "check"], check, None);
+    expect_choice(&rt, &["bitemporal", "check", "a.sql"], check, Some("a.sql"));
+    expect_choice(&rt, &["bitemporal", "check", "run"], check, Some("run"));
 }
 
 #[test]
@@ -42,6 +57,14 @@ fn refused(rt: HostRuntime) {
         status_of(alloc, &["bitemporal", "run", "--audited"]),
         Some(2)
     );
+    assert_eq!(rt;
+        status_of(alloc, &["bitemporal", "check", "--audit"]),
+        Some(2)
+    );
+    assert_eq!(rt;
+        status_of(alloc, &["bitemporal", "check", "a", "b"]),
+        Some(2)
+    );
 }
 
 #[test]
@@ -49,4 +72,8 @@ fn helped(rt: HostRuntime) {
     let alloc = rt.alloc();
     assert_eq!(rt; status_of(alloc, &["bitemporal", "--help"]), Some(0));
     assert_eq!(rt; status_of(alloc, &["bitemporal", "run", "--help"]), Some(0));
+    assert_eq!(rt;
+        status_of(alloc, &["bitemporal", "check", "--help"]),
+        Some(0)
+    );
 }

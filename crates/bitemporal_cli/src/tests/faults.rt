@@ -32,13 +32,13 @@ impl Write for FailsAt {
     }
 }
 
-// The status of a run whose writer fails at this write; where it fails, the line is told.
-fn status_failing_at(rt: &(impl Abort + AllocGlobal), writes: u32) -> u8 {
+// The status in a mode whose writer fails at this write; where it fails, the line is told.
+fn status_failing_at(rt: &(impl Abort + AllocGlobal), mode: Mode, writes: u32) -> u8 {
     let script = joined(rt, &[EMPLOYEES, REST]);
     let mut input = script.as_str().as_bytes();
     let mut out = FailsAt { left: writes };
     let mut err = Vec::new(rt.alloc());
-    let status = run_tool(rt.alloc(), Mode::Run, &mut input, &mut out, &mut err);
+    let status = run_tool(rt.alloc(), mode, &mut input, &mut out, &mut err);
     if status != 0 {
         assert_eq!(rt;
             err.as_slice(),
@@ -50,16 +50,18 @@ fn status_failing_at(rt: &(impl Abort + AllocGlobal), writes: u32) -> u8 {
 
 #[test]
 fn failing_writers(rt: HostRuntime) {
-    let mut failed = 0;
-    for writes in 0..1000u32 {
-        let status = status_failing_at(&rt, writes);
-        if status == 0 {
-            break;
+    for mode in [Mode::Run, Mode::Check] {
+        let mut failed = 0;
+        for writes in 0..1000u32 {
+            let status = status_failing_at(&rt, mode, writes);
+            if status == 0 {
+                break;
+            }
+            assert_eq!(rt; status, 2);
+            failed = writes + 1;
         }
-        assert_eq!(rt; status, 2);
-        failed = writes + 1;
+        assert!(rt; 0 < failed && failed < 1000);
     }
-    assert!(rt; 0 < failed && failed < 1000);
 }
 
 // A writer that takes one byte at a time.
@@ -151,14 +153,14 @@ impl Read for FailsLater {
 
 #[test]
 fn failing_readers(rt: HostRuntime) {
-    for interrupted in [false, true] {
+    for (mode, interrupted) in [(Mode::Run, false), (Mode::Run, true), (Mode::Check, false)] {
         let mut input = FailsLater {
             first: true,
             interrupted,
         };
         let mut out = Vec::new(rt.alloc());
         let mut err = Vec::new(rt.alloc());
-        let got = run_tool(rt.alloc(), Mode::Run, &mut input, &mut out, &mut err);
+        let got = run_tool(rt.alloc(), mode, &mut input, &mut out, &mut err);
         assert_eq!(rt; got, 2);
         assert!(rt; out.is_empty());
         assert_eq!(rt;

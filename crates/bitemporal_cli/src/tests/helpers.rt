@@ -13,9 +13,11 @@ CREATE TABLE EMP (ENO INTEGER, DEPT INTEGER, S DATE, E DATE,
  PRIMARY KEY (ENO, EP WITHOUT OVERLAPS)) WITH SYSTEM VERSIONING;
 ";
 
-/// Runs a script, and compares the report, the exit status, and what standard error got.
-pub fn expect_run(
+/// Compares what a script gives in a mode: the report, the exit status, and what standard error
+/// got.
+pub fn expect_mode(
     rt: &(impl Abort + AllocGlobal),
+    mode: Mode,
     script: &[u8],
     report: &str,
     status: u8,
@@ -24,7 +26,7 @@ pub fn expect_run(
     let mut input = script;
     let mut out = Vec::new(rt.alloc());
     let mut err = Vec::new(rt.alloc());
-    let got = run_tool(rt.alloc(), Mode::Run, &mut input, &mut out, &mut err);
+    let got = run_tool(rt.alloc(), mode, &mut input, &mut out, &mut err);
     let written = std::str::from_utf8(out.as_slice()).expect(rt, "a text");
     let line = std::str::from_utf8(err.as_slice()).expect(rt, "a text");
     assert_eq!(rt; line, told);
@@ -32,10 +34,38 @@ pub fn expect_run(
     assert_eq!(rt; got, status, "after {report}");
 }
 
+/// Runs a script, and compares the report, the exit status, and what standard error got.
+pub fn expect_run(
+    rt: &(impl Abort + AllocGlobal),
+    script: &[u8],
+    report: &str,
+    status: u8,
+    told: &str,
+) {
+    expect_mode(rt, Mode::Run, script, report, status, told);
+}
+
 /// The texts, one after the other.
 pub fn joined(rt: &(impl Abort + AllocGlobal), texts: &[&str]) -> String {
     let mut whole = String::new(rt.alloc());
     for text in texts {
+        whole.push_str(text).expect(rt, "memory");
+    }
+    whole
+}
+
+/// A text, as often as it is counted, with a separator between two.
+pub fn repeated(
+    rt: &(impl Abort + AllocGlobal),
+    text: &str,
+    separator: &str,
+    count: u32,
+) -> String {
+    let mut whole = String::new(rt.alloc());
+    for at in 0..count {
+        if at > 0 {
+            whole.push_str(separator).expect(rt, "memory");
+        }
         whole.push_str(text).expect(rt, "memory");
     }
     whole

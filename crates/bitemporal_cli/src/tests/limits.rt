@@ -1,21 +1,11 @@
 //! The limits on tables, columns, select items and tokens, each at its last good and its first
 //! bad value.
 
-use super::helpers::{EMPLOYEES, expect_refused, expect_refused_after, expect_run, joined};
+use super::helpers::{
+    EMPLOYEES, expect_refused, expect_refused_after, expect_run, joined, repeated,
+};
 use super::refused_creates::create;
 use std::process::Abort;
-
-// A text, as often as it is counted, with a separator between two.
-fn repeated(rt: &(impl Abort + AllocGlobal), text: &str, separator: &str, count: u32) -> String {
-    let mut whole = String::new(rt.alloc());
-    for at in 0..count {
-        if at > 0 {
-            whole.push_str(separator).expect(rt, "memory");
-        }
-        whole.push_str(text).expect(rt, "memory");
-    }
-    whole
-}
 
 #[test]
 fn tokens(rt: HostRuntime) {

@@ -1,6 +1,6 @@
 //! Texts, values and rows: their copies, and their order.
 
-use crate::{Day, Period, PeriodRow, Text, Value, Values};
+use crate::{Day, Moment, Period, PeriodRow, Text, Value, Values, VersionRow};
 use std::alloc::Global;
 use std::test::Fail;
 
@@ -144,5 +144,28 @@ fn rows_stand_by_values_then_by_start(rt: HostRuntime) -> Result<(), Fail> {
     assert!(rt; row < row_of(alloc, 7, 11, 12)?);
     assert!(rt; row < row_of(alloc, 7, 10, 21)?);
     assert!(rt; row != row_of(alloc, 7, 10, 21)?);
+    Ok(())
+}
+
+// A version of a row of one integer, from a moment on and before another.
+fn version_of(row: PeriodRow, from: i64, to: i64) -> Result<VersionRow, Fail> {
+    Ok(VersionRow {
+        values: row.values,
+        period: row.period,
+        from: Moment::new(from).ok_or("no such moment")?,
+        to: Moment::new(to).ok_or("no such moment")?,
+    })
+}
+
+#[test]
+fn versions_stand_by_their_row_then_by_their_system_time(rt: HostRuntime) -> Result<(), Fail> {
+    let alloc = rt.alloc();
+    let version = version_of(row_of(alloc, 7, 10, 20)?, 5, 6)?;
+    assert!(rt; version.copy(alloc)? == version);
+    assert!(rt; version < version_of(row_of(alloc, 8, 1, 2)?, 1, 2)?);
+    assert!(rt; version < version_of(row_of(alloc, 7, 11, 12)?, 1, 2)?);
+    assert!(rt; version < version_of(row_of(alloc, 7, 10, 20)?, 6, 7)?);
+    assert!(rt; version < version_of(row_of(alloc, 7, 10, 20)?, 5, 7)?);
+    assert!(rt; version != version_of(row_of(alloc, 7, 10, 20)?, 5, 7)?);
     Ok(())
 }

@@ -4,4 +4,4 @@ use Rattle.std.specs.Prelude.{is_err}
 use Rattle.bitemporal_cli.proofs.tool.exit_status.Given as goal
 
 abbrev pub invariant-statements : goal.invariant-statements
-invariant-statements l = list_any is_err (take l.outcome-index l.results) ≡ false
+invariant-statements g l = list_any is_err (take l.outcome-index l.results) ≡ false

@@ -4,8 +4,8 @@ use Rattle.catalog_core.proofs.Places.{place_by}
 use Rattle.catalog_core.specs.TableWords.{def_place}
 use Rattle.catalog_core.proofs.building.def_place.Goals as goal
 
-pub returns-then-is : goal.returns-then-is
+pub returns-then-is-clause-value : goal.returns-then-is-clause-value
 unfolding def_place
-returns-then-is c =
+returns-then-is-clause-value c =
     let p : Column → Bool = λ x. bytes_eq c.args.name.now x.name in
     place_by p c.args.table.now.columns c.as_slice-columns.result.now c.loop-i.i c.index-columns-i.result c.as_slice-columns.ensures c.loop-i-test.true c.loop-i.invariant c.index-columns-i.is (ap p c.index-columns-i.is ∙ sym c.is.ensures ∙ c.if-is.true)

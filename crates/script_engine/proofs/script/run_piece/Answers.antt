@@ -1,10 +1,8 @@
-use Rattle.std.proofs.Common.{arith}
-use Rattle.std.proofs.lemmas.List.{length-map}
 use Rattle.sql_front.specs.Lexemes.{lexemes}
+use Rattle.sql_front.specs.Plain.{plain}
 use Rattle.script_engine.proofs.PieceSteps.{stated_piece}
 use Rattle.script_engine.proofs.script.run_piece.Goals as goal
 
 pub returns-clause-step : goal.returns-clause-step
 returns-clause-step g c history kept =
-    stated_piece history (lexemes c.args.piece.now) c.in_ok-statement.statement c.execute.result c.execute.new.self (λ long. let more = simp length-map at long in omega arith) c.in_ok-statement.ensures.sound
-    c.in_ok-statement.ensures.found (c.execute.ensures.step history kept)
+    stated_piece history (lexemes c.args.piece.now) (plain c.in_ok-statement.statement) c.execute.result c.execute.new.self c.in_ok-statement.ensures.sound c.in_ok-statement.ensures.found (c.execute.ensures.step history kept)

@@ -1,10 +1,9 @@
-use Rattle.script_engine.proofs.ScriptFacts.{IfOk-implies, run_of}
+use Rattle.std.proofs.lemmas.Result.{IfOk-weaker}
+use Rattle.script_engine.proofs.ScriptFacts.{cut_of}
 use Rattle.script_engine.proofs.script.run_script.Goals as goal
 
 pub returns-clause-run : goal.returns-clause-run
 returns-clause-run g c =
-    IfOk-implies _ _ c.run_pieces.result
-    (λ results run.
-    run_of c.args.script.now c.in_ok-text.text.now c.in_ok-tokens.tokens.items c.as_slice.result.now c.as_slice-2.result.now c.in_ok-pieces.pieces.items c.as_slice-3.result.now results.items
-    c.in_ok-text.ensures.text c.as_slice.ensures.value c.as_slice-2.ensures.value c.as_slice-3.ensures.value c.in_ok-text.ensures.small c.in_ok-text.ensures.utf8 c.in_ok-tokens.ensures.tokens c.in_ok-pieces.ensures.pieces run)
-    c.run_pieces.ensures.run
+    let cut = cut_of c.args.script.now c.in_ok-text.text.now c.in_ok-tokens.tokens.items c.as_slice.result.now c.as_slice-2.result.now c.in_ok-pieces.pieces.items c.as_slice-3.result.now c.in_ok-text.ensures.text c.as_slice.ensures.value c.as_slice-2.ensures.value
+    c.as_slice-3.ensures.value c.in_ok-text.ensures.small c.in_ok-text.ensures.utf8 c.in_ok-tokens.ensures.tokens c.in_ok-pieces.ensures.pieces in
+    IfOk-weaker c.run_pieces.result _ _ (λ results run. record { pieces = _; cut = cut; last = run.0; run = run.1 }) c.run_pieces.ensures.run

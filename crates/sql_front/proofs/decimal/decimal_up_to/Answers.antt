@@ -1,6 +1,6 @@
 use Rattle.std.proofs.Common.{◌<◌, arith}
 use Rattle.std.proofs.lemmas.Bool.Decides.{nat_tests}
-use Rattle.sql_front.specs.Meaning.{decimal_from}
+use Rattle.sql_front.specs.Values.{decimal_from}
 use Rattle.sql_front.proofs.Decimals.{stays_above}
 use Rattle.sql_front.proofs.decimal.decimal_up_to.Goals as goal
 

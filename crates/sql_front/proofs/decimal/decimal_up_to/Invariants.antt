@@ -1,5 +1,5 @@
 use Rattle.std.proofs.Common.{◌≡◌, ◌≤◌, drop}
-use Rattle.sql_front.specs.Meaning.{decimal_from}
+use Rattle.sql_front.specs.Values.{decimal_from}
 use Rattle.sql_front.proofs.decimal.decimal_up_to.Given as goal
 
 abbrev pub invariant-loop-byte : goal.invariant-loop-byte

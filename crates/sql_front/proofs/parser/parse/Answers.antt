@@ -1,30 +1,25 @@
-use Rattle.std.proofs.Common.{ap, Err}
+use Rattle.std.proofs.Common.{ap, inl, Err}
 use Rattle.sql_front.specs.Lexemes.{lexemes}
-use Rattle.sql_front.specs.Views.{view_written}
-use Rattle.sql_front.proofs.Parsing.{no_statement, decided_found, decided_sound, decided_refused}
-use Rattle.sql_front.proofs.Somes.{not_both}
+use Rattle.sql_front.specs.Plain.{plain}
+use Rattle.sql_front.proofs.Parsing.{no_statement, spelled_some, untold}
+use Rattle.sql_front.proofs.PieceFaults.{piece_least, piece_none}
 use Rattle.sql_front.proofs.parser.parse.Goals as goal
 
-pub returns-in-Ok-clause-found : goal.returns-in-Ok-clause-found
-returns-in-Ok-clause-found c =
-    decided_found (lexemes c.args.tokens.now) (view_written c.in-Ok.written)
-    (λ deep. not_both c.is_too_deep.result (c.is_too_deep.ensures.1 deep) c.if-is_too_deep.false)
-    c.in-Ok.ensures.found c.decided.result c.decided.ensures
+pub returns-in-None-clause-sound : goal.returns-in-None-clause-sound
+returns-in-None-clause-sound c =
+    piece_none (lexemes c.args.tokens.now)
+    (untold c.is_too_deep.result c.if-is_too_deep.false c.is_too_deep.ensures.1)
+    (spelled_some (lexemes c.args.tokens.now) (plain c.in-Ok.statement) c.in-Ok.ensures.found)
+    c.in-None.ensures.none
 
-pub returns-in-Ok-clause-sound : goal.returns-in-Ok-clause-sound
-returns-in-Ok-clause-sound c =
-    decided_sound (lexemes c.args.tokens.now) (view_written c.in-Ok.written)
-    (λ deep. not_both c.is_too_deep.result (c.is_too_deep.ensures.1 deep) c.if-is_too_deep.false)
-    c.in-Ok.ensures.found c.decided.result c.decided.ensures
-
-pub returns-in-Ok-clause-refused : goal.returns-in-Ok-clause-refused
-returns-in-Ok-clause-refused c =
-    decided_refused (lexemes c.args.tokens.now) (view_written c.in-Ok.written)
-    (λ deep. not_both c.is_too_deep.result (c.is_too_deep.ensures.1 deep) c.if-is_too_deep.false)
-    c.in-Ok.ensures.found c.decided.result c.decided.ensures
+pub returns-in-Some-clause-refused : goal.returns-in-Some-clause-refused
+returns-in-Some-clause-refused c =
+    inl (piece_least (lexemes c.args.tokens.now) c.in-Some.refusal
+    (untold c.is_too_deep.result c.if-is_too_deep.false c.is_too_deep.ensures.1)
+    (spelled_some (lexemes c.args.tokens.now) (plain c.in-Ok.statement) c.in-Ok.ensures.found)
+    c.in-Some.ensures.least)
 
 pub returns-in-Err-Syntax-clause-refused : goal.returns-in-Err-Syntax-clause-refused
 returns-in-Err-Syntax-clause-refused c =
-    no_statement (lexemes c.args.tokens.now)
-    (λ deep. not_both c.is_too_deep.result (c.is_too_deep.ensures.1 deep) c.if-is_too_deep.false)
-    (λ w spelled. c.in-Err-Syntax.ensures.none (ap (λ x. Err x) c.in-Err-Syntax.field-0-is) w spelled)
+    let shallow = untold c.is_too_deep.result c.if-is_too_deep.false c.is_too_deep.ensures.1 in
+    no_statement (lexemes c.args.tokens.now) shallow (c.in-Err-Syntax.ensures.none (ap (λ x. Err x) c.in-Err-Syntax.field-0-is) shallow)

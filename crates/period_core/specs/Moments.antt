@@ -1,0 +1,74 @@
+-- Moments: whole seconds from 0001-01-01 00:00:00 to 9999-12-31 23:59:59, their numbers and texts.
+use Rattle.std.specs.Prelude.{◌≡◌, ◌≤◌, ◌+◌, ◌*◌, ◌/◌, ◌%◌, ◌++◌, ℕ, ℤ, pos, neg_ℤ, unsigned_abs, ◌+ℤ◌, ◌-ℤ◌, ◌*ℤ◌, ◌≤ℤ◌, int_lt, List, Option, Some, None, codes, if◌then◌else◌}
+use Rattle.period_core.specs.Calendar.{IsDate, day_number, day_text, date_text, two_digits}
+
+-- the number of 0001-01-01 00:00:00, the least
+abbrev pub first_moment : ℤ
+first_moment = neg_ℤ (pos 62_135_596_800)
+
+-- the number of 9999-12-31 23:59:59, the greatest: FOREVER, the open end
+abbrev pub forever : ℤ
+forever = pos 253_402_300_799
+
+-- there is such a moment: a date, hours to 23, minutes and seconds to 59
+pub record IsMoment (y m d h mi s : ℕ) : Type 0 where
+  pub date : IsDate y m d
+  pub hour : h ≤ 23
+  pub minute : mi ≤ 59
+  pub second : s ≤ 59
+
+-- the moments of a day
+abbrev pub moments_per_day : ℕ
+moments_per_day = 86_400
+
+-- the number of a moment, counted from 1970-01-01 00:00:00
+abbrev pub moment_number : ℕ → ℕ → ℕ → ℕ → ℕ → ℕ → ℤ
+moment_number y m d h mi s =
+    pos moments_per_day *ℤ day_number y m d +ℤ pos (3_600 * h + 60 * mi + s)
+
+-- the numbers of the first moment and of FOREVER are the least and the greatest
+abbrev pub IsMomentNumber : ℤ → Type 0
+IsMomentNumber n = (first_moment ≤ℤ n) × (n ≤ℤ forever)
+
+-- the moment before, which the first has not
+abbrev pub moment_before : ℤ → Option ℤ
+moment_before n = if int_lt first_moment n then Some (n -ℤ pos 1) else None
+
+-- the moment after, which FOREVER has not
+abbrev pub moment_after : ℤ → Option ℤ
+moment_after n = if int_lt n forever then Some (n +ℤ pos 1) else None
+
+-- HH:MM:SS, in ASCII
+abbrev pub time_text : ℕ → ℕ → ℕ → List ℕ
+time_text h mi s = two_digits h ++ codes ":" ++ two_digits mi ++ codes ":" ++ two_digits s
+
+-- YYYY-MM-DD HH:MM:SS, in ASCII
+abbrev pub date_time_text : ℕ → ℕ → ℕ → ℕ → ℕ → ℕ → List ℕ
+date_time_text y m d h mi s = date_text y m d ++ codes " " ++ time_text h mi s
+
+-- the text of the moment that has this number
+abbrev pub IsMomentText : ℤ → List ℕ → Type 0
+IsMomentText n text =
+    (y : ℕ) × (m : ℕ) × (d : ℕ) × (h : ℕ) × (mi : ℕ) × (s : ℕ) ×
+    IsMoment y m d h mi s × (moment_number y m d h mi s ≡ n) ×
+    (text ≡ date_time_text y m d h mi s)
+
+-- how many moments come before the moment with this number
+abbrev pub moments_before : ℤ → ℕ
+moments_before n = unsigned_abs (n -ℤ first_moment)
+
+-- the number of its day
+abbrev pub day_of_moment : ℤ → ℤ
+day_of_moment n = pos (moments_before n / moments_per_day) -ℤ pos 719_162
+
+-- how many moments of its day come before it
+abbrev pub moment_of_day : ℤ → ℕ
+moment_of_day n = moments_before n % moments_per_day
+
+-- the text of the time of day before which so many moments of the day come
+abbrev pub time_of_day_text : ℕ → List ℕ
+time_of_day_text k = time_text (k / 3_600) (k / 60 % 60) (k % 60)
+
+-- the text of the moment with this number
+abbrev pub moment_text : ℤ → List ℕ
+moment_text n = day_text (day_of_moment n) ++ codes " " ++ time_of_day_text (moment_of_day n)

@@ -1,0 +1,37 @@
+-- The checks of pieces, one after the other, and the text of their refusals.
+use Rattle.std.proofs.Common.{◌≡◌, ◌<◌, ◌+◌, ◌-◌, ◌++◌, ◌∷◌, ℕ, List, [], get_or, length, map, take, drop, Result, refl, arith, append_assoc}
+use Rattle.std.proofs.lemmas.List.{append-nil}
+use Rattle.std.specs.List.{AllZip}
+use Rattle.period_core.specs.declared.refusal.Refusal.{Refusal}
+use Rattle.sql_front.specs.Lexemes.{lexemes}
+use Rattle.sql_front.specs.Pieces.{spanned}
+use Rattle.sql_front.specs.declared.pieces.Span.{Span}
+use Rattle.sql_front.specs.declared.token.Token.{Token}
+use Rattle.script_engine.specs.Check.{IsPieceCheck}
+use Rattle.script_engine.specs.CheckReport.{refusal_text, refusals_from}
+use Rattle.script_engine.proofs.PieceFacts.{pieces_next}
+
+-- one more item of each list
+AllZip-more : {A B : Type 0} (R : A → B → Type 0) (xs : List A) (ys : List B) (x : A) (y : B) → AllZip R xs ys → R x y → AllZip R (xs ++ x ∷ []) (ys ++ y ∷ [])
+AllZip-more R [] [] x y all here = (here, tt)
+AllZip-more R [] (b ∷ ys) x y all here = absurd all
+AllZip-more R (a ∷ xs) [] x y all here = absurd all
+AllZip-more R (a ∷ xs) (b ∷ ys) x y (first, rest) here = (first, AllZip-more R xs ys x y rest here)
+
+-- the check of the next of the spans of a list of tokens
+pub check_next : (tokens : List Token) (spans : List Span) (i : ℕ) (d : Span) (results more : List (Result (Unit {0}) Refusal)) (result : Result (Unit {0}) Refusal) →
+    i < length spans → more ≡ results ++ result ∷ [] → AllZip IsPieceCheck (map (spanned (lexemes tokens)) (take i spans)) results →
+    IsPieceCheck (lexemes (take ((get_or spans i d).end - (get_or spans i d).start) (drop (get_or spans i d).start tokens))) result →
+    AllZip IsPieceCheck (map (spanned (lexemes tokens)) (take (i + 1) spans)) more
+check_next tokens spans i d results more result inside added checked here =
+    rw (pieces_next tokens spans i d inside, added)
+    (AllZip-more IsPieceCheck (map (spanned (lexemes tokens)) (take i spans)) results (lexemes (take ((get_or spans i d).end - (get_or spans i d).start) (drop (get_or spans i d).start tokens))) result checked here)
+
+-- the text of a list that ends in one more result
+pub refusals-more : (n k : ℕ) (results : List (Result (Unit {0}) Refusal)) (result : Result (Unit {0}) Refusal) → n + length results ≡ k → refusals_from n (results ++ result ∷ []) ≡ refusals_from n results ++ refusal_text k result
+refusals-more n k [] result e =
+    let same : n ≡ k = omega arith in
+    rw (same, append-nil (refusal_text k result)) refl
+refusals-more n k (first ∷ rest) result e =
+    let next : (n + 1) + length rest ≡ k = omega arith in
+    rw (refusals-more (n + 1) k rest result next, append_assoc (refusal_text n first) (refusals_from (n + 1) rest) (refusal_text k result)) refl

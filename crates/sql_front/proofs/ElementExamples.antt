@@ -1,0 +1,125 @@
+-- Worked rows of CREATE TABLE's elements.
+use Rattle.std.proofs.Common.{◌≡◌, ℕ, List, [], ◌∷◌, ◌++◌, Some, None, codes, refl}
+use Rattle.sql_front.specs.declared.create.Generated.TheVariants.{End}
+use Rattle.sql_front.specs.declared.create.TypeName.TheVariants.{Integer, Date, Varchar, Timestamp}
+use Rattle.sql_front.specs.declared.token.Kind.TheVariants.{Word, Number, Symbol}
+use Rattle.sql_front.specs.Lexemes.{Lexeme}
+use Rattle.sql_front.specs.Names.{is_plain_word}
+use Rattle.sql_front.specs.Words.{is_reserved}
+use Rattle.sql_front.specs.Leaves.{name_read, number_read}
+use Rattle.sql_front.specs.ElementReaders.{create_read, elements_read, element_read, column_element_read, not_null_read, key_element_read, key_names_read, reference_element_read, reference_list_read, versioning_read, without_overlaps_read, split_last, all_and_last_read, type_read, length_read, generated_read, row_end_read, one_more_name, leading_names_read, more_names_read, pair_read, some_period_read, period_element_read, system_element_read}
+use Rattle.sql_front.specs.Reading.{bounded_read, whole_read}
+use Rattle.sql_front.specs.Grammar.{IsCreate, system_element, period_element}
+use Rattle.sql_front.specs.declared.create.CreateTable.{CreateTable}
+use Rattle.sql_front.proofs.ElementsRead.{reads_create}
+use Rattle.sql_front.proofs.Whole.{whole_found}
+
+abbrev w : List ℕ → Lexeme
+w text = record { kind = Word; text = text; start = 0; end = 0 }
+
+abbrev s : List ℕ → Lexeme
+s text = record { kind = Symbol; text = text; start = 0; end = 0 }
+
+abbrev n : List ℕ → Lexeme
+n text = record { kind = Number; text = text; start = 0; end = 0 }
+
+-- a lone name has none before it
+lone_is_not_split : split_last (codes "A" ∷ []) ≡ None
+lone_is_not_split = refl
+
+last_is_split_off :
+    split_last (codes "A" ∷ codes "B" ∷ codes "P" ∷ [])
+    ≡ Some (codes "A" ∷ codes "B" ∷ [], codes "P")
+last_is_split_off = refl
+
+-- VARCHAR(8)
+varchar_of_8 :
+    type_read (w (codes "varchar") ∷ s (codes "(") ∷ n (codes "8") ∷ s (codes ")") ∷ [])
+    ≡ Some (Varchar 8, [])
+unfolding type_read length_read number_read
+varchar_of_8 = refl
+
+-- VARCHAR and a comma
+varchar_of_none : type_read (w (codes "VARCHAR") ∷ s (codes ",") ∷ []) ≡ None
+unfolding type_read length_read number_read
+varchar_of_none = refl
+
+-- TIMESTAMP and a comma
+timestamp_alone :
+    type_read (w (codes "TIMESTAMP") ∷ s (codes ",") ∷ [])
+    ≡ Some (Timestamp None, s (codes ",") ∷ [])
+unfolding type_read length_read number_read
+timestamp_alone = refl
+
+-- GENERATED ALWAYS AS ROW END
+ends_a_row :
+    generated_read (w (codes "GENERATED") ∷ w (codes "ALWAYS") ∷ w (codes "AS") ∷ w (codes "ROW") ∷ w (codes "END") ∷ [])
+    ≡ Some (End, [])
+unfolding generated_read row_end_read
+ends_a_row = refl
+
+-- (f, t)
+abbrev a_pair : List Lexeme
+a_pair = s (codes "(") ∷ w (codes "f") ∷ s (codes ",") ∷ w (codes "t") ∷ s (codes ")") ∷ []
+
+-- PERIOD FOR p (f, t)
+named_period :
+    some_period_read (w (codes "PERIOD") ∷ w (codes "FOR") ∷ w (codes "p") ∷ a_pair)
+    ≡ Some (period_element (record { name = codes "P"; start = codes "F"; end = codes "T" }), [])
+unfolding some_period_read period_element_read system_element_read pair_read name_read is_plain_word is_reserved
+named_period = refl
+
+-- PERIOD FOR SYSTEM_TIME (f, t)
+system_period :
+    some_period_read (w (codes "PERIOD") ∷ w (codes "FOR") ∷ w (codes "SYSTEM_TIME") ∷ a_pair)
+    ≡ Some (system_element (record { start = codes "F"; end = codes "T" }), [])
+unfolding some_period_read period_element_read system_element_read pair_read name_read is_plain_word is_reserved
+system_period = refl
+
+-- a, b, PERIOD
+names_before_period :
+    leading_names_read (w (codes "a") ∷ s (codes ",") ∷ w (codes "b") ∷ s (codes ",") ∷ w (codes "PERIOD") ∷ [])
+    ≡ Some (codes "A" ∷ codes "B" ∷ [], s (codes ",") ∷ w (codes "PERIOD") ∷ [])
+unfolding leading_names_read more_names_read one_more_name bounded_read name_read is_plain_word is_reserved
+names_before_period = refl
+
+-- CREATE TABLE t (a INTEGER NOT NULL, PRIMARY KEY (a, p WITHOUT OVERLAPS), b DATE,
+abbrev first_elements : List Lexeme
+first_elements =
+    w (codes "CREATE") ∷ w (codes "TABLE") ∷ w (codes "t") ∷ s (codes "(") ∷
+    w (codes "a") ∷ w (codes "INTEGER") ∷ w (codes "NOT") ∷ w (codes "NULL") ∷ s (codes ",") ∷
+    w (codes "PRIMARY") ∷ w (codes "KEY") ∷ s (codes "(") ∷ w (codes "a") ∷ s (codes ",") ∷ w (codes "p") ∷
+    w (codes "WITHOUT") ∷ w (codes "OVERLAPS") ∷ s (codes ")") ∷ s (codes ",") ∷
+    w (codes "b") ∷ w (codes "DATE") ∷ s (codes ",") ∷ []
+
+-- FOREIGN KEY (a, PERIOD p) REFERENCES u (c, PERIOD q)) WITH SYSTEM VERSIONING
+abbrev last_element : List Lexeme
+last_element =
+    w (codes "FOREIGN") ∷ w (codes "KEY") ∷ s (codes "(") ∷ w (codes "a") ∷ s (codes ",") ∷ w (codes "PERIOD") ∷ w (codes "p") ∷ s (codes ")") ∷
+    w (codes "REFERENCES") ∷ w (codes "u") ∷ s (codes "(") ∷ w (codes "c") ∷ s (codes ",") ∷ w (codes "PERIOD") ∷ w (codes "q") ∷ s (codes ")") ∷ s (codes ")") ∷
+    w (codes "WITH") ∷ w (codes "SYSTEM") ∷ w (codes "VERSIONING") ∷ []
+
+abbrev a_table : CreateTable
+a_table = record {
+  name = codes "T";
+  columns = record { name = codes "A"; kind = Integer; generated = None }
+      ∷ record { name = codes "B"; kind = Date; generated = None } ∷ [];
+  periods = [];
+  system_periods = [];
+  keys = record { columns = codes "A" ∷ []; period = codes "P" } ∷ [];
+  references = record {
+    columns = codes "A" ∷ [];
+    period = codes "P";
+    parent = codes "U";
+    parent_columns = codes "C" ∷ [];
+    parent_period = codes "Q";
+  } ∷ [];
+}
+
+table_read : whole_read create_read (first_elements ++ last_element) ≡ Some a_table
+unfolding create_read elements_read element_read column_element_read type_read length_read not_null_read generated_read row_end_read key_element_read key_names_read all_and_last_read without_overlaps_read reference_element_read reference_list_read leading_names_read more_names_read one_more_name versioning_read some_period_read period_element_read system_element_read pair_read bounded_read name_read number_read is_plain_word is_reserved
+table_read = refl
+
+-- the grammar has this statement, each kind of element in its list
+table_spelled : IsCreate (first_elements ++ last_element) a_table
+table_spelled = whole_found reads_create (first_elements ++ last_element) a_table table_read

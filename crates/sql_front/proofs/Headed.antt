@@ -1,0 +1,15 @@
+-- One, and then others as long as they come.
+use Rattle.std.proofs.Common.{◌≡◌, Bool, List, Some, refl}
+use Rattle.sql_front.specs.declared.unread.Unread.{Unread}
+use Rattle.sql_front.specs.declared.unread.Unread.TheVariants as unread
+use Rattle.sql_front.specs.Lexemes.{Lexeme}
+use Rattle.sql_front.specs.Gives.{Fails}
+use Rattle.sql_front.specs.Reading.{Reader, sequence_read, built_read, repetition_read}
+
+module _ {A B C : Type 0} (f : A × List B → C) (p : Reader A) (d : List Lexeme → Bool) (q : Reader B) where
+  pub headed_found : (ts middle rest : List Lexeme) (a : A) (bs : List B) → p ts ≡ Some (a, middle) → repetition_read d q middle ≡ Some (bs, rest) → built_read f (sequence_read p (repetition_read d q)) ts ≡ Some (f (a, bs), rest)
+  headed_found ts middle rest a bs e h = rw (e, h) refl
+
+  pub headed_fails : (fault : Unread) (ts middle : List Lexeme) (a : A) → p ts ≡ Some (a, middle) → Fails fault (repetition_read d q middle) → Fails {Y = C × List Lexeme} fault (built_read f (sequence_read p (repetition_read d q)) ts)
+  headed_fails unread.Memory ts middle a e h = tt
+  headed_fails unread.Syntax ts middle a e h = rw (e, h) refl

@@ -1,0 +1,67 @@
+-- Reading names with commas up to a comma and a keyword, as a loop does.
+use Rattle.std.proofs.Common.{◌≡◌, ℕ, ◌<◌, true, List, [], ◌∷◌, ◌++◌, length, Option, Some, None, refl, arith}
+use Rattle.std.proofs.lemmas.Bool.{and_parts}
+use Rattle.sql_front.specs.declared.unread.Unread.{Unread}
+use Rattle.sql_front.specs.declared.unread.Unread.TheVariants as unread
+use Rattle.sql_front.specs.Lexemes.{Lexeme}
+use Rattle.sql_front.specs.Gives.{Fails}
+use Rattle.sql_front.specs.Grammar.{comma, name}
+use Rattle.sql_front.specs.Reading.{◌>>=◌, Reader, begins, bounded_read, fixed_read, preceded_read}
+use Rattle.sql_front.specs.Leaves.{name_read}
+use Rattle.sql_front.specs.ElementReaders.{leading_names_read, more_names_read, one_more_name, second_is}
+use Rattle.sql_front.proofs.Loop.{Going, begins_some, going_fails, going_on, with_front}
+
+-- one of the names behind a comma
+abbrev pub next_name : Reader (List ℕ)
+next_name = preceded_read comma name_read
+
+-- the names so far, and what is left to read, make the whole
+abbrev pub Leading : List (List ℕ) → List Lexeme → Option (List (List ℕ) × List Lexeme) → Type 0
+Leading = Going one_more_name next_name
+
+first_front : {A : Type 0} (a : A) (read : Option (List A × List Lexeme))
+    → with_front (a ∷ []) read ≡ ((read >>= λ y. Some ((a, y.0), y.1)) >>= λ (x : (A × List A) × List Lexeme). Some (x.0.0 ∷ x.0.1, x.1))
+first_front a (Some x) = refl
+first_front a None = refl
+
+pub leading_first : (ts : List Lexeme) (a : List ℕ) (rest : List Lexeme) → name_read ts ≡ Some (a, rest)
+    → Leading (a ∷ []) rest (leading_names_read ts)
+unfolding leading_names_read more_names_read
+leading_first ts a rest e = record {
+  count = length rest;
+  enough = omega arith;
+  makes = rw e (first_front a (bounded_read one_more_name next_name (length rest) rest));
+}
+
+pub leading_fails_first : (fault : Unread) (ts : List Lexeme) → Fails fault (name_read ts) → Fails fault (leading_names_read ts)
+unfolding leading_names_read more_names_read
+leading_fails_first unread.Memory ts h = tt
+leading_fails_first unread.Syntax ts h = rw h refl
+
+-- where one more name comes, a comma does
+pub comma_first : (ts : List Lexeme) → one_more_name ts ≡ true → begins comma ts ≡ true
+unfolding one_more_name
+comma_first ts e = (and_parts (begins comma ts) (second_is name ts) e).0
+
+next_found : (rest between after : List Lexeme) (x : List ℕ)
+    → fixed_read comma rest ≡ Some (tt, between) → name_read between ≡ Some (x, after) → next_name rest ≡ Some (x, after)
+next_found rest between after x e f = rw (e, f) refl
+
+pub leading_on : (front : List (List ℕ)) (rest between after : List Lexeme) (x : List ℕ) (whole : Option (List (List ℕ) × List Lexeme))
+    → one_more_name rest ≡ true → fixed_read comma rest ≡ Some (tt, between) → name_read between ≡ Some (x, after) → length after < length rest
+    → Leading front rest whole → Leading (front ++ x ∷ []) after whole
+leading_on front rest between after x whole more e f less g =
+    going_on one_more_name next_name front rest after x whole more (next_found rest between after x e f) less g
+
+next_fails : (fault : Unread) (rest between : List Lexeme)
+    → fixed_read comma rest ≡ Some (tt, between) → Fails fault (name_read between) → Fails fault (next_name rest)
+next_fails unread.Memory rest between e f = tt
+next_fails unread.Syntax rest between e f = rw (e, f) refl
+
+-- where a name fails, the whole does
+pub leading_fails : (fault : Unread) (front : List (List ℕ)) (rest between : List Lexeme) (whole : Option (List (List ℕ) × List Lexeme))
+    → one_more_name rest ≡ true → fixed_read comma rest ≡ Some (tt, between) → Fails fault (name_read between)
+    → Leading front rest whole → Fails fault whole
+leading_fails fault front rest between whole more e f g =
+    let some = begins_some comma rest (comma_first rest more) in
+    going_fails one_more_name next_name fault front rest whole more some (next_fails fault rest between e f) g

@@ -1,0 +1,224 @@
+-- Worked rows of statements.
+use Rattle.std.proofs.Common.{◌≡◌, ℕ, pos, neg_ℤ, List, [], ◌∷◌, ◌++◌, Some, None, codes, refl}
+use Rattle.period_core.specs.declared.value.Value.TheVariants as value
+use Rattle.sql_front.specs.declared.statement.Compare.{Compare}
+use Rattle.sql_front.specs.declared.statement.Comparison.TheVariants.{Equal}
+use Rattle.sql_front.specs.declared.statement.Operand.TheVariants.{Column, Literal}
+use Rattle.sql_front.specs.declared.token.Kind.TheVariants.{Word, Number, Text, Symbol}
+use Rattle.sql_front.specs.declared.tree.SetOperator.TheVariants.{Except, Union}
+use Rattle.sql_front.specs.Lexemes.{Lexeme}
+use Rattle.sql_front.specs.Names.{is_plain_word}
+use Rattle.sql_front.specs.Words.{is_reserved}
+use Rattle.sql_front.specs.Trees.{Condition, Query, Select, Statement, all, any, combined, conditions_of, insert, last, negated, sequenced, simple, step, test, stored, update, delete}
+use Rattle.sql_front.specs.Grammar.{IsStatement}
+use Rattle.sql_front.specs.LeafValues.{date_at, day_of_token, day_value, is_date, parts_of}
+use Rattle.sql_front.specs.Leaves.{date_read, literal_read, name_read, number_read, tuple_read, unsigned_read}
+use Rattle.sql_front.specs.ConditionReaders.{column_read, compare_read, comparison_read, condition_read, conjunction_read, factor_read, operand_read, test_read, where_read}
+use Rattle.sql_front.specs.WindowReaders.{for_window_read}
+use Rattle.sql_front.specs.QueryReaders.{chain_read, inner_query_read, item_read, joins_read, new_name_read, operator_read, primary_read, query_read, reference_read, select_read, sequenced_read, step_read, steps_read}
+use Rattle.sql_front.specs.ChangeReaders.{assignment_read, columns_read, delete_read, in_portion_read, insert_read, portion_read, update_read}
+use Rattle.sql_front.specs.StatementReaders.{statement_read, stored_read}
+use Rattle.sql_front.specs.Reading.{bounded_read, whole_read}
+use Rattle.sql_front.proofs.StatementsRead.{read_none, read_spelled}
+
+-- ---- tokens
+
+abbrev word : List ℕ → Lexeme
+word text = record { kind = Word; text = text; start = 0; end = 0 }
+
+abbrev sign : List ℕ → Lexeme
+sign text = record { kind = Symbol; text = text; start = 0; end = 0 }
+
+abbrev digits : List ℕ → Lexeme
+digits text = record { kind = Number; text = text; start = 0; end = 0 }
+
+abbrev quoted_text : List ℕ → Lexeme
+quoted_text text = record { kind = Text; text = text; start = 0; end = 0 }
+
+-- ---- a query
+
+-- SELECT DISTINCT and one column, FROM and one table
+abbrev select : List ℕ → List ℕ → List Lexeme
+select column table = word (codes "select") ∷ word (codes "DISTINCT") ∷ word column ∷ word (codes "FROM") ∷ word table ∷ []
+
+abbrev selected : List ℕ → List ℕ → Select
+selected column table = record {
+  items = record { column = record { qualifier = None; name = column }; new_name = None } ∷ [];
+  chains = record { first = record { table = table; window = None; new_name = None }; joins = [] } ∷ [];
+  condition = None;
+}
+
+abbrev one_select : List ℕ → List ℕ → Query
+one_select column table = combined (simple (selected column table)) last
+
+-- VALIDTIME SELECT DISTINCT eno FROM emp
+abbrev query : List Lexeme
+query = word (codes "VALIDTIME") ∷ select (codes "eno") (codes "emp")
+
+query_is_read : whole_read (statement_read 0) query ≡ Some (sequenced (one_select (codes "ENO") (codes "EMP")))
+unfolding statement_read sequenced_read query_read primary_read steps_read step_read select_read item_read chain_read joins_read reference_read new_name_read for_window_read where_read column_read name_read bounded_read is_plain_word is_reserved
+query_is_read = refl
+
+pub query_spelled : IsStatement query (sequenced (one_select (codes "ENO") (codes "EMP")))
+query_spelled = read_spelled 0 query (sequenced (one_select (codes "ENO") (codes "EMP"))) query_is_read
+
+-- without DISTINCT, which no SELECT of columns lacks
+abbrev undistinct : List Lexeme
+undistinct = word (codes "VALIDTIME") ∷ word (codes "SELECT") ∷ word (codes "ENO") ∷ word (codes "FROM") ∷ word (codes "EMP") ∷ []
+
+undistinct_is_not_read : whole_read (statement_read 5) undistinct ≡ None
+unfolding statement_read sequenced_read query_read primary_read select_read
+undistinct_is_not_read = refl
+
+pub undistinct_spells_none : (s : Statement) → IsStatement undistinct s → ⊥
+undistinct_spells_none = read_none undistinct undistinct_is_not_read
+
+-- ---- set operators
+
+-- UNION DISTINCT and EXCEPT are of one strength, and apply from left to right
+abbrev chain : List Lexeme
+chain =
+    word (codes "VALIDTIME") ∷ select (codes "A") (codes "T") ++ word (codes "EXCEPT") ∷ select (codes "A") (codes "U")
+    ++ word (codes "UNION") ∷ word (codes "DISTINCT") ∷ select (codes "A") (codes "V")
+
+abbrev chained : Query
+chained =
+    combined (simple (selected (codes "A") (codes "T")))
+    (step Except (simple (selected (codes "A") (codes "U"))) (step Union (simple (selected (codes "A") (codes "V"))) last))
+
+chain_is_read : whole_read (statement_read 0) chain ≡ Some (sequenced chained)
+unfolding statement_read sequenced_read query_read primary_read operator_read steps_read step_read select_read item_read chain_read joins_read reference_read new_name_read for_window_read where_read column_read name_read bounded_read is_plain_word is_reserved
+chain_is_read = refl
+
+pub operators_apply_from_left_to_right : IsStatement chain (sequenced chained)
+operators_apply_from_left_to_right = read_spelled 0 chain (sequenced chained) chain_is_read
+
+-- parentheses make another query of it
+abbrev grouped : List Lexeme
+grouped =
+    word (codes "VALIDTIME") ∷ select (codes "A") (codes "T") ++ word (codes "EXCEPT") ∷ sign (codes "(") ∷ select (codes "A") (codes "U")
+    ++ word (codes "UNION") ∷ select (codes "A") (codes "V") ++ sign (codes ")") ∷ []
+
+abbrev grouping : Query
+grouping =
+    combined (simple (selected (codes "A") (codes "T")))
+    (step Except (combined (simple (selected (codes "A") (codes "U"))) (step Union (simple (selected (codes "A") (codes "V"))) last)) last)
+
+grouped_is_read : whole_read (statement_read 1) grouped ≡ Some (sequenced grouping)
+unfolding statement_read sequenced_read query_read inner_query_read primary_read operator_read steps_read step_read select_read item_read chain_read joins_read reference_read new_name_read for_window_read where_read column_read name_read bounded_read is_plain_word is_reserved
+grouped_is_read = refl
+
+pub parentheses_group : IsStatement grouped (sequenced grouping)
+parentheses_group = read_spelled 1 grouped (sequenced grouping) grouped_is_read
+
+-- ---- conditions
+
+-- column = 1
+abbrev equals_one : List ℕ → List Lexeme
+equals_one column = word column ∷ sign (codes "=") ∷ digits (codes "1") ∷ []
+
+abbrev is_one : List ℕ → Condition Compare
+is_one column = test (record { left = Column (record { qualifier = None; name = column }); comparison = Equal; right = Literal (value.Int (pos 1)) })
+
+-- DELETE FROM T WHERE A = 1 OR B = 1 AND NOT C = 1
+abbrev deletion : List Lexeme
+deletion =
+    word (codes "DELETE") ∷ word (codes "FROM") ∷ word (codes "T") ∷ word (codes "WHERE") ∷ equals_one (codes "A")
+    ++ word (codes "OR") ∷ equals_one (codes "B") ++ word (codes "AND") ∷ word (codes "NOT") ∷ equals_one (codes "C")
+
+-- AND binds tighter than OR, and NOT tighter than both
+abbrev deleted : Statement
+deleted = delete (record {
+  table = codes "T";
+  portion = None;
+  condition = Some (any (conditions_of (
+      all (conditions_of (is_one (codes "A") ∷ []))
+      ∷ all (conditions_of (is_one (codes "B") ∷ negated (is_one (codes "C")) ∷ []))
+      ∷ [])));
+})
+
+deletion_is_read : whole_read (statement_read 0) deletion ≡ Some deleted
+unfolding statement_read delete_read portion_read where_read condition_read conjunction_read factor_read test_read compare_read operand_read comparison_read column_read literal_read unsigned_read number_read name_read bounded_read is_plain_word is_reserved
+deletion_is_read = refl
+
+pub and_binds_tighter_than_or : IsStatement deletion deleted
+and_binds_tighter_than_or = read_spelled 0 deletion deleted deletion_is_read
+
+-- ---- changes
+
+-- INSERT INTO EMP VALUES (22217, -3, 'it''s', DATE '2010-01-01')
+abbrev insertion : List Lexeme
+insertion =
+    word (codes "INSERT") ∷ word (codes "INTO") ∷ word (codes "EMP") ∷ word (codes "VALUES")
+    ∷ sign (codes "(") ∷ digits (codes "22217") ∷ sign (codes ",") ∷ sign (codes "-") ∷ digits (codes "3")
+    ∷ sign (codes ",") ∷ quoted_text (codes "'it''s'") ∷ sign (codes ",") ∷ word (codes "DATE") ∷ quoted_text (codes "'2010-01-01'")
+    ∷ sign (codes ")") ∷ []
+
+abbrev inserted : Statement
+inserted = insert (record {
+  table = codes "EMP";
+  columns = None;
+  rows = (value.Int (pos 22217) ∷ value.Int (neg_ℤ (pos 3)) ∷ value.Text (codes "it's") ∷ value.Date (pos 14_610) ∷ []) ∷ [];
+})
+
+insertion_is_read : whole_read (statement_read 0) insertion ≡ Some inserted
+unfolding statement_read insert_read columns_read name_read tuple_read literal_read unsigned_read number_read date_read day_value day_of_token date_at parts_of is_date bounded_read is_plain_word is_reserved
+insertion_is_read = refl
+
+pub insertion_spelled : IsStatement insertion inserted
+insertion_spelled = read_spelled 0 insertion inserted insertion_is_read
+
+-- UPDATE EMP FOR PORTION OF EMP_PERIOD FROM DATE '2010-01-01' TO DATE '2011-01-01' SET DNO = 4
+abbrev change : List Lexeme
+change =
+    word (codes "UPDATE") ∷ word (codes "EMP")
+    ∷ word (codes "FOR") ∷ word (codes "PORTION") ∷ word (codes "OF") ∷ word (codes "EMP_PERIOD")
+    ∷ word (codes "FROM") ∷ word (codes "DATE") ∷ quoted_text (codes "'2010-01-01'") ∷ word (codes "TO") ∷ word (codes "DATE") ∷ quoted_text (codes "'2011-01-01'")
+    ∷ word (codes "SET") ∷ word (codes "DNO") ∷ sign (codes "=") ∷ digits (codes "4") ∷ []
+
+abbrev changed : Statement
+changed = update (record {
+  table = codes "EMP";
+  portion = Some (record { period = codes "EMP_PERIOD"; from = pos 14_610; to = pos 14_975 });
+  assignments = record { column = codes "DNO"; value = value.Int (pos 4) } ∷ [];
+  condition = None;
+})
+
+change_is_read : whole_read (statement_read 0) change ≡ Some changed
+unfolding statement_read update_read portion_read in_portion_read assignment_read where_read name_read literal_read unsigned_read number_read date_read day_value day_of_token date_at parts_of is_date bounded_read is_plain_word is_reserved
+change_is_read = refl
+
+pub change_spelled : IsStatement change changed
+change_spelled = read_spelled 0 change changed change_is_read
+
+-- ---- stored queries
+
+-- SELECT * FROM EMP
+abbrev lookup : List Lexeme
+lookup = word (codes "SELECT") ∷ sign (codes "*") ∷ word (codes "FROM") ∷ word (codes "EMP") ∷ []
+
+abbrev looked_up : Statement
+looked_up = stored (record { table = codes "EMP"; window = None; condition = None })
+
+lookup_is_read : whole_read (statement_read 0) lookup ≡ Some looked_up
+unfolding statement_read stored_read for_window_read where_read name_read is_plain_word is_reserved
+lookup_is_read = refl
+
+pub lookup_spelled : IsStatement lookup looked_up
+lookup_spelled = read_spelled 0 lookup looked_up lookup_is_read
+
+-- a query of columns is not stored: VALIDTIME stands before it
+bare_is_not_read : whole_read (statement_read 5) (select (codes "ENO") (codes "EMP")) ≡ None
+unfolding statement_read stored_read
+bare_is_not_read = refl
+
+pub bare_select_spells_none : (s : Statement) → IsStatement (select (codes "ENO") (codes "EMP")) s → ⊥
+bare_select_spells_none = read_none (select (codes "ENO") (codes "EMP")) bare_is_not_read
+
+-- nothing spells none
+nothing_is_not_read : whole_read (statement_read 0) [] ≡ None
+unfolding statement_read stored_read
+nothing_is_not_read = refl
+
+pub nothing_spells_none : (s : Statement) → IsStatement [] s → ⊥
+nothing_spells_none = read_none [] nothing_is_not_read

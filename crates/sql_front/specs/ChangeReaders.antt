@@ -1,0 +1,49 @@
+-- Reading AT and the statements that change rows from the front.
+use Rattle.std.specs.Prelude.{ℕ, ℤ, List, Option, codes}
+use Rattle.sql_front.specs.declared.statement.Assignment.{Assignment}
+use Rattle.sql_front.specs.declared.statement.InsertRows.{InsertRows}
+use Rattle.sql_front.specs.declared.statement.Portion.{Portion}
+use Rattle.sql_front.specs.Language.{keyword, symbol}
+use Rattle.sql_front.specs.Trees.{Delete, Update}
+use Rattle.sql_front.specs.Grammar.{comma, assignment_of, delete_of, portion_of, rows_of, update_of}
+use Rattle.sql_front.specs.Reading.{Reader, built_read, optional_read, preceded_read, separated_read, sequence_read}
+use Rattle.sql_front.specs.Leaves.{clock_moment_read, date_read, literal_read, name_read, names_read, tuple_read}
+use Rattle.sql_front.specs.ConditionReaders.{compare_read, where_read}
+
+unfoldable pub at_read : Reader ℤ
+at_read = preceded_read (keyword (codes "AT")) clock_moment_read
+
+-- [ '(' name { ',' name } ')' ]
+unfoldable pub columns_read : Reader (Option (List (List ℕ)))
+columns_read = optional_read (symbol (codes "(")) names_read
+
+unfoldable pub insert_read : Reader InsertRows
+insert_read =
+    preceded_read (keyword (codes "INSERT")) (preceded_read (keyword (codes "INTO"))
+    (built_read rows_of (sequence_read name_read (sequence_read columns_read
+    (preceded_read (keyword (codes "VALUES")) (separated_read comma tuple_read))))))
+
+-- FOR PORTION OF name FROM date TO date
+unfoldable pub in_portion_read : Reader Portion
+in_portion_read =
+    preceded_read (keyword (codes "FOR")) (preceded_read (keyword (codes "PORTION")) (preceded_read (keyword (codes "OF"))
+    (built_read portion_of (sequence_read name_read (preceded_read (keyword (codes "FROM"))
+    (sequence_read date_read (preceded_read (keyword (codes "TO")) date_read)))))))
+
+-- [ FOR PORTION OF name FROM date TO date ]
+unfoldable pub portion_read : Reader (Option Portion)
+portion_read = optional_read (keyword (codes "FOR")) in_portion_read
+
+unfoldable pub assignment_read : Reader Assignment
+assignment_read = built_read assignment_of (sequence_read name_read (preceded_read (symbol (codes "=")) literal_read))
+
+unfoldable pub update_read : ℕ → Reader Update
+update_read n =
+    preceded_read (keyword (codes "UPDATE"))
+    (built_read update_of (sequence_read name_read (sequence_read portion_read
+    (preceded_read (keyword (codes "SET")) (sequence_read (separated_read comma assignment_read) (where_read compare_read n))))))
+
+unfoldable pub delete_read : ℕ → Reader Delete
+delete_read n =
+    preceded_read (keyword (codes "DELETE")) (preceded_read (keyword (codes "FROM"))
+    (built_read delete_of (sequence_read name_read (sequence_read portion_read (where_read compare_read n)))))

@@ -1,0 +1,45 @@
+-- The tests for what is wrong with literals, over the tokens from each place on.
+use Rattle.std.specs.Prelude.{◌||◌, ◌&&◌, ◌+◌, ℕ, ℤ, Bool, false, cond, nat_lt, is_none, List, [], ◌∷◌, Option, codes}
+use Rattle.sql_front.specs.Lexemes.{Lexeme}
+use Rattle.sql_front.specs.Language.{keyword, symbol, number, text, or_test}
+use Rattle.sql_front.specs.Values.{decimal, greatest}
+use Rattle.sql_front.specs.LeafValues.{clock_of_token, day_of_token, moment_of_token}
+
+-- the test holds of some token and those behind it
+abbrev pub somewhere : (Lexeme → List Lexeme → Bool) → List Lexeme → Bool
+somewhere test [] = false
+somewhere test (t ∷ rest) = test t rest || somewhere test rest
+
+-- a text of which nothing is read
+abbrev pub names_none : (List ℕ → Option ℤ) → Lexeme → Bool
+names_none read t = text t && is_none (read t.text)
+
+-- this word, then a text of which nothing is read
+abbrev pub is_unread : List ℕ → (List ℕ → Option ℤ) → Lexeme → List Lexeme → Bool
+is_unread word read t [] = false
+is_unread word read t (u ∷ rest) = keyword word t && names_none read u
+
+-- DATE, then a text that names no day
+abbrev pub is_bad_date : Lexeme → List Lexeme → Bool
+is_bad_date = is_unread (codes "DATE") day_of_token
+
+-- TIMESTAMP, then a text that names no moment
+abbrev pub is_no_moment : Lexeme → List Lexeme → Bool
+is_no_moment = is_unread (codes "TIMESTAMP") moment_of_token
+
+-- AT or OF, then TIMESTAMP, then a text that names no moment before the open end
+abbrev pub is_open_end : Lexeme → List Lexeme → Bool
+is_open_end t [] = false
+is_open_end t (u ∷ rest) = or_test (keyword (codes "AT")) (keyword (codes "OF")) t && is_unread (codes "TIMESTAMP") clock_of_token u rest
+
+abbrev pub is_bad_moment : Lexeme → List Lexeme → Bool
+is_bad_moment t rest = is_no_moment t rest || is_open_end t rest
+
+-- a number above the limit that a minus before it or none sets
+abbrev pub is_above : Bool → Lexeme → Bool
+is_above minus t = number t && nat_lt (cond minus (greatest + 1) greatest) (decimal t.text)
+
+-- some number is, where a minus or none stands before the tokens
+abbrev pub number_above : Bool → List Lexeme → Bool
+number_above minus [] = false
+number_above minus (t ∷ rest) = is_above minus t || number_above (symbol (codes "-") t) rest

@@ -1,0 +1,18 @@
+-- Reading system-time windows from the front.
+use Rattle.std.specs.Prelude.{Option, codes}
+use Rattle.sql_front.specs.declared.statement.SystemTime.{SystemTime}
+use Rattle.sql_front.specs.declared.statement.SystemTime.TheVariants.{AsOf}
+use Rattle.sql_front.specs.Language.{keyword}
+use Rattle.sql_front.specs.Grammar.{from_to_of, between_of}
+use Rattle.sql_front.specs.Reading.{Reader, begins, sequence_read, built_read, choice_read, optional_read, preceded_read}
+use Rattle.sql_front.specs.Leaves.{moment_read, clock_moment_read}
+
+unfoldable pub window_read : Reader SystemTime
+window_read =
+    choice_read (begins (keyword (codes "AS"))) (built_read AsOf (preceded_read (keyword (codes "AS")) (preceded_read (keyword (codes "OF")) clock_moment_read)))
+    (choice_read (begins (keyword (codes "FROM"))) (built_read from_to_of (preceded_read (keyword (codes "FROM")) (sequence_read moment_read (preceded_read (keyword (codes "TO")) moment_read))))
+    (built_read between_of (preceded_read (keyword (codes "BETWEEN")) (sequence_read moment_read (preceded_read (keyword (codes "AND")) moment_read)))))
+
+-- [ FOR SYSTEM_TIME window ]
+unfoldable pub for_window_read : Reader (Option SystemTime)
+for_window_read = optional_read (keyword (codes "FOR")) (preceded_read (keyword (codes "FOR")) (preceded_read (keyword (codes "SYSTEM_TIME")) window_read))

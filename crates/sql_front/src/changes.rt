@@ -1,0 +1,207 @@
+//! AT, INSERT, UPDATE and DELETE, read from the front.
+
+ghost use Rattle.std.specs.Prelude.{◌≡◌, ◌≤◌, length, IfOk};
+ghost use Rattle.sql_front.specs.ChangeReaders.{assignment_read, at_read, columns_read, delete_read, in_portion_read, insert_read, portion_read, update_read};
+ghost use Rattle.sql_front.specs.Gives.{Gives};
+ghost use Rattle.sql_front.specs.Grammar.{comma};
+ghost use Rattle.sql_front.specs.Leaves.{tuple_read};
+ghost use Rattle.sql_front.specs.Lexemes.{lexemes};
+ghost use Rattle.sql_front.specs.Plain.{plain_delete, plain_update};
+ghost use Rattle.sql_front.specs.Reading.{separated_read};
+ghost use Rattle.sql_front.specs.declared.statement.Assignment as assignments;
+
+use crate::clock_moment::ClockMoment;
+use crate::conditions::read_where;
+use crate::leaves::{read_clock_moment, read_date, read_literal, read_name, read_names};
+use crate::list::{Item, separated};
+use crate::mark::{Mark, skip, starts};
+use crate::name::Name;
+use crate::nonempty::NonEmpty;
+use crate::statement::{Assignment, Compare, DeleteRows, InsertRows, Portion, UpdateRows};
+use crate::token::Token;
+use crate::unread::Unread;
+use period_core::Value;
+use std::alloc::Global;
+
+/// AT with a moment, and the tokens after it.
+#[tactic(auto, unfolding(crate::specs::ChangeReaders::at_read))]
+pub fn read_at<'a, 'b>(tokens: &'b [Token<'a>]) -> Result<(ClockMoment, &'b [Token<'a>]), Unread>
+    ensures value { Gives (λ x. (x.0, lexemes x.1.now)) result (at_read (lexemes tokens.now)) }
+    ensures rest { IfOk result (λ x. length x.1.now ≤ length tokens.now) }
+{
+    read_clock_moment(skip(tokens, Mark::Keyword("AT"))?)
+}
+
+/// Names of columns in parentheses or nothing, and the tokens after them.
+#[tactic(auto, unfolding(crate::specs::ChangeReaders::columns_read))]
+fn read_columns<'a, 'b>(
+    alloc: Global,
+    tokens: &'b [Token<'a>],
+) -> Result<(Option<NonEmpty<Name>>, &'b [Token<'a>]), Unread>
+    ensures value { Gives (λ x. (x.0, lexemes x.1.now)) result (columns_read (lexemes tokens.now)) }
+    ensures rest { IfOk result (λ x. length x.1.now ≤ length tokens.now) }
+{
+    if !starts(tokens, Mark::Symbol("(")) {
+        return Ok((None, tokens));
+    }
+    let (columns, rest) = read_names(alloc, tokens)?;
+    Ok((Some(columns), rest))
+}
+
+/// Rows with commas, and the tokens after them.
+fn read_rows<'a, 'b>(
+    alloc: Global,
+    tokens: &'b [Token<'a>],
+) -> Result<(NonEmpty<NonEmpty<Value>>, &'b [Token<'a>]), Unread>
+    ensures value { Gives (λ x. (x.0, lexemes x.1.now)) result (separated_read comma tuple_read (lexemes tokens.now)) }
+    ensures rest { IfOk result (λ x. length x.1.now ≤ length tokens.now) }
+{
+    let (rows, rest) = separated::<NonEmpty<Value>>(alloc, 0, tokens)?;
+    Ok((NonEmpty::from_vec(rows), rest))
+}
+
+/// INSERT, and the tokens after it.
+#[tactic(auto, unfolding(crate::specs::ChangeReaders::insert_read))]
+pub fn read_insert<'a, 'b>(
+    alloc: Global,
+    tokens: &'b [Token<'a>],
+) -> Result<(InsertRows, &'b [Token<'a>]), Unread>
+    ensures value { Gives (λ x. (x.0, lexemes x.1.now)) result (insert_read (lexemes tokens.now)) }
+    ensures rest { IfOk result (λ x. length x.1.now ≤ length tokens.now) }
+{
+    let rest = skip(tokens, Mark::Keyword("INSERT"))?;
+    let rest = skip(rest, Mark::Keyword("INTO"))?;
+    let (table, rest) = read_name(alloc, rest)?;
+    let (columns, rest) = read_columns(alloc, rest)?;
+    let rest = skip(rest, Mark::Keyword("VALUES"))?;
+    let (rows, rest) = read_rows(alloc, rest)?;
+    Ok((
+        InsertRows {
+            table,
+            columns,
+            rows,
+        },
+        rest,
+    ))
+}
+
+#[tactic(auto, unfolding(crate::specs::ChangeReaders::in_portion_read))]
+fn read_in_portion<'a, 'b>(
+    alloc: Global,
+    tokens: &'b [Token<'a>],
+) -> Result<(Portion, &'b [Token<'a>]), Unread>
+    ensures value { Gives (λ x. (x.0, lexemes x.1.now)) result (in_portion_read (lexemes tokens.now)) }
+    ensures rest { IfOk result (λ x. length x.1.now ≤ length tokens.now) }
+{
+    let rest = skip(tokens, Mark::Keyword("FOR"))?;
+    let rest = skip(rest, Mark::Keyword("PORTION"))?;
+    let rest = skip(rest, Mark::Keyword("OF"))?;
+    let (period, rest) = read_name(alloc, rest)?;
+    let rest = skip(rest, Mark::Keyword("FROM"))?;
+    let (from, rest) = match read_date(rest) {
+        Ok(found) => found,
+        Err(unread) => return Err(unread),
+    };
+    let rest = skip(rest, Mark::Keyword("TO"))?;
+    let (to, rest) = match read_date(rest) {
+        Ok(found) => found,
+        Err(unread) => return Err(unread),
+    };
+    Ok((Portion { period, from, to }, rest))
+}
+
+/// FOR PORTION OF a period with its bounds or nothing, and the tokens after them.
+#[tactic(auto, unfolding(crate::specs::ChangeReaders::portion_read))]
+pub fn read_portion<'a, 'b>(
+    alloc: Global,
+    tokens: &'b [Token<'a>],
+) -> Result<(Option<Portion>, &'b [Token<'a>]), Unread>
+    ensures value { Gives (λ x. (x.0, lexemes x.1.now)) result (portion_read (lexemes tokens.now)) }
+    ensures rest { IfOk result (λ x. length x.1.now ≤ length tokens.now) }
+{
+    if !starts(tokens, Mark::Keyword("FOR")) {
+        return Ok((None, tokens));
+    }
+    let (portion, rest) = read_in_portion(alloc, tokens)?;
+    Ok((Some(portion), rest))
+}
+
+impl<'a> Item<'a> for Assignment {
+    ghost Tree = { assignments.Assignment };
+
+    ghost view = { λ a. a };
+
+    ghost reader = { λ depth. assignment_read };
+
+    #[tactic(auto, unfolding(crate::specs::ChangeReaders::assignment_read))]
+    fn read<'b>(
+        alloc: Global,
+        _depth: usize,
+        tokens: &'b [Token<'a>],
+    ) -> Result<(Self, &'b [Token<'a>]), Unread> {
+        let (column, rest) = read_name(alloc, tokens)?;
+        let (value, rest) = read_literal(alloc, skip(rest, Mark::Symbol("="))?)?;
+        Ok((Assignment { column, value }, rest))
+    }
+}
+
+/// Assignments with commas, and the tokens after them.
+fn read_assignments<'a, 'b>(
+    alloc: Global,
+    tokens: &'b [Token<'a>],
+) -> Result<(NonEmpty<Assignment>, &'b [Token<'a>]), Unread>
+    ensures value { Gives (λ x. (x.0, lexemes x.1.now)) result (separated_read comma assignment_read (lexemes tokens.now)) }
+    ensures rest { IfOk result (λ x. length x.1.now ≤ length tokens.now) }
+{
+    let (assignments, rest) = separated::<Assignment>(alloc, 0, tokens)?;
+    Ok((NonEmpty::from_vec(assignments), rest))
+}
+
+/// UPDATE, and the tokens after it. At most `depth` parentheses open in it.
+#[tactic(auto, unfolding(crate::specs::ChangeReaders::update_read))]
+pub fn read_update<'a, 'b>(
+    alloc: Global,
+    depth: usize,
+    tokens: &'b [Token<'a>],
+) -> Result<(UpdateRows, &'b [Token<'a>]), Unread>
+    ensures value { Gives (λ x. (plain_update x.0, lexemes x.1.now)) result (update_read depth (lexemes tokens.now)) }
+    ensures rest { IfOk result (λ x. length x.1.now ≤ length tokens.now) }
+{
+    let (table, rest) = read_name(alloc, skip(tokens, Mark::Keyword("UPDATE"))?)?;
+    let (portion, rest) = read_portion(alloc, rest)?;
+    let (assignments, rest) = read_assignments(alloc, skip(rest, Mark::Keyword("SET"))?)?;
+    let (condition, rest) = read_where::<Compare>(alloc, depth, rest)?;
+    Ok((
+        UpdateRows {
+            table,
+            portion,
+            assignments,
+            condition,
+        },
+        rest,
+    ))
+}
+
+/// DELETE, and the tokens after it. At most `depth` parentheses open in it.
+#[tactic(auto, unfolding(crate::specs::ChangeReaders::delete_read))]
+pub fn read_delete<'a, 'b>(
+    alloc: Global,
+    depth: usize,
+    tokens: &'b [Token<'a>],
+) -> Result<(DeleteRows, &'b [Token<'a>]), Unread>
+    ensures value { Gives (λ x. (plain_delete x.0, lexemes x.1.now)) result (delete_read depth (lexemes tokens.now)) }
+    ensures rest { IfOk result (λ x. length x.1.now ≤ length tokens.now) }
+{
+    let rest = skip(tokens, Mark::Keyword("DELETE"))?;
+    let (table, rest) = read_name(alloc, skip(rest, Mark::Keyword("FROM"))?)?;
+    let (portion, rest) = read_portion(alloc, rest)?;
+    let (condition, rest) = read_where::<Compare>(alloc, depth, rest)?;
+    Ok((
+        DeleteRows {
+            table,
+            portion,
+            condition,
+        },
+        rest,
+    ))
+}

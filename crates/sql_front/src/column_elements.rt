@@ -1,0 +1,118 @@
+//! The columns of CREATE TABLE, read from the front.
+
+ghost use Rattle.std.specs.Prelude.{◌≡◌, ◌≤◌, length, IfOk, codes};
+ghost use Rattle.sql_front.specs.ElementReaders.{column_element_read, generated_read, length_read, not_null_read, row_end_read, type_read};
+ghost use Rattle.sql_front.specs.Gives.{Gives};
+ghost use Rattle.sql_front.specs.Language.{keyword};
+ghost use Rattle.sql_front.specs.Lexemes.{lexemes};
+ghost use Rattle.sql_front.specs.Reading.{optional_read};
+
+use crate::create::{ColumnElement, Generated, TypeName};
+use crate::leaves::{read_name, read_number};
+use crate::mark::{Mark, skip, starts};
+use crate::token::Token;
+use crate::unread::Unread;
+use std::alloc::Global;
+
+// A number in parentheses.
+#[tactic(auto, unfolding(crate::specs::ElementReaders::length_read))]
+fn read_length<'a, 'b>(tokens: &'b [Token<'a>]) -> Result<(u64, &'b [Token<'a>]), Unread>
+    ensures value { Gives (λ x. (x.0, lexemes x.1.now)) result (length_read (lexemes tokens.now)) }
+    ensures rest { IfOk result (λ x. length x.1.now ≤ length tokens.now) }
+{
+    let (length, rest) = read_number(skip(tokens, Mark::Symbol("("))?)?;
+    Ok((length, skip(rest, Mark::Symbol(")"))?))
+}
+
+// A type by its keywords.
+#[tactic(auto, unfolding(crate::specs::ElementReaders::type_read))]
+fn read_type<'a, 'b>(tokens: &'b [Token<'a>]) -> Result<(TypeName, &'b [Token<'a>]), Unread>
+    ensures value { Gives (λ x. (x.0, lexemes x.1.now)) result (type_read (lexemes tokens.now)) }
+    ensures rest { IfOk result (λ x. length x.1.now ≤ length tokens.now) }
+{
+    if starts(tokens, Mark::Keyword("INTEGER")) {
+        return Ok((TypeName::Integer, skip(tokens, Mark::Keyword("INTEGER"))?));
+    }
+    if starts(tokens, Mark::Keyword("DATE")) {
+        return Ok((TypeName::Date, skip(tokens, Mark::Keyword("DATE"))?));
+    }
+    if starts(tokens, Mark::Keyword("VARCHAR")) {
+        let (length, rest) = read_length(skip(tokens, Mark::Keyword("VARCHAR"))?)?;
+        return Ok((TypeName::Varchar(length), rest));
+    }
+    if starts(tokens, Mark::Keyword("CHARACTER")) {
+        let rest = skip(tokens, Mark::Keyword("CHARACTER"))?;
+        let (length, rest) = read_length(skip(rest, Mark::Keyword("VARYING"))?)?;
+        return Ok((TypeName::Varchar(length), rest));
+    }
+    let rest = skip(tokens, Mark::Keyword("TIMESTAMP"))?;
+    if !starts(rest, Mark::Symbol("(")) {
+        return Ok((TypeName::Timestamp(None), rest));
+    }
+    let (precision, rest) = read_length(rest)?;
+    Ok((TypeName::Timestamp(Some(precision)), rest))
+}
+
+// START or END.
+#[tactic(auto, unfolding(crate::specs::ElementReaders::row_end_read))]
+fn read_row_end<'a, 'b>(tokens: &'b [Token<'a>]) -> Result<(Generated, &'b [Token<'a>]), Unread>
+    ensures value { Gives (λ x. (x.0, lexemes x.1.now)) result (row_end_read (lexemes tokens.now)) }
+    ensures rest { IfOk result (λ x. length x.1.now ≤ length tokens.now) }
+{
+    if starts(tokens, Mark::Keyword("START")) {
+        return Ok((Generated::Start, skip(tokens, Mark::Keyword("START"))?));
+    }
+    Ok((Generated::End, skip(tokens, Mark::Keyword("END"))?))
+}
+
+// GENERATED ALWAYS AS ROW with the end, or nothing.
+#[tactic(auto, unfolding(crate::specs::ElementReaders::generated_read))]
+fn read_generated<'a, 'b>(
+    tokens: &'b [Token<'a>],
+) -> Result<(Option<Generated>, &'b [Token<'a>]), Unread>
+    ensures value { Gives (λ x. (x.0, lexemes x.1.now)) result (optional_read (keyword (codes "GENERATED")) generated_read (lexemes tokens.now)) }
+    ensures rest { IfOk result (λ x. length x.1.now ≤ length tokens.now) }
+{
+    if !starts(tokens, Mark::Keyword("GENERATED")) {
+        return Ok((None, tokens));
+    }
+    let rest = skip(tokens, Mark::Keyword("GENERATED"))?;
+    let rest = skip(rest, Mark::Keyword("ALWAYS"))?;
+    let rest = skip(rest, Mark::Keyword("AS"))?;
+    let (generated, rest) = read_row_end(skip(rest, Mark::Keyword("ROW"))?)?;
+    Ok((Some(generated), rest))
+}
+
+// NOT NULL or nothing.
+#[tactic(auto, unfolding(crate::specs::ElementReaders::not_null_read))]
+fn read_not_null<'a, 'b>(tokens: &'b [Token<'a>]) -> Result<(Option<()>, &'b [Token<'a>]), Unread>
+    ensures value { Gives (λ x. (x.0, lexemes x.1.now)) result (optional_read (keyword (codes "NOT")) not_null_read (lexemes tokens.now)) }
+    ensures rest { IfOk result (λ x. length x.1.now ≤ length tokens.now) }
+{
+    if !starts(tokens, Mark::Keyword("NOT")) {
+        return Ok((None, tokens));
+    }
+    let rest = skip(tokens, Mark::Keyword("NOT"))?;
+    Ok((Some(()), skip(rest, Mark::Keyword("NULL"))?))
+}
+
+/// A column with its type, and the tokens after it. NOT NULL adds nothing: no column holds NULL.
+#[tactic(auto, unfolding(crate::specs::ElementReaders::column_element_read))]
+pub fn read_column_element<'a, 'b>(
+    alloc: Global,
+    tokens: &'b [Token<'a>],
+) -> Result<(ColumnElement, &'b [Token<'a>]), Unread>
+    ensures value { Gives (λ x. (x.0, lexemes x.1.now)) result (column_element_read (lexemes tokens.now)) }
+    ensures rest { IfOk result (λ x. length x.1.now ≤ length tokens.now) }
+{
+    let (name, rest) = read_name(alloc, tokens)?;
+    let (kind, rest) = read_type(rest)?;
+    let (generated, rest) = read_generated(rest)?;
+    let (_not_null, rest) = read_not_null(rest)?;
+    let column = ColumnElement {
+        name,
+        kind,
+        generated,
+    };
+    Ok((column, rest))
+}

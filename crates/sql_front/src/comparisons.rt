@@ -1,0 +1,112 @@
+//! Columns and comparisons, read from the front.
+
+ghost use Rattle.std.specs.Prelude.{◌≡◌, ◌≤◌, length, IfOk};
+ghost use Rattle.sql_front.specs.ConditionReaders.{column_read, comparison_read, compare_read, operand_read};
+ghost use Rattle.sql_front.specs.Gives.{Gives};
+ghost use Rattle.sql_front.specs.Lexemes.{lexemes};
+
+use crate::conditions::Test;
+use crate::leaves::{read_literal, read_name};
+use crate::mark::{Mark, skip, starts, starts_name};
+use crate::statement::{ColumnReference, Compare, Comparison, Operand};
+use crate::token::Token;
+use crate::unread::Unread;
+use std::alloc::Global;
+
+/// A column, and the tokens after it.
+#[tactic(auto, unfolding(crate::specs::ConditionReaders::column_read))]
+pub fn read_column<'a, 'b>(
+    alloc: Global,
+    tokens: &'b [Token<'a>],
+) -> Result<(ColumnReference, &'b [Token<'a>]), Unread>
+    ensures value { Gives (λ x. (x.0, lexemes x.1.now)) result (column_read (lexemes tokens.now)) }
+    ensures rest { IfOk result (λ x. length x.1.now ≤ length tokens.now) }
+{
+    let (first, rest) = read_name(alloc, tokens)?;
+    if !starts(rest, Mark::Symbol(".")) {
+        let column = ColumnReference {
+            qualifier: None,
+            name: first,
+        };
+        return Ok((column, rest));
+    }
+    let (second, rest) = read_name(alloc, skip(rest, Mark::Symbol("."))?)?;
+    let column = ColumnReference {
+        qualifier: Some(first),
+        name: second,
+    };
+    Ok((column, rest))
+}
+
+#[tactic(auto, unfolding(crate::specs::ConditionReaders::operand_read))]
+fn read_operand<'a, 'b>(
+    alloc: Global,
+    tokens: &'b [Token<'a>],
+) -> Result<(Operand, &'b [Token<'a>]), Unread>
+    ensures value { Gives (λ x. (x.0, lexemes x.1.now)) result (operand_read (lexemes tokens.now)) }
+    ensures rest { IfOk result (λ x. length x.1.now ≤ length tokens.now) }
+{
+    if starts_name(tokens) {
+        let (column, rest) = read_column(alloc, tokens)?;
+        return Ok((Operand::Column(column), rest));
+    }
+    let (literal, rest) = read_literal(alloc, tokens)?;
+    Ok((Operand::Literal(literal), rest))
+}
+
+#[tactic(auto, unfolding(crate::specs::ConditionReaders::comparison_read))]
+fn read_comparison<'a, 'b>(tokens: &'b [Token<'a>]) -> Result<(Comparison, &'b [Token<'a>]), Unread>
+    ensures value { Gives (λ x. (x.0, lexemes x.1.now)) result (comparison_read (lexemes tokens.now)) }
+    ensures rest { IfOk result (λ x. length x.1.now ≤ length tokens.now) }
+{
+    if starts(tokens, Mark::Symbol("=")) {
+        return Ok((Comparison::Equal, skip(tokens, Mark::Symbol("="))?));
+    }
+    if starts(tokens, Mark::Symbol("<>")) {
+        return Ok((Comparison::NotEqual, skip(tokens, Mark::Symbol("<>"))?));
+    }
+    if starts(tokens, Mark::Symbol("<")) {
+        return Ok((Comparison::Less, skip(tokens, Mark::Symbol("<"))?));
+    }
+    if starts(tokens, Mark::Symbol("<=")) {
+        return Ok((Comparison::LessOrEqual, skip(tokens, Mark::Symbol("<="))?));
+    }
+    if starts(tokens, Mark::Symbol(">")) {
+        return Ok((Comparison::Greater, skip(tokens, Mark::Symbol(">"))?));
+    }
+    Ok((
+        Comparison::GreaterOrEqual,
+        skip(tokens, Mark::Symbol(">="))?,
+    ))
+}
+
+/// Two operands compared, and the tokens after them.
+#[tactic(auto, unfolding(crate::specs::ConditionReaders::compare_read))]
+pub fn read_compare<'a, 'b>(
+    alloc: Global,
+    tokens: &'b [Token<'a>],
+) -> Result<(Compare, &'b [Token<'a>]), Unread>
+    ensures value { Gives (λ x. (x.0, lexemes x.1.now)) result (compare_read (lexemes tokens.now)) }
+    ensures rest { IfOk result (λ x. length x.1.now ≤ length tokens.now) }
+{
+    let (left, rest) = read_operand(alloc, tokens)?;
+    let (comparison, rest) = read_comparison(rest)?;
+    let (right, rest) = read_operand(alloc, rest)?;
+    let compare = Compare {
+        left,
+        comparison,
+        right,
+    };
+    Ok((compare, rest))
+}
+
+impl Test for Compare {
+    ghost reader = { compare_read };
+
+    fn read<'a, 'b>(
+        alloc: Global,
+        tokens: &'b [Token<'a>],
+    ) -> Result<(Self, &'b [Token<'a>]), Unread> {
+        read_compare(alloc, tokens)
+    }
+}

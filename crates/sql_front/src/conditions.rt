@@ -1,0 +1,159 @@
+//! Conditions over tests of any kind, read from the front.
+
+ghost use Rattle.std.specs.Prelude.{◌≡◌, ◌≤◌, ◌∷◌, List, Option, Some, length, map, IfOk};
+ghost use Rattle.std.specs.Option.{option_map};
+ghost use Rattle.sql_front.specs.ConditionReaders.{condition_read, conjunction_read, factor_read, inner_read, test_read, where_read};
+ghost use Rattle.sql_front.specs.Gives.{Gives};
+ghost use Rattle.sql_front.specs.Grammar.{all_of, any_of};
+ghost use Rattle.sql_front.specs.Lexemes.{Lexeme, lexemes};
+ghost use Rattle.sql_front.specs.Plain.{plain_condition};
+
+use crate::mark::{Mark, skip, starts};
+use crate::token::Token;
+use crate::tree::Tree;
+use crate::unread::Unread;
+use std::alloc::Global;
+
+/// A test that stands in a condition.
+pub trait Test: Sized + Drop {
+    ghost reader: { List Lexeme → Option (Self × List Lexeme) };
+
+    /// The first, and the tokens after it.
+    fn read<'a, 'b>(
+        alloc: Global,
+        tokens: &'b [Token<'a>],
+    ) -> Result<(Self, &'b [Token<'a>]), Unread>
+        ensures value { Gives (λ x. (x.0, lexemes x.1.now)) result (reader (lexemes tokens.now)) }
+        ensures rest { IfOk result (λ x. length x.1.now ≤ length tokens.now) };
+}
+
+/// The chain of OR of the first part and of the others after it.
+#[tactic(auto, using(crate::proofs::ConditionViews::or_view))]
+fn or_chain<T: Drop>(alloc: Global, first: Tree<T>, others: Vec<Tree<T>>) -> Result<Tree<T>, Unread>
+    ensures { Gives plain_condition result (Some (any_of (plain_condition first ∷ map plain_condition others.items))) }
+{
+    Ok(Tree::Or(Box::new(alloc, first)?, others))
+}
+
+/// The chain of AND of the first part and of the others after it.
+#[tactic(auto, using(crate::proofs::ConditionViews::and_view))]
+fn and_chain<T: Drop>(
+    alloc: Global,
+    first: Tree<T>,
+    others: Vec<Tree<T>>,
+) -> Result<Tree<T>, Unread>
+    ensures { Gives plain_condition result (Some (all_of (plain_condition first ∷ map plain_condition others.items))) }
+{
+    Ok(Tree::And(Box::new(alloc, first)?, others))
+}
+
+/// A condition, and the tokens after it. At most `depth` parentheses open in it.
+#[cycle(conditions)]
+#[tactic(auto, unfolding(crate::specs::ConditionReaders::condition_read))]
+pub fn read_condition<'a, 'b, T: Test>(
+    alloc: Global,
+    depth: usize,
+    tokens: &'b [Token<'a>],
+) -> Result<(Tree<T>, &'b [Token<'a>]), Unread>
+    ensures value { Gives (λ x. (plain_condition x.0, lexemes x.1.now)) result (condition_read T.reader depth (lexemes tokens.now)) }
+    ensures rest { IfOk result (λ x. length x.1.now ≤ length tokens.now) }
+{
+    let mut others = Vec::new(alloc);
+    let (first, mut rest) = read_conjunction::<T>(alloc, depth, tokens)?;
+    'others: while starts(rest, Mark::Keyword("OR")) {
+        let (next, after) = read_conjunction::<T>(alloc, depth, skip(rest, Mark::Keyword("OR"))?)?;
+        others.push(next)?;
+        rest = after;
+    }
+    Ok((or_chain(alloc, first, others)?, rest))
+}
+
+#[cycle(conditions)]
+#[tactic(auto, unfolding(crate::specs::ConditionReaders::conjunction_read))]
+fn read_conjunction<'a, 'b, T: Test>(
+    alloc: Global,
+    depth: usize,
+    tokens: &'b [Token<'a>],
+) -> Result<(Tree<T>, &'b [Token<'a>]), Unread>
+    ensures value { Gives (λ x. (plain_condition x.0, lexemes x.1.now)) result (conjunction_read T.reader depth (lexemes tokens.now)) }
+    ensures rest { IfOk result (λ x. length x.1.now ≤ length tokens.now) }
+{
+    let mut others = Vec::new(alloc);
+    let (first, mut rest) = read_factor::<T>(alloc, depth, tokens)?;
+    'others: while starts(rest, Mark::Keyword("AND")) {
+        let (next, after) = read_factor::<T>(alloc, depth, skip(rest, Mark::Keyword("AND"))?)?;
+        others.push(next)?;
+        rest = after;
+    }
+    Ok((and_chain(alloc, first, others)?, rest))
+}
+
+#[cycle(conditions)]
+#[tactic(auto, unfolding(crate::specs::ConditionReaders::factor_read))]
+fn read_factor<'a, 'b, T: Test>(
+    alloc: Global,
+    depth: usize,
+    tokens: &'b [Token<'a>],
+) -> Result<(Tree<T>, &'b [Token<'a>]), Unread>
+    ensures value { Gives (λ x. (plain_condition x.0, lexemes x.1.now)) result (factor_read T.reader depth (lexemes tokens.now)) }
+    ensures rest { IfOk result (λ x. length x.1.now ≤ length tokens.now) }
+{
+    if !starts(tokens, Mark::Keyword("NOT")) {
+        return read_test::<T>(alloc, depth, tokens);
+    }
+    let (inner, rest) = read_test::<T>(alloc, depth, skip(tokens, Mark::Keyword("NOT"))?)?;
+    Ok((Tree::Not(Box::new(alloc, inner)?), rest))
+}
+
+#[cycle(conditions)]
+#[tactic(auto, unfolding(crate::specs::ConditionReaders::test_read), using(crate::proofs::ConditionViews::test_view))]
+fn read_test<'a, 'b, T: Test>(
+    alloc: Global,
+    depth: usize,
+    tokens: &'b [Token<'a>],
+) -> Result<(Tree<T>, &'b [Token<'a>]), Unread>
+    ensures value { Gives (λ x. (plain_condition x.0, lexemes x.1.now)) result (test_read T.reader depth (lexemes tokens.now)) }
+    ensures rest { IfOk result (λ x. length x.1.now ≤ length tokens.now) }
+{
+    if !starts(tokens, Mark::Symbol("(")) {
+        let (test, rest) = T::read(alloc, tokens)?;
+        return Ok((Tree::Test(test), rest));
+    }
+    let (inner, rest) = read_nested::<T>(alloc, depth, skip(tokens, Mark::Symbol("("))?)?;
+    Ok((inner, skip(rest, Mark::Symbol(")"))?))
+}
+
+/// What stands in parentheses.
+#[cycle(conditions)]
+#[tactic(auto, using(crate::proofs::ConditionViews::inner_none, crate::proofs::ConditionViews::inner_below))]
+fn read_nested<'a, 'b, T: Test>(
+    alloc: Global,
+    depth: usize,
+    tokens: &'b [Token<'a>],
+) -> Result<(Tree<T>, &'b [Token<'a>]), Unread>
+    ensures value { Gives (λ x. (plain_condition x.0, lexemes x.1.now)) result (inner_read T.reader depth (lexemes tokens.now)) }
+    ensures rest { IfOk result (λ x. length x.1.now ≤ length tokens.now) }
+{
+    if depth == 0 {
+        return Err(Unread::Syntax);
+    }
+    read_condition::<T>(alloc, depth - 1, tokens)
+}
+
+/// WHERE with a condition or nothing, and the tokens after it.
+#[tactic(auto, unfolding(crate::specs::ConditionReaders::where_read))]
+pub fn read_where<'a, 'b, T: Test>(
+    alloc: Global,
+    depth: usize,
+    tokens: &'b [Token<'a>],
+) -> Result<(Option<Tree<T>>, &'b [Token<'a>]), Unread>
+    ensures value { Gives (λ x. (option_map plain_condition x.0, lexemes x.1.now)) result (where_read T.reader depth (lexemes tokens.now)) }
+    ensures rest { IfOk result (λ x. length x.1.now ≤ length tokens.now) }
+{
+    if !starts(tokens, Mark::Keyword("WHERE")) {
+        return Ok((None, tokens));
+    }
+    let rest = skip(tokens, Mark::Keyword("WHERE"))?;
+    let (condition, rest) = read_condition::<T>(alloc, depth, rest)?;
+    Ok((Some(condition), rest))
+}

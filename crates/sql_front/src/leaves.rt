@@ -1,0 +1,211 @@
+//! Names and literals, read from the front.
+
+ghost use Rattle.std.specs.Prelude.{◌≡◌, ◌≤◌, ℕ, List, length, IfOk};
+ghost use Rattle.period_core.specs.declared.value.Value as values;
+ghost use Rattle.sql_front.specs.Gives.{Gives};
+ghost use Rattle.sql_front.specs.Grammar as grammar;
+ghost use Rattle.sql_front.specs.Language as language;
+ghost use Rattle.sql_front.specs.Reading.{built_read, one_read};
+ghost use Rattle.sql_front.specs.Lexemes.{lexemes};
+ghost use Rattle.sql_front.specs.Leaves.{clock_moment_read, date_read, literal_read, moment_read, name_read, names_read, number_read, tuple_read, unsigned_read};
+
+use crate::clock_moment::ClockMoment;
+use crate::date_tokens::{named_clock_moment, named_day, named_moment};
+use crate::decimal::{negative_value, number_value};
+use crate::list::{Item, separated};
+use crate::mark::{Mark, name, number, skip, starts, starts_text, text};
+use crate::name::Name;
+use crate::nonempty::NonEmpty;
+use crate::texts::text_of;
+use crate::token::Token;
+use crate::unread::Unread;
+use period_core::{Day, Moment, Value};
+use std::alloc::Global;
+
+/// A name, and the tokens after it.
+#[tactic(auto, unfolding(crate::specs::Leaves::name_read))]
+pub fn read_name<'a, 'b>(
+    alloc: Global,
+    tokens: &'b [Token<'a>],
+) -> Result<(Name, &'b [Token<'a>]), Unread>
+    ensures value { Gives (λ x. (x.0, lexemes x.1.now)) result (name_read (lexemes tokens.now)) }
+    ensures rest { IfOk result (λ x. length x.1.now ≤ length tokens.now) }
+{
+    let (word, rest) = name(tokens)?;
+    match Name::of_word(alloc, word) {
+        Ok(name) => Ok((name, rest)),
+        Err(_) => Err(Unread::Memory),
+    }
+}
+
+/// A number, and the tokens after it.
+#[tactic(auto, unfolding(crate::specs::Leaves::number_read))]
+pub fn read_number<'a, 'b>(tokens: &'b [Token<'a>]) -> Result<(u64, &'b [Token<'a>]), Unread>
+    ensures value { Gives (λ x. (x.0, lexemes x.1.now)) result (number_read (lexemes tokens.now)) }
+    ensures rest { IfOk result (λ x. length x.1.now ≤ length tokens.now) }
+{
+    let (digits, rest) = number(tokens)?;
+    Ok((number_value(digits), rest))
+}
+
+/// A moment, and the tokens after it.
+#[tactic(auto, unfolding(crate::specs::Leaves::moment_read))]
+pub fn read_moment<'a, 'b>(tokens: &'b [Token<'a>]) -> Result<(Moment, &'b [Token<'a>]), Unread>
+    ensures value { Gives (λ x. (x.0, lexemes x.1.now)) result (moment_read (lexemes tokens.now)) }
+    ensures rest { IfOk result (λ x. length x.1.now ≤ length tokens.now) }
+{
+    let (token, rest) = text(skip(tokens, Mark::Keyword("TIMESTAMP"))?)?;
+    Ok((named_moment(token), rest))
+}
+
+/// A moment before the open end, and the tokens after it.
+#[tactic(auto, unfolding(crate::specs::Leaves::clock_moment_read))]
+pub fn read_clock_moment<'a, 'b>(
+    tokens: &'b [Token<'a>],
+) -> Result<(ClockMoment, &'b [Token<'a>]), Unread>
+    ensures value { Gives (λ x. (x.0, lexemes x.1.now)) result (clock_moment_read (lexemes tokens.now)) }
+    ensures rest { IfOk result (λ x. length x.1.now ≤ length tokens.now) }
+{
+    let (token, rest) = text(skip(tokens, Mark::Keyword("TIMESTAMP"))?)?;
+    Ok((named_clock_moment(token), rest))
+}
+
+/// A date, and the tokens after it.
+#[tactic(auto, unfolding(crate::specs::Leaves::date_read))]
+pub fn read_date<'a, 'b>(tokens: &'b [Token<'a>]) -> Result<(Day, &'b [Token<'a>]), Unread>
+    ensures value { Gives (λ x. (x.0, lexemes x.1.now)) result (date_read (lexemes tokens.now)) }
+    ensures rest { IfOk result (λ x. length x.1.now ≤ length tokens.now) }
+{
+    let (token, rest) = text(skip(tokens, Mark::Keyword("DATE"))?)?;
+    Ok((named_day(token), rest))
+}
+
+/// A number without a minus as a value, and the tokens after it.
+#[tactic(auto, unfolding(crate::specs::Leaves::unsigned_read, crate::specs::Leaves::number_read))]
+fn read_unsigned<'a, 'b>(tokens: &'b [Token<'a>]) -> Result<(Value, &'b [Token<'a>]), Unread>
+    ensures value { Gives (λ x. (x.0, lexemes x.1.now)) result (unsigned_read (lexemes tokens.now)) }
+    ensures rest { IfOk result (λ x. length x.1.now ≤ length tokens.now) }
+{
+    if starts(tokens, Mark::Symbol("+")) {
+        let (digits, rest) = number(skip(tokens, Mark::Symbol("+"))?)?;
+        return Ok((Value::Int(number_value(digits) as i64), rest));
+    }
+    let (digits, rest) = number(tokens)?;
+    Ok((Value::Int(number_value(digits) as i64), rest))
+}
+
+/// A text as a value, and the tokens after it.
+fn read_text<'a, 'b>(
+    alloc: Global,
+    tokens: &'b [Token<'a>],
+) -> Result<(Value, &'b [Token<'a>]), Unread>
+    ensures value { Gives (λ x. (x.0, lexemes x.1.now)) result (built_read grammar.text_of (one_read language.text) (lexemes tokens.now)) }
+    ensures rest { IfOk result (λ x. length x.1.now ≤ length tokens.now) }
+{
+    let (token, rest) = text(tokens)?;
+    match text_of(alloc, token) {
+        Ok(value) => Ok((Value::Text(value), rest)),
+        Err(_) => Err(Unread::Memory),
+    }
+}
+
+/// A literal, and the tokens after it.
+#[tactic(auto, unfolding(crate::specs::Leaves::literal_read))]
+pub fn read_literal<'a, 'b>(
+    alloc: Global,
+    tokens: &'b [Token<'a>],
+) -> Result<(Value, &'b [Token<'a>]), Unread>
+    ensures value { Gives (λ x. (x.0, lexemes x.1.now)) result (literal_read (lexemes tokens.now)) }
+    ensures rest { IfOk result (λ x. length x.1.now ≤ length tokens.now) }
+{
+    if starts(tokens, Mark::Symbol("-")) {
+        let (digits, rest) = number(skip(tokens, Mark::Symbol("-"))?)?;
+        return Ok((Value::Int(negative_value(digits)), rest));
+    }
+    if starts_text(tokens) {
+        return read_text(alloc, tokens);
+    }
+    if starts(tokens, Mark::Keyword("DATE")) {
+        return match read_date(tokens) {
+            Ok((day, rest)) => Ok((Value::Date(day), rest)),
+            Err(unread) => Err(unread),
+        };
+    }
+    read_unsigned(tokens)
+}
+
+impl<'a> Item<'a> for Name {
+    ghost Tree = { List ℕ };
+
+    ghost view = { λ n. n };
+
+    ghost reader = { λ depth. name_read };
+
+    fn read<'b>(
+        alloc: Global,
+        _depth: usize,
+        tokens: &'b [Token<'a>],
+    ) -> Result<(Self, &'b [Token<'a>]), Unread> {
+        read_name(alloc, tokens)
+    }
+}
+
+impl<'a> Item<'a> for Value {
+    ghost Tree = { values.Value };
+
+    ghost view = { λ v. v };
+
+    ghost reader = { λ depth. literal_read };
+
+    fn read<'b>(
+        alloc: Global,
+        _depth: usize,
+        tokens: &'b [Token<'a>],
+    ) -> Result<(Self, &'b [Token<'a>]), Unread> {
+        read_literal(alloc, tokens)
+    }
+}
+
+/// Names in parentheses with commas, and the tokens after them.
+#[tactic(auto, unfolding(crate::specs::Leaves::names_read))]
+pub fn read_names<'a, 'b>(
+    alloc: Global,
+    tokens: &'b [Token<'a>],
+) -> Result<(NonEmpty<Name>, &'b [Token<'a>]), Unread>
+    ensures value { Gives (λ x. (x.0, lexemes x.1.now)) result (names_read (lexemes tokens.now)) }
+    ensures rest { IfOk result (λ x. length x.1.now ≤ length tokens.now) }
+{
+    let inside = skip(tokens, Mark::Symbol("("))?;
+    let (names, after) = separated::<Name>(alloc, 0, inside)?;
+    Ok((NonEmpty::from_vec(names), skip(after, Mark::Symbol(")"))?))
+}
+
+/// Literals in parentheses with commas, and the tokens after them.
+#[tactic(auto, unfolding(crate::specs::Leaves::tuple_read))]
+pub fn read_tuple<'a, 'b>(
+    alloc: Global,
+    tokens: &'b [Token<'a>],
+) -> Result<(NonEmpty<Value>, &'b [Token<'a>]), Unread>
+    ensures value { Gives (λ x. (x.0, lexemes x.1.now)) result (tuple_read (lexemes tokens.now)) }
+    ensures rest { IfOk result (λ x. length x.1.now ≤ length tokens.now) }
+{
+    let inside = skip(tokens, Mark::Symbol("("))?;
+    let (values, after) = separated::<Value>(alloc, 0, inside)?;
+    Ok((NonEmpty::from_vec(values), skip(after, Mark::Symbol(")"))?))
+}
+
+impl<'a> Item<'a> for NonEmpty<Value> {
+    ghost Tree = { List values.Value };
+
+    ghost view = { λ v. v };
+
+    ghost reader = { λ depth. tuple_read };
+
+    fn read<'b>(
+        alloc: Global,
+        _depth: usize,
+        tokens: &'b [Token<'a>],
+    ) -> Result<(Self, &'b [Token<'a>]), Unread> {
+        read_tuple(alloc, tokens)
+    }
+}

@@ -1,0 +1,159 @@
+//! What is wrong with the literals of a piece: dates, moments and numbers.
+
+ghost use Rattle.std.specs.Prelude.{◌≡◌, ◌↔◌, false, IsTrue, IfSome, IfNone, codes};
+ghost use Rattle.period_core.specs.Leasts.{IsLeast, NoneApplies};
+ghost use Rattle.sql_front.specs.LeafValues.{clock_of_token};
+ghost use Rattle.sql_front.specs.Lexemes.{lexeme, lexemes};
+ghost use Rattle.sql_front.specs.LiteralFaults.{HasBadDate, HasBadMoment, HasNumberOutside};
+ghost use Rattle.sql_front.specs.LiteralRefusals.{LiteralApplies};
+ghost use Rattle.sql_front.specs.LiteralTests as tests;
+ghost use Rattle.sql_front.specs.LiteralTests.{number_above, somewhere};
+
+use crate::date_tokens::{clock_moment_of_token, day_of_token, moment_of_token};
+use crate::decimal::{GREATEST, decimal_up_to};
+use crate::mark::{Mark, is_mark};
+use crate::token::{Kind, Token};
+use period_core::Refusal;
+
+fn is_bad_date(first: &Token<'_>, after: &[Token<'_>]) -> bool
+    ensures { result ≡ tests.is_bad_date (lexeme first.now) (lexemes after.now) }
+{
+    match after {
+        [] => false,
+        [token, ..] => {
+            is_mark(first, Mark::Keyword("DATE"))
+                && token.kind == Kind::Text
+                && day_of_token(token.text).is_none()
+        }
+    }
+}
+
+fn is_no_moment(first: &Token<'_>, after: &[Token<'_>]) -> bool
+    ensures { result ≡ tests.is_no_moment (lexeme first.now) (lexemes after.now) }
+{
+    match after {
+        [] => false,
+        [token, ..] => {
+            is_mark(first, Mark::Keyword("TIMESTAMP"))
+                && token.kind == Kind::Text
+                && moment_of_token(token.text).is_none()
+        }
+    }
+}
+
+fn is_no_clock_moment(first: &Token<'_>, after: &[Token<'_>]) -> bool
+    ensures { result ≡ tests.is_unread (codes "TIMESTAMP") clock_of_token (lexeme first.now) (lexemes after.now) }
+{
+    match after {
+        [] => false,
+        [token, ..] => {
+            is_mark(first, Mark::Keyword("TIMESTAMP"))
+                && token.kind == Kind::Text
+                && clock_moment_of_token(token.text).is_none()
+        }
+    }
+}
+
+fn is_open_end(first: &Token<'_>, after: &[Token<'_>]) -> bool
+    ensures { result ≡ tests.is_open_end (lexeme first.now) (lexemes after.now) }
+{
+    match after {
+        [] => false,
+        [word, rest @ ..] => {
+            (is_mark(first, Mark::Keyword("AT")) || is_mark(first, Mark::Keyword("OF")))
+                && is_no_clock_moment(word, rest)
+        }
+    }
+}
+
+fn is_above(minus: bool, token: &Token<'_>) -> bool
+    ensures { result ≡ tests.is_above minus (lexeme token.now) }
+{
+    let limit = if minus { GREATEST + 1 } else { GREATEST };
+    token.kind == Kind::Number && decimal_up_to(token.text, limit).is_none()
+}
+
+fn date_fails(tokens: &[Token<'_>]) -> bool
+    ensures { result ≡ somewhere tests.is_bad_date (lexemes tokens.now) }
+{
+    let mut rest = tokens;
+    'tokens: while let [first, after @ ..] = rest {
+        if is_bad_date(first, after) {
+            return true;
+        }
+        rest = after;
+    }
+    false
+}
+
+fn moment_fails(tokens: &[Token<'_>]) -> bool
+    ensures { result ≡ somewhere tests.is_bad_moment (lexemes tokens.now) }
+{
+    let mut rest = tokens;
+    'tokens: while let [first, after @ ..] = rest {
+        if is_no_moment(first, after) || is_open_end(first, after) {
+            return true;
+        }
+        rest = after;
+    }
+    false
+}
+
+fn number_fails(tokens: &[Token<'_>]) -> bool
+    ensures { result ≡ number_above false (lexemes tokens.now) }
+{
+    let mut rest = tokens;
+    let mut minus = false;
+    'tokens: while let [first, after @ ..] = rest {
+        if is_above(minus, first) {
+            return true;
+        }
+        minus = is_mark(first, Mark::Symbol("-"));
+        rest = after;
+    }
+    false
+}
+
+/// Whether some DATE names no day.
+#[tactic(auto, using(crate::proofs::LiteralFaultFacts::bad_date_somewhere))]
+pub fn has_bad_date(tokens: &[Token<'_>]) -> bool
+    ensures { IsTrue result ↔ HasBadDate (lexemes tokens.now) }
+{
+    date_fails(tokens)
+}
+
+/// Whether some TIMESTAMP names no moment, or one behind AT or OF none before the open end.
+#[tactic(auto, using(crate::proofs::LiteralFaultFacts::bad_moment_somewhere))]
+pub fn has_bad_moment(tokens: &[Token<'_>]) -> bool
+    ensures { IsTrue result ↔ HasBadMoment (lexemes tokens.now) }
+{
+    moment_fails(tokens)
+}
+
+/// Whether some number, with its sign, is outside 64 bits signed.
+#[tactic(auto, using(crate::proofs::LiteralFaultFacts::number_somewhere))]
+pub fn has_number_outside(tokens: &[Token<'_>]) -> bool
+    ensures { IsTrue result ↔ HasNumberOutside (lexemes tokens.now) }
+{
+    number_fails(tokens)
+}
+
+/// The refusal of the least number that the literals of a piece call for, if they call for one.
+pub fn literal_fault(tokens: &[Token<'_>]) -> Option<Refusal>
+    // What is answered is the least whose condition holds.
+    ensures least { IfSome result (IsLeast (LiteralApplies (lexemes tokens.now))) }
+
+    // Nothing is answered only where no condition holds.
+    ensures none { IfNone result (NoneApplies (LiteralApplies (lexemes tokens.now))) }
+{
+    if has_bad_date(tokens) {
+        return Some(Refusal::BadDate);
+    }
+    if has_bad_moment(tokens) {
+        return Some(Refusal::BadMoment);
+    }
+    if has_number_outside(tokens) {
+        return Some(Refusal::NumberRange);
+    }
+    None
+}

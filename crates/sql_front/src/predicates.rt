@@ -1,0 +1,187 @@
+//! The tests of stored queries: period predicates and comparisons, read from the front.
+
+ghost use Rattle.std.specs.Prelude.{◌≡◌, ◌≤◌, length, IfOk};
+ghost use Rattle.sql_front.specs.Gives.{Gives};
+ghost use Rattle.sql_front.specs.Lexemes.{lexemes};
+ghost use Rattle.sql_front.specs.PredicateReaders.{begins_contains_date, period_operand_read, predicate_ahead, predicate_read, relation_behind_column, relation_read, relation_word, stored_test_read};
+ghost use Rattle.sql_front.specs.Reading.{begins};
+
+use crate::comparisons::{read_column, read_compare};
+use crate::conditions::Test;
+use crate::leaves::read_date;
+use crate::mark::{Mark, is_mark, skip, starts, starts_name};
+use crate::statement::{PeriodOperand, PeriodPredicate, StoredTest};
+use crate::token::Token;
+use crate::unread::Unread;
+use std::alloc::Global;
+
+#[tactic(auto, unfolding(crate::specs::PredicateReaders::period_operand_read))]
+fn read_period_operand<'a, 'b>(
+    alloc: Global,
+    tokens: &'b [Token<'a>],
+) -> Result<(PeriodOperand, &'b [Token<'a>]), Unread>
+    ensures value { Gives (λ x. (x.0, lexemes x.1.now)) result (period_operand_read (lexemes tokens.now)) }
+    ensures rest { IfOk result (λ x. length x.1.now ≤ length tokens.now) }
+{
+    if !starts(tokens, Mark::Keyword("PERIOD")) {
+        let (column, rest) = read_column(alloc, tokens)?;
+        return Ok((PeriodOperand::Named(column), rest));
+    }
+    let rest = skip(tokens, Mark::Keyword("PERIOD"))?;
+    let (from, rest) = match read_date(skip(rest, Mark::Symbol("("))?) {
+        Ok(read) => read,
+        Err(fault) => return Err(fault),
+    };
+    let (to, rest) = match read_date(skip(rest, Mark::Symbol(","))?) {
+        Ok(read) => read,
+        Err(fault) => return Err(fault),
+    };
+    let rest = skip(rest, Mark::Symbol(")"))?;
+    Ok((PeriodOperand::Dates(from, to), rest))
+}
+
+#[tactic(auto, unfolding(crate::specs::PredicateReaders::relation_read))]
+fn read_relation<'a, 'b>(
+    tokens: &'b [Token<'a>],
+) -> Result<(PeriodPredicate, &'b [Token<'a>]), Unread>
+    ensures value { Gives (λ x. (x.0, lexemes x.1.now)) result (relation_read (lexemes tokens.now)) }
+    ensures rest { IfOk result (λ x. length x.1.now ≤ length tokens.now) }
+{
+    if starts(tokens, Mark::Keyword("OVERLAPS")) {
+        return Ok((
+            PeriodPredicate::Overlaps,
+            skip(tokens, Mark::Keyword("OVERLAPS"))?,
+        ));
+    }
+    if starts(tokens, Mark::Keyword("EQUALS")) {
+        return Ok((
+            PeriodPredicate::Equals,
+            skip(tokens, Mark::Keyword("EQUALS"))?,
+        ));
+    }
+    if starts(tokens, Mark::Keyword("CONTAINS")) {
+        return Ok((
+            PeriodPredicate::Contains,
+            skip(tokens, Mark::Keyword("CONTAINS"))?,
+        ));
+    }
+    if starts(tokens, Mark::Keyword("IMMEDIATELY")) {
+        let rest = skip(tokens, Mark::Keyword("IMMEDIATELY"))?;
+        if starts(rest, Mark::Keyword("PRECEDES")) {
+            return Ok((
+                PeriodPredicate::ImmediatelyPrecedes,
+                skip(rest, Mark::Keyword("PRECEDES"))?,
+            ));
+        }
+        return Ok((
+            PeriodPredicate::ImmediatelySucceeds,
+            skip(rest, Mark::Keyword("SUCCEEDS"))?,
+        ));
+    }
+    if starts(tokens, Mark::Keyword("PRECEDES")) {
+        return Ok((
+            PeriodPredicate::Precedes,
+            skip(tokens, Mark::Keyword("PRECEDES"))?,
+        ));
+    }
+    Ok((
+        PeriodPredicate::Succeeds,
+        skip(tokens, Mark::Keyword("SUCCEEDS"))?,
+    ))
+}
+
+/// Do the tokens begin with CONTAINS DATE?
+#[tactic(auto, unfolding(crate::specs::PredicateReaders::begins_contains_date))]
+fn starts_contains_date(tokens: &[Token<'_>]) -> bool
+    ensures { result ≡ begins_contains_date (lexemes tokens.now) }
+{
+    match tokens {
+        [] => false,
+        [first, rest @ ..] => {
+            is_mark(first, Mark::Keyword("CONTAINS")) && starts(rest, Mark::Keyword("DATE"))
+        }
+    }
+}
+
+/// A period predicate, and the tokens after it.
+#[tactic(auto, unfolding(crate::specs::PredicateReaders::predicate_read, crate::specs::PredicateReaders::said_read))]
+fn read_predicate<'a, 'b>(
+    alloc: Global,
+    tokens: &'b [Token<'a>],
+) -> Result<(StoredTest, &'b [Token<'a>]), Unread>
+    ensures value { Gives (λ x. (x.0, lexemes x.1.now)) result (predicate_read (lexemes tokens.now)) }
+    ensures rest { IfOk result (λ x. length x.1.now ≤ length tokens.now) }
+{
+    let (left, rest) = read_period_operand(alloc, tokens)?;
+    if starts_contains_date(rest) {
+        return match read_date(skip(rest, Mark::Keyword("CONTAINS"))?) {
+            Ok((day, rest)) => Ok((StoredTest::ContainsDay(left, day), rest)),
+            Err(fault) => Err(fault),
+        };
+    }
+    let (relation, rest) = read_relation(rest)?;
+    let (right, rest) = read_period_operand(alloc, rest)?;
+    Ok((StoredTest::Periods(left, relation, right), rest))
+}
+
+/// Do the tokens begin with a word of a period predicate?
+#[tactic(auto, unfolding(crate::specs::PredicateReaders::relation_word))]
+fn starts_relation(tokens: &[Token<'_>]) -> bool
+    ensures { result ≡ begins relation_word (lexemes tokens.now) }
+{
+    starts(tokens, Mark::Keyword("OVERLAPS"))
+        || (starts(tokens, Mark::Keyword("EQUALS"))
+            || (starts(tokens, Mark::Keyword("CONTAINS"))
+                || (starts(tokens, Mark::Keyword("IMMEDIATELY"))
+                    || (starts(tokens, Mark::Keyword("PRECEDES"))
+                        || starts(tokens, Mark::Keyword("SUCCEEDS"))))))
+}
+
+/// Does such a word stand behind the column that the tokens begin with?
+#[tactic(auto, unfolding(crate::specs::PredicateReaders::relation_behind_column))]
+fn has_relation_behind_column(tokens: &[Token<'_>]) -> bool
+    ensures { result ≡ relation_behind_column (lexemes tokens.now) }
+{
+    match tokens {
+        [] => false,
+        [_, rest @ ..] if !starts(rest, Mark::Symbol(".")) => starts_relation(rest),
+        [_, _, _, rest @ ..] => starts_relation(rest),
+        _ => false,
+    }
+}
+
+/// Do the tokens begin as a predicate does, and not as a comparison?
+#[tactic(auto, unfolding(crate::specs::PredicateReaders::predicate_ahead))]
+fn is_predicate_ahead(tokens: &[Token<'_>]) -> bool
+    ensures { result ≡ predicate_ahead (lexemes tokens.now) }
+{
+    starts(tokens, Mark::Keyword("PERIOD"))
+        || (starts_name(tokens) && has_relation_behind_column(tokens))
+}
+
+/// A period predicate or a comparison, and the tokens after it.
+#[tactic(auto, unfolding(crate::specs::PredicateReaders::stored_test_read))]
+pub fn read_stored_test<'a, 'b>(
+    alloc: Global,
+    tokens: &'b [Token<'a>],
+) -> Result<(StoredTest, &'b [Token<'a>]), Unread>
+    ensures value { Gives (λ x. (x.0, lexemes x.1.now)) result (stored_test_read (lexemes tokens.now)) }
+    ensures rest { IfOk result (λ x. length x.1.now ≤ length tokens.now) }
+{
+    if is_predicate_ahead(tokens) {
+        return read_predicate(alloc, tokens);
+    }
+    let (compare, rest) = read_compare(alloc, tokens)?;
+    Ok((StoredTest::Values(compare), rest))
+}
+
+impl Test for StoredTest {
+    ghost reader = { stored_test_read };
+
+    fn read<'a, 'b>(
+        alloc: Global,
+        tokens: &'b [Token<'a>],
+    ) -> Result<(Self, &'b [Token<'a>]), Unread> {
+        read_stored_test(alloc, tokens)
+    }
+}

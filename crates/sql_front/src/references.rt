@@ -1,0 +1,91 @@
+//! Table references and the items of a select list, read from the front.
+
+ghost use Rattle.std.specs.Prelude.{◌≡◌, ◌≤◌, length, IfOk};
+ghost use Rattle.sql_front.specs.Gives.{Gives};
+ghost use Rattle.sql_front.specs.Lexemes.{lexemes};
+ghost use Rattle.sql_front.specs.Reading.{begins};
+ghost use Rattle.sql_front.specs.declared.statement.SelectItem as items;
+ghost use Rattle.sql_front.specs.QueryReaders.{begins_new_name, item_read, new_name_read, reference_read};
+
+use crate::comparisons::read_column;
+use crate::leaves::read_name;
+use crate::list::Item;
+use crate::mark::{Mark, skip, starts, starts_name};
+use crate::name::Name;
+use crate::statement::{SelectItem, TableReference};
+use crate::token::Token;
+use crate::unread::Unread;
+use crate::windows::read_for_window;
+use std::alloc::Global;
+
+/// Does a new name come next, with AS or without?
+fn starts_new_name(tokens: &[Token<'_>]) -> bool
+    ensures { result ≡ begins begins_new_name (lexemes tokens.now) }
+{
+    starts(tokens, Mark::Keyword("AS")) || starts_name(tokens)
+}
+
+/// A new name with AS or without, or nothing, and the tokens after it.
+#[tactic(auto, unfolding(crate::specs::QueryReaders::new_name_read))]
+fn read_new_name<'a, 'b>(
+    alloc: Global,
+    tokens: &'b [Token<'a>],
+) -> Result<(Option<Name>, &'b [Token<'a>]), Unread>
+    ensures value { Gives (λ x. (x.0, lexemes x.1.now)) result (new_name_read (lexemes tokens.now)) }
+    ensures rest { IfOk result (λ x. length x.1.now ≤ length tokens.now) }
+{
+    if !starts_new_name(tokens) {
+        return Ok((None, tokens));
+    }
+    if starts(tokens, Mark::Keyword("AS")) {
+        let (new_name, rest) = read_name(alloc, skip(tokens, Mark::Keyword("AS"))?)?;
+        return Ok((Some(new_name), rest));
+    }
+    let (new_name, rest) = read_name(alloc, tokens)?;
+    Ok((Some(new_name), rest))
+}
+
+/// A table with its window and its new name, and the tokens after it.
+#[tactic(auto, unfolding(crate::specs::QueryReaders::reference_read))]
+pub fn read_reference<'a, 'b>(
+    alloc: Global,
+    tokens: &'b [Token<'a>],
+) -> Result<(TableReference, &'b [Token<'a>]), Unread>
+    ensures value { Gives (λ x. (x.0, lexemes x.1.now)) result (reference_read (lexemes tokens.now)) }
+    ensures rest { IfOk result (λ x. length x.1.now ≤ length tokens.now) }
+{
+    let (table, rest) = read_name(alloc, tokens)?;
+    // `?` on moments beside borrowed tokens has no rule
+    let (window, rest) = match read_for_window(rest) {
+        Ok(read) => read,
+        Err(unread) => return Err(unread),
+    };
+    let (new_name, rest) = read_new_name(alloc, rest)?;
+    Ok((
+        TableReference {
+            table,
+            window,
+            new_name,
+        },
+        rest,
+    ))
+}
+
+impl<'a> Item<'a> for SelectItem {
+    ghost Tree = { items.SelectItem };
+
+    ghost view = { λ i. i };
+
+    ghost reader = { λ depth. item_read };
+
+    #[tactic(auto, unfolding(crate::specs::QueryReaders::item_read))]
+    fn read<'b>(
+        alloc: Global,
+        _depth: usize,
+        tokens: &'b [Token<'a>],
+    ) -> Result<(Self, &'b [Token<'a>]), Unread> {
+        let (column, rest) = read_column(alloc, tokens)?;
+        let (new_name, rest) = read_new_name(alloc, rest)?;
+        Ok((SelectItem { column, new_name }, rest))
+    }
+}

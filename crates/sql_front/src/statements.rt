@@ -1,0 +1,81 @@
+//! A statement, read from all of its tokens.
+
+ghost use Rattle.std.specs.Prelude.{◌≡◌, IfOk};
+ghost use Rattle.sql_front.specs.declared.unread.Unread.TheVariants.{Syntax};
+ghost use Rattle.sql_front.specs.Gives.{Gives};
+ghost use Rattle.sql_front.specs.Grammar.{IsStatement};
+ghost use Rattle.sql_front.specs.Lexemes.{lexemes};
+ghost use Rattle.sql_front.specs.PieceRefusals.{IsTooDeep, SpellsNone};
+ghost use Rattle.sql_front.specs.Plain.{plain, plain_form};
+ghost use Rattle.sql_front.specs.Reading.{whole_read};
+ghost use Rattle.sql_front.specs.StatementReaders.{statement_read};
+
+use crate::changes::{read_at, read_delete, read_insert, read_update};
+use crate::mark::{Mark, starts};
+use crate::queries::read_sequenced;
+use crate::statement::{Statement, StatementForm};
+use crate::stored::read_stored;
+use crate::tables::read_create;
+use crate::token::Token;
+use crate::unread::Unread;
+use std::alloc::Global;
+
+/// How many parentheses may be open at one place.
+const DEPTH: usize = 32;
+
+#[tactic(auto, unfolding(crate::specs::StatementReaders::statement_read))]
+fn read_statement<'a, 'b>(
+    alloc: Global,
+    tokens: &'b [Token<'a>],
+) -> Result<(StatementForm, &'b [Token<'a>]), Unread>
+    ensures { Gives (λ x. (plain_form x.0, lexemes x.1.now)) result (statement_read 32 (lexemes tokens.now)) }
+{
+    if starts(tokens, Mark::Keyword("AT")) {
+        return match read_at(tokens) {
+            Ok((moment, rest)) => Ok((StatementForm::At(moment), rest)),
+            Err(unread) => Err(unread),
+        };
+    }
+    if starts(tokens, Mark::Keyword("CREATE")) {
+        let (table, rest) = read_create(alloc, tokens)?;
+        return Ok((StatementForm::Create(table), rest));
+    }
+    if starts(tokens, Mark::Keyword("INSERT")) {
+        let (rows, rest) = read_insert(alloc, tokens)?;
+        return Ok((StatementForm::Insert(rows), rest));
+    }
+    if starts(tokens, Mark::Keyword("UPDATE")) {
+        let (rows, rest) = read_update(alloc, DEPTH, tokens)?;
+        return Ok((StatementForm::Update(rows), rest));
+    }
+    if starts(tokens, Mark::Keyword("DELETE")) {
+        let (rows, rest) = read_delete(alloc, DEPTH, tokens)?;
+        return Ok((StatementForm::Delete(rows), rest));
+    }
+    if starts(tokens, Mark::Keyword("VALIDTIME")) {
+        let (query, rest) = read_sequenced(alloc, DEPTH, tokens)?;
+        return Ok((StatementForm::Sequenced(query), rest));
+    }
+    let (query, rest) = read_stored(alloc, DEPTH, tokens)?;
+    Ok((StatementForm::Stored(query), rest))
+}
+
+fn read_all(alloc: Global, tokens: &[Token<'_>]) -> Result<Statement, Unread>
+    ensures { Gives plain result (whole_read (statement_read 32) (lexemes tokens.now)) }
+{
+    let (found, rest) = read_statement(alloc, tokens)?;
+    if !rest.is_empty() {
+        return Err(Unread::Syntax);
+    }
+    Ok(Statement::new(found))
+}
+
+/// The statement that the tokens spell, all of them. At most 32 parentheses are open at one place.
+pub fn spelled(alloc: Global, tokens: &[Token<'_>]) -> Result<Statement, Unread>
+    // What is read is spelled so.
+    ensures found { IfOk result (λ s. IsStatement (lexemes tokens.now) (plain s)) }
+    // No statement is spelled so.
+    ensures none { result ≡ Err Syntax → (IsTooDeep (lexemes tokens.now) → ⊥) → SpellsNone (lexemes tokens.now) }
+{
+    read_all(alloc, tokens)
+}

@@ -1,0 +1,44 @@
+//! Stored queries, read from the front.
+
+ghost use Rattle.std.specs.Prelude.{◌≡◌, ◌≤◌, length, IfOk};
+ghost use Rattle.sql_front.specs.Gives.{Gives};
+ghost use Rattle.sql_front.specs.Lexemes.{lexemes};
+ghost use Rattle.sql_front.specs.Plain.{plain_stored};
+ghost use Rattle.sql_front.specs.StatementReaders.{stored_read};
+
+use crate::conditions::read_where;
+use crate::leaves::read_name;
+use crate::mark::{Mark, skip};
+use crate::statement::{StoredQuery, StoredTest};
+use crate::token::Token;
+use crate::unread::Unread;
+use crate::windows::read_for_window;
+use std::alloc::Global;
+
+/// SELECT * of a table, and the tokens after it. At most `depth` parentheses open in it.
+#[tactic(auto, unfolding(crate::specs::StatementReaders::stored_read))]
+pub fn read_stored<'a, 'b>(
+    alloc: Global,
+    depth: usize,
+    tokens: &'b [Token<'a>],
+) -> Result<(StoredQuery, &'b [Token<'a>]), Unread>
+    ensures value { Gives (λ x. (plain_stored x.0, lexemes x.1.now)) result (stored_read depth (lexemes tokens.now)) }
+    ensures rest { IfOk result (λ x. length x.1.now ≤ length tokens.now) }
+{
+    let rest = skip(tokens, Mark::Keyword("SELECT"))?;
+    let rest = skip(rest, Mark::Symbol("*"))?;
+    let (table, rest) = read_name(alloc, skip(rest, Mark::Keyword("FROM"))?)?;
+    let (window, rest) = match read_for_window(rest) {
+        Ok(found) => found,
+        Err(unread) => return Err(unread),
+    };
+    let (condition, rest) = read_where::<StoredTest>(alloc, depth, rest)?;
+    Ok((
+        StoredQuery {
+            table,
+            window,
+            condition,
+        },
+        rest,
+    ))
+}

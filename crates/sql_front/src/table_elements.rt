@@ -1,0 +1,191 @@
+//! The periods, keys and references of CREATE TABLE, read from the front.
+
+ghost use Rattle.std.specs.Prelude.{◌≡◌, ◌≤◌, ◌<◌, length, IfOk};
+ghost use Rattle.sql_front.specs.ElementReaders.{key_element_read, key_names_read, leading_names_read, one_more_name, pair_read, period_element_read, reference_element_read, reference_list_read, split_last, system_element_read, without_overlaps_read};
+ghost use Rattle.sql_front.specs.Gives.{Gives};
+ghost use Rattle.sql_front.specs.Lexemes.{lexemes};
+
+use crate::create::{KeyElement, PeriodElement, ReferenceElement, SystemElement};
+use crate::leaves::read_name;
+use crate::list::separated;
+use crate::mark::{Mark, skip, starts, starts_name};
+use crate::name::Name;
+use crate::nonempty::NonEmpty;
+use crate::token::Token;
+use crate::unread::Unread;
+use std::alloc::Global;
+
+// Two names in parentheses.
+#[tactic(auto, unfolding(crate::specs::ElementReaders::pair_read))]
+fn read_pair<'a, 'b>(
+    alloc: Global,
+    tokens: &'b [Token<'a>],
+) -> Result<((Name, Name), &'b [Token<'a>]), Unread>
+    ensures value { Gives (λ x. (x.0, lexemes x.1.now)) result (pair_read (lexemes tokens.now)) }
+    ensures rest { IfOk result (λ x. length x.1.now ≤ length tokens.now) }
+{
+    let (start, rest) = read_name(alloc, skip(tokens, Mark::Symbol("("))?)?;
+    let (end, rest) = read_name(alloc, skip(rest, Mark::Symbol(","))?)?;
+    Ok(((start, end), skip(rest, Mark::Symbol(")"))?))
+}
+
+/// PERIOD FOR a name with its two columns, and the tokens after it.
+#[tactic(auto, unfolding(crate::specs::ElementReaders::period_element_read))]
+pub fn read_period_element<'a, 'b>(
+    alloc: Global,
+    tokens: &'b [Token<'a>],
+) -> Result<(PeriodElement, &'b [Token<'a>]), Unread>
+    ensures value { Gives (λ x. (x.0, lexemes x.1.now)) result (period_element_read (lexemes tokens.now)) }
+    ensures rest { IfOk result (λ x. length x.1.now ≤ length tokens.now) }
+{
+    let rest = skip(tokens, Mark::Keyword("PERIOD"))?;
+    let rest = skip(rest, Mark::Keyword("FOR"))?;
+    let (name, rest) = read_name(alloc, rest)?;
+    let ((start, end), rest) = read_pair(alloc, rest)?;
+    Ok((PeriodElement { name, start, end }, rest))
+}
+
+/// PERIOD FOR SYSTEM_TIME with its two columns, and the tokens after it.
+#[tactic(auto, unfolding(crate::specs::ElementReaders::system_element_read))]
+pub fn read_system_element<'a, 'b>(
+    alloc: Global,
+    tokens: &'b [Token<'a>],
+) -> Result<(SystemElement, &'b [Token<'a>]), Unread>
+    ensures value { Gives (λ x. (x.0, lexemes x.1.now)) result (system_element_read (lexemes tokens.now)) }
+    ensures rest { IfOk result (λ x. length x.1.now ≤ length tokens.now) }
+{
+    let rest = skip(tokens, Mark::Keyword("PERIOD"))?;
+    let rest = skip(rest, Mark::Keyword("FOR"))?;
+    let rest = skip(rest, Mark::Keyword("SYSTEM_TIME"))?;
+    let ((start, end), rest) = read_pair(alloc, rest)?;
+    Ok((SystemElement { start, end }, rest))
+}
+
+// The names before the last, and the last. A lone name has none before it.
+#[tactic(auto, using(crate::proofs::SplitLast::split_none, crate::proofs::SplitLast::split_one, crate::proofs::SplitLast::split_more))]
+fn split_off_last(names: Vec<Name>) -> Result<(NonEmpty<Name>, Name), Unread>
+    ensures { Gives (λ x. x) result (split_last names.items) }
+{
+    let mut names = names;
+    let Some(last) = names.pop() else {
+        return Err(Unread::Syntax);
+    };
+    if names.is_empty() {
+        return Err(Unread::Syntax);
+    }
+    Ok((NonEmpty::from_vec(names), last))
+}
+
+// The names of a key's columns and its period's, which is the last.
+#[tactic(auto, unfolding(crate::specs::ElementReaders::key_names_read, crate::specs::ElementReaders::all_and_last_read))]
+fn read_key_names<'a, 'b>(
+    alloc: Global,
+    tokens: &'b [Token<'a>],
+) -> Result<((NonEmpty<Name>, Name), &'b [Token<'a>]), Unread>
+    ensures value { Gives (λ x. (x.0, lexemes x.1.now)) result (key_names_read (lexemes tokens.now)) }
+    ensures rest { IfOk result (λ x. length x.1.now ≤ length tokens.now) }
+{
+    let (names, rest) = separated::<Name>(alloc, 0, tokens)?;
+    Ok((split_off_last(names)?, rest))
+}
+
+// The tokens after WITHOUT OVERLAPS.
+#[tactic(auto, unfolding(crate::specs::ElementReaders::without_overlaps_read))]
+fn skip_without_overlaps<'a, 'b>(tokens: &'b [Token<'a>]) -> Result<&'b [Token<'a>], Unread>
+    ensures value { Gives (λ x. (tt, lexemes x.now)) result (without_overlaps_read (lexemes tokens.now)) }
+    ensures rest { IfOk result (λ x. length x.now ≤ length tokens.now) }
+{
+    skip(
+        skip(tokens, Mark::Keyword("WITHOUT"))?,
+        Mark::Keyword("OVERLAPS"),
+    )
+}
+
+/// PRIMARY KEY of columns and a period WITHOUT OVERLAPS, and the tokens after it.
+#[tactic(auto, unfolding(crate::specs::ElementReaders::key_element_read))]
+pub fn read_key_element<'a, 'b>(
+    alloc: Global,
+    tokens: &'b [Token<'a>],
+) -> Result<(KeyElement, &'b [Token<'a>]), Unread>
+    ensures value { Gives (λ x. (x.0, lexemes x.1.now)) result (key_element_read (lexemes tokens.now)) }
+    ensures rest { IfOk result (λ x. length x.1.now ≤ length tokens.now) }
+{
+    let rest = skip(tokens, Mark::Keyword("PRIMARY"))?;
+    let rest = skip(rest, Mark::Keyword("KEY"))?;
+    let rest = skip(rest, Mark::Symbol("("))?;
+    let ((columns, period), rest) = read_key_names(alloc, rest)?;
+    let rest = skip_without_overlaps(rest)?;
+    let rest = skip(rest, Mark::Symbol(")"))?;
+    Ok((KeyElement { columns, period }, rest))
+}
+
+// Does a name come after a comma? What else may come there is a keyword.
+#[tactic(auto, unfolding(crate::specs::ElementReaders::one_more_name))]
+fn names_one_more(tokens: &[Token<'_>]) -> bool
+    ensures { result ≡ one_more_name (lexemes tokens.now) }
+{
+    match tokens {
+        [] => false,
+        [_, rest @ ..] => starts(tokens, Mark::Symbol(",")) && starts_name(rest),
+    }
+}
+
+// The names before a comma and a keyword.
+fn read_leading_names<'a, 'b>(
+    alloc: Global,
+    tokens: &'b [Token<'a>],
+) -> Result<(NonEmpty<Name>, &'b [Token<'a>]), Unread>
+    ensures value { Gives (λ x. (x.0, lexemes x.1.now)) result (leading_names_read (lexemes tokens.now)) }
+    ensures rest { IfOk result (λ x. length x.1.now ≤ length tokens.now) }
+{
+    let mut names = Vec::new(alloc);
+    let (first, mut rest) = read_name(alloc, tokens)?;
+    names.push(first)?;
+    'names: while names_one_more(rest) {
+        let (next, after) = read_name(alloc, skip(rest, Mark::Symbol(","))?)?;
+        names.push(next)?;
+        rest = after;
+    }
+    Ok((NonEmpty::from_vec(names), rest))
+}
+
+// Columns and PERIOD with a name, in parentheses.
+#[tactic(auto, unfolding(crate::specs::ElementReaders::reference_list_read))]
+fn read_reference_list<'a, 'b>(
+    alloc: Global,
+    tokens: &'b [Token<'a>],
+) -> Result<((NonEmpty<Name>, Name), &'b [Token<'a>]), Unread>
+    ensures value { Gives (λ x. (x.0, lexemes x.1.now)) result (reference_list_read (lexemes tokens.now)) }
+    ensures rest { IfOk result (λ x. length x.1.now ≤ length tokens.now) }
+{
+    let (columns, rest) = read_leading_names(alloc, skip(tokens, Mark::Symbol("("))?)?;
+    let rest = skip(rest, Mark::Symbol(","))?;
+    let rest = skip(rest, Mark::Keyword("PERIOD"))?;
+    let (period, rest) = read_name(alloc, rest)?;
+    Ok(((columns, period), skip(rest, Mark::Symbol(")"))?))
+}
+
+/// FOREIGN KEY with the child's list, the parent and its list, and the tokens after it.
+#[tactic(auto, unfolding(crate::specs::ElementReaders::reference_element_read))]
+pub fn read_reference_element<'a, 'b>(
+    alloc: Global,
+    tokens: &'b [Token<'a>],
+) -> Result<(ReferenceElement, &'b [Token<'a>]), Unread>
+    ensures value { Gives (λ x. (x.0, lexemes x.1.now)) result (reference_element_read (lexemes tokens.now)) }
+    ensures rest { IfOk result (λ x. length x.1.now ≤ length tokens.now) }
+{
+    let rest = skip(tokens, Mark::Keyword("FOREIGN"))?;
+    let rest = skip(rest, Mark::Keyword("KEY"))?;
+    let ((columns, period), rest) = read_reference_list(alloc, rest)?;
+    let rest = skip(rest, Mark::Keyword("REFERENCES"))?;
+    let (parent, rest) = read_name(alloc, rest)?;
+    let ((parent_columns, parent_period), rest) = read_reference_list(alloc, rest)?;
+    let reference = ReferenceElement {
+        columns,
+        period,
+        parent,
+        parent_columns,
+        parent_period,
+    };
+    Ok((reference, rest))
+}

@@ -1,0 +1,30 @@
+//! Conditions and queries as trees. A chain of operators of one strength is one node, so how deep
+//! a tree is, is bounded by the parentheses of its text.
+
+/// A condition over tests.
+#[derive(Drop, Debug)]
+pub enum Tree<T> {
+    /// A chain of OR: its first part, and the others in their order.
+    Or(Box<Tree<T>>, Vec<Tree<T>>),
+    /// A chain of AND: its first part, and the others in their order.
+    And(Box<Tree<T>>, Vec<Tree<T>>),
+    Not(Box<Tree<T>>),
+    Test(T),
+}
+
+/// What a set operator does with the rows of its two sides. Both give each row once.
+#[derive(Clone, Copy, Debug, PartialEq, Eq)]
+pub enum SetOperator {
+    /// The rows of either side.
+    Union,
+    /// The rows of the left side that the right side lacks.
+    Except,
+}
+
+/// A query over selects.
+#[derive(Drop, Debug)]
+pub enum QueryTree<S> {
+    Select(S),
+    /// A query, and the set operators that apply after it, from left to right.
+    Combined(Box<QueryTree<S>>, Vec<(SetOperator, QueryTree<S>)>),
+}
