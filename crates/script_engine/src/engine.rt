@@ -1,6 +1,6 @@
 //! The engine: a catalog, the rows of its tables, and the statements that it carries out.
 
-ghost use Rattle.std.specs.Prelude.{◌≡◌, ◌<◌, ◌≤◌, ◌+◌, ◌-◌, ◌++◌, ◌∷◌, [], ℕ, List, Some, length, IfOk, IfErr, OnOk, OnErr, slice_set, slice_index_or};
+ghost use Rattle.std.specs.Prelude.{◌≡◌, ◌<◌, ◌≤◌, ◌+◌, ◌-◌, ◌++◌, ◌∷◌, [], ℕ, List, Some, length, IfOk, IfErr, IsOkAnd, OnOk, OnErr, slice_set, slice_index_or};
 ghost use Rattle.catalog_core.specs.Histories.{History, Database, opened, new_database, rows_in};
 ghost use Rattle.catalog_core.specs.Resolution.{IsChange};
 ghost use Rattle.catalog_core.specs.Selection.{IsSequenced};
@@ -43,15 +43,19 @@ impl<S: Alter> Model for Engine<S> {
 }
 
 impl<S: Alter> Engine<S> {
-    /// An engine without tables over a connection.
-    pub fn new(alloc: Global, connection: Connection<S>) -> Engine<S>
-        ensures { result ≡ new_database }
+    /// Opens an engine without tables over a connection. It makes no call of the database, so it is
+    /// not refused: an `Err` would hand the connection back.
+    pub fn open(
+        alloc: Global,
+        connection: Connection<S>,
+    ) -> Result<Engine<S>, (Refusal, Connection<S>)>
+        ensures { IsOkAnd result (λ engine. engine ≡ new_database) }
     {
-        Engine {
+        Ok(Engine {
             connection,
             catalog: Catalog::new(alloc),
             rows: Vec::new(alloc),
-        }
+        })
     }
 
     /// The tables' definitions in the order of their creation.

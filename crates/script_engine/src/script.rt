@@ -122,7 +122,10 @@ pub fn run_script<S: Alter + Drop>(
     let text = script_text(script)?;
     let tokens = script_tokens(alloc, text)?;
     let pieces = cut(alloc, tokens.as_slice())?;
-    let mut engine = Engine::new(alloc, connection);
+    let mut engine = match Engine::open(alloc, connection) {
+        Ok(engine) => engine,
+        Err((refusal, _connection)) => return Err(refusal),
+    };
     run_pieces(
         alloc,
         &mut engine,

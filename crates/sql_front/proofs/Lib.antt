@@ -40,6 +40,7 @@ pub mod QueryLevels
 pub mod QueryViews
 pub mod Quotes
 pub mod Regroup
+pub mod Shapes
 pub mod Sorts
 pub mod SplitLast
 pub mod StatementExamples

@@ -8,7 +8,7 @@ use Rattle.sql_front.specs.declared.lexeme.Front.{Front}
 use Rattle.sql_front.specs.declared.lexeme.Front.TheVariants as front
 use Rattle.sql_front.specs.Lexemes.{Lexeme}
 use Rattle.sql_front.specs.Lexis.{is_blank, is_letter, is_digit, is_word_byte, is_symbol, begins, begins_pair, quoted_size, longer, text_of_size, first_lexeme, IsTokenAt}
-use Rattle.sql_front.specs.Shapes.{doubled, HasShape, IsWordText, IsNumberText, IsSymbolText}
+use Rattle.sql_front.proofs.Shapes.{doubled, HasShape, IsWordText, IsNumberText, IsSymbolText}
 use Rattle.sql_front.proofs.FrontEnds.{longer_some, none_some, pair_second, some_same}
 
 -- one byte more

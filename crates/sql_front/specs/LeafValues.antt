@@ -1,5 +1,5 @@
 -- The values of dates and moments, by the digits of their tokens.
-use Rattle.std.specs.Prelude.{ℕ, ℤ, pos, ◌+◌, ◌-◌, ◌*◌, ◌==◌, ◌&&◌, Bool, cond, nat_lt, nat_le, int_lt, List, length, slice_index, Option, Some, None}
+use Rattle.std.specs.Prelude.{ℕ, ℤ, ◌+◌, ◌-◌, ◌*◌, ◌==◌, ◌&&◌, Bool, cond, nat_lt, nat_le, int_lt, List, length, slice_index, Option, Some, None}
 use Rattle.period_core.specs.Calendar.{day_number, month_length}
 use Rattle.period_core.specs.Moments.{first_moment, forever, moment_number}
 use Rattle.sql_front.specs.Values.{first_day}

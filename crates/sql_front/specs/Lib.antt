@@ -1,6 +1,5 @@
 pub mod Lexemes
 pub mod Lexis
-pub mod Shapes
 pub mod Pieces
 pub mod Words
 pub mod WordGroups
@@ -8,8 +7,8 @@ pub mod Names
 pub mod Values
 pub mod Language
 pub mod Trees
-pub mod Grammar
 pub mod Plain
+pub mod Grammar
 pub mod Depth
 pub mod LiteralFaults
 pub mod PieceRefusals
