@@ -1,6 +1,7 @@
 -- What each definition of a table keeps: its numbers are in range, its places are those of columns.
-use Rattle.std.specs.Prelude.{◌≡◌, ◌==◌, ◌&&◌, ◌^◌, ℕ, Bool, true, false, List, [], ◌∷◌, Option, Some, None, length, nat_le, nat_lt}
+use Rattle.std.specs.Prelude.{◌≡◌, ◌==◌, ◌&&◌, ℕ, Bool, true, false, List, [], ◌∷◌, Option, Some, None, length, nat_le, nat_lt}
 use Rattle.std.specs.List.{list_all}
+use Rattle.catalog_core.specs.Limits.{number_limit}
 use Rattle.catalog_core.specs.declared.table.Column.{Column}
 use Rattle.catalog_core.specs.declared.table.ColumnKind.{ColumnKind}
 use Rattle.catalog_core.specs.declared.table.ColumnKind.TheVariants.{Integer, Varchar, Date, RowStart, RowEnd}
@@ -29,10 +30,6 @@ has_some (x ∷ xs) = true
 abbrev pub are_places : ℕ → List ℕ → Bool
 are_places count places = list_all (λ place. nat_lt place count) places
 
--- how many columns no table exceeds: a list is shorter
-abbrev pub most_columns : ℕ
-most_columns = 2 ^ 63
-
 -- the period is over two of so many columns
 abbrev pub is_period : ℕ → PeriodColumns → Bool
 is_period count period = nat_lt period.start count && nat_lt period.end count
@@ -44,7 +41,7 @@ is_key count key = has_some key && are_places count key
 -- a reference is to a table, which counts from 1, by as many of its own columns as of its parent's
 abbrev pub is_reference : ℕ → Reference → Bool
 is_reference count r =
-    nat_le 1 r.parent && (length r.own == length r.keys && (is_key count r.own && are_places most_columns r.keys))
+    nat_le 1 r.parent && (length r.own == length r.keys && (is_key count r.own && are_places number_limit r.keys))
 
 abbrev pub is_definition : List Column → PeriodColumns → List ℕ → List Reference → Bool
 is_definition columns period key references =

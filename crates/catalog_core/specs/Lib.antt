@@ -1,3 +1,4 @@
+pub mod Limits
 pub mod Judged
 pub mod Matches
 pub mod Naming

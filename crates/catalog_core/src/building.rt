@@ -1,10 +1,11 @@
 //! The definition that a sound CREATE gives.
 
-ghost use Rattle.std.specs.Prelude.{◌≡◌, ◌<◌, ◌^◌, IfOk, IfSome, Some, false, true, is_none, is_some, length, map};
+ghost use Rattle.std.specs.Prelude.{◌≡◌, ◌<◌, IfOk, IfSome, Some, false, true, is_none, is_some, length, map};
 ghost use Rattle.std.specs.List.{list_all};
 ghost use Rattle.catalog_core.specs.Creation.{has_bad_column, has_unequal_lists, is_bad_type, lacks_parent, parent_of, some_match, some_own_match, some_parent_match};
 ghost use Rattle.catalog_core.specs.Definition.{Defines, column_parts, declared_column, declared_kind, declared_reference, own_place, reference_parts};
-ghost use Rattle.catalog_core.specs.IsDefinition.{are_places, is_reference, most_columns};
+ghost use Rattle.catalog_core.specs.IsDefinition.{are_places, is_reference};
+ghost use Rattle.catalog_core.specs.Limits.{number_limit};
 ghost use Rattle.catalog_core.specs.TableWords.{def_place, some_def_match};
 ghost use Rattle.catalog_core.specs.declared.matching.Matching.TheVariants.{Nothing};
 
@@ -32,7 +33,7 @@ fn own_place(create: &CreateTable, name: &Name) -> Option<usize>
 #[tactic(auto, unfolding(crate::specs::TableWords::def_place))]
 fn def_place(table: &TableDef, name: &Name) -> Option<usize>
     ensures value { result ≡ def_place table.now name.now }
-    ensures small { IfSome result (λ place. place < 2 ^ 63) }
+    ensures small { IfSome result (λ place. place < number_limit) }
 {
     let columns = table.columns.as_slice();
     for i in 0..columns.len() {
@@ -63,7 +64,7 @@ fn def_places(alloc: Global, table: &TableDef, names: &[Name]) -> Result<Vec<usi
     requires { some_def_match table.now Nothing names.now ≡ false }
     ensures value { IfOk result
         (λ v. map (def_place table.now) names.now ≡ map (λ i. Some i) v.items) }
-    ensures small { IfOk result (λ v. are_places most_columns v.items ≡ true) }
+    ensures small { IfOk result (λ v. are_places number_limit v.items ≡ true) }
 {
     let mut places = Vec::new(alloc);
     for name in names {

@@ -1,6 +1,7 @@
 //! The catalog: the tables by their numbers.
 
 ghost use Rattle.std.specs.Prelude.{◌≡◌, ◌↔◌, ◌≤◌, ◌<◌, ◌++◌, ◌∷◌, [], IfOk, IfSome, IsSome, OnErr, length, option_copied};
+ghost use Rattle.catalog_core.specs.Limits.{most_tables};
 ghost use Rattle.catalog_core.specs.TableWords.{number_of, table_of, table_of_name};
 
 use crate::table::TableDef;
@@ -13,11 +14,11 @@ use std::mem;
 #[derive(Drop, Debug)]
 pub struct Catalog {
     pub tables: Items<TableDef>,
-    pub ghost few: { length tables ≤ 64 },
+    pub ghost few: { length tables ≤ most_tables },
 }
 
 /// How many tables a catalog may have.
-const MOST_TABLES: usize = 64;
+pub const MOST_TABLES: usize = 64;
 
 impl Catalog {
     /// The catalog without a table.
@@ -31,7 +32,7 @@ impl Catalog {
 
     /// The catalog of these tables, unless they are more than 64.
     pub fn from_tables(tables: Items<TableDef>) -> Option<Catalog>
-        ensures there { IsSome result ↔ (length tables ≤ 64) }
+        ensures there { IsSome result ↔ (length tables ≤ most_tables) }
         ensures value { IfSome result (λ catalog. catalog.tables ≡ tables) }
     {
         if tables.len() > MOST_TABLES {
@@ -42,7 +43,7 @@ impl Catalog {
 
     /// Adds a table, whose number is then that of all tables.
     pub fn push(&mut self, alloc: Global, definition: TableDef) -> Result<(), Memory>
-        requires { length self.old.tables < 64 }
+        requires { length self.old.tables < most_tables }
         ensures pushed { IfOk result (λ _. self.new.tables ≡ self.old.tables ++ definition ∷ []) }
         ensures kept { OnErr result (self.new ≡ self.old) }
     {

@@ -41,13 +41,13 @@ pub query_number : (catalog : List TableDef) (s : Statement) (query : Select) �
 query_number catalog (statement.sequenced asked) query resolved = simple_number catalog (simple_select asked) query resolved
 query_number catalog other query resolved = absurd resolved
 
-exceeds_with : (catalog : List TableDef) (create : CreateTable) → nat_lt 63 (length catalog) ≡ true → exceeds_limits catalog create ≡ true
+exceeds_with : (catalog : List TableDef) (create : CreateTable) → nat_le most_tables (length catalog) ≡ true → exceeds_limits catalog create ≡ true
 unfolding exceeds_limits
 exceeds_with catalog create e = rw e refl
 
-pub few_tables : (catalog : List TableDef) (create : CreateTable) → NoneApplies (Holds (create_conditions catalog create)) → length catalog < 64
-few_tables catalog create none = by_test (nat_lt 63 (length catalog)) refl
+pub few_tables : (catalog : List TableDef) (create : CreateTable) → NoneApplies (Holds (create_conditions catalog create)) → length catalog < most_tables
+few_tables catalog create none = by_test (nat_le most_tables (length catalog)) refl
   where
-    by_test : (b : Bool) → nat_lt 63 (length catalog) ≡ b → length catalog < 64
+    by_test : (b : Bool) → nat_le most_tables (length catalog) ≡ b → length catalog < most_tables
     by_test true e = absurd (none LimitReached (inl (refl, exceeds_with catalog create e)))
     by_test false e = grind (arith, nat_tests, e)
