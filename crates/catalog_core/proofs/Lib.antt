@@ -9,6 +9,8 @@ pub mod RowFacts
 pub mod Shape
 pub mod DefinitionParts
 pub mod Built
+pub mod DatePeriods
+pub mod GivenValues
 pub mod Fronts
 pub mod DefinitionFronts
 pub mod DefinitionSpelling

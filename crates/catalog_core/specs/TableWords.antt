@@ -2,14 +2,15 @@
 use Rattle.std.specs.Prelude.{◌+◌, ◌==◌, ◌&&◌, ℕ, zero, suc, Bool, true, false, not, List, Option, None, find, slice_get, map, filter, length, bytes_eq, count_by}
 use Rattle.std.specs.List.{enumerate_from, list_any, position}
 use Rattle.std.specs.Option.{option_and_then, option_map}
-use Rattle.catalog_core.specs.Kinds.{kind_of_column}
+use Rattle.catalog_core.specs.Kinds.{kind_of_column, same_kind}
 use Rattle.catalog_core.specs.Matches.{is_matching}
-use Rattle.catalog_core.specs.Naming.{Name}
+use Rattle.catalog_core.specs.Naming.{Name, passes}
 use Rattle.catalog_core.specs.declared.matching.Matching.{Matching}
 use Rattle.catalog_core.specs.declared.table.Column.{Column}
 use Rattle.catalog_core.specs.declared.table.ColumnKind.{ColumnKind}
 use Rattle.catalog_core.specs.declared.table.ColumnKind.TheVariants.{Integer, Varchar, Date, RowStart, RowEnd}
 use Rattle.catalog_core.specs.declared.table.Kind.{Kind}
+use Rattle.catalog_core.specs.declared.table.Kind.TheVariants as kind
 use Rattle.catalog_core.specs.declared.table.TableDef.{TableDef}
 
 -- the number of the table of this name, from 1 in the order of creation
@@ -47,6 +48,16 @@ is_system (Varchar n) = false
 is_system Date = false
 is_system (RowStart p) = true
 is_system (RowEnd p) = true
+
+-- the column at a place is a DATE column, and its name stands for it
+unfoldable pub is_date_column : TableDef → ℕ → Bool
+is_date_column t place =
+    passes (λ (x : Column). same_kind (kind_of_column x.kind) kind.Date && passes (λ named. named == place) (def_place t x.name)) (slice_get t.columns place)
+
+-- the application period is over two different DATE columns
+unfoldable pub has_date_period : TableDef → Bool
+has_date_period t =
+    not (t.period.start == t.period.end) && (is_date_column t t.period.start && is_date_column t t.period.end)
 
 -- a declared column, with its place, that is no period column and no system column
 unfoldable pub is_value_column : TableDef → ℕ × Column → Bool

@@ -1,12 +1,56 @@
-//! The value columns of a table: all but those of its application period and its system columns.
+//! The places of a table's columns, and which are DATE columns or value columns: all but those of
+//! its application period and its system columns.
 
-ghost use Rattle.std.specs.Prelude.{◌≡◌, ◌&&◌, bytes_eq, not};
+ghost use Rattle.std.specs.Prelude.{◌≡◌, ◌&&◌, ◌<◌, IfSome, bytes_eq, not};
+ghost use Rattle.catalog_core.specs.Limits.{number_limit};
 ghost use Rattle.catalog_core.specs.Selection.{names_no_value, value_position};
-ghost use Rattle.catalog_core.specs.TableWords.{is_value_column};
+ghost use Rattle.catalog_core.specs.TableWords.{def_place, has_date_period, is_date_column, is_value_column};
 
-use crate::kinds::is_system;
-use crate::table::{Column, TableDef};
+use crate::kinds::{is_system, kind_of_column, same_kind};
+use crate::table::{Column, Kind, TableDef};
 use sql_front::Name;
+
+/// The place of a table's column that a name stands for.
+#[tactic(auto, unfolding(crate::specs::TableWords::def_place))]
+pub fn def_place(table: &TableDef, name: &Name) -> Option<usize>
+    ensures value { result ≡ def_place table.now name.now }
+    ensures small { IfSome result (λ place. place < number_limit) }
+{
+    let columns = table.columns.as_slice();
+    for i in 0..columns.len() {
+        if name.is(&columns[i].name) {
+            return Some(i);
+        }
+    }
+    None
+}
+
+/// Whether the column at a place is a DATE column, and its name stands for it.
+#[tactic(auto, unfolding(crate::specs::TableWords::is_date_column))]
+pub fn is_date_column(table: &TableDef, place: usize) -> bool
+    ensures { result ≡ is_date_column table.now place }
+{
+    let Some(column) = table.columns.as_slice().get(place) else {
+        return false;
+    };
+    let Some(named) = def_place(table, &column.name) else {
+        return false;
+    };
+    same_kind(kind_of_column(column.kind), Kind::Date) && named == place
+}
+
+impl TableDef {
+    /// Whether its application period is over two different DATE columns, as that of each definition
+    /// is that `define` gives. Of those that `decode_def` gives it may be over others.
+    #[tactic(auto, unfolding(crate::specs::TableWords::has_date_period))]
+    pub fn has_date_period(&self) -> bool
+        ensures { result ≡ has_date_period self.now }
+    {
+        self.period.start != self.period.end
+            && is_date_column(self, self.period.start)
+            && is_date_column(self, self.period.end)
+    }
+}
 
 /// Whether the column that is declared at a place is a value column.
 #[tactic(auto, unfolding(crate::specs::TableWords::is_value_column))]

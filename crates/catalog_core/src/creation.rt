@@ -1,10 +1,11 @@
 //! CREATE TABLE: its refusal, or the definition that it gives.
 
-ghost use Rattle.std.specs.Prelude.{◌≡◌, IfErr, IfOk, MatchOption, OnOk};
+ghost use Rattle.std.specs.Prelude.{◌≡◌, IfErr, IfOk, MatchOption, OnOk, true};
 ghost use Rattle.period_core.specs.Leasts.{IsLeast, MayAnswer, NoneApplies};
 ghost use Rattle.catalog_core.specs.Creation.{create_conditions};
 ghost use Rattle.catalog_core.specs.Definition.{Defines};
 ghost use Rattle.catalog_core.specs.Judged.{Holds, first_holding};
+ghost use Rattle.catalog_core.specs.TableWords.{has_date_period};
 
 use crate::building::build;
 use crate::catalog::Catalog;
@@ -69,6 +70,7 @@ pub fn define(alloc: Global, catalog: &Catalog, create: &CreateTable) -> Result<
     ensures sound { OnOk result
         (NoneApplies (Holds (create_conditions catalog.now.tables create.now))) }
     ensures defined { IfOk result (λ d. Defines catalog.now.tables create.now d) }
+    ensures dated { IfOk result (λ d. has_date_period d ≡ true) }
     ensures refused { IfErr result
         (MayAnswer (Holds (create_conditions catalog.now.tables create.now))) }
 {

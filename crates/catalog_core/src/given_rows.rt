@@ -1,37 +1,37 @@
-//! The rows of a sound INSERT, by the value columns and the period of their table.
-//!
-//! Want of memory also answers for a column that is given no value, or a period that is given no
-//! dates. Neither comes: a sound INSERT gives each column a value of its kind, and a table's period
-//! is over two DATE columns.
+//! The rows of a sound INSERT, by the value columns and the period of their table. An `Err` says that
+//! memory was refused: a sound INSERT gives each column a value, and a period's columns dates.
 
-ghost use Rattle.std.specs.Prelude.{◌≡◌, IfOk, IfSome, Some, map};
+ghost use Rattle.std.specs.Prelude.{◌≡◌, IfOk, Some, false, length, map, true};
 ghost use Rattle.period_core.specs.declared.value.Value.TheVariants.{Date};
-ghost use Rattle.catalog_core.specs.Insertion.{given_value, value_for};
+ghost use Rattle.catalog_core.specs.Insertion.{given_names, given_value, gives_wrong, has_other_count, has_wrong, lacks_some, value_for};
+ghost use Rattle.catalog_core.specs.Naming.{passes};
 ghost use Rattle.catalog_core.specs.Resolution.{row_parts, written_row};
-ghost use Rattle.catalog_core.specs.TableWords.{value_names};
+ghost use Rattle.catalog_core.specs.TableWords.{has_date_period, is_date_column, value_names};
+ghost use Rattle.catalog_core.specs.declared.insert_values.Wrong.TheVariants as wrong;
 
 use crate::change::GivenRow;
 use crate::columns::is_value_column;
 use crate::insert_values::{given_value, value_for};
 use crate::table::TableDef;
 use period_core::{Day, Items, Memory, Value, Values};
-use sql_front::{Name, NonEmpty};
+use sql_front::{InsertRows, Name, NonEmpty};
 use std::alloc::Global;
 
-/// The date that a row gives for the column at a place.
-fn date_for(
-    table: &TableDef,
-    list: &Option<NonEmpty<Name>>,
-    row: &[Value],
-    place: usize,
-) -> Option<Day>
-    ensures { IfSome result
-        (λ day. value_for table.now list.now row.now place ≡ Some (Date day)) }
+/// The date that a row gives for the DATE column at a place.
+fn date_for(table: &TableDef, list: &Option<NonEmpty<Name>>, row: &[Value], place: usize) -> Day
+    requires names { passes (lacks_some table.now) list.now ≡ false }
+    requires count { length row.now ≡ length (given_names table.now list.now) }
+    requires kinds { gives_wrong wrong.Kind table.now list.now row.now ≡ false }
+    requires dated { is_date_column table.now place ≡ true }
+    ensures { value_for table.now list.now row.now place ≡ Some (Date result) }
 {
-    match value_for(table, list, row, place) {
-        Some(Value::Date(day)) => Some(*day),
-        _ => None,
-    }
+    let Some(value) = value_for(table, list, row, place) else {
+        unreachable!()
+    };
+    let Value::Date(day) = value else {
+        unreachable!()
+    };
+    *day
 }
 
 /// The values that a row gives for the value columns.
@@ -41,6 +41,8 @@ fn row_values(
     list: &Option<NonEmpty<Name>>,
     row: &[Value],
 ) -> Result<Vec<Value>, Memory>
+    requires names { passes (lacks_some table.now) list.now ≡ false }
+    requires count { length row.now ≡ length (given_names table.now list.now) }
     ensures { IfOk result
         (λ v. map (given_value table.now list.now row.now) (value_names table.now)
         ≡ map (λ x. Some x) v.items) }
@@ -51,7 +53,7 @@ fn row_values(
         let column = &columns[i];
         if is_value_column(table, i, column) {
             let Some(value) = given_value(table, list, row, &column.name) else {
-                return Err(Memory);
+                unreachable!()
             };
             values.push(value.copy(alloc)?)?;
         }
@@ -66,15 +68,15 @@ fn given_row(
     list: &Option<NonEmpty<Name>>,
     row: &[Value],
 ) -> Result<GivenRow, Memory>
+    requires names { passes (lacks_some table.now) list.now ≡ false }
+    requires count { length row.now ≡ length (given_names table.now list.now) }
+    requires kinds { gives_wrong wrong.Kind table.now list.now row.now ≡ false }
+    requires dated { has_date_period table.now ≡ true }
     ensures { IfOk result
         (λ given. written_row table.now list.now row.now ≡ row_parts given) }
 {
-    let Some(start) = date_for(table, list, row, table.period.start) else {
-        return Err(Memory);
-    };
-    let Some(end) = date_for(table, list, row, table.period.end) else {
-        return Err(Memory);
-    };
+    let start = date_for(table, list, row, table.period.start);
+    let end = date_for(table, list, row, table.period.end);
     let values = Values::from_vec(row_values(alloc, table, list, row)?);
     Ok(GivenRow { values, start, end })
 }
@@ -83,15 +85,17 @@ fn given_row(
 pub fn given_rows(
     alloc: Global,
     table: &TableDef,
-    list: &Option<NonEmpty<Name>>,
-    rows: &[NonEmpty<Value>],
+    insert: &InsertRows,
 ) -> Result<Vec<GivenRow>, Memory>
-    ensures { IfOk result
-        (λ v. map (written_row table.now list.now) rows.now ≡ map row_parts v.items) }
+    requires count { has_other_count table.now insert.now ≡ false }
+    requires kinds { has_wrong wrong.Kind table.now insert.now ≡ false }
+    requires dated { has_date_period table.now ≡ true }
+    ensures { IfOk result (λ v. map (written_row table.now insert.now.columns) insert.now.rows
+        ≡ map row_parts v.items) }
 {
     let mut given = Vec::new(alloc);
-    for row in rows {
-        given.push(given_row(alloc, table, list, row.as_slice())?)?;
+    for row in insert.rows.as_slice() {
+        given.push(given_row(alloc, table, &insert.columns, row.as_slice())?)?;
     }
     Ok(given)
 }

@@ -26,7 +26,7 @@ fn numbered(alloc: Global, catalog: &Catalog, insert: &InsertRows) -> Result<Cha
     let Some(table) = catalog.def(number) else {
         unreachable!()
     };
-    let rows = given_rows(alloc, table, &insert.columns, insert.rows.as_slice())?;
+    let rows = given_rows(alloc, table, insert)?;
     Ok(Change {
         table: number,
         action: Action::Insert(Items::from_vec(rows)),

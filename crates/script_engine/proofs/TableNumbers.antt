@@ -1,5 +1,5 @@
--- The numbers of resolved statements are those of tables, and a sound CREATE finds fewer than 64 tables.
-use Rattle.std.proofs.Common.{◌≡◌, ◌<◌, ◌≤◌, ℕ, zero, suc, Bool, true, false, List, Option, Some, None, length, nat_lt, refl, inl, arith}
+-- The numbers of resolved statements are those of tables, and a sound CREATE finds fewer tables than there may be.
+use Rattle.std.proofs.Common.{◌≡◌, ◌<◌, ◌≤◌, ℕ, zero, suc, Bool, true, false, List, Option, Some, None, length, nat_le, refl, inl, arith}
 use Rattle.std.proofs.lemmas.Bool.Decides.{nat_tests}
 use Rattle.std.proofs.lemmas.Option.{slice_get_within}
 use Rattle.period_core.specs.Leasts.{NoneApplies}
@@ -9,6 +9,7 @@ use Rattle.sql_front.specs.Trees.{Statement}
 use Rattle.sql_front.specs.Trees as statement
 use Rattle.catalog_core.specs.Creation.{create_conditions, exceeds_limits}
 use Rattle.catalog_core.specs.Judged.{Holds}
+use Rattle.catalog_core.specs.Limits.{most_tables}
 use Rattle.catalog_core.specs.Resolution.{ResolvesChange}
 use Rattle.catalog_core.specs.SimpleSelects.{simple_select}
 use Rattle.catalog_core.specs.declared.simple_select.SimpleSelect.{SimpleSelect}

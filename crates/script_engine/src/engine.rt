@@ -1,10 +1,11 @@
 //! The engine: a catalog, the rows of its tables, and the statements that it carries out.
 
-ghost use Rattle.std.specs.Prelude.{◌≡◌, ◌<◌, ◌≤◌, ◌+◌, ◌-◌, ◌++◌, ◌∷◌, [], ℕ, List, Some, length, IfOk, IfErr, IsOkAnd, OnOk, OnErr, slice_set, slice_index_or};
+ghost use Rattle.std.specs.Prelude.{◌≡◌, ◌<◌, ◌≤◌, ◌+◌, ◌-◌, ◌++◌, ◌∷◌, [], ℕ, List, Some, length, IfOk, IfErr, IsOkAnd, OnOk, OnErr, slice_set, slice_index_or, true};
 ghost use Rattle.catalog_core.specs.Histories.{History, Database, opened, new_database, rows_in};
+ghost use Rattle.catalog_core.specs.Limits.{most_tables};
 ghost use Rattle.catalog_core.specs.Resolution.{IsChange};
 ghost use Rattle.catalog_core.specs.Selection.{IsSequenced};
-ghost use Rattle.catalog_core.specs.TableWords.{table_of};
+ghost use Rattle.catalog_core.specs.TableWords.{has_date_period, table_of};
 ghost use Rattle.catalog_core.specs.declared.table.TableDef.{TableDef};
 ghost use Rattle.script_engine.specs.Runs.{Represents, StepsTo};
 ghost use Rattle.script_engine.specs.Widths.{HaveWidth};
@@ -67,7 +68,8 @@ impl<S: Alter> Engine<S> {
 
     /// Adds a table without rows. An `Err` changes nothing.
     fn add_table(&mut self, alloc: Global, definition: TableDef) -> Result<(), Memory>
-        requires { length self.old.catalog < 64 }
+        requires room { length self.old.catalog < most_tables }
+        requires dated { has_date_period definition ≡ true }
         ensures catalog { OnOk result (self.new.catalog ≡ self.old.catalog ++ definition ∷ []) }
         ensures rows { OnOk result (self.new.rows ≡ self.old.rows ++ [] ∷ []) }
         ensures err { OnErr result (self.new ≡ self.old) }

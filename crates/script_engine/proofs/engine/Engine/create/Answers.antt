@@ -3,6 +3,7 @@ use Rattle.period_core.specs.Leasts.{NoneApplies}
 use Rattle.catalog_core.specs.Histories.{Database}
 use Rattle.catalog_core.specs.Creation.{create_conditions}
 use Rattle.catalog_core.specs.Definition.{Defines}
+use Rattle.catalog_core.specs.Limits.{most_tables}
 use Rattle.catalog_core.specs.Judged.{Holds}
 use Rattle.catalog_core.specs.declared.table.TableDef.{TableDef}
 use Rattle.script_engine.proofs.TableNumbers.{few_tables}
@@ -17,7 +18,7 @@ returns-clause-step g c history kept =
     (subst (λ (tables : List TableDef). Defines tables c.args.create.now c.in_ok-definition.definition) same c.in_ok-definition.ensures.defined)
     c.in_ok-add_table.ensures.catalog c.in_ok-add_table.ensures.rows
 
-pub add_table-requires : goal.add_table-requires
-add_table-requires g c =
+pub add_table-requires-clause-room : goal.add_table-requires-clause-room
+add_table-requires-clause-room g c =
     let same : c.self.inside.catalog.tables ≡ c.args.self.now.catalog = ap (λ (d : Database). d.catalog) c.self.view_is in
-    subst (λ (tables : List TableDef). length tables < 64) same (few_tables c.self.inside.catalog.tables c.args.create.now c.in_ok-definition.ensures.sound)
+    subst (λ (tables : List TableDef). length tables < most_tables) same (few_tables c.self.inside.catalog.tables c.args.create.now c.in_ok-definition.ensures.sound)
