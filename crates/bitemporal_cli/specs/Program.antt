@@ -1,12 +1,12 @@
 -- What a run of the program gives: its exit status, its report, and its line on standard error.
-use Rattle.std.specs.Prelude.{◌≡◌, ◌⊎◌, ℕ, List, Option, Result, IfSome, take, is_err, if◌then◌else◌, ⊤}
+use Rattle.std.specs.Prelude.{◌≡◌, ◌⊎◌, ℕ, List, Option, None, Some, Result, IfSome, take, is_err, if◌then◌else◌, ⊤}
 use Rattle.std.specs.List.{list_any}
 use Rattle.std.specs.Io.KnownBytes.{Appends, Keeps}
 use Rattle.period_core.specs.declared.refusal.Refusal.{Refusal}
 use Rattle.script_engine.specs.Check.{IsCheckOf}
 use Rattle.script_engine.specs.CheckReport.{check_text}
 use Rattle.script_engine.specs.Report.{report}
-use Rattle.script_engine.specs.Script.{IsRunOf, MayRefuseScript}
+use Rattle.script_engine.specs.Script.{IsRunOf, MayRefuseScript, ScriptApplies}
 use Rattle.bitemporal_cli.specs.declared.command.Mode.{Mode}
 use Rattle.bitemporal_cli.specs.declared.command.Mode.TheVariants.{Run, Check}
 use Rattle.bitemporal_cli.specs.declared.fault.RunFault.{RunFault}
@@ -46,8 +46,24 @@ MayEndSilently input Memory = ⊤
 MayEndSilently input Read = ⊤
 MayEndSilently input Write = ⊥
 
--- a fault that the program may end in: the script gave no results, and the output got nothing; or
--- memory or the writer failed as the report was written, and nothing is said of the output
-abbrev pub MayEndIn : Option (List ℕ) → Option (List ℕ) → Option (List ℕ) → RunFault → Type 0
-MayEndIn input old new fault =
-    (MayEndSilently input fault × Keeps old new) ⊎ ((fault ≡ Memory) ⊎ (fault ≡ Write))
+-- the script that the reader has gives results of this kind
+abbrev pub GivesResults :
+    {T : Type 0} → (List ℕ → List (Result T Refusal) → Type 0) → Option (List ℕ) → Type 0
+GivesResults {T} IsOf input = (results : List (Result T Refusal)) × AreOfReader IsOf input results
+
+-- the script gives results of a run, or of a check
+abbrev pub HasResults : Mode → Option (List ℕ) → Type 0
+HasResults Run = GivesResults IsRunOf
+HasResults Check = GivesResults IsCheckOf
+
+-- a fault that the program may end in: the output got nothing; or the script has results, and
+-- memory or the writer failed as their report was written
+abbrev pub MayEndIn : Mode → Option (List ℕ) → Option (List ℕ) → Option (List ℕ) → RunFault → Type 0
+MayEndIn mode input old new fault =
+    (MayEndSilently input fault × Keeps old new)
+    ⊎ (HasResults mode input × ((fault ≡ Memory) ⊎ (fault ≡ Write)))
+
+-- the script that the reader has, where its bytes are known, is refused as a whole
+abbrev pub IsRefusedWhole : Option (List ℕ) → Type 0
+IsRefusedWhole None = ⊥
+IsRefusedWhole (Some all) = (refusal : Refusal) × ScriptApplies (read_of all) refusal

@@ -6,7 +6,7 @@ ghost use Rattle.std.specs.Io.KnownBytes.{Keeps};
 ghost use Rattle.script_engine.specs.Check.{IsCheckOf};
 ghost use Rattle.script_engine.specs.Script.{IsRunOf};
 ghost use Rattle.bitemporal_cli.specs.Lines.{GetsFrontOf, fault_line};
-ghost use Rattle.bitemporal_cli.specs.Program.{AreOfReader, MayEndIn, MayEndSilently, Reports, status_of};
+ghost use Rattle.bitemporal_cli.specs.Program.{AreOfReader, IsRefusedWhole, MayEndIn, MayEndSilently, Reports, status_of};
 
 use crate::command::Mode;
 use crate::fault::{RunFault, tell};
@@ -33,8 +33,10 @@ pub fn run_tool<R: Read, W: Write, E: Write>(
     ensures silent { result ≢ 2 → Keeps (E.contents err.old) (E.contents err.new) }
     ensures told { result ≡ 2
         → (fault : RunFault)
-        × MayEndIn (R.remaining input.old) (W.contents out.old) (W.contents out.new) fault
+        × MayEndIn mode (R.remaining input.old) (W.contents out.old) (W.contents out.new) fault
         × GetsFrontOf (E.contents err.old) (E.contents err.new) (fault_line fault) }
+    ensures refused { IsRefusedWhole (R.remaining input.old)
+        → (result ≡ 2) × Keeps (W.contents out.old) (W.contents out.new) }
 {
     let ended = match mode {
         Mode::Run => report_run(alloc, input, out),
@@ -55,7 +57,7 @@ fn report_run<R: Read, W: Write>(alloc: Global, input: &mut R, out: &mut W) -> R
         (Reports Mode.Run (R.remaining input.old) (W.contents out.old) (W.contents out.new)) }
     ensures status { IfOk result (λ status. status ≤ 1) }
     ensures refused { IfErr result
-        (MayEndIn (R.remaining input.old) (W.contents out.old) (W.contents out.new)) }
+        (MayEndIn Mode.Run (R.remaining input.old) (W.contents out.old) (W.contents out.new)) }
 {
     let results = run_results(alloc, input)?;
     write_report(alloc, out, results.as_slice())?;
@@ -72,7 +74,7 @@ fn report_check<R: Read, W: Write>(
         (Reports Mode.Check (R.remaining input.old) (W.contents out.old) (W.contents out.new)) }
     ensures status { IfOk result (λ status. status ≤ 1) }
     ensures refused { IfErr result
-        (MayEndIn (R.remaining input.old) (W.contents out.old) (W.contents out.new)) }
+        (MayEndIn Mode.Check (R.remaining input.old) (W.contents out.old) (W.contents out.new)) }
 {
     let results = check_results(alloc, input)?;
     write_check(alloc, out, results.as_slice())?;
