@@ -1,7 +1,9 @@
 -- What was taken from a reader is the front of what it had.
-use Rattle.std.proofs.Common.{◌≡◌, ◌≤◌, ℕ, List, [], Option, Some, None, length, take, IfSome, refl, ◌∙◌, arith}
+use Rattle.std.proofs.Common.{◌≡◌, ◌≤◌, ◌+◌, ℕ, List, [], ◌++◌, Option, Some, None, length, length-append, take, IfSome, refl, ◌∙◌, arith}
 use Rattle.std.proofs.lemmas.List.{append-nil, take_all, take-append-le}
+use Rattle.std.proofs.KnownBytes.{Consumes-trans}
 use Rattle.std.specs.Io.KnownBytes.{Consumes, IsAtEnd}
+use Rattle.bitemporal_cli.specs.Program.{TakesAtMost}
 
 pub taken-front : (before after : Option (List ℕ)) (text : List ℕ) (n : ℕ) → Consumes before after text → length text ≡ n → IfSome before (λ all. text ≡ take n all)
 taken-front None after text n taken len = tt
@@ -19,3 +21,7 @@ taken-whole (Some all) (Some rest) (Some left) text none n taken last empty end 
     let nothing : rest ≡ [] = rw (empty, end) at last in
     let same : all ≡ text = rw nothing at taken ∙ append-nil text in
     rw (same, take_all n text low) refl
+
+pub taken-more : (before mid after : Option (List ℕ)) (text more : List ℕ) (n : ℕ) → Consumes before mid text → Consumes mid after more → length text + length more ≤ n → TakesAtMost n before after
+taken-more before mid after text more n taken last low =
+    (text ++ more, Consumes-trans before mid after text more taken last, omega (arith, length-append text more, low))

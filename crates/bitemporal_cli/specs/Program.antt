@@ -1,20 +1,28 @@
 -- What a run of the program gives: its exit status, its report, and its line on standard error.
-use Rattle.std.specs.Prelude.{◌≡◌, ◌⊎◌, ℕ, List, Option, None, Some, Result, IfSome, take, is_err, if◌then◌else◌, ⊤}
+use Rattle.std.specs.Prelude.{◌≡◌, ◌≤◌, ◌⊎◌, ◌+◌, ℕ, List, Option, None, Some, Result, IfSome, length, take, is_err, if◌then◌else◌, ⊤}
 use Rattle.std.specs.List.{list_any}
-use Rattle.std.specs.Io.KnownBytes.{Appends, Keeps}
+use Rattle.std.specs.Io.KnownBytes.{Appends, Consumes, Keeps}
 use Rattle.period_core.specs.declared.refusal.Refusal.{Refusal}
 use Rattle.script_engine.specs.Check.{IsCheckOf}
 use Rattle.script_engine.specs.CheckReport.{check_text}
 use Rattle.script_engine.specs.Report.{report}
-use Rattle.script_engine.specs.Script.{IsRunOf, MayRefuseScript, ScriptApplies}
+use Rattle.script_engine.specs.Script.{IsRunOf, MayRefuseScript, ScriptApplies, most_bytes}
 use Rattle.bitemporal_cli.specs.declared.command.Mode.{Mode}
 use Rattle.bitemporal_cli.specs.declared.command.Mode.TheVariants.{Run, Check}
 use Rattle.bitemporal_cli.specs.declared.fault.RunFault.{RunFault}
 use Rattle.bitemporal_cli.specs.declared.fault.RunFault.TheVariants.{Script, Memory, Read, Write}
 
--- the bytes that are read: one more than a script may have
+-- the most bytes that are read: one more than a script may have
+abbrev pub read_limit : ℕ
+read_limit = most_bytes + 1
+
+-- the bytes that are read
 abbrev pub read_of : List ℕ → List ℕ
-read_of all = take 4_194_305 all
+read_of all = take read_limit all
+
+-- of known bytes at most so many are taken, from the front
+abbrev pub TakesAtMost : ℕ → Option (List ℕ) → Option (List ℕ) → Type 0
+TakesAtMost most old new = (bytes : List ℕ) × Consumes old new bytes × (length bytes ≤ most)
 
 -- 1 where a statement was refused, else 0
 abbrev pub status_of : {T : Type 0} → List (Result T Refusal) → ℕ

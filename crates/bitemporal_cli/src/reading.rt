@@ -1,14 +1,15 @@
 //! The script as its reader gives it.
 
 ghost use Rattle.std.specs.Prelude.{◌≡◌, ◌⊎◌, ◌≤◌, length, IfOk, IfErr, IfSome};
-ghost use Rattle.bitemporal_cli.specs.Program.{read_of};
+ghost use Rattle.bitemporal_cli.specs.Program.{TakesAtMost, read_limit, read_of};
 
 use crate::fault::RunFault;
+use script_engine::MOST_BYTES;
 use std::alloc::Global;
 use std::io::Read;
 
 /// One byte more than a script may have.
-pub const MOST: usize = 4_194_305;
+pub const MOST: usize = MOST_BYTES + 1;
 
 const CHUNK: usize = 4096;
 
@@ -17,6 +18,7 @@ pub fn read_script<R: Read>(alloc: Global, input: &mut R) -> Result<Vec<u8>, Run
     ensures bytes { IfOk result
         (λ text. IfSome (R.remaining input.old) (λ all. text.items ≡ read_of all)) }
     ensures bounded { IfOk result (λ text. length text.items ≤ MOST) }
+    ensures taken { TakesAtMost read_limit (R.remaining input.old) (R.remaining input.new) }
     ensures refused { IfErr result
         (λ fault. (fault ≡ RunFault.Memory) ⊎ (fault ≡ RunFault.Read)) }
 {

@@ -6,7 +6,7 @@ ghost use Rattle.std.specs.Io.KnownBytes.{Keeps};
 ghost use Rattle.script_engine.specs.Check.{IsCheckOf};
 ghost use Rattle.script_engine.specs.Script.{IsRunOf};
 ghost use Rattle.bitemporal_cli.specs.Lines.{GetsFrontOf, fault_line};
-ghost use Rattle.bitemporal_cli.specs.Program.{AreOfReader, IsRefusedWhole, MayEndIn, MayEndSilently, Reports, status_of};
+ghost use Rattle.bitemporal_cli.specs.Program.{AreOfReader, IsRefusedWhole, MayEndIn, MayEndSilently, Reports, TakesAtMost, read_limit, status_of};
 
 use crate::command::Mode;
 use crate::fault::{RunFault, tell};
@@ -37,6 +37,7 @@ pub fn run_tool<R: Read, W: Write, E: Write>(
         × GetsFrontOf (E.contents err.old) (E.contents err.new) (fault_line fault) }
     ensures refused { IsRefusedWhole (R.remaining input.old)
         → (result ≡ 2) × Keeps (W.contents out.old) (W.contents out.new) }
+    ensures taken { TakesAtMost read_limit (R.remaining input.old) (R.remaining input.new) }
 {
     let ended = match mode {
         Mode::Run => report_run(alloc, input, out),
@@ -58,6 +59,7 @@ fn report_run<R: Read, W: Write>(alloc: Global, input: &mut R, out: &mut W) -> R
     ensures status { IfOk result (λ status. status ≤ 1) }
     ensures refused { IfErr result
         (MayEndIn Mode.Run (R.remaining input.old) (W.contents out.old) (W.contents out.new)) }
+    ensures taken { TakesAtMost read_limit (R.remaining input.old) (R.remaining input.new) }
 {
     let results = run_results(alloc, input)?;
     write_report(alloc, out, results.as_slice())?;
@@ -75,6 +77,7 @@ fn report_check<R: Read, W: Write>(
     ensures status { IfOk result (λ status. status ≤ 1) }
     ensures refused { IfErr result
         (MayEndIn Mode.Check (R.remaining input.old) (W.contents out.old) (W.contents out.new)) }
+    ensures taken { TakesAtMost read_limit (R.remaining input.old) (R.remaining input.new) }
 {
     let results = check_results(alloc, input)?;
     write_check(alloc, out, results.as_slice())?;
@@ -89,6 +92,7 @@ fn run_results<R: Read>(
     ensures run { IfOk result
         (λ results. AreOfReader IsRunOf (R.remaining input.old) results.items) }
     ensures refused { IfErr result (MayEndSilently (R.remaining input.old)) }
+    ensures taken { TakesAtMost read_limit (R.remaining input.old) (R.remaining input.new) }
 {
     let script = read_script(alloc, input)?;
     let Ok(connection) = Connection::open_in_memory(alloc) else {
@@ -108,6 +112,7 @@ fn check_results<R: Read>(
     ensures check { IfOk result
         (λ results. AreOfReader IsCheckOf (R.remaining input.old) results.items) }
     ensures refused { IfErr result (MayEndSilently (R.remaining input.old)) }
+    ensures taken { TakesAtMost read_limit (R.remaining input.old) (R.remaining input.new) }
 {
     let script = read_script(alloc, input)?;
     match check_script(alloc, script.as_slice()) {

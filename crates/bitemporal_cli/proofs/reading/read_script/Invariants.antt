@@ -1,12 +1,13 @@
 use Rattle.std.proofs.Common.{◌≤◌, ◌-◌, vec_len}
 use Rattle.std.specs.Io.KnownBytes.{Consumes}
+use Rattle.bitemporal_cli.specs.Program.{read_limit}
 use Rattle.bitemporal_cli.proofs.reading.read_script.Given as goal
 
 abbrev pub invariant-loop-buffer : goal.invariant-loop-buffer
 invariant-loop-buffer g l = record {
-  bounded : vec_len l.text ≤ 4_194_305;
+  bounded : vec_len l.text ≤ read_limit;
   taken : Consumes (g.R.Read.remaining l.fn.input) (g.R.Read.remaining l.input) l.text.items;
 }
 
 abbrev pub decreases-loop-buffer : goal.decreases-loop-buffer
-decreases-loop-buffer g l = 4_194_305 - vec_len l.text
+decreases-loop-buffer g l = read_limit - vec_len l.text
