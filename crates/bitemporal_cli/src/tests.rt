@@ -2,6 +2,7 @@
 //! error, byte for byte; failing readers and writers; and command lines.
 
 mod checks;
+mod column_lists;
 mod command_lines;
 mod faults;
 mod first_path;
@@ -10,6 +11,8 @@ mod helpers;
 mod least_number;
 mod limits;
 mod long_statements;
+mod references;
 mod refused_creates;
 mod refused_statements;
+mod text_lengths;
 mod whole_script;
