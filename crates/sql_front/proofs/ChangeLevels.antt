@@ -1,6 +1,7 @@
 -- AT, INSERT, UPDATE and DELETE at a depth.
 use Rattle.std.proofs.Common.{ℕ, suc, codes, refl}
-use Rattle.sql_front.specs.Grammar.{assignment_of, delete_of, portion_of, rows_of, update_of, IsAssignment, IsAt, IsDelete, IsInsert, IsPortion, IsUpdate}
+use Rattle.sql_front.specs.Builders.{assignment_of, delete_of, portion_of, rows_of, update_of}
+use Rattle.sql_front.proofs.ReadGrammar.{IsAssignment, IsAt, IsDelete, IsInsert, IsPortion, IsUpdate}
 use Rattle.sql_front.proofs.Levels.{Level, level_built, level_optional, level_preceded, level_separated, level_sequence, plain_keyword, plain_symbol}
 use Rattle.sql_front.proofs.NamesRead.{level_name, level_names, plain_comma}
 use Rattle.sql_front.proofs.LeavesRead.{level_clock_moment, level_date, level_literal, level_tuple}

@@ -1,7 +1,9 @@
 -- AT, INSERT, UPDATE and DELETE are read.
 use Rattle.std.proofs.Common.{◌≡◌, ℕ, suc, true, List, [], ◌∷◌, codes, refl}
 use Rattle.sql_front.specs.Language.{keyword, symbol, Optional, Separated, Sequence}
-use Rattle.sql_front.specs.Grammar.{assignment_of, comma, delete_of, portion_of, rows_of, update_of, IsAssignment, IsAt, IsClockMoment, IsCompare, IsDelete, IsInsert, IsNames, IsPortion, IsTuple, IsUpdate, IsWhere}
+use Rattle.sql_front.specs.Builders.{assignment_of, delete_of, portion_of, rows_of, update_of}
+use Rattle.sql_front.specs.Grammar.{comma, IsWhere}
+use Rattle.sql_front.proofs.ReadGrammar.{IsAssignment, IsAt, IsClockMoment, IsCompare, IsDelete, IsInsert, IsNames, IsPortion, IsTuple, IsUpdate}
 use Rattle.sql_front.specs.ConditionReaders.{compare_read, where_read}
 use Rattle.sql_front.specs.ChangeReaders.{assignment_read, at_read, columns_read, delete_read, in_portion_read, insert_read, portion_read, update_read}
 use Rattle.sql_front.proofs.First.{Starts, starts_preceded}

@@ -4,7 +4,8 @@ use Rattle.sql_front.specs.declared.create.Generated.TheVariants.{Start, End}
 use Rattle.sql_front.specs.declared.create.TypeName.{TypeName}
 use Rattle.sql_front.specs.declared.create.TypeName.TheVariants.{Integer, Date, Varchar, Timestamp}
 use Rattle.sql_front.specs.Language.{Language, keyword, symbol, Built, Choice, Fixed, Optional, Preceded, StandsFor}
-use Rattle.sql_front.specs.Grammar.{column_of, column_element, IsLength, IsType, IsGenerated, IsNotNull, IsColumnElement}
+use Rattle.sql_front.specs.Builders.{column_of, column_element}
+use Rattle.sql_front.proofs.ReadGrammar.{IsLength, IsType, IsGenerated, IsNotNull, IsColumnElement}
 use Rattle.sql_front.specs.Reading.{Reader, built_read, optional_read, preceded_read}
 use Rattle.sql_front.specs.ElementReaders.{length_read, type_read, row_end_read, generated_read, not_null_read, column_element_read}
 use Rattle.sql_front.proofs.First.{Starts, starts_built, starts_choice, starts_preceded, starts_sequence, starts_stands}

@@ -9,7 +9,9 @@ use Rattle.sql_front.specs.declared.statement.PeriodPredicate.TheVariants.{Overl
 use Rattle.sql_front.specs.declared.statement.StoredTest.TheVariants.{Values}
 use Rattle.sql_front.specs.Language.{Language, keyword, symbol, Enclosed, StandsFor}
 use Rattle.sql_front.specs.Trees.{Condition, negated, test}
-use Rattle.sql_front.specs.Grammar.{all_of, any_of, column_reference_of, compare_of, contains_day_of, dates_of, periods_of, ConditionBelow, IsColumn, IsCompare, IsComparison, IsCondition, IsConjunction, IsFactor, IsOperand, IsPeriodOperand, IsPredicate, IsRelation, IsStoredTest, IsTest, IsWhere}
+use Rattle.sql_front.specs.Builders.{all_of, any_of, column_reference_of, compare_of, contains_day_of, dates_of, periods_of}
+use Rattle.sql_front.specs.Grammar.{ConditionBelow, IsCondition, IsConjunction, IsFactor, IsTest, IsWhere}
+use Rattle.sql_front.proofs.ReadGrammar.{IsColumn, IsCompare, IsComparison, IsOperand, IsPeriodOperand, IsPredicate, IsRelation, IsStoredTest}
 use Rattle.std.specs.Str.{bytes_eq}
 use Rattle.sql_front.proofs.Levels.{Level, level_built, level_choice, level_closed, level_enclosed, level_enclosed_same, level_optional, level_preceded, level_separated, level_sequence, level_stands, plain_keyword, plain_symbol}
 use Rattle.sql_front.proofs.LeavesRead.{level_date, level_literal}

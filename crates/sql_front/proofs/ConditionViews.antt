@@ -7,7 +7,7 @@ use Rattle.sql_front.specs.declared.tree.Tree.TheOpen as layer
 use Rattle.sql_front.specs.declared.tree.Tree.TheFolds.{fold-roll-Tree}
 use Rattle.sql_front.specs.Lexemes.{Lexeme}
 use Rattle.sql_front.specs.Trees.{Condition, test}
-use Rattle.sql_front.specs.Grammar.{all_of, any_of}
+use Rattle.sql_front.specs.Builders.{all_of, any_of}
 use Rattle.sql_front.specs.Plain.{condition_layer, plain_condition}
 use Rattle.sql_front.specs.Reading.{Reader}
 use Rattle.sql_front.specs.ConditionReaders.{inner_read, condition_read, conjunction_read, factor_read, test_read}

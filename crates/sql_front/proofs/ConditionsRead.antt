@@ -6,8 +6,10 @@ use Rattle.sql_front.specs.declared.statement.Operand.TheVariants.{Column, Liter
 use Rattle.sql_front.specs.Lexemes.{Lexeme}
 use Rattle.sql_front.specs.Language.{Language, keyword, symbol, Built, Choice, Enclosed, Fixed, Optional, Preceded, Sequence, StandsFor}
 use Rattle.sql_front.specs.Trees.{Condition, negated, test}
-use Rattle.sql_front.specs.Grammar.{all_of, column_reference_of, compare_of, ConditionBelow, IsColumn, IsCompare, IsComparison, IsCondition, IsConjunction, IsFactor, IsName, IsOperand, IsTest, IsWhere}
-use Rattle.sql_front.specs.Grammar as grammar
+use Rattle.sql_front.specs.Builders.{all_of, column_reference_of, compare_of}
+use Rattle.sql_front.specs.Grammar.{ConditionBelow, IsCondition, IsConjunction, IsFactor, IsTest, IsWhere}
+use Rattle.sql_front.proofs.ReadGrammar.{IsColumn, IsCompare, IsComparison, IsName, IsOperand}
+use Rattle.sql_front.specs.Builders as builders
 use Rattle.sql_front.specs.Reading.{Reader, stands_read}
 use Rattle.sql_front.specs.ConditionReaders.{column_read, compare_read, comparison_read, condition_read, condition_with, conjunction_read, conjunction_with, factor_read, factor_with, inner_read, operand_read, test_read, test_with, where_read}
 use Rattle.sql_front.proofs.First.{Starts, begins_apart, or_apart, starts_built, starts_choice, starts_preceded, starts_sequence, starts_stands}
@@ -166,7 +168,7 @@ module _ {T : Type 0} {Test : Language T} {p : Reader T} (firsts : List Sort) (n
     reads_conjunction = reads_built all_of (reads_separated_next (word (codes "AND")) conjunction_ends test_ends refl refl refl reads_factor)
 
     reads_condition : Reads (IsCondition Test Inner) (Next condition_ends) (condition_with (conjunction_with (factor_with (test_with p inner))))
-    reads_condition = reads_built grammar.any_of (reads_separated_next (word (codes "OR")) condition_ends conjunction_ends refl refl refl reads_conjunction)
+    reads_condition = reads_built builders.any_of (reads_separated_next (word (codes "OR")) condition_ends conjunction_ends refl refl refl reads_conjunction)
 
   -- at any depth
   reads_inner : (n : ℕ) → Reads (ConditionBelow Test n) (Next condition_ends) (inner_read p n)

@@ -3,7 +3,9 @@ use Rattle.std.proofs.Common.{◌≡◌, ℕ, true, false, List, [], ◌∷◌, 
 use Rattle.std.proofs.lemmas.Bool.{and_right}
 use Rattle.sql_front.specs.Lexemes.{Lexeme}
 use Rattle.sql_front.specs.Language.{Language, keyword, Built, Choice, Fixed, Preceded, Separated, Sequence}
-use Rattle.sql_front.specs.Grammar.{Element, comma, name, period_of, system_of, key_of, reference_of, table_of, column_element, period_element, system_element, key_element, reference_element, IsName, IsColumnElement, IsPair, IsPeriodElement, IsSystemElement, IsWithoutOverlaps, IsKeyElement, IsReferenceList, IsReferenceElement, IsElement, IsVersioning, IsCreate}
+use Rattle.sql_front.specs.Builders.{Element, period_of, system_of, key_of, reference_of, table_of, column_element, period_element, system_element, key_element, reference_element}
+use Rattle.sql_front.specs.Grammar.{comma, name}
+use Rattle.sql_front.proofs.ReadGrammar.{IsName, IsColumnElement, IsPair, IsPeriodElement, IsSystemElement, IsWithoutOverlaps, IsKeyElement, IsReferenceList, IsReferenceElement, IsElement, IsVersioning, IsCreate}
 use Rattle.sql_front.specs.Reading.{Reader, begins, third_is}
 use Rattle.sql_front.specs.ElementReaders.{second_is, one_more_name, more_names_read, leading_names_read, pair_read, period_element_read, system_element_read, without_overlaps_read, key_names_read, key_element_read, reference_list_read, reference_element_read, some_period_read, element_read, versioning_read, elements_read, create_read}
 use Rattle.sql_front.proofs.First.{Starts, starts_built, starts_choice, starts_preceded, starts_sequence}

@@ -1,13 +1,13 @@
 -- The values of dates and moments, against the texts that name them: what is read off a token is the one value that it names.
-use Rattle.std.proofs.Common.{◌≡◌, ℕ, zero, suc, ◌-◌, ◌<◌, ◌≤◌, ◌⊎◌, ℤ, pos, neg_ℤ, Bool, true, false, cond, List, [], ◌∷◌, ◌++◌, length, take, drop, get_or, Option, Some, None, refl, sym, ap, subst, ◌∙◌, ◌&&◌, inl, inr, arith, lit<}
+use Rattle.std.proofs.Common.{◌≡◌, ℕ, zero, suc, ◌-◌, ◌<◌, ◌≤◌, ℤ, Bool, true, false, cond, List, [], ◌∷◌, ◌++◌, length, take, drop, get_or, Option, Some, None, refl, sym, ap, subst, ◌∙◌, ◌&&◌, inl, inr, arith, lit<}
 use Rattle.std.specs.Prelude.{◌==◌, ◌<ℤ◌, nat_le, int_lt}
 use Rattle.std.proofs.lemmas.Bool.{and_parts, cases_Bool}
 use Rattle.std.proofs.lemmas.Int.{ints}
 use Rattle.std.proofs.lemmas.Bool.Decides.{nat_tests}
 use Rattle.period_core.specs.Calendar.{IsDate, IsDayText, date_text, day_number, is_leap_year, month_length}
 use Rattle.period_core.specs.Moments.{IsMomentText, date_time_text, first_moment, forever, moment_number, time_text}
-use Rattle.sql_front.specs.Values.{NamesClockMoment, NamesDay, NamesMoment, between_quotes}
-use Rattle.sql_front.specs.LeafValues.{clock_of_token, clock_value, date_at, day_of_token, day_value, is_date, is_time, moment_of_token, moment_value, number_of_date, number_of_moment, or_else, time_at}
+use Rattle.sql_front.specs.Values.{IsClockToken, IsDateToken, IsMomentToken, NamesClockMoment, NamesDay, NamesMoment, between_quotes}
+use Rattle.sql_front.specs.LeafValues.{clock_of_token, clock_value, date_at, day_of_token, day_value, first_day, is_date, is_time, moment_of_token, moment_value, number_of_date, number_of_moment, or_else, time_at}
 use Rattle.sql_front.specs.Reading.{◌>>=◌}
 use Rattle.sql_front.proofs.Laws.{bind_some, if_some, none_some, some_is}
 use Rattle.sql_front.proofs.DateTexts.{bytes_from, date_found, date_shown, equal_is, inner, inner_length, moment_bytes, time_found, time_shown}
@@ -185,50 +185,38 @@ pub clock_found : (t : List ℕ) (n : ℤ) → IsMomentText n (between_quotes t)
 unfolding clock_of_token
 clock_found t n h = rw (moment_found t n h.0, is_before n forever h.1) refl
 
--- ---- the one value that is named, or the stand-in
+-- ---- the one value that is named
 
 named : (o : Option ℤ) (other : ℤ) (P : ℤ → Type 0) → ((n : ℤ) → o ≡ Some n → P n) → ((n : ℤ) → P n → o ≡ Some n)
-    → P (or_else o other) ⊎ (((n : ℤ) × P n → ⊥) × (or_else o other ≡ other))
-named (Some n) other P shown found = inl (shown n refl)
-named None other P shown found = inr (λ h. none_some h.0 (found h.0 h.1), refl)
+    → (((n : ℤ) × P n → ⊥) → ⊥) → P (or_else o other)
+named (Some n) other P shown found some = shown n refl
+named None other P shown found some = absurd (some (λ h. none_some h.0 (found h.0 h.1)))
 
-only : (o : Option ℤ) (other : ℤ) (P : ℤ → Type 0) → ((n : ℤ) → o ≡ Some n → P n) → ((n : ℤ) → P n → o ≡ Some n)
-    → (n : ℤ) → P n ⊎ (((m : ℤ) × P m → ⊥) × (n ≡ other)) → n ≡ or_else o other
-only (Some m) other P shown found n h = elim h [
-  | inl p ↦ sym (some_is m n (found n p))
-  | inr q ↦ absurd (q.0 (m, shown m refl))
-]
-only None other P shown found n h = elim h [
-  | inl p ↦ absurd (none_some n (found n p))
-  | inr q ↦ q.1
-]
+only : (o : Option ℤ) (other : ℤ) (P : ℤ → Type 0) → ((n : ℤ) → P n → o ≡ Some n) → (n : ℤ) → P n → n ≡ or_else o other
+only (Some m) other P found n h = sym (some_is m n (found n h))
+only None other P found n h = absurd (none_some n (found n h))
 
-pub day_named : (token : List ℕ) → NamesDay token (day_value token)
+-- unless none is named, it is the one that is read
+pub day_named : (token : List ℕ) → ((IsDateToken token → ⊥) → ⊥) → NamesDay token (day_value token)
 unfolding day_value
-day_named token = named (day_of_token token) (neg_ℤ (pos 719_162)) (λ n. IsDayText n (between_quotes token)) (day_shown token) (day_found token)
+day_named token some = named (day_of_token token) first_day (NamesDay token) (day_shown token) (day_found token) some
 
 pub day_only : (token : List ℕ) (day : ℤ) → NamesDay token day → day ≡ day_value token
 unfolding day_value
-day_only token day h = only (day_of_token token) (neg_ℤ (pos 719_162)) (λ n. IsDayText n (between_quotes token)) (day_shown token) (day_found token) day h
+day_only token day h = only (day_of_token token) first_day (NamesDay token) (day_found token) day h
 
-pub moment_named : (token : List ℕ) → NamesMoment token (moment_value token)
+pub moment_named : (token : List ℕ) → ((IsMomentToken token → ⊥) → ⊥) → NamesMoment token (moment_value token)
 unfolding moment_value
-moment_named token = named (moment_of_token token) first_moment (λ n. IsMomentText n (between_quotes token)) (moment_shown token) (moment_found token)
+moment_named token some = named (moment_of_token token) first_moment (NamesMoment token) (moment_shown token) (moment_found token) some
 
 pub moment_only : (token : List ℕ) (moment : ℤ) → NamesMoment token moment → moment ≡ moment_value token
 unfolding moment_value
-moment_only token moment h = only (moment_of_token token) first_moment (λ n. IsMomentText n (between_quotes token)) (moment_shown token) (moment_found token) moment h
+moment_only token moment h = only (moment_of_token token) first_moment (NamesMoment token) (moment_found token) moment h
 
-pub clock_named : (token : List ℕ) → NamesClockMoment token (clock_value token)
+pub clock_named : (token : List ℕ) → ((IsClockToken token → ⊥) → ⊥) → NamesClockMoment token (clock_value token)
 unfolding clock_value
-clock_named token = elim (named (clock_of_token token) first_moment (λ n. IsMomentText n (between_quotes token) × (n <ℤ forever)) (clock_shown token) (clock_found token)) [
-  | inl h ↦ inl h
-  | inr h ↦ inr (λ k. h.0 (k.0, (k.1, k.2)), h.1)
-]
+clock_named token some = named (clock_of_token token) first_moment (NamesClockMoment token) (clock_shown token) (clock_found token) some
 
 pub clock_only : (token : List ℕ) (moment : ℤ) → NamesClockMoment token moment → moment ≡ clock_value token
 unfolding clock_value
-clock_only token moment h = only (clock_of_token token) first_moment (λ n. IsMomentText n (between_quotes token) × (n <ℤ forever)) (clock_shown token) (clock_found token) moment (elim h [
-  | inl k ↦ inl k
-  | inr k ↦ inr (λ l. k.0 (l.0, l.1.0, l.1.1), k.1)
-])
+clock_only token moment h = only (clock_of_token token) first_moment (NamesClockMoment token) (clock_found token) moment h

@@ -3,50 +3,49 @@ use Rattle.std.proofs.Common.{◌≡◌, ℕ, Bool, true, false, ◌||◌, [], �
 use Rattle.period_core.specs.declared.value.Value.{Value}
 use Rattle.period_core.specs.declared.value.Value.TheVariants as value
 use Rattle.sql_front.specs.Lexemes.{Lexeme}
-use Rattle.sql_front.specs.Values.{NamesClockMoment, NamesDay, NamesMoment}
-use Rattle.sql_front.specs.LeafValues.{clock_value, day_value, moment_value}
-use Rattle.sql_front.specs.Language.{keyword, symbol, number, text, or_test, Built, Choice, OneToken, Preceded, PrecededOrNot, Related}
-use Rattle.sql_front.specs.Grammar.{negative_of, number_of, text_of, IsClockMoment, IsDate, IsLiteral, IsMoment, IsNumber, IsTuple}
+use Rattle.sql_front.specs.LeafValues.{clock_value, day_value, moment_value, negative_value}
+use Rattle.sql_front.specs.Language.{keyword, symbol, number, text, or_test, Built, Choice, OneToken, Preceded, PrecededOrNot}
+use Rattle.sql_front.specs.Builders.{number_of, text_of}
+use Rattle.sql_front.proofs.ReadGrammar.{IsClockMoment, IsDate, IsLiteral, IsMoment, IsNumber, IsTuple}
 use Rattle.sql_front.specs.Reading.{Reader, begins}
 use Rattle.sql_front.specs.Leaves.{clock_moment_read, date_read, literal_read, moment_read, tuple_read, unsigned_read}
 use Rattle.sql_front.proofs.First.{Starts, starts_built, starts_choice, starts_one, starts_preceded, starts_preceded_or_not}
-use Rattle.sql_front.proofs.Laws.{Any, Reads, reads_built, reads_one, reads_preceded, reads_preceded_or_not, reads_related}
-use Rattle.sql_front.proofs.Levels.{Level, level_built, level_choice, level_enclosed_same, level_one, level_preceded, level_preceded_or_not, level_related, level_separated, plain_keyword, plain_number, plain_symbol, plain_text}
+use Rattle.sql_front.proofs.Laws.{Any, Reads, reads_built, reads_one, reads_preceded, reads_preceded_or_not}
+use Rattle.sql_front.proofs.Levels.{Level, level_built, level_choice, level_enclosed_same, level_one, level_preceded, level_preceded_or_not, level_separated, plain_keyword, plain_number, plain_symbol, plain_text}
 use Rattle.sql_front.proofs.Sorts.{a_number, a_text, any_of, apart_lists, sign, word, reads_choice_next, reads_enclosed_next, reads_next, reads_separated_next}
-use Rattle.sql_front.proofs.LeafFacts.{clock_named, clock_only, day_named, day_only, moment_named, moment_only}
 use Rattle.sql_front.proofs.NamesRead.{level_number, plain_comma, reads_number, starts_number}
 
 -- ---- moments and dates
 
 pub reads_moment : Reads IsMoment Any moment_read
 unfolding moment_read
-reads_moment = reads_preceded (keyword (codes "TIMESTAMP")) (reads_related NamesMoment moment_value moment_named moment_only (reads_one text))
+reads_moment = reads_preceded (keyword (codes "TIMESTAMP")) (reads_built moment_value (reads_one text))
 
 pub starts_moment : Starts (any_of (word (codes "TIMESTAMP") ∷ [])) IsMoment
-starts_moment = starts_preceded (keyword (codes "TIMESTAMP")) (Related NamesMoment (OneToken text))
+starts_moment = starts_preceded (keyword (codes "TIMESTAMP")) (Built moment_value (OneToken text))
 
 pub level_moment : (k : ℕ) → Level k IsMoment IsMoment
-level_moment k = level_preceded (plain_keyword (codes "TIMESTAMP")) (level_related NamesMoment (level_one k plain_text))
+level_moment k = level_preceded (plain_keyword (codes "TIMESTAMP")) (level_built moment_value (level_one k plain_text))
 
 pub reads_clock_moment : Reads IsClockMoment Any clock_moment_read
 unfolding clock_moment_read
-reads_clock_moment = reads_preceded (keyword (codes "TIMESTAMP")) (reads_related NamesClockMoment clock_value clock_named clock_only (reads_one text))
+reads_clock_moment = reads_preceded (keyword (codes "TIMESTAMP")) (reads_built clock_value (reads_one text))
 
 pub starts_clock_moment : Starts (any_of (word (codes "TIMESTAMP") ∷ [])) IsClockMoment
-starts_clock_moment = starts_preceded (keyword (codes "TIMESTAMP")) (Related NamesClockMoment (OneToken text))
+starts_clock_moment = starts_preceded (keyword (codes "TIMESTAMP")) (Built clock_value (OneToken text))
 
 pub level_clock_moment : (k : ℕ) → Level k IsClockMoment IsClockMoment
-level_clock_moment k = level_preceded (plain_keyword (codes "TIMESTAMP")) (level_related NamesClockMoment (level_one k plain_text))
+level_clock_moment k = level_preceded (plain_keyword (codes "TIMESTAMP")) (level_built clock_value (level_one k plain_text))
 
 pub reads_date : Reads IsDate Any date_read
 unfolding date_read
-reads_date = reads_preceded (keyword (codes "DATE")) (reads_related NamesDay day_value day_named day_only (reads_one text))
+reads_date = reads_preceded (keyword (codes "DATE")) (reads_built day_value (reads_one text))
 
 pub starts_date : Starts (any_of (word (codes "DATE") ∷ [])) IsDate
-starts_date = starts_preceded (keyword (codes "DATE")) (Related NamesDay (OneToken text))
+starts_date = starts_preceded (keyword (codes "DATE")) (Built day_value (OneToken text))
 
 pub level_date : (k : ℕ) → Level k IsDate IsDate
-level_date k = level_preceded (plain_keyword (codes "DATE")) (level_related NamesDay (level_one k plain_text))
+level_date k = level_preceded (plain_keyword (codes "DATE")) (level_built day_value (level_one k plain_text))
 
 -- ---- literals
 
@@ -54,7 +53,7 @@ abbrev IsUnsigned : List Lexeme → Value → Type 0
 IsUnsigned = Built number_of (PrecededOrNot (symbol (codes "+")) IsNumber)
 
 abbrev IsNegative : List Lexeme → Value → Type 0
-IsNegative = Built negative_of (Preceded (symbol (codes "-")) (OneToken number))
+IsNegative = Built value.Int (Preceded (symbol (codes "-")) (Built negative_value (OneToken number)))
 
 abbrev IsText : List Lexeme → Value → Type 0
 IsText = Built text_of (OneToken text)
@@ -82,7 +81,7 @@ starts_unsigned : Starts (any_of (sign (codes "+") ∷ a_number ∷ [])) IsUnsig
 starts_unsigned = starts_built number_of (starts_preceded_or_not (symbol (codes "+")) starts_number)
 
 starts_negative : Starts (any_of (sign (codes "-") ∷ [])) IsNegative
-starts_negative = starts_built negative_of (starts_preceded (symbol (codes "-")) (OneToken number))
+starts_negative = starts_built value.Int (starts_preceded (symbol (codes "-")) (Built negative_value (OneToken number)))
 
 starts_text : Starts (any_of (a_text ∷ [])) IsText
 starts_text = starts_built text_of (starts_one text)
@@ -98,7 +97,7 @@ reads_ordered : Reads Ordered Any literal_read
 unfolding literal_read
 reads_ordered =
     reads_choice_next (sign (codes "-") ∷ []) (a_text ∷ word (codes "DATE") ∷ sign (codes "+") ∷ a_number ∷ []) refl starts_negative (starts_choice starts_text (starts_choice starts_day starts_unsigned))
-    (reads_built negative_of (reads_preceded (symbol (codes "-")) (reads_one number)))
+    (reads_built value.Int (reads_preceded (symbol (codes "-")) (reads_built negative_value (reads_one number))))
     (reads_choice_next (a_text ∷ []) (word (codes "DATE") ∷ sign (codes "+") ∷ a_number ∷ []) refl starts_text (starts_choice starts_day starts_unsigned)
     (reads_built text_of (reads_one text))
     (reads_choice_next (word (codes "DATE") ∷ []) (sign (codes "+") ∷ a_number ∷ []) refl starts_day starts_unsigned (reads_built value.Date reads_date) reads_unsigned))
@@ -133,7 +132,7 @@ starts_literal =
 pub level_literal : (k : ℕ) → Level k IsLiteral IsLiteral
 level_literal k =
     level_choice (level_built number_of (level_preceded_or_not (plain_symbol (codes "+") refl refl) (level_number k)))
-    (level_choice (level_built negative_of (level_preceded (plain_symbol (codes "-") refl refl) (level_one k plain_number)))
+    (level_choice (level_built value.Int (level_preceded (plain_symbol (codes "-") refl refl) (level_built negative_value (level_one k plain_number))))
     (level_choice (level_built text_of (level_one k plain_text)) (level_built value.Date (level_date k))))
 
 -- ---- tuples

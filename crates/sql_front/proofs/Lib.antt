@@ -14,6 +14,7 @@ pub mod ElementLevels
 pub mod ElementsRead
 pub mod First
 pub mod FrontEnds
+pub mod GrammarReadings
 pub mod Headed
 pub mod Laws
 pub mod LeadingNames
@@ -23,6 +24,7 @@ pub mod Levels
 pub mod LexingSteps
 pub mod LexisExamples
 pub mod LiteralFaultFacts
+pub mod LiteralReadings
 pub mod Loop
 pub mod NameFacts
 pub mod NameSorts
@@ -39,9 +41,12 @@ pub mod QueriesRead
 pub mod QueryLevels
 pub mod QueryViews
 pub mod Quotes
+pub mod ReadGrammar
+pub mod Readings
 pub mod Regroup
 pub mod Shapes
 pub mod Sorts
+pub mod Spelling
 pub mod SplitLast
 pub mod StatementExamples
 pub mod StatementsRead

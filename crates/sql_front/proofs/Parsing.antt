@@ -12,24 +12,27 @@ use Rattle.sql_front.specs.Lexemes.{Lexeme}
 use Rattle.sql_front.specs.Trees.{Statement}
 use Rattle.sql_front.specs.Plain.{plain}
 use Rattle.sql_front.specs.Gives.{Gives}
-use Rattle.sql_front.specs.Grammar.{IsStatement}
+use Rattle.sql_front.proofs.ReadGrammar.{IsStatement}
 use Rattle.sql_front.specs.Reading.{whole_read}
 use Rattle.sql_front.specs.StatementReaders.{statement_read}
 use Rattle.sql_front.specs.PieceRefusals.{IsTooDeep, SpellsNone, PieceApplies}
 use Rattle.sql_front.proofs.StatementsRead.{at_depth, read_spelled, reads_statement}
+use Rattle.sql_front.proofs.GrammarReadings.{loosely_spelled, some_read}
 use Rattle.sql_front.proofs.Sorts.{next_end}
 use Rattle.sql_front.proofs.Whole.{is_none}
 
 -- ---- all of the tokens
 
--- what is read at the greatest depth is spelled so
+-- what is read at the greatest depth is spelled so, with stand-ins
 pub read_is_spelled : (ls : List Lexeme) (result : Result statements.Statement Unread) → Gives plain result (whole_read (statement_read 32) ls) → IfOk result (λ s. IsStatement ls (plain s))
 read_is_spelled ls (Ok s) given = read_spelled 32 ls (plain s) given
 read_is_spelled ls (Err e) given = tt
 
 -- where it is not too deep, nothing else is spelled
 pub unread_is_none : (ls : List Lexeme) (result : Result statements.Statement Unread) → Gives plain result (whole_read (statement_read 32) ls) → result ≡ Err unread.Syntax → (IsTooDeep ls → ⊥) → SpellsNone ls
-unread_is_none ls result given e shallow s spelled = is_none (reads_statement 32) plain (next_end []) ls result given e s (at_depth 32 ls s shallow spelled)
+unread_is_none ls result given e shallow s spelled =
+    let t = some_read ls s spelled in
+    is_none (reads_statement 32) plain (next_end []) ls result given e t.0 (at_depth 32 ls t.0 shallow t.1)
 
 -- ---- refusals
 
@@ -60,6 +63,6 @@ too_deep ls deep = inl (record { applies = deep; least = least_deep ls deep })
 pub no_statement : (ls : List Lexeme) → (IsTooDeep ls → ⊥) → SpellsNone ls → MayAnswer (PieceApplies ls) Syntax
 no_statement ls shallow none = inl (record { applies = (shallow, none); least = least_syntax ls })
 
--- what is spelled is not refused for its spelling
+-- what is spelled, with stand-ins or not, is not refused for its spelling
 pub spelled_some : (ls : List Lexeme) (s : Statement) → IsStatement ls s → SpellsNone ls → ⊥
-spelled_some ls s spelled none = none s spelled
+spelled_some ls s spelled none = none s (loosely_spelled ls s spelled)

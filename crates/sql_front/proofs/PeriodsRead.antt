@@ -5,7 +5,9 @@ use Rattle.sql_front.specs.declared.statement.PeriodOperand.TheVariants.{Named}
 use Rattle.sql_front.specs.declared.statement.PeriodPredicate.{PeriodPredicate}
 use Rattle.sql_front.specs.declared.statement.PeriodPredicate.TheVariants.{Overlaps, Equals, Contains, Precedes, Succeeds, ImmediatelyPrecedes, ImmediatelySucceeds}
 use Rattle.sql_front.specs.Language.{Language, keyword, Built, Choice, Enclosed, Preceded, Sequence, StandsFor}
-use Rattle.sql_front.specs.Grammar.{comma, dates_of, IsColumn, IsDate, IsPeriodOperand, IsRelation}
+use Rattle.sql_front.specs.Builders.{dates_of}
+use Rattle.sql_front.specs.Grammar.{comma}
+use Rattle.sql_front.proofs.ReadGrammar.{IsColumn, IsDate, IsPeriodOperand, IsRelation}
 use Rattle.sql_front.specs.Reading.{begins, choice_read, stands_read}
 use Rattle.sql_front.specs.PredicateReaders.{period_operand_read, relation_read}
 use Rattle.sql_front.proofs.First.{Starts, starts_built, starts_choice, starts_preceded, starts_stands}

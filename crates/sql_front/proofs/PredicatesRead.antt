@@ -10,7 +10,8 @@ use Rattle.sql_front.specs.declared.statement.StoredTest.{StoredTest}
 use Rattle.sql_front.specs.declared.statement.StoredTest.TheVariants.{Values}
 use Rattle.sql_front.specs.Lexemes.{Lexeme}
 use Rattle.sql_front.specs.Language.{Language, keyword, Built, Choice, Optional, Preceded, Sequence}
-use Rattle.sql_front.specs.Grammar.{name, ConditionBelow, IsColumn, IsCompare, IsDate, IsName, IsOperand, IsPeriodOperand, IsPredicate, IsRelation, IsStoredTest, IsWhere}
+use Rattle.sql_front.specs.Grammar.{name, ConditionBelow, IsWhere}
+use Rattle.sql_front.proofs.ReadGrammar.{IsColumn, IsCompare, IsDate, IsName, IsOperand, IsPeriodOperand, IsPredicate, IsRelation, IsStoredTest}
 use Rattle.sql_front.specs.Reading.{begins}
 use Rattle.sql_front.specs.ConditionReaders.{condition_read, where_read}
 use Rattle.sql_front.specs.PredicateReaders.{Said, begins_contains_date, contains_day, predicate_ahead, predicate_read, related, relation_behind_column, relation_word, said_of, said_read, stored_test_read}

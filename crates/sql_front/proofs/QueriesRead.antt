@@ -5,7 +5,11 @@ use Rattle.sql_front.specs.declared.tree.SetOperator.TheVariants.{Union, Except}
 use Rattle.sql_front.specs.Lexemes.{Lexeme}
 use Rattle.sql_front.specs.Language.{keyword, symbol, Choice, Enclosed, Fixed, Built, Optional, Preceded, PrecededOrNot, Repetition, Separated, Sequence, StandsFor}
 use Rattle.sql_front.specs.Trees.{Query, simple}
-use Rattle.sql_front.specs.Grammar.{chain_of, combined_of, comma, item_of, join_of, select_of, table_reference_of, ConditionBelow, IsChain, IsCompare, IsItem, IsJoin, IsNewName, IsPrimary, IsQuery, IsReference, IsSelect, IsSequenced, IsStep, IsWhere, QueryBelow}
+use Rattle.sql_front.specs.Builders.{chain_of, combined_of, item_of, join_of, select_of, table_reference_of}
+use Rattle.sql_front.specs.Grammar.{comma, ConditionBelow, IsWhere}
+use Rattle.sql_front.specs.Grammar.{QueryBelow}
+use Rattle.sql_front.specs.StandIns.{stand_in}
+use Rattle.sql_front.proofs.ReadGrammar.{IsChain, IsCompare, IsItem, IsJoin, IsNewName, IsPrimary, IsQuery, IsReference, IsSelect, IsSequenced, IsStep}
 use Rattle.sql_front.specs.Reading.{Reader}
 use Rattle.sql_front.specs.QueryReaders.{chain_read, inner_query_read, item_read, join_read, joins_read, new_name_read, operator_read, primary_read, primary_with, query_read, query_with, reference_read, select_read, sequenced_read, step_read, step_with, steps_read, steps_with}
 use Rattle.sql_front.proofs.First.{Starts, starts_built, starts_choice, starts_preceded, starts_preceded_or_not, starts_sequence, starts_stands}
@@ -168,17 +172,17 @@ module _ (n : ℕ) {L : List Lexeme → Query → Type 0} {inner : Reader Query}
   reads_query_of = reads_built combined_of (reads_both_next reads_primary reads_steps (leads_repetition step_firsts select_ends query_ends refl refl starts_step))
 
 -- at any depth
-pub reads_inner_query : (n : ℕ) → Reads (QueryBelow n) (Next query_ends) (inner_query_read n)
+pub reads_inner_query : (n : ℕ) → Reads (QueryBelow stand_in n) (Next query_ends) (inner_query_read n)
 unfolding QueryBelow inner_query_read
 reads_inner_query zero = record { found = λ ts x e. absurd (none_some x e); again = λ front a rest h follow. absurd h }
 reads_inner_query (suc n) = reads_query_of n (reads_inner_query n)
 
-pub reads_query : (n : ℕ) → Reads (QueryBelow (suc n)) (Next query_ends) (query_read n)
+pub reads_query : (n : ℕ) → Reads (QueryBelow stand_in (suc n)) (Next query_ends) (query_read n)
 unfolding QueryBelow query_read steps_read step_read primary_read
 reads_query n = reads_query_of n (reads_inner_query n)
 
 pub starts_sequenced : (n : ℕ) → Starts (any_of (word (codes "VALIDTIME") ∷ [])) (IsSequenced n)
-starts_sequenced n = starts_preceded (keyword (codes "VALIDTIME")) (QueryBelow n)
+starts_sequenced n = starts_preceded (keyword (codes "VALIDTIME")) (QueryBelow stand_in n)
 
 pub reads_sequenced : (n : ℕ) → Reads (IsSequenced (suc n)) (Next query_ends) (sequenced_read n)
 unfolding sequenced_read

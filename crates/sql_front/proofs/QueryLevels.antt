@@ -4,7 +4,10 @@ use Rattle.sql_front.specs.declared.tree.SetOperator.TheVariants.{Union, Except}
 use Rattle.sql_front.specs.Lexemes.{Lexeme}
 use Rattle.sql_front.specs.Language.{Enclosed}
 use Rattle.sql_front.specs.Trees.{Query, simple}
-use Rattle.sql_front.specs.Grammar.{chain_of, combined_of, item_of, join_of, select_of, table_reference_of, IsChain, IsItem, IsJoin, IsNewName, IsPrimary, IsQuery, IsReference, IsSelect, IsSequenced, QueryBelow}
+use Rattle.sql_front.specs.Builders.{chain_of, combined_of, item_of, join_of, select_of, table_reference_of}
+use Rattle.sql_front.specs.Grammar.{QueryBelow}
+use Rattle.sql_front.specs.StandIns.{stand_in}
+use Rattle.sql_front.proofs.ReadGrammar.{IsChain, IsItem, IsJoin, IsNewName, IsPrimary, IsQuery, IsReference, IsSelect, IsSequenced}
 use Rattle.sql_front.proofs.Levels.{Level, level_built, level_choice, level_closed, level_enclosed, level_optional, level_preceded, level_preceded_or_not, level_repetition, level_separated, level_sequence, level_stands, plain_keyword}
 use Rattle.sql_front.proofs.NamesRead.{level_name, plain_comma}
 use Rattle.sql_front.proofs.ConditionLevels.{level_column, level_compare, level_condition, level_where}
@@ -40,11 +43,11 @@ level_query_of n k L M r =
     level_built combined_of (level_sequence primary (level_repetition (level_sequence operator (level_preceded_or_not (plain_keyword (codes "DISTINCT")) primary))))
 
 -- a query with so much room is one of that depth
-pub level_query : (n k : ℕ) → Level k (QueryBelow n) (QueryBelow (suc k))
+pub level_query : (n k : ℕ) → Level k (QueryBelow stand_in n) (QueryBelow stand_in (suc k))
 unfolding QueryBelow
 level_query zero k = record { keeps = λ x a j h e. absurd h }
-level_query (suc n) zero = level_query_of (suc n) zero (QueryBelow n) (QueryBelow zero) (level_closed (QueryBelow n) (Enclosed (QueryBelow zero)))
-level_query (suc n) (suc k) = level_query_of (suc n) (suc k) (QueryBelow n) (QueryBelow (suc k)) (level_enclosed (level_query n k))
+level_query (suc n) zero = level_query_of (suc n) zero (QueryBelow stand_in n) (QueryBelow stand_in zero) (level_closed (QueryBelow stand_in n) (Enclosed (QueryBelow stand_in zero)))
+level_query (suc n) (suc k) = level_query_of (suc n) (suc k) (QueryBelow stand_in n) (QueryBelow stand_in (suc k)) (level_enclosed (level_query n k))
 
 pub level_sequenced : (n k : ℕ) → Level k (IsSequenced n) (IsSequenced (suc k))
 level_sequenced n k = level_preceded (plain_keyword (codes "VALIDTIME")) (level_query n k)

@@ -11,6 +11,7 @@ use Rattle.sql_front.specs.Names.{is_plain_word}
 use Rattle.sql_front.specs.Words.{is_reserved}
 use Rattle.sql_front.specs.Trees.{Condition, Query, Select, Statement, all, any, combined, conditions_of, insert, last, negated, sequenced, simple, step, test, stored, update, delete}
 use Rattle.sql_front.specs.Grammar.{IsStatement}
+use Rattle.sql_front.specs.PieceRefusals.{SpellsNone}
 use Rattle.sql_front.specs.LeafValues.{date_at, day_of_token, day_value, is_date, parts_of}
 use Rattle.sql_front.specs.Leaves.{date_read, literal_read, name_read, number_read, tuple_read, unsigned_read}
 use Rattle.sql_front.specs.ConditionReaders.{column_read, compare_read, comparison_read, condition_read, conjunction_read, factor_read, operand_read, test_read, where_read}
@@ -19,7 +20,7 @@ use Rattle.sql_front.specs.QueryReaders.{chain_read, inner_query_read, item_read
 use Rattle.sql_front.specs.ChangeReaders.{assignment_read, columns_read, delete_read, in_portion_read, insert_read, portion_read, update_read}
 use Rattle.sql_front.specs.StatementReaders.{statement_read, stored_read}
 use Rattle.sql_front.specs.Reading.{bounded_read, whole_read}
-use Rattle.sql_front.proofs.StatementsRead.{read_none, read_spelled}
+use Rattle.sql_front.proofs.Spelling.{none_if_unread, spelled_if_read}
 
 -- ---- tokens
 
@@ -60,7 +61,7 @@ unfolding statement_read sequenced_read query_read primary_read steps_read step_
 query_is_read = refl
 
 pub query_spelled : IsStatement query (sequenced (one_select (codes "ENO") (codes "EMP")))
-query_spelled = read_spelled 0 query (sequenced (one_select (codes "ENO") (codes "EMP"))) query_is_read
+query_spelled = spelled_if_read 0 query (sequenced (one_select (codes "ENO") (codes "EMP"))) query_is_read refl refl refl
 
 -- without DISTINCT, which no SELECT of columns lacks
 abbrev undistinct : List Lexeme
@@ -70,8 +71,8 @@ undistinct_is_not_read : whole_read (statement_read 5) undistinct ≡ None
 unfolding statement_read sequenced_read query_read primary_read select_read
 undistinct_is_not_read = refl
 
-pub undistinct_spells_none : (s : Statement) → IsStatement undistinct s → ⊥
-undistinct_spells_none = read_none undistinct undistinct_is_not_read
+pub undistinct_spells_none : SpellsNone undistinct
+undistinct_spells_none = none_if_unread undistinct undistinct_is_not_read
 
 -- ---- set operators
 
@@ -91,7 +92,7 @@ unfolding statement_read sequenced_read query_read primary_read operator_read st
 chain_is_read = refl
 
 pub operators_apply_from_left_to_right : IsStatement chain (sequenced chained)
-operators_apply_from_left_to_right = read_spelled 0 chain (sequenced chained) chain_is_read
+operators_apply_from_left_to_right = spelled_if_read 0 chain (sequenced chained) chain_is_read refl refl refl
 
 -- parentheses make another query of it
 abbrev grouped : List Lexeme
@@ -109,7 +110,7 @@ unfolding statement_read sequenced_read query_read inner_query_read primary_read
 grouped_is_read = refl
 
 pub parentheses_group : IsStatement grouped (sequenced grouping)
-parentheses_group = read_spelled 1 grouped (sequenced grouping) grouped_is_read
+parentheses_group = spelled_if_read 1 grouped (sequenced grouping) grouped_is_read refl refl refl
 
 -- ---- conditions
 
@@ -142,7 +143,7 @@ unfolding statement_read delete_read portion_read where_read condition_read conj
 deletion_is_read = refl
 
 pub and_binds_tighter_than_or : IsStatement deletion deleted
-and_binds_tighter_than_or = read_spelled 0 deletion deleted deletion_is_read
+and_binds_tighter_than_or = spelled_if_read 0 deletion deleted deletion_is_read refl refl refl
 
 -- ---- changes
 
@@ -166,7 +167,8 @@ unfolding statement_read insert_read columns_read name_read tuple_read literal_r
 insertion_is_read = refl
 
 pub insertion_spelled : IsStatement insertion inserted
-insertion_spelled = read_spelled 0 insertion inserted insertion_is_read
+unfolding day_of_token date_at parts_of is_date
+insertion_spelled = spelled_if_read 0 insertion inserted insertion_is_read refl refl refl
 
 -- UPDATE EMP FOR PORTION OF EMP_PERIOD FROM DATE '2010-01-01' TO DATE '2011-01-01' SET DNO = 4
 abbrev change : List Lexeme
@@ -189,7 +191,8 @@ unfolding statement_read update_read portion_read in_portion_read assignment_rea
 change_is_read = refl
 
 pub change_spelled : IsStatement change changed
-change_spelled = read_spelled 0 change changed change_is_read
+unfolding day_of_token date_at parts_of is_date
+change_spelled = spelled_if_read 0 change changed change_is_read refl refl refl
 
 -- ---- stored queries
 
@@ -205,20 +208,20 @@ unfolding statement_read stored_read for_window_read where_read name_read is_pla
 lookup_is_read = refl
 
 pub lookup_spelled : IsStatement lookup looked_up
-lookup_spelled = read_spelled 0 lookup looked_up lookup_is_read
+lookup_spelled = spelled_if_read 0 lookup looked_up lookup_is_read refl refl refl
 
 -- a query of columns is not stored: VALIDTIME stands before it
 bare_is_not_read : whole_read (statement_read 5) (select (codes "ENO") (codes "EMP")) ≡ None
 unfolding statement_read stored_read
 bare_is_not_read = refl
 
-pub bare_select_spells_none : (s : Statement) → IsStatement (select (codes "ENO") (codes "EMP")) s → ⊥
-bare_select_spells_none = read_none (select (codes "ENO") (codes "EMP")) bare_is_not_read
+pub bare_select_spells_none : SpellsNone (select (codes "ENO") (codes "EMP"))
+bare_select_spells_none = none_if_unread (select (codes "ENO") (codes "EMP")) bare_is_not_read
 
 -- nothing spells none
 nothing_is_not_read : whole_read (statement_read 0) [] ≡ None
 unfolding statement_read stored_read
 nothing_is_not_read = refl
 
-pub nothing_spells_none : (s : Statement) → IsStatement [] s → ⊥
-nothing_spells_none = read_none [] nothing_is_not_read
+pub nothing_spells_none : SpellsNone []
+nothing_spells_none = none_if_unread [] nothing_is_not_read

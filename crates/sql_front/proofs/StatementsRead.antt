@@ -5,8 +5,8 @@ use Rattle.sql_front.specs.Lexemes.{Lexeme}
 use Rattle.sql_front.specs.Language.{keyword, symbol}
 use Rattle.sql_front.specs.Depth.{opens, counted, room, IsDeeper}
 use Rattle.sql_front.specs.Trees.{Statement, at, create, delete, insert, sequenced, stored, update}
-use Rattle.sql_front.specs.Grammar.{stored_of, IsStatement, IsStored, IsStoredTest, StatementBelow}
-use Rattle.sql_front.specs.Laws.{SpellsOne}
+use Rattle.sql_front.specs.Builders.{stored_of}
+use Rattle.sql_front.proofs.ReadGrammar.{IsStatement, IsStored, IsStoredTest, StatementBelow}
 use Rattle.sql_front.specs.Reading.{whole_read}
 use Rattle.sql_front.specs.StatementReaders.{statement_read, stored_read}
 use Rattle.sql_front.proofs.First.{Starts, starts_built, starts_choice, starts_preceded}
@@ -113,8 +113,8 @@ counted_within test (t ∷ ts) =
 within_length : (ts : List Lexeme) → IsDeeper (length ts) ts → ⊥
 within_length ts d = absurd (omega (arith, d.3, counted_within opens d.0, ap length d.2, length-append d.0 d.1))
 
-pub spells_one : SpellsOne
-spells_one ts a b h k =
+pub read_one : (ts : List Lexeme) (a b : Statement) → IsStatement ts a → IsStatement ts b → a ≡ b
+read_one ts a b h k =
     whole_unique (reads_statement (length ts)) (next_end []) ts a b
     (at_depth (length ts) ts a (within_length ts) h) (at_depth (length ts) ts b (within_length ts) k)
 

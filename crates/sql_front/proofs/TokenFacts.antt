@@ -20,9 +20,7 @@ pub moment_there : (t : List ℕ) → IsSome (moment_of_token t) ↔ IsMomentTok
 moment_there t = there (moment_of_token t) (λ n. IsMomentText n (between_quotes t)) (moment_shown t) (moment_found t)
 
 pub clock_there : (t : List ℕ) → IsSome (clock_of_token t) ↔ IsClockToken t
-clock_there t =
-    let h = there (clock_of_token t) (λ n. IsMomentText n (between_quotes t) × (n <ℤ forever)) (clock_shown t) (clock_found t) in
-    (λ s. let k = h.0 s in (k.0, k.1.0, k.1.1), λ k. h.1 (k.0, (k.1, k.2)))
+clock_there t = there (clock_of_token t) (λ n. IsMomentText n (between_quotes t) × (n <ℤ forever)) (clock_shown t) (clock_found t)
 
 abbrev nothing : Option ℤ
 nothing = None

@@ -1,18 +1,18 @@
 -- Worked rows: the values of names, numbers, texts, dates and moments, and what is wrong with literals.
-use Rattle.std.proofs.Common.{◌≡◌, ℕ, pos, neg_ℤ, true, false, List, [], ◌∷◌, Some, None, codes, refl, sym, ◌∙◌}
+use Rattle.std.proofs.Common.{◌≡◌, ℕ, ℤ, ◌≤◌, pos, neg_ℤ, true, false, List, [], ◌∷◌, Some, None, codes, refl, sym, ◌∙◌, subst, arith, lit≤}
 use Rattle.period_core.specs.declared.value.Value.TheVariants as value
 use Rattle.period_core.specs.Moments.{first_moment, forever}
 use Rattle.sql_front.specs.declared.token.Kind.TheVariants.{Word, Number, Text, Symbol}
 use Rattle.sql_front.specs.Lexemes.{Lexeme}
 use Rattle.sql_front.specs.Names.{is_name, is_plain_word, upper}
 use Rattle.sql_front.specs.Words.{is_reserved}
-use Rattle.sql_front.specs.Values.{IsDateToken, NamesDay, negative_value, number_value, text_value}
-use Rattle.sql_front.specs.LeafValues.{clock_of_token, clock_value, date_at, day_of_token, day_value, is_date, is_time, moment_of_token, moment_value, parts_of, time_at, time_parts_of}
+use Rattle.sql_front.specs.Values.{IsDateToken, NamesClockMoment, NamesDay, NamesMoment, NamesNegative, NamesNumber, greatest, text_value}
+use Rattle.sql_front.specs.LeafValues.{clock_of_token, clock_value, date_at, day_of_token, day_value, is_date, is_time, moment_of_token, moment_value, negative_value, number_value, parts_of, time_at, time_parts_of}
 use Rattle.sql_front.specs.LiteralFaults.{HasBadDate, HasBadMoment}
 use Rattle.sql_front.specs.LiteralTests.{is_bad_date, is_bad_moment, number_above, somewhere}
 use Rattle.sql_front.specs.Leaves.{date_read, literal_read, number_read, tuple_read, unsigned_read}
 use Rattle.sql_front.specs.Reading.{bounded_read, whole_read}
-use Rattle.sql_front.proofs.LeafFacts.{day_found, day_named}
+use Rattle.sql_front.proofs.LeafFacts.{clock_found, clock_shown, day_found, day_shown, moment_shown}
 use Rattle.sql_front.proofs.Laws.{none_some}
 use Rattle.sql_front.proofs.LiteralFaultFacts.{bad_date_somewhere, bad_moment_somewhere}
 
@@ -33,23 +33,30 @@ reserved_is_none : is_name (codes "SELECT") ≡ false
 unfolding is_name is_plain_word is_reserved
 reserved_is_none = refl
 
-a_number : number_value (codes "22217") ≡ 22217
-a_number = refl
+a_number : NamesNumber (codes "22217") 22217
+a_number = (refl, lit≤ tt)
 
-the_greatest : number_value (codes "9223372036854775807") ≡ 9_223_372_036_854_775_807
-the_greatest = refl
+the_greatest : NamesNumber (codes "9223372036854775807") 9_223_372_036_854_775_807
+the_greatest = (refl, lit≤ tt)
 
+above_the_greatest_is_none : (n : ℕ) → NamesNumber (codes "9223372036854775808") n → ⊥
+above_the_greatest_is_none n h = let low : 9_223_372_036_854_775_808 ≤ greatest = subst (λ (m : ℕ). m ≤ greatest) h.0 h.1 in absurd (omega (arith, low))
+
+the_least : NamesNegative (codes "9223372036854775808") (neg_ℤ (pos 9_223_372_036_854_775_808))
+the_least = (refl, lit≤ tt)
+
+below_the_least_is_none : (n : ℤ) → NamesNegative (codes "9223372036854775809") n → ⊥
+below_the_least_is_none n h = absurd (omega (arith, h.1))
+
+minus_zero : NamesNegative (codes "0") (pos 0)
+minus_zero = (refl, lit≤ tt)
+
+-- as it is read, 0 stands in
 above_the_greatest_stands_in : number_value (codes "9223372036854775808") ≡ 0
 above_the_greatest_stands_in = refl
 
-the_least : negative_value (codes "9223372036854775808") ≡ neg_ℤ (pos 9_223_372_036_854_775_808)
-the_least = refl
-
 below_the_least_stands_in : negative_value (codes "9223372036854775809") ≡ pos 0
 below_the_least_stands_in = refl
-
-minus_zero : negative_value (codes "0") ≡ pos 0
-minus_zero = refl
 
 a_text : text_value (codes "'it''s'") ≡ codes "it's"
 a_text = refl
@@ -106,8 +113,9 @@ bad_date_stands_in = refl
 bad_date_is_none : IsDateToken (codes "'2011-02-30'") → ⊥
 bad_date_is_none h = none_some h.0 (sym no_day ∙ day_found (codes "'2011-02-30'") h.0 h.1)
 
-it_is_named : NamesDay (codes "'2010-01-01'") (day_value (codes "'2010-01-01'"))
-it_is_named = day_named (codes "'2010-01-01'")
+it_is_named : NamesDay (codes "'2010-01-01'") (pos 14_610)
+unfolding day_of_token date_at parts_of is_date
+it_is_named = day_shown (codes "'2010-01-01'") (pos 14_610) refl
 
 -- ---- moments
 
@@ -134,6 +142,17 @@ it_stands_in = refl
 the_second_before_is_one : clock_value (codes "'9999-12-31 23:59:58'") ≡ pos 253_402_300_798
 unfolding clock_value clock_of_token moment_of_token date_at time_at parts_of time_parts_of is_date is_time
 the_second_before_is_one = refl
+
+it_is_a_moment : NamesMoment (codes "'2010-01-01 12:30:15'") (pos 1_262_349_015)
+unfolding moment_of_token date_at time_at parts_of time_parts_of is_date is_time
+it_is_a_moment = moment_shown (codes "'2010-01-01 12:30:15'") (pos 1_262_349_015) refl
+
+the_second_before_is_a_clock_moment : NamesClockMoment (codes "'9999-12-31 23:59:58'") (pos 253_402_300_798)
+unfolding clock_of_token moment_of_token date_at time_at parts_of time_parts_of is_date is_time
+the_second_before_is_a_clock_moment = clock_shown (codes "'9999-12-31 23:59:58'") (pos 253_402_300_798) refl
+
+the_open_end_names_none : (m : ℤ) → NamesClockMoment (codes "'9999-12-31 23:59:59'") m → ⊥
+the_open_end_names_none m h = none_some m (sym the_open_end_is_no_clock_moment ∙ clock_found (codes "'9999-12-31 23:59:59'") m h)
 
 no_leap_second : moment_of_token (codes "'2016-12-31 23:59:60'") ≡ None
 unfolding moment_of_token date_at time_at parts_of time_parts_of is_date is_time

@@ -2,7 +2,8 @@
 use Rattle.std.proofs.Common.{◌≡◌, ℕ, true, List, [], ◌∷◌, refl, codes}
 use Rattle.sql_front.specs.declared.statement.SystemTime.TheVariants.{AsOf}
 use Rattle.sql_front.specs.Language.{keyword, Optional, Preceded, Sequence}
-use Rattle.sql_front.specs.Grammar.{between_of, from_to_of, IsClockMoment, IsForWindow, IsMoment, IsWindow}
+use Rattle.sql_front.specs.Builders.{between_of, from_to_of}
+use Rattle.sql_front.proofs.ReadGrammar.{IsClockMoment, IsForWindow, IsMoment, IsWindow}
 use Rattle.sql_front.specs.WindowReaders.{for_window_read, window_read}
 use Rattle.sql_front.proofs.First.{Starts, starts_built, starts_choice, starts_preceded}
 use Rattle.sql_front.proofs.Laws.{Any, Reads, reads_both, reads_built, reads_preceded}

@@ -5,7 +5,8 @@ use Rattle.sql_front.specs.declared.statement.InsertRows.{InsertRows}
 use Rattle.sql_front.specs.declared.statement.Portion.{Portion}
 use Rattle.sql_front.specs.Language.{keyword, symbol}
 use Rattle.sql_front.specs.Trees.{Delete, Update}
-use Rattle.sql_front.specs.Grammar.{comma, assignment_of, delete_of, portion_of, rows_of, update_of}
+use Rattle.sql_front.specs.Builders.{assignment_of, delete_of, portion_of, rows_of, update_of}
+use Rattle.sql_front.specs.Grammar.{comma}
 use Rattle.sql_front.specs.Reading.{Reader, built_read, optional_read, preceded_read, separated_read, sequence_read}
 use Rattle.sql_front.specs.Leaves.{clock_moment_read, date_read, literal_read, name_read, names_read, tuple_read}
 use Rattle.sql_front.specs.ConditionReaders.{compare_read, where_read}

@@ -8,7 +8,8 @@ use Rattle.sql_front.specs.declared.statement.Operand.{Operand}
 use Rattle.sql_front.specs.declared.statement.Operand.TheVariants.{Column, Literal}
 use Rattle.sql_front.specs.Language.{keyword, symbol}
 use Rattle.sql_front.specs.Trees.{Condition, negated, test}
-use Rattle.sql_front.specs.Grammar.{name, column_reference_of, compare_of, all_of, any_of}
+use Rattle.sql_front.specs.Builders.{column_reference_of, compare_of, all_of, any_of}
+use Rattle.sql_front.specs.Grammar.{name}
 use Rattle.sql_front.specs.Reading.{Reader, begins, sequence_read, built_read, choice_read, optional_read, preceded_read, separated_read, enclosed_read, stands_read}
 use Rattle.sql_front.specs.Leaves.{name_read, literal_read}
 

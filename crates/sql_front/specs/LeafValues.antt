@@ -1,9 +1,23 @@
--- The values of dates and moments, by the digits of their tokens.
-use Rattle.std.specs.Prelude.{ℕ, ℤ, ◌+◌, ◌-◌, ◌*◌, ◌==◌, ◌&&◌, Bool, cond, nat_lt, nat_le, int_lt, List, length, slice_index, Option, Some, None}
+-- The values of numbers, dates and moments as they are read, by the digits of their tokens.
+-- For a literal that names no value 0, the first day or the first moment stands in. A statement with
+-- such a literal is refused.
+use Rattle.std.specs.Prelude.{ℕ, ℤ, pos, neg_ℤ, ◌+◌, ◌-◌, ◌*◌, ◌==◌, ◌&&◌, Bool, cond, nat_lt, nat_le, int_lt, List, length, slice_index, Option, Some, None}
 use Rattle.period_core.specs.Calendar.{day_number, month_length}
 use Rattle.period_core.specs.Moments.{first_moment, forever, moment_number}
-use Rattle.sql_front.specs.Values.{first_day}
+use Rattle.sql_front.specs.Values.{decimal, greatest}
 use Rattle.sql_front.specs.Reading.{◌>>=◌}
+
+-- what is over the limit stands in as 0
+abbrev pub up_to : ℕ → ℕ → ℕ
+up_to limit value = cond (nat_lt limit value) 0 value
+
+-- a number without a sign, or with a plus
+abbrev pub number_value : List ℕ → ℕ
+number_value digits = up_to greatest (decimal digits)
+
+-- a number with a minus: one more below than above
+abbrev pub negative_value : List ℕ → ℤ
+negative_value digits = neg_ℤ (pos (up_to (greatest + 1) (decimal digits)))
 
 -- the value of an ASCII digit
 abbrev pub digit_of : ℕ → Option ℕ
@@ -79,6 +93,10 @@ moment_of_token token =
 -- the moment before the open end that a token names
 unfoldable pub clock_of_token : List ℕ → Option ℤ
 clock_of_token token = moment_of_token token >>= λ m. cond (int_lt m forever) (Some m) None
+
+-- the number of 0001-01-01
+abbrev pub first_day : ℤ
+first_day = neg_ℤ (pos 719_162)
 
 -- the value, or this one
 abbrev pub or_else : Option ℤ → ℤ → ℤ

@@ -3,10 +3,10 @@ use Rattle.std.specs.Prelude.{ℕ, ℤ, List, codes}
 use Rattle.period_core.specs.declared.value.Value.{Value}
 use Rattle.period_core.specs.declared.value.Value.TheVariants as value
 use Rattle.sql_front.specs.Names.{upper}
-use Rattle.sql_front.specs.Values.{number_value}
 use Rattle.sql_front.specs.Language.{keyword, symbol, number, text}
-use Rattle.sql_front.specs.Grammar.{name, comma, number_of, negative_of, text_of}
-use Rattle.sql_front.specs.LeafValues.{clock_value, day_value, moment_value}
+use Rattle.sql_front.specs.Builders.{number_of, text_of}
+use Rattle.sql_front.specs.Grammar.{name, comma}
+use Rattle.sql_front.specs.LeafValues.{clock_value, day_value, moment_value, negative_value, number_value}
 use Rattle.sql_front.specs.Reading.{Reader, begins, built_read, choice_read, enclosed_read, one_read, preceded_or_not_read, preceded_read, separated_read}
 
 unfoldable pub name_read : Reader (List ℕ)
@@ -30,7 +30,7 @@ unsigned_read = built_read number_of (preceded_or_not_read (symbol (codes "+")) 
 
 unfoldable pub literal_read : Reader Value
 literal_read =
-    choice_read (begins (symbol (codes "-"))) (built_read negative_of (preceded_read (symbol (codes "-")) (one_read number)))
+    choice_read (begins (symbol (codes "-"))) (built_read value.Int (preceded_read (symbol (codes "-")) (built_read negative_value (one_read number))))
     (choice_read (begins text) (built_read text_of (one_read text))
     (choice_read (begins (keyword (codes "DATE"))) (built_read value.Date date_read)
     unsigned_read))

@@ -8,6 +8,8 @@ pub mod Values
 pub mod Language
 pub mod Trees
 pub mod Plain
+pub mod Literals
+pub mod Builders
 pub mod Grammar
 pub mod Depth
 pub mod LiteralFaults
@@ -19,6 +21,7 @@ pub mod Reading
 pub mod Marks
 pub mod LeafValues
 pub mod Leaves
+pub mod StandIns
 pub mod Quoting
 pub mod LiteralTests
 pub mod LiteralRefusals

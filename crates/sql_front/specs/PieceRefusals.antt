@@ -4,7 +4,8 @@ use Rattle.period_core.specs.declared.refusal.Refusal.{Refusal}
 use Rattle.period_core.specs.declared.refusal.Refusal.TheVariants.{Syntax, TooDeep, BadDate, BadMoment, NumberRange}
 use Rattle.sql_front.specs.Lexemes.{Lexeme}
 use Rattle.sql_front.specs.Trees.{Statement}
-use Rattle.sql_front.specs.Grammar.{IsStatement}
+use Rattle.sql_front.specs.Literals.{any_value}
+use Rattle.sql_front.specs.Grammar.{Spells}
 use Rattle.sql_front.specs.Depth.{IsDeeper}
 use Rattle.sql_front.specs.LiteralFaults.{HasBadDate, HasBadMoment, HasNumberOutside}
 
@@ -12,9 +13,9 @@ use Rattle.sql_front.specs.LiteralFaults.{HasBadDate, HasBadMoment, HasNumberOut
 abbrev pub IsTooDeep : List Lexeme → Type 0
 IsTooDeep lexemes = IsDeeper 32 lexemes
 
--- no statement is spelled so
+-- no statement is spelled so, even where each literal may stand for any value
 abbrev pub SpellsNone : List Lexeme → Type 0
-SpellsNone lexemes = (statement : Statement) → IsStatement lexemes statement → ⊥
+SpellsNone lexemes = (statement : Statement) → Spells any_value lexemes statement → ⊥
 
 -- the condition of each refusal, over the tokens of a piece
 abbrev pub PieceApplies : List Lexeme → Refusal → Type 0

@@ -8,7 +8,8 @@ use Rattle.sql_front.specs.declared.statement.StoredTest.{StoredTest}
 use Rattle.sql_front.specs.declared.statement.StoredTest.TheVariants.{Values, Periods, ContainsDay}
 use Rattle.sql_front.specs.Lexemes.{Lexeme}
 use Rattle.sql_front.specs.Language.{keyword, symbol, or_test}
-use Rattle.sql_front.specs.Grammar.{comma, name, dates_of}
+use Rattle.sql_front.specs.Builders.{dates_of}
+use Rattle.sql_front.specs.Grammar.{comma, name}
 use Rattle.sql_front.specs.Reading.{Reader, begins, third_is, sequence_read, built_read, choice_read, preceded_read, enclosed_read, stands_read}
 use Rattle.sql_front.specs.Leaves.{date_read}
 use Rattle.sql_front.specs.ConditionReaders.{column_read, compare_read}

@@ -10,7 +10,8 @@ use Rattle.sql_front.specs.Plain.{plain_query}
 use Rattle.sql_front.specs.Lexemes.{Lexeme}
 use Rattle.sql_front.specs.Language.{keyword, symbol, or_test}
 use Rattle.sql_front.specs.Trees.{Join, JoinChain, Select, Query, simple}
-use Rattle.sql_front.specs.Grammar.{name, comma, table_reference_of, join_of, chain_of, item_of, select_of, combined_of}
+use Rattle.sql_front.specs.Builders.{table_reference_of, join_of, chain_of, item_of, select_of, combined_of}
+use Rattle.sql_front.specs.Grammar.{name, comma}
 use Rattle.sql_front.specs.Reading.{Reader, begins, sequence_read, built_read, choice_read, optional_read, repetition_read, preceded_read, preceded_or_not_read, stands_read, separated_read, enclosed_read}
 use Rattle.sql_front.specs.Leaves.{name_read}
 use Rattle.sql_front.specs.ConditionReaders.{column_read, compare_read, condition_read, where_read}

@@ -2,7 +2,7 @@
 use Rattle.std.specs.Prelude.{ℕ, codes}
 use Rattle.sql_front.specs.Language.{keyword, symbol}
 use Rattle.sql_front.specs.Trees.{Statement, Stored, at, create, delete, insert, sequenced, stored, update}
-use Rattle.sql_front.specs.Grammar.{stored_of}
+use Rattle.sql_front.specs.Builders.{stored_of}
 use Rattle.sql_front.specs.Reading.{Reader, begins, built_read, choice_read, preceded_read, sequence_read}
 use Rattle.sql_front.specs.Leaves.{name_read}
 use Rattle.sql_front.specs.ConditionReaders.{where_read}

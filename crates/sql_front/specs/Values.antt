@@ -1,9 +1,7 @@
--- The values that the texts of tokens stand for.
--- A literal that names no value has a stand-in, 0 or the first day or moment: a statement with such
--- a literal is refused, so the stand-in is never seen.
-use Rattle.std.specs.Prelude.{◌≡◌, ◌⊎◌, ◌<ℤ◌, ℕ, ℤ, pos, neg_ℤ, ◌+◌, ◌-◌, ◌*◌, ◌==◌, Bool, cond, nat_lt, List, [], ◌∷◌, take, drop, length}
+-- The values that the texts of tokens name.
+use Rattle.std.specs.Prelude.{◌≡◌, ◌≤◌, ◌<ℤ◌, ℕ, ℤ, pos, neg_ℤ, ◌+◌, ◌-◌, ◌*◌, ◌==◌, Bool, cond, List, [], ◌∷◌, take, drop, length}
 use Rattle.period_core.specs.Calendar.{IsDayText}
-use Rattle.period_core.specs.Moments.{IsMomentText, first_moment, forever}
+use Rattle.period_core.specs.Moments.{IsMomentText, forever}
 
 -- ---- numbers
 
@@ -20,17 +18,13 @@ decimal digits = decimal_from 0 digits
 abbrev pub greatest : ℕ
 greatest = 9_223_372_036_854_775_807
 
--- what is over the limit stands in as 0
-abbrev pub up_to : ℕ → ℕ → ℕ
-up_to limit value = cond (nat_lt limit value) 0 value
-
 -- a number without a sign, or with a plus
-abbrev pub number_value : List ℕ → ℕ
-number_value digits = up_to greatest (decimal digits)
+abbrev pub NamesNumber : List ℕ → ℕ → Type 0
+NamesNumber digits value = (value ≡ decimal digits) × (value ≤ greatest)
 
--- a number with a minus: one more below than above
-abbrev pub negative_value : List ℕ → ℤ
-negative_value digits = neg_ℤ (pos (up_to (greatest + 1) (decimal digits)))
+-- the number of digits behind a minus: one more below than above
+abbrev pub NamesNegative : List ℕ → ℤ → Type 0
+NamesNegative digits value = (value ≡ neg_ℤ (pos (decimal digits))) × (decimal digits ≤ greatest + 1)
 
 -- ---- texts
 
@@ -64,36 +58,26 @@ text_value token = unquoted (behind_quote token)
 abbrev pub between_quotes : List ℕ → List ℕ
 between_quotes token = take (length token - 2) (drop 1 token)
 
--- the number of 0001-01-01
-abbrev pub first_day : ℤ
-first_day = neg_ℤ (pos 719_162)
-
--- the token's text is YYYY-MM-DD of a day from 0001-01-01 to 9999-12-31
-abbrev pub IsDateToken : List ℕ → Type 0
-IsDateToken token = (day : ℤ) × IsDayText day (between_quotes token)
-
--- the day that the token's text names, or the first day where it names none
+-- the token's text is YYYY-MM-DD of this day, from 0001-01-01 to 9999-12-31
 abbrev pub NamesDay : List ℕ → ℤ → Type 0
-NamesDay token day =
-    IsDayText day (between_quotes token) ⊎ ((IsDateToken token → ⊥) × (day ≡ first_day))
+NamesDay token day = IsDayText day (between_quotes token)
 
--- the token's text is YYYY-MM-DD HH:MM:SS of a moment from the first to the open end
-abbrev pub IsMomentToken : List ℕ → Type 0
-IsMomentToken token = (moment : ℤ) × IsMomentText moment (between_quotes token)
-
--- the moment that the token's text names, or the first moment where it names none
+-- the token's text is YYYY-MM-DD HH:MM:SS of this moment, from the first to the open end
 abbrev pub NamesMoment : List ℕ → ℤ → Type 0
-NamesMoment token moment =
-    IsMomentText moment (between_quotes token)
-    ⊎ ((IsMomentToken token → ⊥) × (moment ≡ first_moment))
+NamesMoment token moment = IsMomentText moment (between_quotes token)
+
+-- the same, before the open end
+abbrev pub NamesClockMoment : List ℕ → ℤ → Type 0
+NamesClockMoment token moment = NamesMoment token moment × (moment <ℤ forever)
+
+-- the token's text is that of a day
+abbrev pub IsDateToken : List ℕ → Type 0
+IsDateToken token = (day : ℤ) × NamesDay token day
+
+-- the token's text is that of a moment
+abbrev pub IsMomentToken : List ℕ → Type 0
+IsMomentToken token = (moment : ℤ) × NamesMoment token moment
 
 -- the token's text is that of a moment before the open end
 abbrev pub IsClockToken : List ℕ → Type 0
-IsClockToken token = (moment : ℤ) × IsMomentText moment (between_quotes token) × (moment <ℤ forever)
-
--- the moment before the open end that the token's text names, or the first moment where it names
--- none
-abbrev pub NamesClockMoment : List ℕ → ℤ → Type 0
-NamesClockMoment token moment =
-    (IsMomentText moment (between_quotes token) × (moment <ℤ forever))
-    ⊎ ((IsClockToken token → ⊥) × (moment ≡ first_moment))
+IsClockToken token = (moment : ℤ) × NamesClockMoment token moment

@@ -3,7 +3,7 @@ use Rattle.std.specs.Prelude.{Option, codes}
 use Rattle.sql_front.specs.declared.statement.SystemTime.{SystemTime}
 use Rattle.sql_front.specs.declared.statement.SystemTime.TheVariants.{AsOf}
 use Rattle.sql_front.specs.Language.{keyword}
-use Rattle.sql_front.specs.Grammar.{from_to_of, between_of}
+use Rattle.sql_front.specs.Builders.{from_to_of, between_of}
 use Rattle.sql_front.specs.Reading.{Reader, begins, sequence_read, built_read, choice_read, optional_read, preceded_read}
 use Rattle.sql_front.specs.Leaves.{moment_read, clock_moment_read}
 

@@ -4,7 +4,7 @@ ghost use Rattle.std.specs.Prelude.{◌≡◌, ◌≤◌, ◌∷◌, List, Optio
 ghost use Rattle.std.specs.Option.{option_map};
 ghost use Rattle.sql_front.specs.ConditionReaders.{condition_read, conjunction_read, factor_read, inner_read, test_read, where_read};
 ghost use Rattle.sql_front.specs.Gives.{Gives};
-ghost use Rattle.sql_front.specs.Grammar.{all_of, any_of};
+ghost use Rattle.sql_front.specs.Builders.{all_of, any_of};
 ghost use Rattle.sql_front.specs.Lexemes.{Lexeme, lexemes};
 ghost use Rattle.sql_front.specs.Plain.{plain_condition};
 

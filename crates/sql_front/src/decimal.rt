@@ -1,7 +1,7 @@
 //! Numbers of digits.
 
 ghost use Rattle.std.specs.Prelude.{◌≡◌, ◌≤◌, nat_lt, cond, Some, None};
-ghost use Rattle.sql_front.specs.Values as values;
+ghost use Rattle.sql_front.specs.LeafValues as leaves;
 ghost use Rattle.sql_front.specs.Values.{decimal, greatest};
 
 /// The greatest number of 64 bits signed.
@@ -26,7 +26,7 @@ pub fn decimal_up_to(digits: &str, limit: u64) -> Option<u64>
 
 /// The value of a number without a minus: 0 where it is outside 64 bits signed.
 pub fn number_value(digits: &str) -> u64
-    ensures value { result ≡ values.number_value digits.now }
+    ensures value { result ≡ leaves.number_value digits.now }
     ensures fits { result ≤ greatest }
 {
     match decimal_up_to(digits, GREATEST) {
@@ -37,7 +37,7 @@ pub fn number_value(digits: &str) -> u64
 
 /// The value of a number with a minus: 0 where it is outside 64 bits signed.
 pub fn negative_value(digits: &str) -> i64
-    ensures { result ≡ values.negative_value digits.now }
+    ensures { result ≡ leaves.negative_value digits.now }
 {
     match decimal_up_to(digits, GREATEST + 1) {
         Some(value) => (-(value as i128)) as i64,

@@ -3,7 +3,7 @@
 ghost use Rattle.std.specs.Prelude.{◌≡◌, ◌≤◌, ℕ, List, length, IfOk};
 ghost use Rattle.period_core.specs.declared.value.Value as values;
 ghost use Rattle.sql_front.specs.Gives.{Gives};
-ghost use Rattle.sql_front.specs.Grammar as grammar;
+ghost use Rattle.sql_front.specs.Builders as builders;
 ghost use Rattle.sql_front.specs.Language as language;
 ghost use Rattle.sql_front.specs.Reading.{built_read, one_read};
 ghost use Rattle.sql_front.specs.Lexemes.{lexemes};
@@ -99,7 +99,7 @@ fn read_text<'a, 'b>(
     alloc: Global,
     tokens: &'b [Token<'a>],
 ) -> Result<(Value, &'b [Token<'a>]), Unread>
-    ensures value { Gives (λ x. (x.0, lexemes x.1.now)) result (built_read grammar.text_of (one_read language.text) (lexemes tokens.now)) }
+    ensures value { Gives (λ x. (x.0, lexemes x.1.now)) result (built_read builders.text_of (one_read language.text) (lexemes tokens.now)) }
     ensures rest { IfOk result (λ x. length x.1.now ≤ length tokens.now) }
 {
     let (token, rest) = text(tokens)?;

@@ -3,11 +3,12 @@
 ghost use Rattle.std.specs.Prelude.{◌≡◌, IfOk};
 ghost use Rattle.sql_front.specs.declared.unread.Unread.TheVariants.{Syntax};
 ghost use Rattle.sql_front.specs.Gives.{Gives};
-ghost use Rattle.sql_front.specs.Grammar.{IsStatement};
+ghost use Rattle.sql_front.specs.Grammar.{Spells};
 ghost use Rattle.sql_front.specs.Lexemes.{lexemes};
 ghost use Rattle.sql_front.specs.PieceRefusals.{IsTooDeep, SpellsNone};
 ghost use Rattle.sql_front.specs.Plain.{plain, plain_form};
 ghost use Rattle.sql_front.specs.Reading.{whole_read};
+ghost use Rattle.sql_front.specs.StandIns.{stand_in};
 ghost use Rattle.sql_front.specs.StatementReaders.{statement_read};
 
 use crate::changes::{read_at, read_delete, read_insert, read_update};
@@ -72,9 +73,10 @@ fn read_all(alloc: Global, tokens: &[Token<'_>]) -> Result<Statement, Unread>
 
 /// The statement that the tokens spell, all of them. At most 32 parentheses are open at one place.
 pub fn spelled(alloc: Global, tokens: &[Token<'_>]) -> Result<Statement, Unread>
-    // What is read is spelled so.
-    ensures found { IfOk result (λ s. IsStatement (lexemes tokens.now) (plain s)) }
-    // No statement is spelled so.
+    // What is read is spelled so, with a stand-in for a literal that names no value.
+    ensures found { IfOk result (λ s. Spells stand_in (lexemes tokens.now) (plain s)) }
+
+    // No statement is spelled so, whatever its literals stand for.
     ensures none { result ≡ Err Syntax → (IsTooDeep (lexemes tokens.now) → ⊥) → SpellsNone (lexemes tokens.now) }
 {
     read_all(alloc, tokens)

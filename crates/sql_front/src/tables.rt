@@ -3,7 +3,7 @@
 ghost use Rattle.std.specs.Prelude.{◌≡◌, ◌≤◌, ℕ, List, Some, length, map, IfOk, OnOk};
 ghost use Rattle.sql_front.specs.ElementReaders.{create_read, element_read, elements_read, some_period_read, versioning_read};
 ghost use Rattle.sql_front.specs.Gives.{Gives};
-ghost use Rattle.sql_front.specs.Grammar.{Element, table_of};
+ghost use Rattle.sql_front.specs.Builders.{Element, table_of};
 ghost use Rattle.sql_front.specs.Lexemes.{lexemes};
 ghost use Rattle.sql_front.specs.PlainElements.{plain_element, with_element};
 

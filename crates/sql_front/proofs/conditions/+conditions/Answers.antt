@@ -3,7 +3,7 @@ use Rattle.std.proofs.lemmas.Result.{err_from_is_err_and}
 use Rattle.std.proofs.lemmas.List.{map_push, length-map}
 use Rattle.sql_front.specs.Language.{keyword}
 use Rattle.sql_front.specs.Lexemes.{lexemes}
-use Rattle.sql_front.specs.Grammar.{all_of, any_of}
+use Rattle.sql_front.specs.Builders.{all_of, any_of}
 use Rattle.sql_front.specs.Plain.{plain_condition}
 use Rattle.sql_front.specs.Reading.{separated_read}
 use Rattle.sql_front.specs.ConditionReaders.{factor_read, conjunction_read, condition_read}

@@ -1,4 +1,4 @@
-use Rattle.sql_front.proofs.StatementsRead.{spells_one}
+use Rattle.sql_front.proofs.Spelling.{spells_one}
 use Rattle.sql_front.proofs.grammar_laws.tokens_spell_one_statement.Goals as goal
 
 pub returns : goal.returns

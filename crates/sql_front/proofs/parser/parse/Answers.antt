@@ -3,7 +3,14 @@ use Rattle.sql_front.specs.Lexemes.{lexemes}
 use Rattle.sql_front.specs.Plain.{plain}
 use Rattle.sql_front.proofs.Parsing.{no_statement, spelled_some, untold}
 use Rattle.sql_front.proofs.PieceFaults.{piece_least, piece_none}
+use Rattle.sql_front.proofs.GrammarReadings.{spelled_exactly}
+use Rattle.sql_front.proofs.Spelling.{no_fault}
 use Rattle.sql_front.proofs.parser.parse.Goals as goal
+
+pub returns-in-None-clause-found : goal.returns-in-None-clause-found
+returns-in-None-clause-found c =
+    let ls = lexemes c.args.tokens.now in
+    spelled_exactly ls (plain c.in-Ok.statement) (no_fault ls c.in-None.ensures.none) c.in-Ok.ensures.found
 
 pub returns-in-None-clause-sound : goal.returns-in-None-clause-sound
 returns-in-None-clause-sound c =

@@ -6,7 +6,7 @@ use Rattle.sql_front.specs.declared.tree.QueryTree as code
 use Rattle.sql_front.specs.Lexemes.{lexemes}
 use Rattle.sql_front.specs.Reading.{begins, repetition_read}
 use Rattle.sql_front.specs.Trees.{Query}
-use Rattle.sql_front.specs.Grammar.{combined_of}
+use Rattle.sql_front.specs.Builders.{combined_of}
 use Rattle.sql_front.specs.Plain.{plain_query}
 use Rattle.sql_front.specs.QueryReaders.{begins_step, plain_step, step_read, steps_read, primary_read, query_read}
 use Rattle.sql_front.proofs.Loop.{going_on, going_stops, going_fails, begins_some}

@@ -3,7 +3,7 @@ use Rattle.std.proofs.lemmas.Result.{err_from_is_err_and}
 use Rattle.std.proofs.lemmas.List.{map_push, length-map}
 use Rattle.sql_front.specs.Lexemes.{lexemes}
 use Rattle.sql_front.specs.Reading.{begins, repetition_read}
-use Rattle.sql_front.specs.Grammar.{chain_of}
+use Rattle.sql_front.specs.Builders.{chain_of}
 use Rattle.sql_front.specs.Plain.{plain_join}
 use Rattle.sql_front.specs.QueryReaders.{reference_read, begins_join, join_read, joins_read, chain_read}
 use Rattle.sql_front.proofs.Loop.{going_on, going_stops, going_fails, begins_some}

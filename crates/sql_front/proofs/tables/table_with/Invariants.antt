@@ -1,5 +1,5 @@
 use Rattle.std.proofs.Common.{◌≡◌, map}
-use Rattle.sql_front.specs.Grammar.{table_of}
+use Rattle.sql_front.specs.Builders.{table_of}
 use Rattle.sql_front.specs.PlainElements.{plain_element}
 use Rattle.sql_front.proofs.tables.table_with.Given as goal
 

@@ -1,0 +1,41 @@
+-- What the literals of a statement stand for.
+use Rattle.std.specs.Prelude.{ℕ, ℤ}
+use Rattle.sql_front.specs.Language.{Language, OneToken, Related, number, text}
+use Rattle.sql_front.specs.Values.{NamesClockMoment, NamesDay, NamesMoment, NamesNegative, NamesNumber}
+
+-- which token stands for which number, day or moment
+pub record Literals : Type 1 where
+  -- a number without a sign, or with a plus
+  pub plain_number : Language ℕ
+  -- a number behind a minus
+  pub minus_number : Language ℤ
+  -- a text behind DATE
+  pub day : Language ℤ
+  -- a text behind TIMESTAMP
+  pub moment : Language ℤ
+  -- a text behind TIMESTAMP, where the open end is none
+  pub clock_moment : Language ℤ
+
+-- each token stands for the value that it names
+abbrev pub exact : Literals
+exact = record {
+  plain_number = Related NamesNumber (OneToken number);
+  minus_number = Related NamesNegative (OneToken number);
+  day = Related NamesDay (OneToken text);
+  moment = Related NamesMoment (OneToken text);
+  clock_moment = Related NamesClockMoment (OneToken text);
+}
+
+-- whatever the token, whatever the value
+abbrev pub Anything : {A B : Type 0} → A → B → Type 0
+Anything token value = Unit {0}
+
+-- each token may stand for any value
+abbrev pub any_value : Literals
+any_value = record {
+  plain_number = Related Anything (OneToken number);
+  minus_number = Related Anything (OneToken number);
+  day = Related Anything (OneToken text);
+  moment = Related Anything (OneToken text);
+  clock_moment = Related Anything (OneToken text);
+}

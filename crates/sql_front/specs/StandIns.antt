@@ -1,0 +1,13 @@
+-- What literals stand for as they are read: one that names no value has a stand-in.
+use Rattle.sql_front.specs.LeafValues.{clock_value, day_value, moment_value, negative_value, number_value}
+use Rattle.sql_front.specs.Language.{Built, OneToken, number, text}
+use Rattle.sql_front.specs.Literals.{Literals}
+
+abbrev pub stand_in : Literals
+stand_in = record {
+  plain_number = Built number_value (OneToken number);
+  minus_number = Built negative_value (OneToken number);
+  day = Built day_value (OneToken text);
+  moment = Built moment_value (OneToken text);
+  clock_moment = Built clock_value (OneToken text);
+}
