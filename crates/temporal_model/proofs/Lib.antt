@@ -6,3 +6,4 @@ pub mod Certificate
 pub mod OneToOne
 pub mod Witnesses
 mod Examples
+pub mod AnswerExamples
