@@ -8,6 +8,7 @@ pub mod ConditionViews
 pub mod Counting
 pub mod DateTexts
 pub mod Decimals
+pub mod DepthExamples
 pub mod DepthFacts
 pub mod ElementExamples
 pub mod ElementLevels
