@@ -16,3 +16,4 @@ pub mod AppendFacts
 pub mod CheckExamples
 pub mod CsvFacts
 pub mod ReportExamples
+pub mod RunExamples

@@ -24,7 +24,7 @@ AnswersMapOneToOne =
     → IsSequencedAnswer (InAnswerOn history query) answer
     → Equivalent answer.rows others → MapsOneToOne answer.rows others
 
--- a list with the same snapshots that is no longer is the answer in another order
+-- a list with the same snapshots and as many rows is the answer in another order
 abbrev pub AnswersAreUnique : Type 0
 AnswersAreUnique =
     (history : History) (query : Select) (answer : Answer)

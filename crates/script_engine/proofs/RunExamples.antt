@@ -1,0 +1,145 @@
+-- Worked rows: which refusal a whole script has, the run of no pieces, a refused statement, and an answer of one row.
+use Rattle.std.proofs.Common.{◌≡◌, ◌<◌, ◌≤◌, ◌+◌, ◌<ℤ◌, ◌≤ℤ◌, ◌∙◌, ◌∷◌, [], ℕ, ℤ, pos, List, Some, Err, true, codes, length, refl, ap, subst, inl, inr, arith}
+use Rattle.std.proofs.lemmas.Int.{ints}
+use Rattle.std.proofs.lemmas.Str.{is_utf8-from_IsUtf8}
+use Rattle.std.specs.Str.{IsUtf8, chars, is_utf8}
+use Rattle.period_core.specs.Codes.{code_of}
+use Rattle.period_core.specs.declared.answer.Answer.{Answer}
+use Rattle.period_core.specs.declared.refusal.Refusal.TheVariants.{BadToken, NotUtf8, ScriptTooLarge, Syntax}
+use Rattle.period_core.specs.declared.row.PeriodRow.{PeriodRow}
+use Rattle.period_core.specs.declared.value.Value.{Value}
+use Rattle.period_core.specs.declared.value.Value.TheVariants.{Int}
+use Rattle.temporal_model.specs.Answer.{IsCertified}
+use Rattle.temporal_model.proofs.Certificate.{shortest}
+use Rattle.temporal_model.proofs.Members.{Contains-here, Contains-one}
+use Rattle.sql_front.specs.Lexemes.{Lexeme}
+use Rattle.sql_front.specs.Lexis as lexis
+use Rattle.sql_front.specs.Lexis.{first_lexeme}
+use Rattle.sql_front.specs.declared.token.Kind.TheVariants.{Word}
+use Rattle.sql_front.specs.Trees as statement
+use Rattle.catalog_core.specs.Histories.{History, new_database, opened}
+use Rattle.script_engine.specs.Headline.{IsSequencedAnswer}
+use Rattle.script_engine.specs.Runs.{Step, StepsTo}
+use Rattle.script_engine.specs.Script.{RunPieces, ScriptApplies, most_bytes}
+use Rattle.script_engine.proofs.ScriptFacts.{represents_opened}
+
+-- ---- whole scripts
+
+-- the byte 255 is no text
+not_utf8 : IsUtf8 (255 ∷ []) → ⊥
+unfolding chars is_utf8
+not_utf8 h = let e : is_utf8 (255 ∷ []) ≡ true = is_utf8-from_IsUtf8 (255 ∷ []) h in cc
+
+no_text : ScriptApplies (255 ∷ []) NotUtf8
+no_text = (omega arith, not_utf8)
+
+-- a letter, a space, and a byte that begins no token
+bad_third : ScriptApplies (codes "A ?") (BadToken 2)
+unfolding first_lexeme lib.Utf8.encode
+bad_third = (omega arith, (codes "A ?", (refl, refl)), lexis.StopsFrom.token Word 1 refl (lexis.StopsFrom.blank 1 refl (lexis.StopsFrom.here refl)))
+
+-- one byte more than a script may have, and as many
+too_large : (script : List ℕ) → length script ≡ most_bytes + 1 → ScriptApplies script ScriptTooLarge
+too_large script e = omega arith
+
+not_too_large : (script : List ℕ) → length script ≡ most_bytes → ScriptApplies script ScriptTooLarge → ⊥
+not_too_large script e h = omega arith
+
+-- no whole script is refused as a statement is
+not_by_its_spelling : (script : List ℕ) → ScriptApplies script Syntax → ⊥
+not_by_its_spelling script h = h
+
+-- ---- runs
+
+-- no pieces have no results, and the history stays
+no_pieces : (history : History) → RunPieces history [] [] history
+no_pieces history = refl
+
+-- a piece has a result
+lacking_result : (history new : History) (piece : List Lexeme) → RunPieces history (piece ∷ []) [] new → ⊥
+lacking_result history new piece h = h
+
+-- a statement that is not carried out is refused by 10, and the history stays
+not_carried_out : (history : History) (moment : ℤ) → Step history (statement.at moment) (Err Syntax) history
+not_carried_out history moment = (
+  inl (record {
+    applies = inl (refl, refl);
+    least = λ other h.
+        elim h [
+          | inl both ↦ subst (λ r. 10 ≤ code_of r) both.0 (omega arith)
+          | inr nothing ↦ absurd nothing
+        ];
+  }),
+  refl,
+)
+
+-- and what is kept stays
+kept_as_it_was : (moment : ℤ) → StepsTo (opened new_database) (statement.at moment) (Err Syntax) new_database
+kept_as_it_was moment = (opened new_database, not_carried_out (opened new_database) moment, represents_opened new_database)
+
+-- ---- answers
+
+-- the value 7
+abbrev seven : List Value
+seven = Int (pos 7) ∷ []
+
+-- on each day from 5 to 7 the set has the value 7 alone, and on no other day it has a value
+abbrev Sets : ℤ → List Value → Type 0
+Sets day values = (seven ≡ values) × (pos 5 ≤ℤ day) × (day <ℤ pos 8)
+
+abbrev seven_over : (start end : ℤ) → start <ℤ end → PeriodRow
+seven_over start end ordered = record { values = seven; period = record { start = start; end = end; ordered = ordered } }
+
+-- the value 7 from day 5 on and before day 8
+abbrev whole : PeriodRow
+whole = seven_over (pos 5) (pos 8) (omega (arith, ints))
+
+whole-certified : IsCertified (whole ∷ [])
+whole-certified = record {
+  absent_before = λ row c held.
+      let (other, k, v, (from, to)) = held in
+      let starts : pos 5 ≡ row.period.start = ap (λ (r : PeriodRow). r.period.start) (Contains-one whole row c) in
+      let first : pos 5 ≡ other.period.start = ap (λ (r : PeriodRow). r.period.start) (Contains-one whole other k) in
+      omega (arith, ints);
+  distinct = λ i j d lt below same. omega arith;
+}
+
+-- the row with the days 5 and 4 as its witness
+abbrev one_row : Answer
+one_row = record { columns = codes "V" ∷ []; rows = whole ∷ []; witnesses = record { held = pos 5; absent = Some (pos 4) } ∷ [] }
+
+is_answer : IsSequencedAnswer Sets one_row
+is_answer = record {
+  daily = λ day values. (
+    λ held.
+        let (row, c, v, (from, to)) = held in
+        let same : whole ≡ row = Contains-one whole row c in
+        let starts : pos 5 ≡ row.period.start = ap (λ (r : PeriodRow). r.period.start) same in
+        let ends : pos 8 ≡ row.period.end = ap (λ (r : PeriodRow). r.period.end) same in
+        (ap (λ (r : PeriodRow). r.values) same ∙ v, omega (arith, ints), omega (arith, ints)),
+    λ among.
+        let (values_same, from, to) = among in
+        (whole, Contains-here whole [], values_same, (from, to)),
+  );
+  shortest = shortest (whole ∷ []) whole-certified;
+  ordered = λ i j d lt below. let inside : j < 1 = below in let none : ⊥ = omega arith in absurd none;
+  witnessed = (
+    record {
+      days = refl;
+      held = (refl, omega (arith, ints), omega (arith, ints));
+      absent = λ among. let (values_same, from, to) = among in omega (arith, ints);
+    },
+    tt,
+  );
+}
+
+-- the row cut in two on day 6: on the day before, which is its witness, the values of the second are there
+abbrev two_rows : Answer
+two_rows = record {
+  columns = codes "V" ∷ [];
+  rows = seven_over (pos 5) (pos 6) (omega (arith, ints)) ∷ seven_over (pos 6) (pos 8) (omega (arith, ints)) ∷ [];
+  witnesses = record { held = pos 5; absent = Some (pos 4) } ∷ record { held = pos 6; absent = Some (pos 5) } ∷ [];
+}
+
+is_no_answer : IsSequencedAnswer Sets two_rows → ⊥
+is_no_answer right = right.witnessed.1.0.absent (refl, omega (arith, ints), omega (arith, ints))
