@@ -1,2 +1,3 @@
 pub mod ReadFacts
 pub mod LineFacts
+pub mod ProgramExamples

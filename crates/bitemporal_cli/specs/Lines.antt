@@ -5,6 +5,8 @@ use Rattle.std.specs.Io.KnownBytes.{Appends}
 use Rattle.period_core.specs.Codes.{code_of, name_of}
 use Rattle.period_core.specs.declared.refusal.Refusal.{Refusal}
 use Rattle.period_core.specs.declared.refusal.Refusal.TheVariants.{BadToken, Memory as WantOfMemory}
+use Rattle.script_engine.specs.declared.report.ReportFault.{ReportFault}
+use Rattle.script_engine.specs.declared.report.ReportFault.TheVariants as report
 use Rattle.bitemporal_cli.specs.declared.fault.RunFault.{RunFault}
 use Rattle.bitemporal_cli.specs.declared.fault.RunFault.TheVariants.{Script, Memory, Read, Write}
 
@@ -25,6 +27,11 @@ line_of code name detail = codes "bitemporal: " ++ decimal code ++ codes " " ++ 
 -- the line of a refusal, for a bad token with its offset
 abbrev pub refusal_line : Refusal → List ℕ
 refusal_line refusal = line_of (code_of refusal) (name_of refusal) (detail_of (offset_of refusal))
+
+-- the fault of a run whose report was not written: want of memory, or that its writer failed
+abbrev pub fault_of : ReportFault → RunFault
+fault_of report.Memory = Memory
+fault_of report.Write = Write
 
 -- the line of a fault
 abbrev pub fault_line : RunFault → List ℕ

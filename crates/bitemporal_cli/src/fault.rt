@@ -23,10 +23,10 @@ pub enum RunFault {
 }
 
 impl From<ReportFault> for RunFault {
-    ghost use Rattle.std.specs.Prelude.{◌≡◌, ◌⊎◌};
-    ghost use Rattle.bitemporal_cli.specs.declared.fault.RunFault.TheVariants.{Memory, Write};
+    ghost use Rattle.std.specs.Prelude.{◌≡◌};
+    ghost use Rattle.bitemporal_cli.specs.Lines.{fault_of};
 
-    ghost from_gives = { λ _ fault. (fault ≡ Memory) ⊎ (fault ≡ Write) };
+    ghost from_gives = { λ report fault. fault ≡ fault_of report };
 
     fn from(fault: ReportFault) -> RunFault {
         match fault {

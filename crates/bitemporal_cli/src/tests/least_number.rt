@@ -24,7 +24,8 @@ fn of_the_text(rt: HostRuntime) {
     let deep = "((((((((((((((((((((((((((((((((( DATE '2023-02-29'";
     expect_refused(&rt, deep, "11,TooDeep");
     // a date that is none, behind too many parentheses that are closed again
-    let closed = "(((((((((((((((((((((((((((((((((1)))))))))))))))))))))))))))))))))";
+    let closed =
+        "(((((((((((((((((((((((((((((((((1))))))))))))))))))))))))))))))))) DATE '2023-02-29'";
     expect_refused(&rt, closed, "11,TooDeep");
 }
 

@@ -1,0 +1,112 @@
+-- Worked rows: the lines of faults, the status of results, what is read, and what a command line chooses.
+use Rattle.std.specs.Prelude.{◌≡◌, ◌∷◌, [], ℕ, Err, None, Ok, Option, Some, codes, refl}
+use Rattle.std.specs.Fmt.{digits}
+use Rattle.clap.specs.Words.{Row}
+use Rattle.clap.specs.declared.builder.value_parser.Reading.{Reading}
+use Rattle.clap.specs.declared.parser.matches.ValueSource.{ValueSource}
+use Rattle.period_core.specs.declared.refusal.Refusal.TheVariants.{BadToken, NotUtf8, ScriptTooLarge, Syntax}
+use Rattle.script_engine.specs.declared.outcome.Outcome.{Outcome}
+use Rattle.script_engine.specs.declared.outcome.Outcome.TheVariants.{Done}
+use Rattle.script_engine.specs.declared.outcome.Word.TheVariants.{Create}
+use Rattle.script_engine.specs.declared.report.ReportFault.TheVariants as report
+use Rattle.bitemporal_cli.specs.CommandLine.{Chooses, IsMode}
+use Rattle.bitemporal_cli.specs.Lines.{GetsFrontOf, fault_line, fault_of}
+use Rattle.bitemporal_cli.specs.Program.{IsRefusedWhole, MayEndSilently, read_of, status_of}
+use Rattle.bitemporal_cli.specs.declared.command.Mode.TheVariants.{Run, Check}
+use Rattle.bitemporal_cli.specs.declared.fault.RunFault.TheVariants.{Script, Memory, Read, Write}
+
+-- ---- lines
+
+memory-line : fault_line Memory ≡ codes "bitemporal: 61 Memory\n"
+unfolding digits
+memory-line = refl
+
+-- a bad token's line has its byte
+bad_token-line : fault_line (Script (BadToken 7)) ≡ codes "bitemporal: 3 BadToken 7\n"
+unfolding digits
+bad_token-line = refl
+
+-- other refusals of a whole script have none
+not_utf8-line : fault_line (Script NotUtf8) ≡ codes "bitemporal: 1 NotUtf8\n"
+unfolding digits
+not_utf8-line = refl
+
+too_large-line : fault_line (Script ScriptTooLarge) ≡ codes "bitemporal: 2 ScriptTooLarge\n"
+unfolding digits
+too_large-line = refl
+
+-- a reader and a writer that failed
+reader-line : fault_line Read ≡ codes "bitemporal: cannot read the script\n"
+reader-line = refl
+
+writer-line : fault_line Write ≡ codes "bitemporal: cannot write the report\n"
+writer-line = refl
+
+-- a report that was not written
+want_of_memory : fault_of report.Memory ≡ Memory
+want_of_memory = refl
+
+failed_writer : fault_of report.Write ≡ Write
+failed_writer = refl
+
+-- a writer that fails may have got the first bytes of a line
+cut_line : GetsFrontOf (Some (codes "a")) (Some (codes "abitem")) (fault_line Read)
+cut_line = (5, refl)
+
+-- ---- statuses
+
+-- no results, one that was refused, one that was done, and one of each
+no_results : status_of {T = Outcome} [] ≡ 0
+no_results = refl
+
+one_refused : status_of {T = Outcome} (Err Syntax ∷ []) ≡ 1
+one_refused = refl
+
+one_done : status_of (Ok (Done Create 0) ∷ []) ≡ 0
+one_done = refl
+
+refused_after_done : status_of (Ok (Done Create 0) ∷ Err Syntax ∷ []) ≡ 1
+refused_after_done = refl
+
+refused_before_done : status_of (Err Syntax ∷ Ok (Done Create 0) ∷ []) ≡ 1
+refused_before_done = refl
+
+-- ---- what is read
+
+-- a short script is read whole
+short_script : read_of (codes "SELECT") ≡ codes "SELECT"
+short_script = refl
+
+empty_script : read_of [] ≡ []
+empty_script = refl
+
+-- a writer that failed leaves no silent end, and of a script that is not known nothing is said
+not_silent : MayEndSilently None Write → ⊥
+not_silent h = h
+
+not_known : IsRefusedWhole None → ⊥
+not_known h = h
+
+-- ---- command lines
+
+-- a subcommand chooses its mode, and without FILE there is no file
+chooses_run : Chooses (Some (codes "run", [])) Run None
+chooses_run = (refl, refl)
+
+chooses_check : Chooses (Some (codes "check", [])) Check None
+chooses_check = (refl, refl)
+
+-- behind FILE there is one
+abbrev file_row : Option ℕ → Option ValueSource → Reading → Row
+file_row count source reading =
+    record { id = codes "FILE"; values = codes "a.sql" ∷ []; count = count; source = source; reading = reading }
+
+chooses_file : (count : Option ℕ) (source : Option ValueSource) (reading : Reading) → Chooses (Some (codes "run", file_row count source reading ∷ [])) Run (Some (codes "a.sql"))
+chooses_file count source reading = (refl, refl)
+
+-- no subcommand chooses nothing
+chooses_none : Chooses None Run None → ⊥
+chooses_none h = h
+
+check_is_no_run : IsMode (codes "check") Run → ⊥
+check_is_no_run same = cc
