@@ -1,7 +1,8 @@
 -- What a change makes of a table's set of rows on one day. A list stands for the set of its members.
-use Rattle.std.specs.Prelude.{◌==◌, ◌&&◌, ◌++◌, ℕ, ℤ, Bool, List, filter, map, int_le, int_lt, if◌then◌else◌}
+use Rattle.std.specs.Prelude.{◌==◌, ◌++◌, ℕ, ℤ, Bool, List, filter, map, if◌then◌else◌}
 use Rattle.std.specs.List.{enumerate_from}
 use Rattle.period_core.specs.declared.value.Value.{Value}
+use Rattle.temporal_model.specs.Snapshot.{covers_day}
 use Rattle.catalog_core.specs.declared.change.GivenRow.{GivenRow}
 use Rattle.catalog_core.specs.declared.change.Action.{Action}
 use Rattle.catalog_core.specs.declared.change.Action.TheVariants.{Insert}
@@ -28,9 +29,9 @@ given_of (Insert given) = given
 abbrev pub given_row : ℕ × GivenRow → Traced
 given_row (i, given) = record { origin = Given i; row = given.values }
 
--- the period of the i-th given row, closed at its start and open at its end, holds the day
+-- the i-th given row holds on the day
 abbrev pub given_covers : ℤ → ℕ × GivenRow → Bool
-given_covers day (i, given) = int_le given.start day && int_lt day given.end
+given_covers day (i, given) = covers_day given.start given.end day
 
 -- the rows that the action makes of a day's rows, each with its origin
 abbrev pub traced : Action → ℤ → List (List Value) → List Traced

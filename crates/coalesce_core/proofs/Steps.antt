@@ -1,5 +1,5 @@
 -- What a coalesced list is, and what each step of merging keeps.
-use Rattle.std.proofs.Common.{◌≡◌, ℕ, ◌+◌, ◌<◌, ◌<ℤ◌, ◌≤ℤ◌, List, [], ◌∷◌, ◌++◌, length, get_or, set, refl, sym, ◌∙◌, ap, subst, inl, inr, ◌⊎◌, arith, true, false, append_assoc, append-nil}
+use Rattle.std.proofs.Common.{◌≡◌, ℕ, ◌+◌, ◌<◌, ◌<ℤ◌, ◌≤ℤ◌, ◌-ℤ◌, pos, List, [], ◌∷◌, ◌++◌, length, get_or, set, refl, sym, ◌∙◌, ap, subst, inl, inr, ◌⊎◌, arith, true, false, append_assoc, append-nil}
 use Rattle.temporal_model.proofs.Members.{AllPairs-head}
 use Rattle.std.specs.List.{Contains, AllPairs}
 use Rattle.std.specs.Ordering.{eq_by_cmp}
@@ -12,7 +12,7 @@ use Rattle.std.proofs.lemmas.List.Elements.{Contains-append_left, Contains-push,
 use Rattle.std.proofs.lemmas.List.Quantifiers.{all_pairs_push}
 use Rattle.period_core.specs.declared.row.PeriodRow.{PeriodRow}
 use Rattle.temporal_model.specs.Snapshot.{InSnapshot, Equivalent}
-use Rattle.temporal_model.proofs.Snapshots.{Equivalent-trans, Equivalent-append}
+use Rattle.temporal_model.proofs.Snapshots.{Equivalent-append, Equivalent-trans, HoldsOn, held, in_snapshot}
 use Rattle.temporal_model.specs.Answer.{IsCertified, IsInAnswerOrder}
 use Rattle.coalesce_core.specs.Coalesced.{PrecedesWithGap, NotAfter, IsCoalesced, NoneAfter}
 use Rattle.coalesce_core.proofs.Places.{Contains-at, Contains-set_here, Contains-set_cases, Contains-set_other}
@@ -37,8 +37,8 @@ placed rows h a b (i, in_i, at_i) (j, in_j, at_j) =
 
 pub certified : (rows : List PeriodRow) → IsCoalesced rows → IsCertified rows
 certified rows h = record {
-  absent_before = λ row c held.
-      let (other, inside, values, (from, to)) = held in
+  absent_before = λ row c before.
+      let (other, inside, values, (from, to)) = held rows (row.period.start -ℤ pos 1) row.values before in
       let mine : row.period.start <ℤ row.period.end = row.period.ordered in
       elim (placed rows h other row inside c) [
         | inl before ↦ let gap : other.period.end <ℤ row.period.start = before.1 values in omega (arith, ints)
@@ -90,9 +90,10 @@ widened rows k last wide row below is none values meets wide_values wide_start k
     let inside : Contains rows last = Contains-at rows k last below is in
     let begins : last.period.start ≤ℤ row.period.start = NotAfter-start last row values (none last inside) in
     let there : Contains (set rows k wide) wide = Contains-set_here rows k wide below in (
-      λ held.
-          let (r, c, v, (from, to)) = held in
-          elim (Contains-push_cases rows row r c) [
+      λ h.
+          let (r, c, v, (from, to)) = held (rows ++ row ∷ []) day vs h in
+          in_snapshot (set rows k wide) day vs
+          (elim (Contains-push_cases rows row r c) [
             | inl old ↦ elim (Contains-set_other rows k wide r below old) [
               | inl e ↦ let one : r ≡ last = e ∙ get_or_default rows k r last below ∙ sym is in
                   let starts : r.period.start ≡ last.period.start = ap (λ (x : PeriodRow). x.period.start) one in
@@ -103,14 +104,15 @@ widened rows k last wide row below is none values meets wide_values wide_start k
             | inr e ↦ let starts : row.period.start ≡ r.period.start = ap (λ (x : PeriodRow). x.period.start) e in
                 let ends : row.period.end ≡ r.period.end = ap (λ (x : PeriodRow). x.period.end) e in
                 (wide, there, wide_values ∙ values ∙ ap (λ (x : PeriodRow). x.values) e ∙ v, (omega (arith, ints), omega (arith, ints)))
-          ],
-      λ held.
-          let (r, c, v, (from, to)) = held in
-          elim (Contains-set_cases rows k wide r below c) [
+          ]),
+      λ h.
+          let (r, c, v, (from, to)) = held (set rows k wide) day vs h in
+          in_snapshot (rows ++ row ∷ []) day vs
+          (elim (Contains-set_cases rows k wide r below c) [
             | inl e ↦ let starts : wide.period.start ≡ r.period.start = ap (λ (x : PeriodRow). x.period.start) e in
                 let ends : wide.period.end ≡ r.period.end = ap (λ (x : PeriodRow). x.period.end) e in
                 let mine : wide.values ≡ vs = ap (λ (x : PeriodRow). x.values) e ∙ v in
-                by_lt_z {P = InSnapshot (rows ++ row ∷ []) day vs} day last.period.end
+                by_lt_z {P = HoldsOn (rows ++ row ∷ []) day vs} day last.period.end
                 (λ within. (last, Contains-append_left rows (row ∷ []) last inside, sym wide_values ∙ mine, (omega (arith, ints), within)))
                 (λ past. (
                   row,
@@ -125,7 +127,7 @@ widened rows k last wide row below is none values meets wide_values wide_start k
                   ),
                 ))
             | inr old ↦ (r, Contains-append_left rows (row ∷ []) r old, v, (from, to))
-          ],
+          ]),
     )
 
 pub none_after_widened :

@@ -6,7 +6,7 @@ use Rattle.period_core.specs.declared.answer.Answer.{Answer}
 use Rattle.period_core.specs.declared.refusal.Refusal.{Refusal}
 use Rattle.period_core.specs.declared.row.PeriodRow.{PeriodRow}
 use Rattle.period_core.specs.declared.value.Value.{Value}
-use Rattle.temporal_model.specs.Snapshot.{InSnapshot, Equivalent}
+use Rattle.temporal_model.specs.Snapshot.{InSnapshot, Equivalent, values_on}
 use Rattle.temporal_model.specs.Answer.{IsCertified, IsInAnswerOrder, IsShortest}
 use Rattle.temporal_model.specs.Witness.{WitnessEachRow, witness_of}
 use Rattle.temporal_model.proofs.Witnesses.{witnessed_by_sets}
@@ -15,7 +15,7 @@ use Rattle.sql_front.specs.Trees as statement
 use Rattle.catalog_core.specs.Judged.{Holds}
 use Rattle.catalog_core.specs.Selection.{IsSequenced, ResolvesQuery, query_conditions}
 use Rattle.catalog_core.specs.Answers.{InAnswerOn, read_items}
-use Rattle.catalog_core.specs.Histories.{Asked, Database, History, last_state, rows_in, values_on, with_event}
+use Rattle.catalog_core.specs.Histories.{Asked, Database, History, last_state, rows_in, with_event}
 use Rattle.catalog_core.proofs.HistoryLemmas.{catalog_of-asked, last_state-asked}
 use Rattle.catalog_core.specs.declared.query.Item.{Item}
 use Rattle.catalog_core.specs.declared.query.Select.{Select}
@@ -23,7 +23,7 @@ use Rattle.script_engine.specs.Headline.{IsSequencedAnswer}
 use Rattle.script_engine.specs.Rows.{read_row, whole_row}
 use Rattle.script_engine.specs.Runs.{Represents, StepsTo}
 use Rattle.script_engine.specs.declared.outcome.Outcome.TheVariants.{Answer as Answered}
-use Rattle.script_engine.proofs.Snapshots.{held_in_snapshot, image_from, image_of, snapshot_of_held}
+use Rattle.script_engine.proofs.Images.{image_from, image_of}
 use Rattle.script_engine.proofs.Given.{same_values, values_on-read}
 use Rattle.script_engine.proofs.Steps.{carried, refused_step}
 
@@ -35,16 +35,16 @@ projection_daily history database query projections kept made day values =
     let rows = rows_in database query.table in
     let read : map (read_items query.items) (values_on rows day) ≡ map (map Some) (values_on projections day) = values_on-read query.items rows projections day made in (
       λ snapshot.
-          let shown = image_of (map Some) (values_on projections day) values (held_in_snapshot projections day values snapshot) in
+          let shown = image_of (map Some) (values_on projections day) values snapshot in
           let (row, there, e) = image_from (read_items query.items) (values_on rows day) (map Some values) (subst (λ (l : List (List (Option Value))). Contains l (map Some values)) (sym read) shown) in
-          (row, (kept.daily query.table day row).0 (snapshot_of_held rows day row there), sym e),
+          (row, (kept.daily query.table day row).0 there, sym e),
       λ answer.
           let (row, there, e) = answer in
-          let member : Contains (values_on rows day) row = held_in_snapshot rows day row ((kept.daily query.table day row).1 there) in
+          let member : Contains (values_on rows day) row = (kept.daily query.table day row).1 there in
           let shown = subst (λ (l : List (List (Option Value))). Contains l (read_items query.items row)) read (image_of (read_items query.items) (values_on rows day) row member) in
           let (projection, held, f) = image_from (map Some) (values_on projections day) (read_items query.items row) shown in
           let same : projection ≡ values = same_values projection values (sym f ∙ e) in
-          snapshot_of_held projections day values (subst (λ (v : List Value). Contains (values_on projections day) v) same held),
+          subst (λ (v : List Value). Contains (values_on projections day) v) same held,
     )
 
 -- what the calls of an answer give: the projections, their shortest list, and its witnesses

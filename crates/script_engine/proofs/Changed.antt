@@ -7,13 +7,13 @@ use Rattle.std.proofs.lemmas.List.Elements.{Contains-append_left, Contains-appen
 use Rattle.period_core.specs.Leasts.{NoneApplies}
 use Rattle.period_core.specs.declared.row.PeriodRow.{PeriodRow}
 use Rattle.period_core.specs.declared.value.Value.{Value}
-use Rattle.temporal_model.specs.Snapshot.{InSnapshot}
+use Rattle.temporal_model.specs.Snapshot.{InSnapshot, values_on}
 use Rattle.sql_front.specs.Trees.{Statement}
 use Rattle.sql_front.specs.Trees as statement
 use Rattle.catalog_core.specs.Judged.{Holds}
 use Rattle.catalog_core.specs.Resolution.{IsChange, ResolvesChange, change_conditions, empty_period, has_empty_row}
 use Rattle.catalog_core.specs.Effects.{Traced, effect, given_of, traced}
-use Rattle.catalog_core.specs.Histories.{Changed, Database, History, last_state, rows_in, values_on, with_event}
+use Rattle.catalog_core.specs.Histories.{Changed, Database, History, last_state, rows_in, with_event}
 use Rattle.catalog_core.proofs.HistoryLemmas.{catalog_of-changed, last_state-changed}
 use Rattle.catalog_core.specs.declared.table.TableDef.{TableDef}
 use Rattle.catalog_core.specs.declared.change.Action.{Action}
@@ -22,7 +22,7 @@ use Rattle.script_engine.specs.Rows.{plain_given, plain_row}
 use Rattle.script_engine.specs.Runs.{Represents, StepsTo, StatementApplies}
 use Rattle.script_engine.specs.declared.outcome.Outcome.TheVariants.{Done}
 use Rattle.script_engine.specs.declared.outcome.Word.TheVariants as word
-use Rattle.script_engine.proofs.Snapshots.{held_in_snapshot, snapshot_of_held, values_on-append}
+use Rattle.temporal_model.proofs.Snapshots.{values_on-append}
 use Rattle.script_engine.proofs.Given.{rows_of-inserted}
 use Rattle.script_engine.proofs.Refused.{days-action, holds_cases}
 use Rattle.script_engine.proofs.Steps.{carried}
@@ -48,16 +48,16 @@ inserted_daily rows made action state day values e h =
     let held = values_on-append rows made day in
     let traces = rows_of-inserted action made day state e in (
       λ snapshot.
-          elim (Contains-append_cases (values_on rows day) (values_on made day) values (subst (λ (l : List (List Value)). Contains l values) held (held_in_snapshot (rows ++ made) day values snapshot))) [
-            | inl k ↦ subst (λ (l : List (List Value)). Contains l values) (sym traces) (Contains-append_left state (values_on made day) values (h.0 (snapshot_of_held rows day values k)))
+          elim (Contains-append_cases (values_on rows day) (values_on made day) values (subst (λ (l : List (List Value)). Contains l values) held snapshot)) [
+            | inl k ↦ subst (λ (l : List (List Value)). Contains l values) (sym traces) (Contains-append_left state (values_on made day) values (h.0 k))
             | inr k ↦ subst (λ (l : List (List Value)). Contains l values) (sym traces) (Contains-append_right state (values_on made day) values k)
           ],
       λ member.
-          snapshot_of_held (rows ++ made) day values (subst (λ (l : List (List Value)). Contains l values) (sym held)
+          subst (λ (l : List (List Value)). Contains l values) (sym held)
           (elim (Contains-append_cases state (values_on made day) values (subst (λ (l : List (List Value)). Contains l values) traces member)) [
-            | inl k ↦ Contains-append_left (values_on rows day) (values_on made day) values (held_in_snapshot rows day values (h.1 k))
+            | inl k ↦ Contains-append_left (values_on rows day) (values_on made day) values (h.1 k)
             | inr k ↦ Contains-append_right (values_on rows day) (values_on made day) values k
-          ])),
+          ]),
     )
 
 -- what the engine did: it put rows that are made of the given rows behind those of the change's table

@@ -1,26 +1,29 @@
 -- The rows that are made of given rows hold on each day what a change traces of these, and a
 -- projection holds what its select list reads.
-use Rattle.std.proofs.Common.{◌≡◌, ◌<◌, ◌+◌, ◌++◌, ◌∷◌, ℕ, ℤ, Bool, true, false, List, [], Option, Some, get_or, length, map, take, filter, refl, sym, ap, ap₂, ◌∙◌, int_le, int_lt, ◌&&◌}
+use Rattle.std.proofs.Common.{◌≡◌, ◌<◌, ◌+◌, ◌++◌, ◌∷◌, ℕ, ℤ, Bool, true, false, List, [], Option, Some, get_or, length, map, take, filter, refl, sym, ap, ap₂, ◌∙◌}
 use Rattle.std.specs.List.{enumerate_from, slice_get}
 use Rattle.std.proofs.lemmas.List.{map-append, map_more, map_push}
 use Rattle.std.proofs.lemmas.Option.{slice_get_read}
 use Rattle.period_core.specs.declared.row.PeriodRow.{PeriodRow}
 use Rattle.period_core.specs.declared.value.Value.{Value}
+use Rattle.temporal_model.specs.Snapshot.{covers_day, values_on}
 use Rattle.catalog_core.specs.Answers.{IsProjection, read_items}
 use Rattle.catalog_core.specs.Effects.{Traced, given_covers, given_of, given_row, kept, traced}
-use Rattle.catalog_core.specs.Histories.{row_covers, values_on}
 use Rattle.catalog_core.specs.declared.change.Action.{Action}
 use Rattle.catalog_core.specs.declared.change.Action.TheVariants.{Insert}
 use Rattle.catalog_core.specs.declared.change.GivenRow.{GivenRow}
 use Rattle.catalog_core.specs.declared.query.Item.{Item}
 use Rattle.script_engine.specs.Rows.{PlainRow, ReadRow, plain_given, plain_row, read_row, whole_row}
 
--- a plain row holds the day
+-- the row, as a period row, a plain row or one that is read, holds on the day
+abbrev row_covers : ℤ → PeriodRow → Bool
+row_covers day row = covers_day row.period.start row.period.end day
+
 abbrev plain_covers : ℤ → PlainRow → Bool
-plain_covers day row = int_le row.start day && int_lt day row.end
+plain_covers day row = covers_day row.start row.end day
 
 abbrev read_covers : ℤ → ReadRow → Bool
-read_covers day row = int_le row.start day && int_lt day row.end
+read_covers day row = covers_day row.start row.end day
 
 abbrev row_of : Traced → List Value
 row_of t = t.row

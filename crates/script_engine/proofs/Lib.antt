@@ -8,7 +8,7 @@ mod PieceFacts
 mod PieceSteps
 mod Refused
 mod ScriptFacts
-mod Snapshots
+mod Images
 mod Steps
 mod TableNumbers
 mod Widths

@@ -1,5 +1,5 @@
 -- Worked rows: which refusal a whole script has, the run of no pieces, a refused statement, and an answer of one row.
-use Rattle.std.proofs.Common.{◌≡◌, ◌<◌, ◌≤◌, ◌+◌, ◌<ℤ◌, ◌≤ℤ◌, ◌∙◌, ◌∷◌, [], ℕ, ℤ, pos, List, Some, Err, true, codes, length, refl, ap, subst, inl, inr, arith}
+use Rattle.std.proofs.Common.{◌≡◌, ◌<◌, ◌≤◌, ◌+◌, ◌<ℤ◌, ◌≤ℤ◌, ◌-ℤ◌, ◌∙◌, ◌∷◌, [], ℕ, ℤ, pos, List, Some, Err, true, codes, length, refl, ap, subst, inl, inr, arith}
 use Rattle.std.proofs.lemmas.Int.{ints}
 use Rattle.std.proofs.lemmas.Str.{is_utf8-from_IsUtf8}
 use Rattle.std.specs.Str.{IsUtf8, chars, is_utf8}
@@ -12,6 +12,7 @@ use Rattle.period_core.specs.declared.value.Value.TheVariants.{Int}
 use Rattle.temporal_model.specs.Answer.{IsCertified}
 use Rattle.temporal_model.proofs.Certificate.{shortest}
 use Rattle.temporal_model.proofs.Members.{Contains-here, Contains-one}
+use Rattle.temporal_model.proofs.Snapshots.{held, in_snapshot}
 use Rattle.sql_front.specs.Lexemes.{Lexeme}
 use Rattle.sql_front.specs.Lexis as lexis
 use Rattle.sql_front.specs.Lexis.{first_lexeme}
@@ -96,8 +97,8 @@ whole = seven_over (pos 5) (pos 8) (omega (arith, ints))
 
 whole-certified : IsCertified (whole ∷ [])
 whole-certified = record {
-  absent_before = λ row c held.
-      let (other, k, v, (from, to)) = held in
+  absent_before = λ row c before.
+      let (other, k, v, (from, to)) = held (whole ∷ []) (row.period.start -ℤ pos 1) row.values before in
       let starts : pos 5 ≡ row.period.start = ap (λ (r : PeriodRow). r.period.start) (Contains-one whole row c) in
       let first : pos 5 ≡ other.period.start = ap (λ (r : PeriodRow). r.period.start) (Contains-one whole other k) in
       omega (arith, ints);
@@ -111,15 +112,15 @@ one_row = record { columns = codes "V" ∷ []; rows = whole ∷ []; witnesses = 
 is_answer : IsSequencedAnswer Sets one_row
 is_answer = record {
   daily = λ day values. (
-    λ held.
-        let (row, c, v, (from, to)) = held in
+    λ there.
+        let (row, c, v, (from, to)) = held (whole ∷ []) day values there in
         let same : whole ≡ row = Contains-one whole row c in
         let starts : pos 5 ≡ row.period.start = ap (λ (r : PeriodRow). r.period.start) same in
         let ends : pos 8 ≡ row.period.end = ap (λ (r : PeriodRow). r.period.end) same in
         (ap (λ (r : PeriodRow). r.values) same ∙ v, omega (arith, ints), omega (arith, ints)),
     λ among.
         let (values_same, from, to) = among in
-        (whole, Contains-here whole [], values_same, (from, to)),
+        in_snapshot (whole ∷ []) day values (whole, Contains-here whole [], values_same, (from, to)),
   );
   shortest = shortest (whole ∷ []) whole-certified;
   ordered = λ i j d lt below. let inside : j < 1 = below in let none : ⊥ = omega arith in absurd none;

@@ -1,5 +1,5 @@
 -- Worked rows: a row's witness, the order of an answer, and a list that is certified and so shortest.
-use Rattle.std.proofs.Common.{◌≡◌, ◌<ℤ◌, zero, suc, ℤ, pos, neg_ℤ, [], ◌∷◌, Option, Some, None, ap, refl, inl, inr, arith}
+use Rattle.std.proofs.Common.{◌≡◌, ◌<ℤ◌, ◌-ℤ◌, zero, suc, ℤ, pos, neg_ℤ, [], ◌∷◌, Option, Some, None, ap, refl, inl, inr, arith}
 use Rattle.std.specs.List.{AllPairs}
 use Rattle.std.proofs.lemmas.Int.{ints}
 use Rattle.std.specs.declared.cmp.Ordering.TheVariants.{Less, Equal, Greater}
@@ -9,8 +9,9 @@ use Rattle.period_core.specs.declared.row.PeriodRow.{PeriodRow}
 use Rattle.temporal_model.specs.Snapshot.{InSnapshot}
 use Rattle.temporal_model.specs.Answer.{IsCertified, IsInAnswerOrder, IsShortest, SameBeginning}
 use Rattle.temporal_model.specs.Witness.{IsWitness, witness_of}
-use Rattle.temporal_model.proofs.Members.{Contains-here, Contains-one, Contains-cons_cases}
+use Rattle.temporal_model.proofs.Members.{Contains-here, Contains-nil, Contains-one, Contains-cons_cases}
 use Rattle.temporal_model.proofs.Certificate.{shortest}
+use Rattle.temporal_model.proofs.Snapshots.{held}
 
 abbrev number_over : (n : ℤ) (start end : ℤ) → start <ℤ end → PeriodRow
 number_over n start end ordered = record { values = Int n ∷ []; period = record { start = start; end = end; ordered = ordered } }
@@ -50,11 +51,8 @@ witness-of_second_day = refl
 alone-witnessed : IsWitness (InSnapshot (middle ∷ [])) middle (shown_by (pos 5) (Some (pos 4)))
 alone-witnessed = record {
   days = refl;
-  held = (middle, Contains-here middle [], refl, (omega (arith, ints), omega (arith, ints)));
-  absent = λ held.
-      let (row, c, v, (from, to)) = held in
-      let starts : pos 5 ≡ row.period.start = ap (λ (r : PeriodRow). r.period.start) (Contains-one middle row c) in
-      omega (arith, ints);
+  held = Contains-here middle.values [];
+  absent = λ h. Contains-nil middle.values h;
 }
 
 -- day 6 is not its first day
@@ -66,7 +64,7 @@ later_day-no_witness witness =
 -- where a row with its values ends as it begins, they are held on day 4 too
 met-no_witness : (witness : Witness) → IsWitness (InSnapshot (early ∷ middle ∷ [])) middle witness → ⊥
 met-no_witness witness shown =
-    shown.absent (early, Contains-here early (middle ∷ []), refl, (omega (arith, ints), omega (arith, ints)))
+    shown.absent (Contains-here early.values [])
 
 -- ---- the order of an answer
 
@@ -107,8 +105,8 @@ apart (suc i) (suc j) d lt below same = omega arith
 -- days lie between them: each row's values are absent on the day before its first
 apart-certified : IsCertified (middle ∷ late ∷ [])
 apart-certified = record {
-  absent_before = λ row c held.
-      let (other, k, v, (from, to)) = held in
+  absent_before = λ row c h.
+      let (other, k, v, (from, to)) = held (middle ∷ late ∷ []) (row.period.start -ℤ pos 1) row.values h in
       elim (Contains-cons_cases middle (late ∷ []) row c) [
         | inl e ↦ let starts : pos 5 ≡ row.period.start = ap (λ (r : PeriodRow). r.period.start) e in
             elim (Contains-cons_cases middle (late ∷ []) other k) [

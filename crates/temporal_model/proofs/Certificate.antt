@@ -15,20 +15,20 @@ use Rattle.temporal_model.specs.Snapshot.{InSnapshot, Equivalent}
 use Rattle.temporal_model.specs.Answer.{IsShortest, IsUniqueUpToOrder, IsInAnswerOrder, IsCertified, SameBeginning, answer_cmp}
 use Rattle.temporal_model.proofs.AnswerOrder.{strictly}
 use Rattle.temporal_model.proofs.Members.{pigeonhole, onto, permutation_from_members, same_from_members}
-use Rattle.temporal_model.proofs.Snapshots.{InSnapshot-start}
+use Rattle.temporal_model.proofs.Snapshots.{InSnapshot-start, held, in_snapshot}
 
 -- each row has an equivalent list's row of the same values that begins on the same day
 pub begins_in :
     (rows others : List PeriodRow) → IsCertified rows → Equivalent rows others → (row : PeriodRow)
     → Contains rows row → (other : PeriodRow) × Contains others other × SameBeginning row other
 begins_in rows others certified same row c =
-    let (other, inside, values, (from, to)) = (same row.period.start row.values).0 (InSnapshot-start rows row c) in (
+    let (other, inside, values, (from, to)) = held others row.period.start row.values ((same row.period.start row.values).0 (InSnapshot-start rows row c)) in (
       other,
       inside,
       (
         sym values,
         by_lt_z {P = row.period.start ≡ other.period.start} other.period.start row.period.start
-            (λ before. absurd (certified.absent_before row c ((same (row.period.start -ℤ pos 1) row.values).1 (other, inside, values, (omega (arith, ints), omega (arith, ints))))))
+            (λ before. absurd (certified.absent_before row c ((same (row.period.start -ℤ pos 1) row.values).1 (in_snapshot others (row.period.start -ℤ pos 1) row.values (other, inside, values, (omega (arith, ints), omega (arith, ints)))))))
             (λ after. omega (arith, ints)),
       ),
     )
@@ -56,12 +56,13 @@ same_row rows certified a b (i, in_i, at_i) (j, in_j, at_j) same =
 pub absent_at_end :
     (rows : List PeriodRow) → IsCertified rows → (row : PeriodRow) → Contains rows row
     → InSnapshot rows row.period.end row.values → ⊥
-absent_at_end rows certified row c (other, inside, values, (from, to)) =
+absent_at_end rows certified row c h =
+    let (other, inside, values, (from, to)) = held rows row.period.end row.values h in
     let first : row.period.start <ℤ row.period.end = row.period.ordered in
     by_lt_z {P = ⊥} row.period.start other.period.start
-    (λ later. certified.absent_before other inside (row, c, sym values, (omega (arith, ints), omega (arith, ints))))
+    (λ later. certified.absent_before other inside (in_snapshot rows (other.period.start -ℤ pos 1) other.values (row, c, sym values, (omega (arith, ints), omega (arith, ints)))))
     (λ upto. by_lt_z {P = ⊥} other.period.start row.period.start
-    (λ earlier. certified.absent_before row c (other, inside, values, (omega (arith, ints), omega (arith, ints))))
+    (λ earlier. certified.absent_before row c (in_snapshot rows (row.period.start -ℤ pos 1) row.values (other, inside, values, (omega (arith, ints), omega (arith, ints)))))
     (λ from_there. let starts : row.period.start ≡ other.period.start = omega (arith, ints) in
     let one : row ≡ other = same_row rows certified row other c inside (sym values, starts) in
     let ends : row.period.end ≡ other.period.end = ap (λ (r : PeriodRow). r.period.end) one in
@@ -91,19 +92,19 @@ pub inside_equivalent :
     → length others ≤ length rows → (row : PeriodRow) → Contains rows row → Contains others row
 inside_equivalent rows others certified same short row c =
     let first : row.period.start <ℤ row.period.end = row.period.ordered in
-    let last : InSnapshot rows (row.period.end -ℤ pos 1) row.values = (row, c, refl, (omega (arith, ints), omega (arith, ints))) in
-    let (other, inside, values, (from, to)) = (same (row.period.end -ℤ pos 1) row.values).0 last in
+    let last : InSnapshot rows (row.period.end -ℤ pos 1) row.values = in_snapshot rows (row.period.end -ℤ pos 1) row.values (row, c, refl, (omega (arith, ints), omega (arith, ints))) in
+    let (other, inside, values, (from, to)) = held others (row.period.end -ℤ pos 1) row.values ((same (row.period.end -ℤ pos 1) row.values).0 last) in
     let (mine, mine_in, begins) = begins_back rows others certified same short other inside in
     let mine_values : mine.values ≡ row.values = begins.0 ∙ values in
     let starts : row.period.start ≡ other.period.start =
     by_lt_z {P = row.period.start ≡ other.period.start} row.period.start other.period.start
-    (λ later. absurd (certified.absent_before mine mine_in (row, c, sym mine_values, (omega (arith, ints, begins.1), omega (arith, ints, begins.1)))))
+    (λ later. absurd (certified.absent_before mine mine_in (in_snapshot rows (mine.period.start -ℤ pos 1) mine.values (row, c, sym mine_values, (omega (arith, ints, begins.1), omega (arith, ints, begins.1))))))
     (λ upto. by_lt_z {P = row.period.start ≡ other.period.start} other.period.start row.period.start
-    (λ earlier. absurd (certified.absent_before row c ((same (row.period.start -ℤ pos 1) row.values).1 (other, inside, values, (omega (arith, ints), omega (arith, ints))))))
+    (λ earlier. absurd (certified.absent_before row c ((same (row.period.start -ℤ pos 1) row.values).1 (in_snapshot others (row.period.start -ℤ pos 1) row.values (other, inside, values, (omega (arith, ints), omega (arith, ints)))))))
     (λ from_there. omega (arith, ints))) in
     let ends : row.period.end ≡ other.period.end =
     by_lt_z {P = row.period.end ≡ other.period.end} row.period.end other.period.end
-    (λ longer. absurd (absent_at_end rows certified row c ((same row.period.end row.values).1 (other, inside, values, (omega (arith, ints), longer)))))
+    (λ longer. absurd (absent_at_end rows certified row c ((same row.period.end row.values).1 (in_snapshot others row.period.end row.values (other, inside, values, (omega (arith, ints), longer))))))
     (λ upto. omega (arith, ints)) in
     subst (Contains others) (row_same other row values (sym starts) (sym ends)) inside
 

@@ -1,12 +1,13 @@
 -- Worked rows: a row holds on its first day and not on its end; two rows that meet are not the shortest list, joined they are.
-use Rattle.std.proofs.Common.{◌≡◌, ◌<ℤ◌, ◌≤◌, ℤ, pos, [], ◌∷◌, ap, refl, ◌∙◌, inl, inr, arith}
+use Rattle.std.proofs.Common.{◌≡◌, ◌<ℤ◌, ◌-ℤ◌, ◌≤◌, ℤ, pos, [], ◌∷◌, ap, refl, ◌∙◌, inl, inr, arith}
 use Rattle.std.proofs.lemmas.Int.{ints, by_lt_z}
 use Rattle.period_core.specs.declared.value.Value.TheVariants.{Int}
 use Rattle.period_core.specs.declared.row.PeriodRow.{PeriodRow}
-use Rattle.temporal_model.specs.Snapshot.{InSnapshot, Equivalent}
+use Rattle.temporal_model.specs.Snapshot.{InSnapshot, Equivalent, values_on}
 use Rattle.temporal_model.specs.Answer.{IsShortest, IsCertified}
-use Rattle.temporal_model.proofs.Members.{Contains-here, Contains-there, Contains-one, Contains-cons_cases}
+use Rattle.temporal_model.proofs.Members.{Contains-here, Contains-there, Contains-nil, Contains-one, Contains-cons_cases}
 use Rattle.temporal_model.proofs.Certificate.{shortest}
+use Rattle.temporal_model.proofs.Snapshots.{HoldsOn, held, in_snapshot}
 
 abbrev seven_over : (start end : ℤ) → start <ℤ end → PeriodRow
 seven_over start end ordered = record { values = Int (pos 7) ∷ []; period = record { start = start; end = end; ordered = ordered } }
@@ -22,18 +23,21 @@ abbrev whole : PeriodRow
 whole = seven_over (pos 1) (pos 5) (omega (arith, ints))
 
 first_day-holds : InSnapshot (early ∷ []) (pos 1) (Int (pos 7) ∷ [])
-first_day-holds = (early, Contains-here early [], refl, (omega (arith, ints), omega (arith, ints)))
+first_day-holds = Contains-here (Int (pos 7) ∷ []) []
 
 end-not_held : InSnapshot (early ∷ []) (pos 3) (Int (pos 7) ∷ []) → ⊥
-end-not_held (row, c, v, (from, to)) =
-    let ends : pos 3 ≡ row.period.end = ap (λ (r : PeriodRow). r.period.end) (Contains-one early row c) in
-    omega (arith, ints)
+end-not_held h = Contains-nil (Int (pos 7) ∷ []) h
+
+-- a row that both hold is there twice in the list, and once in the set
+values-twice : values_on (early ∷ whole ∷ []) (pos 2) ≡ (Int (pos 7) ∷ []) ∷ (Int (pos 7) ∷ []) ∷ []
+values-twice = refl
 
 two-one : Equivalent (early ∷ late ∷ []) (whole ∷ [])
 two-one day values = (
-  λ held.
-      let (row, c, v, (from, to)) = held in
-      elim (Contains-cons_cases early (late ∷ []) row c) [
+  λ h.
+      let (row, c, v, (from, to)) = held (early ∷ late ∷ []) day values h in
+      in_snapshot (whole ∷ []) day values
+      (elim (Contains-cons_cases early (late ∷ []) row c) [
         | inl e ↦ let starts : pos 1 ≡ row.period.start = ap (λ (r : PeriodRow). r.period.start) e in
             let ends : pos 3 ≡ row.period.end = ap (λ (r : PeriodRow). r.period.end) e in
             (whole, Contains-here whole [], ap (λ (r : PeriodRow). r.values) e ∙ v, (omega (arith, ints), omega (arith, ints)))
@@ -41,16 +45,17 @@ two-one day values = (
             let starts : pos 3 ≡ row.period.start = ap (λ (r : PeriodRow). r.period.start) e in
             let ends : pos 5 ≡ row.period.end = ap (λ (r : PeriodRow). r.period.end) e in
             (whole, Contains-here whole [], ap (λ (r : PeriodRow). r.values) e ∙ v, (omega (arith, ints), omega (arith, ints)))
-      ],
-  λ held.
-      let (row, c, v, (from, to)) = held in
+      ]),
+  λ h.
+      let (row, c, v, (from, to)) = held (whole ∷ []) day values h in
       let e : whole ≡ row = Contains-one whole row c in
       let starts : pos 1 ≡ row.period.start = ap (λ (r : PeriodRow). r.period.start) e in
       let ends : pos 5 ≡ row.period.end = ap (λ (r : PeriodRow). r.period.end) e in
       let mine : Int (pos 7) ∷ [] ≡ values = ap (λ (r : PeriodRow). r.values) e ∙ v in
-      by_lt_z {P = InSnapshot (early ∷ late ∷ []) day values} day (pos 3)
+      in_snapshot (early ∷ late ∷ []) day values
+      (by_lt_z {P = HoldsOn (early ∷ late ∷ []) day values} day (pos 3)
       (λ before. (early, Contains-here early (late ∷ []), mine, (omega (arith, ints), before)))
-      (λ after. (late, Contains-there early (late ∷ []) late (Contains-here late []), mine, (after, omega (arith, ints)))),
+      (λ after. (late, Contains-there early (late ∷ []) late (Contains-here late []), mine, (after, omega (arith, ints))))),
 )
 
 meeting-not_shortest : IsShortest (early ∷ late ∷ []) → ⊥
@@ -58,8 +63,8 @@ meeting-not_shortest short = let fewer : 2 ≤ 1 = short (whole ∷ []) two-one 
 
 whole-certified : IsCertified (whole ∷ [])
 whole-certified = record {
-  absent_before = λ row c held.
-      let (other, k, v, (from, to)) = held in
+  absent_before = λ row c h.
+      let (other, k, v, (from, to)) = held (whole ∷ []) (row.period.start -ℤ pos 1) row.values h in
       let starts : pos 1 ≡ row.period.start = ap (λ (r : PeriodRow). r.period.start) (Contains-one whole row c) in
       let first : pos 1 ≡ other.period.start = ap (λ (r : PeriodRow). r.period.start) (Contains-one whole other k) in
       omega (arith, ints);

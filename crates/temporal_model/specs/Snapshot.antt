@@ -1,16 +1,21 @@
 -- What a list of period rows holds on a day. A day is its number, and a row's start comes before its end.
-use Rattle.std.specs.Prelude.{◌≡◌, ◌↔◌, ◌≤ℤ◌, ◌<ℤ◌, ℤ, pos, neg_ℤ, List, Contains}
+use Rattle.std.specs.Prelude.{◌&&◌, ◌↔◌, ◌≤ℤ◌, ◌<ℤ◌, ℤ, pos, neg_ℤ, Bool, List, Contains, filter, int_le, int_lt, map}
 use Rattle.period_core.specs.Calendar.{IsDayNumber}
 use Rattle.period_core.specs.declared.value.Value.{Value}
 use Rattle.period_core.specs.declared.row.PeriodRow.{PeriodRow}
 
--- the day lies in the row's period, which is closed at its start and open at its end
-abbrev pub CoversDay : PeriodRow → ℤ → Type 0
-CoversDay row day = (row.period.start ≤ℤ day) × (day <ℤ row.period.end)
+-- the day lies in the period from start to end, which is closed at its start and open at its end
+abbrev pub covers_day : ℤ → ℤ → ℤ → Bool
+covers_day start end day = int_le start day && int_lt day end
+
+-- the values of the rows that hold on the day, row by row
+abbrev pub values_on : List PeriodRow → ℤ → List (List Value)
+values_on rows day =
+    map (λ (row : PeriodRow). row.values) (filter (λ (row : PeriodRow). covers_day row.period.start row.period.end day) rows)
 
 -- the snapshot of the rows on a day, as a set: the values that some row of the list holds on that day
 abbrev pub InSnapshot : List PeriodRow → ℤ → List Value → Type 0
-InSnapshot rows day values = (row : PeriodRow) × Contains rows row × (row.values ≡ values) × CoversDay row day
+InSnapshot rows day values = Contains (values_on rows day) values
 
 -- the two lists have the same snapshot on every day: they are snapshot-equivalent
 abbrev pub Equivalent : List PeriodRow → List PeriodRow → Type 0
