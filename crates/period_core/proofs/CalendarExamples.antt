@@ -1,15 +1,15 @@
 -- Worked dates, numbers and texts, by computation.
 use Rattle.std.proofs.Common.{◌≡◌, refl, arith, codes, pos, neg_ℤ, Some, None}
-use Rattle.period_core.specs.Calendar.{IsDate, count_below, day_number, day_text, day_after, day_before, month_length}
+use Rattle.period_core.specs.Calendar.{IsDate, count_below, day_number, day_text, day_after, day_before, first_day, last_day, month_length}
 
 epoch : day_number 1970 1 1 ≡ pos 0
 epoch = refl
 
-first_day : day_number 1 1 1 ≡ neg_ℤ (pos 719_162)
-first_day = refl
+first_date : day_number 1 1 1 ≡ first_day
+first_date = refl
 
-last_day : day_number 9999 12 31 ≡ pos 2_932_896
-last_day = refl
+last_date : day_number 9999 12 31 ≡ last_day
+last_date = refl
 
 leap_day_2000 : day_number 2000 2 29 ≡ pos 11_016
 leap_day_2000 = refl
@@ -33,10 +33,10 @@ leap_day_1900-none date = omega (arith, date.day)
 month_zero-none : IsDate 2024 0 1 → ⊥
 month_zero-none date = omega (arith, date.month)
 
-first_day-before : day_before (neg_ℤ (pos 719_162)) ≡ None
+first_day-before : day_before first_day ≡ None
 first_day-before = refl
 
-last_day-after : day_after (pos 2_932_896) ≡ None
+last_day-after : day_after last_day ≡ None
 last_day-after = refl
 
 epoch-before : day_before (pos 0) ≡ Some (neg_ℤ (pos 1))
@@ -46,11 +46,11 @@ epoch-text : day_text (pos 0) ≡ codes "1970-01-01"
 unfolding count_below
 epoch-text = refl
 
-first_day-text : day_text (neg_ℤ (pos 719_162)) ≡ codes "0001-01-01"
+first_day-text : day_text first_day ≡ codes "0001-01-01"
 unfolding count_below
 first_day-text = refl
 
-last_day-text : day_text (pos 2_932_896) ≡ codes "9999-12-31"
+last_day-text : day_text last_day ≡ codes "9999-12-31"
 unfolding count_below
 last_day-text = refl
 

@@ -14,7 +14,8 @@ use Rattle.std.specs.Int.{byte_at, bytes_high_first}
 use Rattle.std.specs.List.{flat_map}
 use Rattle.std.specs.Ordering.{int_cmp, nat_cmp, ordering_then}
 use Rattle.jiff_core.proofs.SignedLemmas.{signed_arith}
-use Rattle.period_core.specs.Encoding.{IsColumnValue, encoded, encoded_value, escaped_byte, first_day, least_integer, places_above}
+use Rattle.period_core.specs.Calendar.{first_day}
+use Rattle.period_core.specs.Encoding.{IsColumnValue, encoded, encoded_value, escaped_byte, least_integer, places_above}
 use Rattle.period_core.specs.EncodingLaws.{EncodingKeepsOrder, EncodingReadsBack}
 use Rattle.period_core.specs.Order.{value_cmp}
 use Rattle.period_core.specs.OrderLaws.{values_cmp-same}

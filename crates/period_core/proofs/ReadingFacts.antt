@@ -9,7 +9,8 @@ use Rattle.std.specs.List.{All, flat_map}
 use Rattle.std.specs.Str.{IsUtf8}
 use Rattle.jiff_core.proofs.SignedLemmas.{signed_arith}
 use Rattle.period_core.specs.Decoding.{HasFirst}
-use Rattle.period_core.specs.Encoding.{IsColumnValue, IsEncoding, encoded, encoded_value, escaped_byte, escaped_text, first_day, least_integer, places_above}
+use Rattle.period_core.specs.Calendar.{first_day}
+use Rattle.period_core.specs.Encoding.{IsColumnValue, IsEncoding, encoded, encoded_value, escaped_byte, escaped_text, least_integer, places_above}
 use Rattle.period_core.specs.declared.value.Value.{Value}
 use Rattle.period_core.specs.declared.value.Value.TheVariants.{Int, Text, Date}
 

@@ -34,17 +34,25 @@ days_of_years n = 365 * n + n / 4 - n / 100 + n / 400
 abbrev pub day_number : ℕ → ℕ → ℕ → ℤ
 day_number y m d = pos (days_of_years (y - 1) + days_before y m + d) -ℤ pos 719_163
 
--- the numbers of 0001-01-01 and 9999-12-31 are the least and the greatest
+-- the number of 0001-01-01, the least
+abbrev pub first_day : ℤ
+first_day = neg_ℤ (pos 719_162)
+
+-- the number of 9999-12-31, the greatest
+abbrev pub last_day : ℤ
+last_day = pos 2_932_896
+
+-- the numbers of the first day and of the last are the least and the greatest
 abbrev pub IsDayNumber : ℤ → Type 0
-IsDayNumber n = (neg_ℤ (pos 719_162) ≤ℤ n) × (n ≤ℤ pos 2_932_896)
+IsDayNumber n = (first_day ≤ℤ n) × (n ≤ℤ last_day)
 
 -- the day before, which 0001-01-01 has not
 abbrev pub day_before : ℤ → Option ℤ
-day_before n = if is_lt (int_cmp (neg_ℤ (pos 719_162)) n) then Some (n -ℤ pos 1) else None
+day_before n = if is_lt (int_cmp first_day n) then Some (n -ℤ pos 1) else None
 
 -- the day after, which 9999-12-31 has not
 abbrev pub day_after : ℤ → Option ℤ
-day_after n = if is_lt (int_cmp n (pos 2_932_896)) then Some (n +ℤ pos 1) else None
+day_after n = if is_lt (int_cmp n last_day) then Some (n +ℤ pos 1) else None
 
 -- the digits of a number below 100, in ASCII
 abbrev pub two_digits : ℕ → List ℕ

@@ -3,7 +3,7 @@ use Rattle.std.specs.Prelude.{◌≡◌, ◌++◌, [], ◌∷◌, zero, suc, ℕ
 use Rattle.std.specs.Int.{bytes_high_first}
 use Rattle.std.specs.List.{All, flat_map}
 use Rattle.std.specs.Str.{IsUtf8}
-use Rattle.period_core.specs.Calendar.{IsDayNumber}
+use Rattle.period_core.specs.Calendar.{IsDayNumber, first_day}
 use Rattle.period_core.specs.declared.value.Value.{Value}
 use Rattle.period_core.specs.declared.value.Value.TheVariants.{Int, Text, Date}
 
@@ -19,10 +19,6 @@ least_integer = neg_ℤ (pos 9_223_372_036_854_775_808)
 -- the greatest
 abbrev pub greatest_integer : ℤ
 greatest_integer = pos 9_223_372_036_854_775_807
-
--- the number of 0001-01-01
-abbrev pub first_day : ℤ
-first_day = neg_ℤ (pos 719_162)
 
 -- a byte of a text: 00 is written 00 ff
 abbrev pub escaped_byte : ℕ → List ℕ

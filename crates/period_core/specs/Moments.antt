@@ -1,6 +1,6 @@
 -- Moments: whole seconds from 0001-01-01 00:00:00 to 9999-12-31 23:59:59, their numbers and texts.
 use Rattle.std.specs.Prelude.{◌≡◌, ◌≤◌, ◌+◌, ◌*◌, ◌/◌, ◌%◌, ◌++◌, ℕ, ℤ, pos, neg_ℤ, unsigned_abs, ◌+ℤ◌, ◌-ℤ◌, ◌*ℤ◌, ◌≤ℤ◌, int_lt, List, Option, Some, None, codes, if◌then◌else◌}
-use Rattle.period_core.specs.Calendar.{IsDate, day_number, day_text, date_text, two_digits}
+use Rattle.period_core.specs.Calendar.{IsDate, first_day, day_number, day_text, date_text, two_digits}
 
 -- the number of 0001-01-01 00:00:00, the least
 abbrev pub first_moment : ℤ
@@ -17,14 +17,30 @@ pub record IsMoment (y m d h mi s : ℕ) : Type 0 where
   pub minute : mi ≤ 59
   pub second : s ≤ 59
 
+-- the unit: a moment is a whole second
+abbrev pub moments_per_second : ℕ
+moments_per_second = 1
+
+-- the moments of a minute
+abbrev pub moments_per_minute : ℕ
+moments_per_minute = 60 * moments_per_second
+
+-- the moments of an hour
+abbrev pub moments_per_hour : ℕ
+moments_per_hour = 60 * moments_per_minute
+
 -- the moments of a day
 abbrev pub moments_per_day : ℕ
-moments_per_day = 86_400
+moments_per_day = 24 * moments_per_hour
+
+-- how many moments of its day come before a time of day
+abbrev pub time_number : ℕ → ℕ → ℕ → ℕ
+time_number h mi s = moments_per_hour * h + moments_per_minute * mi + moments_per_second * s
 
 -- the number of a moment, counted from 1970-01-01 00:00:00
 abbrev pub moment_number : ℕ → ℕ → ℕ → ℕ → ℕ → ℕ → ℤ
 moment_number y m d h mi s =
-    pos moments_per_day *ℤ day_number y m d +ℤ pos (3_600 * h + 60 * mi + s)
+    pos moments_per_day *ℤ day_number y m d +ℤ pos (time_number h mi s)
 
 -- the numbers of the first moment and of FOREVER are the least and the greatest
 abbrev pub IsMomentNumber : ℤ → Type 0
@@ -59,15 +75,17 @@ moments_before n = unsigned_abs (n -ℤ first_moment)
 
 -- the number of its day
 abbrev pub day_of_moment : ℤ → ℤ
-day_of_moment n = pos (moments_before n / moments_per_day) -ℤ pos 719_162
+day_of_moment n = first_day +ℤ pos (moments_before n / moments_per_day)
 
--- how many moments of its day come before it
+-- how many moments of its day come before the moment with this number
 abbrev pub moment_of_day : ℤ → ℕ
 moment_of_day n = moments_before n % moments_per_day
 
 -- the text of the time of day before which so many moments of the day come
 abbrev pub time_of_day_text : ℕ → List ℕ
-time_of_day_text k = time_text (k / 3_600) (k / 60 % 60) (k % 60)
+time_of_day_text k =
+    time_text (k / moments_per_hour) (k % moments_per_hour / moments_per_minute)
+    (k % moments_per_minute / moments_per_second)
 
 -- the text of the moment with this number
 abbrev pub moment_text : ℤ → List ℕ

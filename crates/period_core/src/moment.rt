@@ -29,8 +29,17 @@ const FIRST: i64 = -62_135_596_800;
 /// 9999-12-31 23:59:59.
 const FOREVER: i64 = 253_402_300_799;
 
+/// The moments of a second: the unit.
+const PER_SECOND: u64 = 1;
+
+/// The moments of a minute.
+const PER_MINUTE: u64 = 60 * PER_SECOND;
+
+/// The moments of an hour.
+const PER_HOUR: u64 = 60 * PER_MINUTE;
+
 /// The moments of a day.
-const PER_DAY: u64 = 86_400;
+const PER_DAY: u64 = 24 * PER_HOUR;
 
 impl Moment {
     /// The moment with this number: `None` below 0001-01-01 00:00:00 and above 9999-12-31 23:59:59.
@@ -62,9 +71,11 @@ impl Moment {
             return None;
         }
         let date = Day::from_date(year, month, day)?;
-        let time = 3600 * u32::from(hour) + 60 * u32::from(minute) + u32::from(second);
+        let time = PER_HOUR * u64::from(hour)
+            + PER_MINUTE * u64::from(minute)
+            + PER_SECOND * u64::from(second);
         Some(Moment {
-            number: PER_DAY as i64 * i64::from(date.number()) + i64::from(time),
+            number: PER_DAY as i64 * i64::from(date.number()) + time as i64,
         })
     }
 
@@ -127,9 +138,9 @@ impl Moment {
         let mut date = [0; 10];
         day.write_text(&mut date);
         let time = before % PER_DAY;
-        let hour = (time / 3600) as u8;
-        let minute = (time / 60 % 60) as u8;
-        let second = (time % 60) as u8;
+        let hour = (time / PER_HOUR) as u8;
+        let minute = (time % PER_HOUR / PER_MINUTE) as u8;
+        let second = (time % PER_MINUTE / PER_SECOND) as u8;
         *text = [
             date[0],
             date[1],

@@ -1,8 +1,8 @@
-use Rattle.std.proofs.Common.{◌≡◌, ◌∙◌, ap, arith, codes, ◌++◌, ◌∷◌, [], ℤ, ℕ, List, pos, neg_ℤ, ◌-ℤ◌, ◌+ℤ◌, ◌/◌, ◌%◌, ◌+◌, refl, to_z, of_z, w64, w32, unsigned_abs, slice_index_or}
+use Rattle.std.proofs.Common.{◌≡◌, ◌∙◌, ap, arith, codes, ◌++◌, ◌∷◌, [], ℤ, ℕ, List, ◌-ℤ◌, ◌+ℤ◌, ◌/◌, ◌%◌, ◌+◌, refl, to_z, of_z, w64, w32, unsigned_abs, slice_index_or}
 use Rattle.std.proofs.lemmas.Int.{to_z-of_z, to_z_pos}
 use Rattle.jiff_core.proofs.SignedLemmas.{signed_arith, fits_between}
-use Rattle.period_core.specs.Calendar.{IsDayText}
-use Rattle.period_core.specs.Moments.{IsMomentNumber, first_moment, day_of_moment, moment_of_day, moments_before, time_of_day_text}
+use Rattle.period_core.specs.Calendar.{IsDayText, first_day}
+use Rattle.period_core.specs.Moments.{IsMomentNumber, first_moment, day_of_moment, moment_of_day, moments_before, moments_per_day, moments_per_hour, moments_per_minute, moments_per_second, time_of_day_text}
 use Rattle.period_core.proofs.MomentFacts.{text-of-parts, day-in-range, moments-counted}
 use Rattle.period_core.proofs.CalendarFacts.{day-bits}
 use Rattle.period_core.proofs.TextFacts.{text-of-date}
@@ -19,11 +19,11 @@ count_is z h =
 
 -- the number that the code hands to the day
 day_is : (z : ℤ) → IsMomentNumber z →
-    to_z w32 (of_z w32 (to_z w32 (moments_before z / 86_400) +ℤ neg_ℤ (pos 719_162)))
+    to_z w32 (of_z w32 (to_z w32 (moments_before z / moments_per_day) +ℤ first_day))
     ≡ day_of_moment z
 day_is z h =
     let few = (moments-counted z h).1 in
-    let days = to_z_pos w32 (moments_before z / 86_400) (omega (arith, few)) in
+    let days = to_z_pos w32 (moments_before z / moments_per_day) (omega (arith, few)) in
     rw days (day-bits (day_of_moment z) (day-in-range z h))
 
 -- the bytes that the code writes
@@ -32,9 +32,11 @@ bytes_are : (n : ℤ) (date : List ℕ) (k : ℕ) → IsDayText n date →
     slice_index_or date 3 0 ∷ slice_index_or date 4 0 ∷ slice_index_or date 5 0 ∷
     slice_index_or date 6 0 ∷ slice_index_or date 7 0 ∷ slice_index_or date 8 0 ∷
     slice_index_or date 9 0 ∷ 32 ∷
-    (48 + k / 3_600 / 10) ∷ (48 + k / 3_600 % 10) ∷ 58 ∷
-    (48 + k / 60 % 60 / 10) ∷ (48 + k / 60 % 60 % 10) ∷ 58 ∷
-    (48 + k % 60 / 10) ∷ (48 + k % 60 % 10) ∷ []
+    (48 + k / moments_per_hour / 10) ∷ (48 + k / moments_per_hour % 10) ∷ 58 ∷
+    (48 + k % moments_per_hour / moments_per_minute / 10) ∷
+    (48 + k % moments_per_hour / moments_per_minute % 10) ∷ 58 ∷
+    (48 + k % moments_per_minute / moments_per_second / 10) ∷
+    (48 + k % moments_per_minute / moments_per_second % 10) ∷ []
     ≡ date ++ codes " " ++ time_of_day_text k
 bytes_are n date k is = rw is.5 refl
 
