@@ -1,6 +1,6 @@
 -- What a list of period rows holds on a day. A day is its number, and a row's start comes before its end.
-use Rattle.std.specs.Prelude.{◌&&◌, ◌↔◌, ◌≤ℤ◌, ◌<ℤ◌, ℤ, pos, neg_ℤ, Bool, List, Contains, filter, int_le, int_lt, map}
-use Rattle.period_core.specs.Calendar.{IsDayNumber}
+use Rattle.std.specs.Prelude.{◌&&◌, ◌↔◌, ◌≤ℤ◌, ◌<ℤ◌, ℤ, Bool, List, Contains, filter, int_le, int_lt, map}
+use Rattle.period_core.specs.Calendar.{IsDayNumber, first_day, last_day}
 use Rattle.period_core.specs.declared.value.Value.{Value}
 use Rattle.period_core.specs.declared.row.PeriodRow.{PeriodRow}
 
@@ -23,7 +23,7 @@ Equivalent xs ys = (day : ℤ) (values : List Value) → (InSnapshot xs day valu
 
 -- the days that a period can cover: 0001-01-01 to 9999-12-30, since 9999-12-31 is only an end
 abbrev pub IsDay : ℤ → Type 0
-IsDay day = (neg_ℤ (pos 719_162) ≤ℤ day) × (day <ℤ pos 2_932_896)
+IsDay day = (first_day ≤ℤ day) × (day <ℤ last_day)
 
 -- the start and the end of each row are days of the calendar
 abbrev pub AreInRange : List PeriodRow → Type 0
