@@ -151,7 +151,7 @@ impl<S: Alter> Engine<S> {
         ensures err { OnErr result (self.new ≡ self.old) }
     {
         match statement.form() {
-            StatementForm::Create(create) => self.create(alloc, create),
+            StatementForm::Create(create) => self.create(alloc, create.table()),
             StatementForm::Insert(_) => self.insert(alloc, statement),
             StatementForm::Sequenced(_) => self.answer(alloc, statement),
             // The other forms are not carried out yet.

@@ -1,10 +1,11 @@
 -- A table by its elements, one after the other.
-use Rattle.std.proofs.Common.{◌≡◌, ℕ, List, [], ◌∷◌, ◌++◌, Option, Some, None, refl, ◌∙◌, map}
+use Rattle.std.proofs.Common.{◌≡◌, ℕ, List, [], ◌∷◌, ◌++◌, Option, Some, None, refl, ◌∙◌, ◌<◌, arith, length, map}
 use Rattle.std.specs.Prelude.{filter_map}
 use Rattle.std.proofs.lemmas.List.{append-nil, map_push}
 use Rattle.std.proofs.lemmas.List.Elements.{filter_map-append}
 use Rattle.sql_front.specs.declared.tables.TableElement as tables
 use Rattle.sql_front.specs.Builders.{Element, column_element, period_element, system_element, key_element, reference_element, table_of, a_column, a_period, a_system_period, a_key, a_reference}
+use Rattle.sql_front.specs.Elements.{HasElement}
 use Rattle.sql_front.specs.PlainElements.{plain_element, with_element}
 
 -- one more of the kind
@@ -67,3 +68,12 @@ pub element_added : (name : List ℕ) (es : List tables.TableElement) (e : table
     ≡ table_of (name, (map plain_element (es ++ e ∷ []), tt))
 element_added name es e =
     table_pushed name (map plain_element es) (plain_element e) ∙ rw (map_push plain_element es e) refl
+
+-- a table of some element has one
+pub has_element : (name : List ℕ) (es : List Element) → 0 < length es → HasElement (table_of (name, (es, tt)))
+has_element name [] p = absurd (omega (arith, p))
+has_element name (column_element c ∷ es) p = omega arith
+has_element name (period_element e ∷ es) p = omega arith
+has_element name (system_element e ∷ es) p = omega arith
+has_element name (key_element k ∷ es) p = omega arith
+has_element name (reference_element r ∷ es) p = omega arith

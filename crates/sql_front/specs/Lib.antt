@@ -7,6 +7,7 @@ pub mod Names
 pub mod Values
 pub mod Language
 pub mod Trees
+pub mod Elements
 pub mod Plain
 pub mod Literals
 pub mod Builders

@@ -1,9 +1,13 @@
 //! CREATE TABLE as it is written. Its elements stand by their kinds, each list in the order of the
 //! text: no rule reads how the kinds are mixed.
 
+ghost use Rattle.std.specs.Prelude.{◌≡◌};
+ghost use Rattle.sql_front.specs.Elements.{HasElement};
+
 use crate::name::Name;
 use crate::nonempty::NonEmpty;
 use period_core::Items;
+use std::marker::Model;
 
 /// A column's type. A number is what its token says, not yet judged.
 #[derive(Clone, Copy, Debug, PartialEq, Eq)]
@@ -70,4 +74,39 @@ pub struct CreateTable {
     pub system_periods: Items<SystemElement>,
     pub keys: Items<KeyElement>,
     pub references: Items<ReferenceElement>,
+}
+
+/// CREATE TABLE of one element or more, of whatever kind, which contracts see as the table.
+#[derive(Drop, Debug)]
+pub struct CreateStatement {
+    table: CreateTable,
+}
+
+impl Model for CreateStatement {
+    ghost use Rattle.sql_front.specs.declared.create.CreateTable.{CreateTable};
+    ghost use Rattle.sql_front.specs.Elements.{HasElement};
+
+    ghost Value = { CreateTable };
+
+    ghost view = { λ s. s.table };
+
+    ghost invariant = { λ s. HasElement s.table };
+}
+
+impl CreateStatement {
+    /// The statement of a table that has an element.
+    pub(crate) fn new(table: CreateTable) -> CreateStatement
+        requires { HasElement table }
+        ensures { result ≡ table }
+    {
+        CreateStatement { table }
+    }
+
+    /// The table.
+    pub fn table(&self) -> &CreateTable
+        ensures value { result.now ≡ self.now }
+        ensures filled { HasElement result.now }
+    {
+        &self.table
+    }
 }

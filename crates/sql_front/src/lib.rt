@@ -42,8 +42,8 @@ pub mod words;
 
 pub use clock_moment::ClockMoment;
 pub use create::{
-    ColumnElement, CreateTable, Generated, KeyElement, PeriodElement, ReferenceElement,
-    SystemElement, TypeName,
+    ColumnElement, CreateStatement, CreateTable, Generated, KeyElement, PeriodElement,
+    ReferenceElement, SystemElement, TypeName,
 };
 pub use lexer::{LexFault, lex};
 pub use name::Name;

@@ -5,7 +5,7 @@ ghost use Rattle.std.specs.Prelude.{◌≡◌};
 ghost use Rattle.sql_front.specs.Plain.{plain, plain_form};
 
 use crate::clock_moment::ClockMoment;
-use crate::create::CreateTable;
+use crate::create::CreateStatement;
 use crate::name::Name;
 use crate::nonempty::NonEmpty;
 use crate::tree::{QueryTree, Tree};
@@ -170,7 +170,7 @@ pub struct StoredQuery {
 pub enum StatementForm {
     /// AT: the moment of the statements that follow.
     At(ClockMoment),
-    Create(CreateTable),
+    Create(CreateStatement),
     Insert(InsertRows),
     Update(UpdateRows),
     Delete(DeleteRows),

@@ -1,6 +1,6 @@
 //! CREATE TABLE, read from the front.
 
-ghost use Rattle.std.specs.Prelude.{◌≡◌, ◌≤◌, ℕ, List, Some, length, map, IfOk, OnOk};
+ghost use Rattle.std.specs.Prelude.{◌≡◌, ◌≤◌, ◌<◌, ℕ, List, Some, length, map, IfOk, OnOk};
 ghost use Rattle.sql_front.specs.ElementReaders.{create_read, element_read, elements_read, some_period_read, versioning_read};
 ghost use Rattle.sql_front.specs.Gives.{Gives};
 ghost use Rattle.sql_front.specs.Builders.{Element, table_of};
@@ -9,7 +9,8 @@ ghost use Rattle.sql_front.specs.PlainElements.{plain_element, with_element};
 
 use crate::column_elements::read_column_element;
 use crate::create::{
-    ColumnElement, CreateTable, KeyElement, PeriodElement, ReferenceElement, SystemElement,
+    ColumnElement, CreateStatement, CreateTable, KeyElement, PeriodElement, ReferenceElement,
+    SystemElement,
 };
 use crate::leaves::read_name;
 use crate::list::{Item, separated};
@@ -98,6 +99,7 @@ fn read_elements<'a, 'b>(
 ) -> Result<(Vec<TableElement>, &'b [Token<'a>]), Unread>
     ensures value { Gives (λ x. (map plain_element x.0.items, lexemes x.1.now)) result (elements_read (lexemes tokens.now)) }
     ensures rest { IfOk result (λ x. length x.1.now ≤ length tokens.now) }
+    ensures filled { IfOk result (λ x. 0 < length x.0.items) }
 {
     let rest = skip(tokens, Mark::Symbol("("))?;
     let (elements, rest) = separated::<TableElement>(alloc, 0, rest)?;
@@ -118,7 +120,12 @@ fn add_element(table: &mut CreateTable, element: TableElement) -> Result<(), Mem
 }
 
 // The table of these elements, each kind in its order.
-fn table_with(alloc: Global, name: Name, elements: Vec<TableElement>) -> Result<CreateTable, Unread>
+fn table_with(
+    alloc: Global,
+    name: Name,
+    elements: Vec<TableElement>,
+) -> Result<CreateStatement, Unread>
+    requires { 0 < length elements.items }
     ensures { Gives (λ t. t) result (Some (table_of (name, (map plain_element elements.items, tt)))) }
 {
     let mut table = CreateTable {
@@ -134,7 +141,7 @@ fn table_with(alloc: Global, name: Name, elements: Vec<TableElement>) -> Result<
             return Err(Unread::Memory);
         }
     }
-    Ok(table)
+    Ok(CreateStatement::new(table))
 }
 
 // The tokens after WITH SYSTEM VERSIONING.
@@ -153,7 +160,7 @@ fn skip_versioning<'a, 'b>(tokens: &'b [Token<'a>]) -> Result<&'b [Token<'a>], U
 pub fn read_create<'a, 'b>(
     alloc: Global,
     tokens: &'b [Token<'a>],
-) -> Result<(CreateTable, &'b [Token<'a>]), Unread>
+) -> Result<(CreateStatement, &'b [Token<'a>]), Unread>
     ensures value { Gives (λ x. (x.0, lexemes x.1.now)) result (create_read (lexemes tokens.now)) }
     ensures rest { IfOk result (λ x. length x.1.now ≤ length tokens.now) }
 {
