@@ -1,5 +1,6 @@
 pub mod Calendar
 pub mod Moments
+pub mod TextReading
 pub mod Windows
 pub mod Order
 pub mod Codes

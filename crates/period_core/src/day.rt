@@ -1,8 +1,10 @@
 //! Days of the proleptic Gregorian calendar of ISO 8601, by their numbers; their dates are jiff's.
 
 ghost use Rattle.std.specs.Prelude.{◌≡◌, ◌↔◌, IsSome, IfSome, ℤ, pos, ◌+ℤ◌, ◌-ℤ◌, neg_ℤ, ◌<ℤ◌};
-ghost use Rattle.period_core.specs.Calendar.{IsDate, IsDayNumber, IsDayText, day_after, day_before, day_number, day_text};
+ghost use Rattle.period_core.specs.Calendar.{IsDate, IsDayNumber, IsDayText, day_after, day_before, day_number, day_text, first_day};
+ghost use Rattle.period_core.specs.TextReading.{day_of_text};
 
+use crate::text_reading::day_of_bytes;
 use jiff::civil::Date;
 use jiff_core::civil;
 use std::marker::Model;
@@ -57,6 +59,24 @@ impl Day {
             }),
             Err(_) => None,
         }
+    }
+
+    /// The day with this text, YYYY-MM-DD in ASCII as `write_text` writes it: `None` exactly where
+    /// it is no day's.
+    #[tactic(auto, using(crate::proofs::TextReadings::day_there, crate::proofs::TextReadings::day_value))]
+    pub fn from_text(text: &[u8]) -> Option<Day>
+        ensures there { IsSome result ↔ ((n : ℤ) × IsDayText n text.now) }
+        ensures value { IfSome result (λ d. IsDayText d text.now) }
+        ensures reading { result ≡ day_of_text text.now }
+    {
+        day_of_bytes(text)
+    }
+
+    /// 0001-01-01, the least.
+    pub fn first() -> Day
+        ensures { result ≡ first_day }
+    {
+        Day { number: FIRST }
     }
 
     /// The number of the day, counted from 1970-01-01.

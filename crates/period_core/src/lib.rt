@@ -16,6 +16,7 @@ pub mod row;
 #[cfg(test)]
 mod tests;
 pub mod text;
+mod text_reading;
 pub mod value;
 pub mod version;
 pub mod window;

@@ -2,8 +2,10 @@
 
 ghost use Rattle.std.specs.Prelude.{◌≡◌, ◌↔◌, IsSome, IfSome, ℤ, pos, neg_ℤ, ◌+ℤ◌, ◌-ℤ◌, ◌*ℤ◌, ◌≤ℤ◌};
 ghost use Rattle.period_core.specs.Moments.{IsMoment, IsMomentNumber, IsMomentText, first_moment, forever, moment_after, moment_before, moment_number, moment_text};
+ghost use Rattle.period_core.specs.TextReading.{moment_of_text};
 
 use crate::day::{Day, FIRST as FIRST_DAY};
+use crate::text_reading::moment_of_bytes;
 use std::marker::Model;
 
 /// A moment from 0001-01-01 00:00:00 to 9999-12-31 23:59:59, by its number: 1970-01-01 00:00:00
@@ -77,6 +79,17 @@ impl Moment {
         Some(Moment {
             number: PER_DAY as i64 * i64::from(date.number()) + time as i64,
         })
+    }
+
+    /// The moment with this text, YYYY-MM-DD HH:MM:SS in ASCII as `write_text` writes it: `None`
+    /// exactly where it is no moment's.
+    #[tactic(auto, using(crate::proofs::TextReadings::moment_there, crate::proofs::TextReadings::moment_value))]
+    pub fn from_text(text: &[u8]) -> Option<Moment>
+        ensures there { IsSome result ↔ ((n : ℤ) × IsMomentText n text.now) }
+        ensures value { IfSome result (λ m. IsMomentText m text.now) }
+        ensures reading { result ≡ moment_of_text text.now }
+    {
+        moment_of_bytes(text)
     }
 
     /// 0001-01-01 00:00:00, the least.

@@ -13,7 +13,8 @@ use Rattle.sql_front.specs.Builders as builders
 use Rattle.sql_front.specs.Reading.{Reader, stands_read}
 use Rattle.sql_front.specs.ConditionReaders.{column_read, compare_read, comparison_read, condition_read, condition_with, conjunction_read, conjunction_with, factor_read, factor_with, inner_read, operand_read, test_read, test_with, where_read}
 use Rattle.sql_front.proofs.First.{Starts, begins_apart, or_apart, starts_built, starts_choice, starts_preceded, starts_sequence, starts_stands}
-use Rattle.sql_front.proofs.Laws.{Any, Not, Reads, none_some, reads_both, reads_built, reads_choice, reads_optional, reads_preceded, reads_sequence, reads_stands, reads_weaken}
+use Rattle.period_core.proofs.OptionFacts.{none_some}
+use Rattle.sql_front.proofs.Laws.{Any, Not, Reads, reads_both, reads_built, reads_choice, reads_optional, reads_preceded, reads_sequence, reads_stands, reads_weaken}
 use Rattle.sql_front.proofs.LeavesRead.{reads_literal, starts_literal}
 use Rattle.sql_front.proofs.NamesRead.{reads_name, starts_name}
 use Rattle.sql_front.proofs.Sorts.{Next, Sort, a_name, a_number, a_text, all_differ, any_of, apart_lists, next_not, reads_choice_next, reads_enclosed_next, reads_less, reads_next, reads_optional_next, reads_separated_next, sign, word}

@@ -6,7 +6,7 @@ use Rattle.std.specs.Prelude.{IsTrue, is_none}
 use Rattle.sql_front.specs.declared.token.Token.{Token}
 use Rattle.sql_front.specs.Lexemes.{Lexeme, lexeme, lexemes}
 use Rattle.sql_front.specs.Depth.{opens, closes, counted, room, IsDeeper}
-use Rattle.sql_front.proofs.Laws.{none_some}
+use Rattle.period_core.proofs.OptionFacts.{none_some}
 use Rattle.sql_front.proofs.First.{Apart, symbols_apart}
 
 pub no_room : (t : Lexeme) (y : List Lexeme) → opens t ≡ true → room zero (t ∷ y) ≡ None

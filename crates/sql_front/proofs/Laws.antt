@@ -1,26 +1,11 @@
 -- Each way of making a language has its way of reading it.
-use Rattle.std.proofs.Common.{◌≡◌, ℕ, zero, suc, ◌≤◌, ◌<◌, Bool, true, false, cond, List, [], ◌∷◌, ◌++◌, length, Option, Some, None, refl, sym, ap, subst, ◌∙◌, append_assoc, arith, codes, inl, inr, ◌⊎◌, length-append}
+use Rattle.std.proofs.Common.{◌≡◌, ℕ, zero, suc, ◌≤◌, ◌<◌, Bool, true, false, List, [], ◌∷◌, ◌++◌, length, Option, Some, None, refl, sym, ap, subst, ◌∙◌, append_assoc, arith, codes, inl, inr, length-append}
+use Rattle.period_core.proofs.OptionFacts.{bind_some, if_some, none_some, some_is}
 use Rattle.sql_front.proofs.First.{Apart, Starts, starts_preceded, begins_apart}
 use Rattle.sql_front.specs.Lexemes.{Lexeme}
 use Rattle.sql_front.specs.Language.{OneToken, Fixed, Sequence, Built, Choice, Repetition, Optional, Preceded, PrecededOrNot, Related, StandsFor, Separated, Enclosed, symbol}
-use Rattle.sql_front.specs.Reading.{◌>>=◌, Reader, one_read, fixed_read, sequence_read, built_read, begins, choice_read, bounded_read, repetition_read, optional_read, preceded_read, preceded_or_not_read, stands_read, separated_read, enclosed_read}
-
-abbrev done : {A : Type 0} → A → Option A
-done x = Some x
-
-pub some_is : {A : Type 0} (x y : A) → done x ≡ done y → x ≡ y
-some_is x y e = cc
-
-pub none_some : {A : Type 0} (x : A) → None ≡ done x → ⊥
-none_some x e = cc
-
-pub bind_some : {A B : Type 0} (r : Option A) (f : A → Option B) (y : B) → (r >>= f) ≡ Some y → (x : A) × (r ≡ Some x) × (f x ≡ Some y)
-bind_some (Some x) f y e = (x, refl, e)
-bind_some None f y e = absurd cc
-
-pub if_some : {A : Type 0} (b : Bool) (p q : Option A) (y : A) → cond b p q ≡ Some y → ((b ≡ true) × (p ≡ Some y)) ⊎ ((b ≡ false) × (q ≡ Some y))
-if_some true p q y e = inl (refl, e)
-if_some false p q y e = inr (refl, e)
+use Rattle.period_core.specs.TextReading.{◌>>=◌}
+use Rattle.sql_front.specs.Reading.{Reader, one_read, fixed_read, sequence_read, built_read, begins, choice_read, bounded_read, repetition_read, optional_read, preceded_read, preceded_or_not_read, stands_read, separated_read, enclosed_read}
 
 -- what p reads is of the language, and what is of the language is read by p wherever it may be followed so
 pub record Reads {A : Type 0} (L : List Lexeme → A → Type 0) (Follow : List Lexeme → Type 0) (p : Reader A) : Type 0 where

@@ -6,7 +6,8 @@ use Rattle.sql_front.specs.declared.unread.Unread.TheVariants as unread
 use Rattle.sql_front.specs.Lexemes.{Lexeme}
 use Rattle.sql_front.specs.Gives.{Fails}
 use Rattle.sql_front.specs.Grammar.{comma, name}
-use Rattle.sql_front.specs.Reading.{◌>>=◌, Reader, begins, bounded_read, fixed_read, preceded_read}
+use Rattle.period_core.specs.TextReading.{◌>>=◌}
+use Rattle.sql_front.specs.Reading.{Reader, begins, bounded_read, fixed_read, preceded_read}
 use Rattle.sql_front.specs.Leaves.{name_read}
 use Rattle.sql_front.specs.ElementReaders.{leading_names_read, more_names_read, one_more_name, second_is}
 use Rattle.sql_front.proofs.Loop.{Going, begins_some, going_fails, going_on, with_front}

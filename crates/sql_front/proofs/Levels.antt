@@ -6,8 +6,8 @@ use Rattle.sql_front.specs.Lexemes.{Lexeme}
 use Rattle.sql_front.specs.Language.{keyword, symbol, number, text, OneToken, Fixed, Sequence, Built, Related, StandsFor, Choice, Repetition, Optional, Preceded, PrecededOrNot, Separated, Enclosed}
 use Rattle.sql_front.specs.Grammar.{name}
 use Rattle.sql_front.specs.Depth.{opens, closes, room}
-use Rattle.sql_front.specs.Reading.{◌>>=◌}
-use Rattle.sql_front.proofs.Laws.{bind_some, none_some, some_is}
+use Rattle.period_core.specs.TextReading.{◌>>=◌}
+use Rattle.period_core.proofs.OptionFacts.{bind_some, none_some, some_is}
 use Rattle.sql_front.proofs.First.{Apart, apart_kinds, keyword_kind, symbol_kind, number_kind, text_kind, symbols_apart}
 use Rattle.sql_front.proofs.NameSorts.{name_kind}
 use Rattle.sql_front.proofs.DepthFacts.{no_room, close_not_open}

@@ -6,7 +6,6 @@ pub mod ConditionLevels
 pub mod ConditionsRead
 pub mod ConditionViews
 pub mod Counting
-pub mod DateTexts
 pub mod Decimals
 pub mod DepthExamples
 pub mod DepthFacts

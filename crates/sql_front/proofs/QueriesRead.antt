@@ -13,7 +13,8 @@ use Rattle.sql_front.proofs.ReadGrammar.{IsChain, IsCompare, IsItem, IsJoin, IsN
 use Rattle.sql_front.specs.Reading.{Reader}
 use Rattle.sql_front.specs.QueryReaders.{chain_read, inner_query_read, item_read, join_read, joins_read, new_name_read, operator_read, primary_read, primary_with, query_read, query_with, reference_read, select_read, sequenced_read, step_read, step_with, steps_read, steps_with}
 use Rattle.sql_front.proofs.First.{Starts, starts_built, starts_choice, starts_preceded, starts_preceded_or_not, starts_sequence, starts_stands}
-use Rattle.sql_front.proofs.Laws.{Any, none_some, Reads, reads_both, reads_built, reads_preceded, reads_preceded_or_not, reads_stands}
+use Rattle.period_core.proofs.OptionFacts.{none_some}
+use Rattle.sql_front.proofs.Laws.{Any, Reads, reads_both, reads_built, reads_preceded, reads_preceded_or_not, reads_stands}
 use Rattle.sql_front.proofs.NamesRead.{reads_name, starts_name}
 use Rattle.sql_front.proofs.Sorts.{a_name, all_differ, any_of, apart_lists, leads_optional, leads_repetition, leads_starts, Next, reads_both_next, reads_choice_next, reads_enclosed_next, reads_less, reads_next, reads_optional_next, reads_repetition_next, reads_separated_next, sign, Sort, word}
 use Rattle.sql_front.proofs.ConditionsRead.{condition_ends, reads_column_next, reads_compare_condition, reads_compare_where, starts_column, starts_where, where_ends}

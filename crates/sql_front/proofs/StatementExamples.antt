@@ -12,7 +12,8 @@ use Rattle.sql_front.specs.Words.{is_reserved}
 use Rattle.sql_front.specs.Trees.{Condition, Query, Select, Statement, all, any, combined, conditions_of, insert, last, negated, sequenced, simple, step, test, stored, update, delete}
 use Rattle.sql_front.specs.Grammar.{IsStatement}
 use Rattle.sql_front.specs.PieceRefusals.{SpellsNone}
-use Rattle.sql_front.specs.LeafValues.{date_at, day_of_token, day_value, is_date, parts_of}
+use Rattle.period_core.specs.TextReading.{date_at, date_parts_of, day_of_text, is_date}
+use Rattle.sql_front.specs.LeafValues.{day_of_token, day_value}
 use Rattle.sql_front.specs.Leaves.{date_read, literal_read, name_read, number_read, tuple_read, unsigned_read}
 use Rattle.sql_front.specs.ConditionReaders.{column_read, compare_read, comparison_read, condition_read, conjunction_read, factor_read, operand_read, test_read, where_read}
 use Rattle.sql_front.specs.WindowReaders.{for_window_read}
@@ -163,11 +164,11 @@ inserted = insert (record {
 })
 
 insertion_is_read : whole_read (statement_read 0) insertion ≡ Some inserted
-unfolding statement_read insert_read columns_read name_read tuple_read literal_read unsigned_read number_read date_read day_value day_of_token date_at parts_of is_date bounded_read is_plain_word is_reserved
+unfolding statement_read insert_read columns_read name_read tuple_read literal_read unsigned_read number_read date_read day_value day_of_token day_of_text date_at date_parts_of is_date bounded_read is_plain_word is_reserved
 insertion_is_read = refl
 
 pub insertion_spelled : IsStatement insertion inserted
-unfolding day_of_token date_at parts_of is_date
+unfolding day_of_token day_of_text date_at date_parts_of is_date
 insertion_spelled = spelled_if_read 0 insertion inserted insertion_is_read refl refl refl
 
 -- UPDATE EMP FOR PORTION OF EMP_PERIOD FROM DATE '2010-01-01' TO DATE '2011-01-01' SET DNO = 4
@@ -187,11 +188,11 @@ changed = update (record {
 })
 
 change_is_read : whole_read (statement_read 0) change ≡ Some changed
-unfolding statement_read update_read portion_read in_portion_read assignment_read where_read name_read literal_read unsigned_read number_read date_read day_value day_of_token date_at parts_of is_date bounded_read is_plain_word is_reserved
+unfolding statement_read update_read portion_read in_portion_read assignment_read where_read name_read literal_read unsigned_read number_read date_read day_value day_of_token day_of_text date_at date_parts_of is_date bounded_read is_plain_word is_reserved
 change_is_read = refl
 
 pub change_spelled : IsStatement change changed
-unfolding day_of_token date_at parts_of is_date
+unfolding day_of_token day_of_text date_at date_parts_of is_date
 change_spelled = spelled_if_read 0 change changed change_is_read refl refl refl
 
 -- ---- stored queries

@@ -10,7 +10,8 @@ use Rattle.sql_front.proofs.ReadGrammar.{IsStatement, IsStored, IsStoredTest, St
 use Rattle.sql_front.specs.Reading.{whole_read}
 use Rattle.sql_front.specs.StatementReaders.{statement_read, stored_read}
 use Rattle.sql_front.proofs.First.{Starts, starts_built, starts_choice, starts_preceded}
-use Rattle.sql_front.proofs.Laws.{Reads, none_some, reads_both, reads_built, reads_preceded}
+use Rattle.period_core.proofs.OptionFacts.{none_some}
+use Rattle.sql_front.proofs.Laws.{Reads, reads_both, reads_built, reads_preceded}
 use Rattle.sql_front.proofs.Levels.{Level, level_built, level_choice, level_optional, level_preceded, level_sequence, plain_keyword, plain_symbol}
 use Rattle.sql_front.proofs.DepthFacts.{none_deeper}
 use Rattle.sql_front.proofs.NamesRead.{level_name, reads_name}

@@ -7,7 +7,8 @@ use Rattle.sql_front.specs.declared.unread.Unread.TheVariants as unread
 use Rattle.sql_front.specs.Lexemes.{Lexeme}
 use Rattle.sql_front.specs.Gives.{Gives}
 use Rattle.sql_front.specs.Reading.{Reader, nothing_after, whole_read}
-use Rattle.sql_front.proofs.Laws.{bind_some, none_some, some_is, Reads}
+use Rattle.period_core.proofs.OptionFacts.{bind_some, none_some, some_is}
+use Rattle.sql_front.proofs.Laws.{Reads}
 
 ended : {A : Type 0} (x : A × List Lexeme) (a : A) → nothing_after x ≡ Some a → (x.1 ≡ []) × (x.0 ≡ a)
 ended (v, []) a e = (refl, some_is v a e)

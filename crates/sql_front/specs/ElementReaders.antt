@@ -14,7 +14,8 @@ use Rattle.sql_front.specs.Lexemes.{Lexeme}
 use Rattle.sql_front.specs.Language.{keyword, symbol}
 use Rattle.sql_front.specs.Builders.{column_of, period_of, system_of, key_of, reference_of, table_of, Element, column_element, period_element, system_element, key_element, reference_element}
 use Rattle.sql_front.specs.Grammar.{name, comma}
-use Rattle.sql_front.specs.Reading.{◌>>=◌, Reader, begins, third_is, fixed_read, sequence_read, built_read, choice_read, optional_read, repetition_read, preceded_read, stands_read, separated_read, enclosed_read}
+use Rattle.period_core.specs.TextReading.{◌>>=◌}
+use Rattle.sql_front.specs.Reading.{Reader, begins, third_is, fixed_read, sequence_read, built_read, choice_read, optional_read, repetition_read, preceded_read, stands_read, separated_read, enclosed_read}
 use Rattle.sql_front.specs.Leaves.{name_read, number_read}
 
 -- ---- lists of names whose last one stands apart

@@ -1,11 +1,8 @@
 -- Reading from the front: the value and the tokens after it, by each way of making a language.
-use Rattle.std.specs.Prelude.{ℕ, zero, suc, Bool, false, cond, List, [], ◌∷◌, length, Option, Some, None, option_and_then, codes}
+use Rattle.std.specs.Prelude.{ℕ, zero, suc, Bool, false, cond, List, [], ◌∷◌, length, Option, Some, None, codes}
+use Rattle.period_core.specs.TextReading.{◌>>=◌}
 use Rattle.sql_front.specs.Lexemes.{Lexeme}
 use Rattle.sql_front.specs.Language.{symbol}
-
-infixl 10 ◌>>=◌
-abbrev pub ◌>>=◌ : {A B : Type 0} → Option A → (A → Option B) → Option B
-o >>= f = option_and_then f o
 
 abbrev pub Reader : Type 0 → Type 0
 Reader A = List Lexeme → Option (A × List Lexeme)

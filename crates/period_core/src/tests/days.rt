@@ -56,6 +56,7 @@ fn dates_that_the_calendar_lacks_are_none(rt: HostRuntime) {
 fn numbers_end_with_the_years_1_and_9999(rt: HostRuntime) {
     assert_eq!(rt; Day::new(-719_163), None);
     assert_eq!(rt; Day::new(-719_162), Day::from_date(1, 1, 1));
+    assert_eq!(rt; Day::new(-719_162), Some(Day::first()));
     assert_eq!(rt; Day::new(2_932_896), Day::from_date(9999, 12, 31));
     assert_eq!(rt; Day::new(2_932_897), None);
     assert_eq!(rt; Day::new(i32::MIN), None);
@@ -94,6 +95,45 @@ fn days_are_written_as_dates(rt: HostRuntime) -> Result<(), Fail> {
         assert_eq!(rt; text.as_slice(), wanted.as_slice(), "at {number}");
     }
     Ok(())
+}
+
+#[test]
+fn days_are_read_from_their_dates(rt: HostRuntime) {
+    let days = [
+        ("0001-01-01", -719_162),
+        ("1899-12-31", -25_568),
+        ("1970-01-01", 0),
+        ("2000-02-29", 11_016),
+        ("2010-01-01", 14_610),
+        ("9999-12-31", 2_932_896),
+    ];
+    for (text, number) in days {
+        let found = Day::from_text(text.as_bytes()).map(|d| d.number());
+        assert_eq!(rt; found, Some(number), "of {text}");
+    }
+}
+
+#[test]
+fn what_is_no_date_is_no_day(rt: HostRuntime) {
+    let texts = [
+        "",
+        "2010-1-01",
+        "2010-01-011",
+        "2010-01-01 ",
+        "2010/01/01",
+        "2010-01-O1",
+        "+010-01-01",
+        "01-01-2010",
+        "0000-01-01",
+        "1900-02-29",
+        "2010-13-01",
+        "2010-00-10",
+        "2010-01-00",
+        "'2010-01-01'",
+    ];
+    for text in texts {
+        assert_eq!(rt; Day::from_text(text.as_bytes()), None, "of {text}");
+    }
 }
 
 #[test]

@@ -108,6 +108,43 @@ fn moments_are_written_with_date_and_time(rt: HostRuntime) -> Result<(), Fail> {
 }
 
 #[test]
+fn moments_are_read_from_date_and_time(rt: HostRuntime) {
+    let moments = [
+        ("0001-01-01 00:00:00", -62_135_596_800),
+        ("1969-12-31 23:59:59", -1),
+        ("1970-01-01 00:00:00", 0),
+        ("2000-02-29 01:02:03", 951_786_123),
+        ("2001-09-09 01:46:40", 1_000_000_000),
+        ("9999-12-31 23:59:59", 253_402_300_799),
+    ];
+    for (text, number) in moments {
+        let found = Moment::from_text(text.as_bytes()).map(|m| m.number());
+        assert_eq!(rt; found, Some(number), "of {text}");
+    }
+}
+
+#[test]
+fn what_is_no_date_and_time_is_no_moment(rt: HostRuntime) {
+    let texts = [
+        "",
+        "2010-01-01",
+        "2010-01-01 12:30",
+        "2010-01-01T12:30:15",
+        "2010-01-01 12:30:15Z",
+        "2010-01-01 12-30-15",
+        "2010-01-01 12:30:1x",
+        "2010-01-01 24:00:00",
+        "2010-01-01 12:60:00",
+        "2016-12-31 23:59:60",
+        "2010-02-30 12:30:15",
+        "0000-12-31 23:59:59",
+    ];
+    for text in texts {
+        assert_eq!(rt; Moment::from_text(text.as_bytes()), None, "of {text}");
+    }
+}
+
+#[test]
 fn windows_see_versions_by_their_system_time(rt: HostRuntime) -> Result<(), Fail> {
     let (early, from, inside) = (moment_of(5)?, moment_of(10)?, moment_of(15)?);
     let (to, late, forever) = (moment_of(20)?, moment_of(25)?, Moment::forever());

@@ -7,7 +7,7 @@ use Rattle.sql_front.specs.Builders.{all_of, any_of}
 use Rattle.sql_front.specs.Plain.{plain_condition}
 use Rattle.sql_front.specs.Reading.{separated_read}
 use Rattle.sql_front.specs.ConditionReaders.{factor_read, conjunction_read, condition_read}
-use Rattle.sql_front.proofs.Laws.{some_is}
+use Rattle.period_core.proofs.OptionFacts.{some_is}
 use Rattle.sql_front.proofs.Loop.{goes_first, goes_on, stops, fails, mapped_fails}
 use Rattle.sql_front.proofs.conditions.+conditions.Goals as goal
 

@@ -11,7 +11,7 @@ use Rattle.sql_front.specs.Plain.{plain_query}
 use Rattle.sql_front.specs.QueryReaders.{begins_step, plain_step, step_read, steps_read, primary_read, query_read}
 use Rattle.sql_front.proofs.Loop.{going_on, going_stops, going_fails, begins_some}
 use Rattle.sql_front.proofs.Headed.{headed_found, headed_fails}
-use Rattle.sql_front.proofs.Laws.{some_is}
+use Rattle.period_core.proofs.OptionFacts.{some_is}
 use Rattle.sql_front.proofs.queries.+queries.Goals as goal
 
 pub read_query-returns-in_err-next-clause-value : goal.read_query-returns-in_err-next-clause-value

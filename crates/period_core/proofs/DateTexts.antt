@@ -1,14 +1,13 @@
 -- The text of a date or a moment, and the numbers that it is read as.
-use Rattle.std.proofs.Common.{◌≡◌, ℕ, zero, suc, ◌+◌, ◌-◌, ◌*◌, ◌/◌, ◌%◌, ◌<◌, ◌≤◌, true, false, cond, nat_lt, List, [], ◌∷◌, ◌++◌, length, take, drop, get_or, Some, None, refl, ap, subst, ◌∙◌, inl, inr, arith, length-take, length-drop}
+use Rattle.std.proofs.Common.{◌≡◌, ℕ, zero, suc, ◌+◌, ◌-◌, ◌*◌, ◌/◌, ◌%◌, ◌<◌, ◌≤◌, true, false, cond, nat_lt, List, [], ◌∷◌, ◌++◌, length, take, drop, get_or, Some, None, refl, sym, ap, subst, ◌∙◌, inl, inr, arith}
 use Rattle.std.specs.Prelude.{◌==◌}
 use Rattle.std.proofs.lemmas.Bool.Decides.{nat_tests}
 use Rattle.std.proofs.lemmas.List.{at_drop_more}
+use Rattle.std.proofs.Math.Seq.{take-length}
 use Rattle.period_core.specs.Calendar.{date_text}
 use Rattle.period_core.specs.Moments.{time_text}
-use Rattle.sql_front.specs.LeafValues.{digit_of, two_of, parts_of, date_at, time_parts_of, time_at}
-use Rattle.sql_front.specs.Values.{between_quotes}
-use Rattle.sql_front.specs.Reading.{◌>>=◌}
-use Rattle.sql_front.proofs.Laws.{bind_some, if_some, none_some, some_is}
+use Rattle.period_core.specs.TextReading.{◌>>=◌, digit_of, two_of, date_parts_of, date_at, time_parts_of, time_at}
+use Rattle.period_core.proofs.OptionFacts.{bind_some, if_some, none_some, some_is}
 
 -- ---- two digits
 
@@ -46,7 +45,7 @@ two_back a b n e =
     let is : s.0 * 10 + t.0 ≡ n = some_is (s.0 * 10 + t.0) n t.2 in
     (omega (arith, first, second, is), omega (arith, first, second, is), omega (arith, first, second, is))
 
--- ---- the bytes of a token
+-- ---- the bytes of a text
 
 -- so many bytes from a place on
 abbrev pub bytes_from : ℕ → ℕ → List ℕ → List ℕ
@@ -59,14 +58,9 @@ taken (suc n) i t h =
     at_drop_more (take (suc n)) t i 0 (omega (arith, h))
     ∙ ap (λ (z : List ℕ). get_or t i 0 ∷ z) (taken n (i + 1) t (omega (arith, h)))
 
--- what a token of n bytes and two quotes has between these
-pub inner : (n : ℕ) (t : List ℕ) → length t ≡ n + 2 → between_quotes t ≡ bytes_from n 1 t
-inner n t e =
-    let long : length t - 2 ≡ n = omega (arith, e) in
-    rw long (taken n 1 t (omega (arith, e)))
-
-pub inner_length : (n : ℕ) (t : List ℕ) → length (between_quotes t) ≡ suc n → length t ≡ suc n + 2
-inner_length n t e = omega (arith, e, length-take (length t - 2) (drop 1 t), length-drop 1 t)
+-- a text of n bytes is these
+pub bytes_are : (n : ℕ) (t : List ℕ) → length t ≡ n → t ≡ bytes_from n 0 t
+bytes_are n t e = sym (take-length t) ∙ ap (λ (k : ℕ). take k t) e ∙ taken n 0 t (omega (arith, e))
 
 -- what a list has at a place
 at_place : (s r : List ℕ) (k : ℕ) → s ≡ r → get_or s k 0 ≡ get_or r k 0
@@ -85,39 +79,39 @@ date_is a b c d first e f second g h century year month day ea eb ec ed e1 ee ef
     let rest : (century * 100 + year) % 100 ≡ year = omega (arith, low) in
     rw (ea, eb, ec, ed, e1, ee, ef, e2, eg, eh, high, rest) refl
 
-date_parts : (t : List ℕ) (v : ℕ × ℕ × ℕ) → get_or t 5 0 ≡ 45 → get_or t 8 0 ≡ 45
-    → parts_of (get_or t 1 0) (get_or t 2 0) (get_or t 3 0) (get_or t 4 0) (get_or t 6 0) (get_or t 7 0) (get_or t 9 0) (get_or t 10 0) ≡ Some v
-    → (bytes_from 10 1 t ≡ date_text v.0 v.1 v.2) × (v.0 < 10000) × (v.1 < 100) × (v.2 < 100)
-unfolding parts_of
+date_parts : (t : List ℕ) (v : ℕ × ℕ × ℕ) → get_or t 4 0 ≡ 45 → get_or t 7 0 ≡ 45
+    → date_parts_of (get_or t 0 0) (get_or t 1 0) (get_or t 2 0) (get_or t 3 0) (get_or t 5 0) (get_or t 6 0) (get_or t 8 0) (get_or t 9 0) ≡ Some v
+    → (bytes_from 10 0 t ≡ date_text v.0 v.1 v.2) × (v.0 < 10000) × (v.1 < 100) × (v.2 < 100)
+unfolding date_parts_of
 date_parts t v first second e =
-    let century = bind_some (two_of (get_or t 1 0) (get_or t 2 0)) (λ c. two_of (get_or t 3 0) (get_or t 4 0) >>= λ y. two_of (get_or t 6 0) (get_or t 7 0) >>= λ m. two_of (get_or t 9 0) (get_or t 10 0) >>= λ d. Some (c * 100 + y, m, d)) v e in
-    let year = bind_some (two_of (get_or t 3 0) (get_or t 4 0)) (λ y. two_of (get_or t 6 0) (get_or t 7 0) >>= λ m. two_of (get_or t 9 0) (get_or t 10 0) >>= λ d. Some (century.0 * 100 + y, m, d)) v century.2 in
-    let month = bind_some (two_of (get_or t 6 0) (get_or t 7 0)) (λ m. two_of (get_or t 9 0) (get_or t 10 0) >>= λ d. Some (century.0 * 100 + year.0, m, d)) v year.2 in
-    let day = bind_some (two_of (get_or t 9 0) (get_or t 10 0)) (λ d. Some (century.0 * 100 + year.0, month.0, d)) v month.2 in
-    let c = two_back (get_or t 1 0) (get_or t 2 0) century.0 century.1 in
-    let y = two_back (get_or t 3 0) (get_or t 4 0) year.0 year.1 in
-    let m = two_back (get_or t 6 0) (get_or t 7 0) month.0 month.1 in
-    let d = two_back (get_or t 9 0) (get_or t 10 0) day.0 day.1 in
-    let text : bytes_from 10 1 t ≡ date_text (century.0 * 100 + year.0) month.0 day.0 =
+    let century = bind_some (two_of (get_or t 0 0) (get_or t 1 0)) (λ c. two_of (get_or t 2 0) (get_or t 3 0) >>= λ y. two_of (get_or t 5 0) (get_or t 6 0) >>= λ m. two_of (get_or t 8 0) (get_or t 9 0) >>= λ d. Some (c * 100 + y, m, d)) v e in
+    let year = bind_some (two_of (get_or t 2 0) (get_or t 3 0)) (λ y. two_of (get_or t 5 0) (get_or t 6 0) >>= λ m. two_of (get_or t 8 0) (get_or t 9 0) >>= λ d. Some (century.0 * 100 + y, m, d)) v century.2 in
+    let month = bind_some (two_of (get_or t 5 0) (get_or t 6 0)) (λ m. two_of (get_or t 8 0) (get_or t 9 0) >>= λ d. Some (century.0 * 100 + year.0, m, d)) v year.2 in
+    let day = bind_some (two_of (get_or t 8 0) (get_or t 9 0)) (λ d. Some (century.0 * 100 + year.0, month.0, d)) v month.2 in
+    let c = two_back (get_or t 0 0) (get_or t 1 0) century.0 century.1 in
+    let y = two_back (get_or t 2 0) (get_or t 3 0) year.0 year.1 in
+    let m = two_back (get_or t 5 0) (get_or t 6 0) month.0 month.1 in
+    let d = two_back (get_or t 8 0) (get_or t 9 0) day.0 day.1 in
+    let text : bytes_from 10 0 t ≡ date_text (century.0 * 100 + year.0) month.0 day.0 =
     date_is _ _ _ _ _ _ _ _ _ _ century.0 year.0 month.0 day.0 c.0 c.1 y.0 y.1 first m.0 m.1 second d.0 d.1 y.2 in
-    subst (λ (w : ℕ × ℕ × ℕ). (bytes_from 10 1 t ≡ date_text w.0 w.1 w.2) × (w.0 < 10000) × (w.1 < 100) × (w.2 < 100)) (some_is (century.0 * 100 + year.0, month.0, day.0) v day.2) (text, omega (arith, c.2, y.2), m.2, d.2)
+    subst (λ (w : ℕ × ℕ × ℕ). (bytes_from 10 0 t ≡ date_text w.0 w.1 w.2) × (w.0 < 10000) × (w.1 < 100) × (w.2 < 100)) (some_is (century.0 * 100 + year.0, month.0, day.0) v day.2) (text, omega (arith, c.2, y.2), m.2, d.2)
 
 -- the text that is read as these is the one that shows them
-pub date_shown : (t : List ℕ) (v : ℕ × ℕ × ℕ) → date_at t ≡ Some v → (bytes_from 10 1 t ≡ date_text v.0 v.1 v.2) × (v.0 < 10000) × (v.1 < 100) × (v.2 < 100)
+pub date_shown : (t : List ℕ) (v : ℕ × ℕ × ℕ) → date_at t ≡ Some v → (bytes_from 10 0 t ≡ date_text v.0 v.1 v.2) × (v.0 < 10000) × (v.1 < 100) × (v.2 < 100)
 unfolding date_at
 date_shown t v e =
     let inside = λ (k : ℕ). get_or t k 0 in
-    elim (if_some (inside 5 == 45) (cond (inside 8 == 45) (parts_of (inside 1) (inside 2) (inside 3) (inside 4) (inside 6) (inside 7) (inside 9) (inside 10)) None) None v e) [
+    elim (if_some (inside 4 == 45) (cond (inside 7 == 45) (date_parts_of (inside 0) (inside 1) (inside 2) (inside 3) (inside 5) (inside 6) (inside 8) (inside 9)) None) None v e) [
       | inr k ↦ absurd (none_some v k.1)
-      | inl k ↦ elim (if_some (inside 8 == 45) (parts_of (inside 1) (inside 2) (inside 3) (inside 4) (inside 6) (inside 7) (inside 9) (inside 10)) None v k.1) [
+      | inl k ↦ elim (if_some (inside 7 == 45) (date_parts_of (inside 0) (inside 1) (inside 2) (inside 3) (inside 5) (inside 6) (inside 8) (inside 9)) None v k.1) [
         | inr l ↦ absurd (none_some v l.1)
-        | inl l ↦ date_parts t v (equal_is (inside 5) 45 k.0) (equal_is (inside 8) 45 l.0) l.1
+        | inl l ↦ date_parts t v (equal_is (inside 4) 45 k.0) (equal_is (inside 7) 45 l.0) l.1
       ]
     ]
 
 -- the text that shows these is read as them
-pub date_found : (t : List ℕ) (y m d : ℕ) → y < 10000 → m < 100 → d < 100 → bytes_from 10 1 t ≡ date_text y m d → date_at t ≡ Some (y, m, d)
-unfolding date_at parts_of
+pub date_found : (t : List ℕ) (y m d : ℕ) → y < 10000 → m < 100 → d < 100 → bytes_from 10 0 t ≡ date_text y m d → date_at t ≡ Some (y, m, d)
+unfolding date_at date_parts_of
 date_found t y m d hy hm hd whole =
     let same : y / 100 * 100 + y % 100 ≡ y = omega arith in
     rw (
@@ -145,34 +139,34 @@ time_is : (a b first c d second e f hour minute s : ℕ) → a ≡ 48 + hour / 1
     → a ∷ b ∷ first ∷ c ∷ d ∷ second ∷ e ∷ f ∷ [] ≡ time_text hour minute s
 time_is a b first c d second e f hour minute s ea eb e1 ec ed e2 ee ef = rw (ea, eb, e1, ec, ed, e2, ee, ef) refl
 
-time_parts : (t : List ℕ) (v : ℕ × ℕ × ℕ) → get_or t 14 0 ≡ 58 → get_or t 17 0 ≡ 58
-    → time_parts_of (get_or t 12 0) (get_or t 13 0) (get_or t 15 0) (get_or t 16 0) (get_or t 18 0) (get_or t 19 0) ≡ Some v
-    → (bytes_from 8 12 t ≡ time_text v.0 v.1 v.2) × (v.0 < 100) × (v.1 < 100) × (v.2 < 100)
+time_parts : (t : List ℕ) (v : ℕ × ℕ × ℕ) → get_or t 13 0 ≡ 58 → get_or t 16 0 ≡ 58
+    → time_parts_of (get_or t 11 0) (get_or t 12 0) (get_or t 14 0) (get_or t 15 0) (get_or t 17 0) (get_or t 18 0) ≡ Some v
+    → (bytes_from 8 11 t ≡ time_text v.0 v.1 v.2) × (v.0 < 100) × (v.1 < 100) × (v.2 < 100)
 unfolding time_parts_of
 time_parts t v first second e =
-    let hour = bind_some (two_of (get_or t 12 0) (get_or t 13 0)) (λ h. two_of (get_or t 15 0) (get_or t 16 0) >>= λ m. two_of (get_or t 18 0) (get_or t 19 0) >>= λ s. Some (h, m, s)) v e in
-    let minute = bind_some (two_of (get_or t 15 0) (get_or t 16 0)) (λ m. two_of (get_or t 18 0) (get_or t 19 0) >>= λ s. Some (hour.0, m, s)) v hour.2 in
-    let last = bind_some (two_of (get_or t 18 0) (get_or t 19 0)) (λ s. Some (hour.0, minute.0, s)) v minute.2 in
-    let h = two_back (get_or t 12 0) (get_or t 13 0) hour.0 hour.1 in
-    let m = two_back (get_or t 15 0) (get_or t 16 0) minute.0 minute.1 in
-    let s = two_back (get_or t 18 0) (get_or t 19 0) last.0 last.1 in
-    let text : bytes_from 8 12 t ≡ time_text hour.0 minute.0 last.0 =
+    let hour = bind_some (two_of (get_or t 11 0) (get_or t 12 0)) (λ h. two_of (get_or t 14 0) (get_or t 15 0) >>= λ m. two_of (get_or t 17 0) (get_or t 18 0) >>= λ s. Some (h, m, s)) v e in
+    let minute = bind_some (two_of (get_or t 14 0) (get_or t 15 0)) (λ m. two_of (get_or t 17 0) (get_or t 18 0) >>= λ s. Some (hour.0, m, s)) v hour.2 in
+    let last = bind_some (two_of (get_or t 17 0) (get_or t 18 0)) (λ s. Some (hour.0, minute.0, s)) v minute.2 in
+    let h = two_back (get_or t 11 0) (get_or t 12 0) hour.0 hour.1 in
+    let m = two_back (get_or t 14 0) (get_or t 15 0) minute.0 minute.1 in
+    let s = two_back (get_or t 17 0) (get_or t 18 0) last.0 last.1 in
+    let text : bytes_from 8 11 t ≡ time_text hour.0 minute.0 last.0 =
     time_is _ _ _ _ _ _ _ _ hour.0 minute.0 last.0 h.0 h.1 first m.0 m.1 second s.0 s.1 in
-    subst (λ (w : ℕ × ℕ × ℕ). (bytes_from 8 12 t ≡ time_text w.0 w.1 w.2) × (w.0 < 100) × (w.1 < 100) × (w.2 < 100)) (some_is (hour.0, minute.0, last.0) v last.2) (text, h.2, m.2, s.2)
+    subst (λ (w : ℕ × ℕ × ℕ). (bytes_from 8 11 t ≡ time_text w.0 w.1 w.2) × (w.0 < 100) × (w.1 < 100) × (w.2 < 100)) (some_is (hour.0, minute.0, last.0) v last.2) (text, h.2, m.2, s.2)
 
-pub time_shown : (t : List ℕ) (v : ℕ × ℕ × ℕ) → time_at t ≡ Some v → (bytes_from 8 12 t ≡ time_text v.0 v.1 v.2) × (v.0 < 100) × (v.1 < 100) × (v.2 < 100)
+pub time_shown : (t : List ℕ) (v : ℕ × ℕ × ℕ) → time_at t ≡ Some v → (bytes_from 8 11 t ≡ time_text v.0 v.1 v.2) × (v.0 < 100) × (v.1 < 100) × (v.2 < 100)
 unfolding time_at
 time_shown t v e =
     let inside = λ (k : ℕ). get_or t k 0 in
-    elim (if_some (inside 14 == 58) (cond (inside 17 == 58) (time_parts_of (inside 12) (inside 13) (inside 15) (inside 16) (inside 18) (inside 19)) None) None v e) [
+    elim (if_some (inside 13 == 58) (cond (inside 16 == 58) (time_parts_of (inside 11) (inside 12) (inside 14) (inside 15) (inside 17) (inside 18)) None) None v e) [
       | inr k ↦ absurd (none_some v k.1)
-      | inl k ↦ elim (if_some (inside 17 == 58) (time_parts_of (inside 12) (inside 13) (inside 15) (inside 16) (inside 18) (inside 19)) None v k.1) [
+      | inl k ↦ elim (if_some (inside 16 == 58) (time_parts_of (inside 11) (inside 12) (inside 14) (inside 15) (inside 17) (inside 18)) None v k.1) [
         | inr l ↦ absurd (none_some v l.1)
-        | inl l ↦ time_parts t v (equal_is (inside 14) 58 k.0) (equal_is (inside 17) 58 l.0) l.1
+        | inl l ↦ time_parts t v (equal_is (inside 13) 58 k.0) (equal_is (inside 16) 58 l.0) l.1
       ]
     ]
 
-pub time_found : (t : List ℕ) (h m s : ℕ) → h < 100 → m < 100 → s < 100 → bytes_from 8 12 t ≡ time_text h m s → time_at t ≡ Some (h, m, s)
+pub time_found : (t : List ℕ) (h m s : ℕ) → h < 100 → m < 100 → s < 100 → bytes_from 8 11 t ≡ time_text h m s → time_at t ≡ Some (h, m, s)
 unfolding time_at time_parts_of
 time_found t h m s hh hm hs whole =
     rw (
@@ -192,5 +186,5 @@ time_found t h m s hh hm hs whole =
 
 -- ---- moments: a date, a space and a time of day
 
-pub moment_bytes : (t : List ℕ) → length t ≡ 21 → between_quotes t ≡ bytes_from 10 1 t ++ get_or t 11 0 ∷ bytes_from 8 12 t
-moment_bytes t e = inner 19 t e
+pub moment_bytes : (t : List ℕ) → length t ≡ 19 → t ≡ bytes_from 10 0 t ++ get_or t 10 0 ∷ bytes_from 8 11 t
+moment_bytes t e = bytes_are 19 t e
