@@ -1,4 +1,4 @@
-//! Moments of system time: whole seconds of the proleptic Gregorian calendar, by their numbers.
+//! Moments of system time, of the proleptic Gregorian calendar, by their numbers.
 
 ghost use Rattle.std.specs.Prelude.{◌≡◌, ◌↔◌, IsSome, IfSome, ℤ, pos, neg_ℤ, ◌+ℤ◌, ◌-ℤ◌, ◌*ℤ◌, ◌≤ℤ◌};
 ghost use Rattle.period_core.specs.Moments.{IsMoment, IsMomentNumber, IsMomentText, first_moment, forever, moment_after, moment_before, moment_number, moment_text};
@@ -8,8 +8,8 @@ use crate::day::{Day, FIRST as FIRST_DAY};
 use crate::text_reading::moment_of_bytes;
 use std::marker::Model;
 
-/// A moment from 0001-01-01 00:00:00 to 9999-12-31 23:59:59, by its number: 1970-01-01 00:00:00
-/// is 0, and each moment has the number after that of the second before.
+/// A moment: a whole second from 0001-01-01 00:00:00 to 9999-12-31 23:59:59, by its number.
+/// 1970-01-01 00:00:00 is 0, and each moment has the number after that of the moment before.
 #[derive(Clone, Copy, PartialEq, Eq, PartialOrd, Ord, Debug)]
 pub struct Moment {
     number: i64,
@@ -107,7 +107,7 @@ impl Moment {
         Moment { number: FOREVER }
     }
 
-    /// The number of the moment, counted in seconds from 1970-01-01 00:00:00.
+    /// The number of the moment, counted from 1970-01-01 00:00:00.
     pub fn number(self) -> i64
         ensures value { result ≡ self }
         ensures in_range { IsMomentNumber self }
@@ -115,7 +115,7 @@ impl Moment {
         self.number
     }
 
-    /// The second before: `None` for the first.
+    /// The moment before: `None` for the first.
     pub fn prev(self) -> Option<Moment>
         ensures { result ≡ moment_before self }
     {
@@ -128,7 +128,7 @@ impl Moment {
         }
     }
 
-    /// The second after: `None` for FOREVER.
+    /// The moment after: `None` for FOREVER.
     pub fn next(self) -> Option<Moment>
         ensures { result ≡ moment_after self }
     {

@@ -321,14 +321,17 @@ module _ (literals : Literals) where
       (StandsFor ImmediatelySucceeds (keyword (codes "SUCCEEDS")))))
       (Choice (StandsFor Precedes (keyword (codes "PRECEDES"))) (StandsFor Succeeds (keyword (codes "SUCCEEDS")))))))
 
-  -- pred = span ( OVERLAPS | EQUALS | CONTAINS | [ IMMEDIATELY ] ( PRECEDES | SUCCEEDS ) ) span
-  --      | span CONTAINS date
+  -- pred = span ( OVERLAPS | EQUALS ) span
+  --      | span CONTAINS ( span | date )
+  --      | span [ IMMEDIATELY ] ( PRECEDES | SUCCEEDS ) span
+  -- (first those of two spans, then the one of a span and a date)
   abbrev pub IsPredicate : Language StoredTest
   IsPredicate =
       Choice (Built periods_of (Sequence IsPeriodOperand (Sequence IsRelation IsPeriodOperand)))
       (Built contains_day_of (Sequence IsPeriodOperand (Preceded (keyword (codes "CONTAINS")) IsDate)))
 
-  -- pred | operand cmp operand
+  -- pcond = cond, in which a test may also be pred
+  -- (here what a test may be beside parentheses: pred | operand cmp operand)
   abbrev pub IsStoredTest : Language StoredTest
   IsStoredTest = Choice IsPredicate (Built Values IsCompare)
 
