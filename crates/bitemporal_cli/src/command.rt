@@ -44,7 +44,7 @@ const STATUSES: &str = "\
 Exit status:
   0  every statement was accepted
   1  a statement was refused
-  2  the command line, the file, the whole script, the store or the output was refused
+  2  the command line, the file, the whole script or the output was refused, or memory was
 
 A refusal has a number and a name. docs/PROFILE.md lists them all.";
 
@@ -116,7 +116,7 @@ fn file_of(alloc: Global, matches: &ArgMatches<'_>) -> Result<Option<String>, Al
 }
 
 /// What a command line, with the program's name as its first word, asks for: the mode, and the
-/// file where one is named.
+/// file where one is named. Else clap's fault, with the text that it prints, or want of memory.
 pub fn command_line<S: AsStr>(
     alloc: Global,
     words: &[S],

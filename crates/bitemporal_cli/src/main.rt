@@ -9,6 +9,7 @@ mod tests;
 mod tool;
 
 use self::command::{CommandFault, Mode, command_line};
+use self::fault::{RunFault, tell};
 use self::tool::run_tool;
 use std::alloc::Global;
 use std::env;
@@ -50,13 +51,13 @@ fn run_file(rt: &HostRuntime, alloc: Global, mode: Mode, path: &str) -> ExitCode
             &mut rt.stderr(),
         )),
         Err(_) => {
-            let _ = eprintln!(rt; "bitemporal: cannot read the script");
+            tell(alloc, &mut rt.stderr(), RunFault::Read);
             ExitCode::from(2)
         }
     }
 }
 
 fn memory(rt: &HostRuntime) -> ExitCode {
-    let _ = eprintln!(rt; "bitemporal: 61 Memory");
+    tell(rt.alloc(), &mut rt.stderr(), RunFault::Memory);
     ExitCode::from(2)
 }

@@ -18,8 +18,9 @@ use std::alloc::Global;
 use std::io::{Read, Write};
 
 /// Runs the script that the reader has, over a new store in memory, or checks it, as the mode says,
-/// and writes the report. Gives the exit status: 0, or 1 where a statement was refused, or 2, with
-/// a line on `err`, where there is no report.
+/// and writes the report. Gives the exit status: 0, or 1 where a statement was refused, or 2 where
+/// the script was refused as a whole, or the reader, the writer or memory failed. With 2 `err` gets a
+/// line as far as it takes it, and after a fault of the writer `out` may hold a part of the report.
 pub fn run_tool<R: Read, W: Write, E: Write>(
     alloc: Global,
     mode: Mode,

@@ -50,7 +50,8 @@ fn resolve_insert(alloc: Global, catalog: &Catalog, insert: &InsertRows) -> Resu
     Ok(numbered(alloc, catalog, insert)?)
 }
 
-/// The change that a statement makes, or its refusal. Whether a row's period ends after its start is
+/// The change that an INSERT makes; or the refusal of the least number, 23 to 31, whose condition
+/// holds, or want of memory. The statement is an INSERT. Whether a row's period ends after its start is
 /// not yet judged: `empty` says that the given rows decide it.
 pub fn resolve_change(
     alloc: Global,

@@ -19,7 +19,7 @@ pub enum Refusal {
     BadToken(usize),
     /// No statement is spelled so.
     Syntax,
-    /// More than 32 parentheses are open at one place.
+    /// Up to some token there are over 32 more `(` than `)`.
     TooDeep,
     /// A DATE literal that is not a date from 0001-01-01 to 9999-12-31, written `YYYY-MM-DD`.
     BadDate,

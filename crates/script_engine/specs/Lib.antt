@@ -1,6 +1,6 @@
 pub mod Headline
-pub mod Laws
 pub mod Runs
+pub mod Laws
 pub mod Rows
 pub mod Widths
 pub mod Script

@@ -144,7 +144,8 @@ impl<S: Alter> Engine<S> {
         }))
     }
 
-    /// Carries out a statement. An `Err` changes nothing.
+    /// Carries out a statement. An `Err` changes nothing: it is the refusal of the least number whose
+    /// condition holds, 10 where statements of its form are not carried out yet, or want of memory.
     pub fn execute(&mut self, alloc: Global, statement: &Statement) -> Result<Outcome, Refusal>
         // Whatever history the engine represents, the call is a step of it, and the engine represents the new one.
         ensures step { (history : History) → Represents history self.old → StepsTo history (plain statement.now) result self.new }

@@ -5,7 +5,7 @@ use Rattle.std.proofs.lemmas.List.{at_drop_more}
 use Rattle.std.specs.Prelude.{IsTrue, is_none}
 use Rattle.sql_front.specs.declared.token.Token.{Token}
 use Rattle.sql_front.specs.Lexemes.{Lexeme, lexeme, lexemes}
-use Rattle.sql_front.specs.Depth.{opens, closes, counted, room, IsDeeper}
+use Rattle.sql_front.specs.Depth.{opens, closes, counted, most_open, room, IsDeeper}
 use Rattle.period_core.proofs.OptionFacts.{none_some}
 use Rattle.sql_front.proofs.First.{Apart, symbols_apart}
 
@@ -137,7 +137,7 @@ from_place k ts i d h = at_drop_more (λ (s : List Token). room k (lexemes s)) t
 no_true : IsTrue false → ⊥
 no_true e = cc
 
-by_result : (ts : List Lexeme) (r : Bool) (o : Option ℕ) → room 32 ts ≡ o → r ≡ is_none (room 32 ts) → IsTrue r ↔ IsDeeper 32 ts
+by_result : (ts : List Lexeme) (r : Bool) (o : Option ℕ) → room most_open ts ≡ o → r ≡ is_none (room most_open ts) → IsTrue r ↔ IsDeeper most_open ts
 by_result ts r None e f =
     let holds : r ≡ true = f ∙ ap is_none e in
     (λ t. none_deeper 32 ts e, λ d. holds)
@@ -145,5 +145,5 @@ by_result ts r (Some j) e f =
     let fails : r ≡ false = f ∙ ap is_none e in
     (λ t. absurd (no_true (sym fails ∙ t)), λ d. absurd (some_shallow 32 ts j e d))
 
-pub deep_if : (ts : List Lexeme) (r : Bool) → r ≡ is_none (room 32 ts) → IsTrue r ↔ IsDeeper 32 ts
-deep_if ts r e = by_result ts r (room 32 ts) refl e
+pub deep_if : (ts : List Lexeme) (r : Bool) → r ≡ is_none (room most_open ts) → IsTrue r ↔ IsDeeper most_open ts
+deep_if ts r e = by_result ts r (room most_open ts) refl e

@@ -16,7 +16,11 @@ abbrev pub counted : (Lexeme → Bool) → List Lexeme → ℕ
 counted test [] = 0
 counted test (t ∷ ts) = cond (test t) (suc (counted test ts)) (counted test ts)
 
--- some of the first tokens have over n more opening parentheses than closing ones
+-- how many parentheses may be open
+abbrev pub most_open : ℕ
+most_open = 32
+
+-- the tokens up to some place have over n more opening parentheses than closing ones
 abbrev pub IsDeeper : ℕ → List Lexeme → Type 0
 IsDeeper n lexemes =
     (front : List Lexeme) × (rest : List Lexeme) × (lexemes ≡ front ++ rest)

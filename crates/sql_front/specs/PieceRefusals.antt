@@ -6,12 +6,12 @@ use Rattle.sql_front.specs.Lexemes.{Lexeme}
 use Rattle.sql_front.specs.Trees.{Statement}
 use Rattle.sql_front.specs.Literals.{any_value}
 use Rattle.sql_front.specs.Grammar.{Spells}
-use Rattle.sql_front.specs.Depth.{IsDeeper}
+use Rattle.sql_front.specs.Depth.{IsDeeper, most_open}
 use Rattle.sql_front.specs.LiteralFaults.{HasBadDate, HasBadMoment, HasNumberOutside}
 
--- over 32 parentheses are open at one place
+-- among the tokens up to some place there are over 32 more opening parentheses than closing ones
 abbrev pub IsTooDeep : List Lexeme → Type 0
-IsTooDeep lexemes = IsDeeper 32 lexemes
+IsTooDeep lexemes = IsDeeper most_open lexemes
 
 -- no statement is spelled so, even where each literal may stand for any value
 abbrev pub SpellsNone : List Lexeme → Type 0

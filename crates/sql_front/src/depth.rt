@@ -2,15 +2,18 @@
 
 ghost use Rattle.std.specs.Prelude.{◌≡◌, ◌↔◌, IsTrue, is_none};
 ghost use Rattle.sql_front.specs.Lexemes.{lexemes};
-ghost use Rattle.sql_front.specs.Depth.{IsDeeper, room};
+ghost use Rattle.sql_front.specs.Depth.{IsDeeper, most_open, room};
 
 use crate::mark::{Mark, is_mark};
 use crate::token::Token;
 
+/// How many parentheses may be open.
+pub const MOST_OPEN: usize = 32;
+
 fn has_no_room(tokens: &[Token<'_>]) -> bool
-    ensures { result ≡ is_none (room 32 (lexemes tokens.now)) }
+    ensures { result ≡ is_none (room most_open (lexemes tokens.now)) }
 {
-    let mut left: usize = 32;
+    let mut left = MOST_OPEN;
     for token in tokens {
         if is_mark(token, Mark::Symbol("(")) {
             if left == 0 {
@@ -24,9 +27,9 @@ fn has_no_room(tokens: &[Token<'_>]) -> bool
     false
 }
 
-/// Are over 32 parentheses open at one place?
+/// Are there, up to some token, over 32 more `(` than `)`?
 pub fn is_too_deep(tokens: &[Token<'_>]) -> bool
-    ensures { IsTrue result ↔ IsDeeper 32 (lexemes tokens.now) }
+    ensures { IsTrue result ↔ IsDeeper most_open (lexemes tokens.now) }
 {
     has_no_room(tokens)
 }

@@ -73,7 +73,8 @@ fn lex_from<'a>(alloc: Global, start: usize, text: &'a str) -> Result<Vec<Token<
 
 /// The tokens of a script, in order. Offsets count bytes of the whole script.
 ///
-/// Where at some place no case fits, the first such offset is the fault.
+/// Where at some place no case fits, the first such offset is the fault, or want of memory in its
+/// place.
 pub fn lex<'a>(alloc: Global, script: &'a str) -> Result<Vec<Token<'a>>, LexFault>
     ensures tokens { IfOk result (λ tokens. TokensOf script.now (lexemes tokens.items)) }
     ensures slices { IfOk result (λ tokens. All (IsTokenAt script.now) (lexemes tokens.items)) }

@@ -102,16 +102,6 @@ pub fn text<'a, 'b>(tokens: &'b [Token<'a>]) -> Result<(&'a str, &'b [Token<'a>]
     }
 }
 
-/// Do the tokens begin with a number?
-pub fn starts_number(tokens: &[Token<'_>]) -> bool
-    ensures { result ≡ begins number (lexemes tokens.now) }
-{
-    match tokens {
-        [] => false,
-        [first, ..] => first.kind == Kind::Number,
-    }
-}
-
 /// Do the tokens begin with a text?
 pub fn starts_text(tokens: &[Token<'_>]) -> bool
     ensures { result ≡ begins text (lexemes tokens.now) }

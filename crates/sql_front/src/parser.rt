@@ -17,7 +17,8 @@ use period_core::Refusal;
 use std::alloc::Global;
 
 /// The statement that the tokens of a piece of the script spell, all of them; else the refusal of
-/// the least number whose condition holds, or want of memory.
+/// the least number, 10 to 14, whose condition holds, or want of memory. Each token has its slice of
+/// the script, and nothing else of it is read.
 pub fn parse(alloc: Global, _script: &str, tokens: &[Token<'_>]) -> Result<Statement, Refusal>
     // What is answered is what the tokens spell.
     ensures found { IfOk result (λ s. IsStatement (lexemes tokens.now) (plain s)) }

@@ -124,8 +124,8 @@ pub struct SelectDistinct {
     pub condition: Option<Tree<Compare>>,
 }
 
-/// INSERT of rows, each with a value for each of the columns: those that are listed, or else all
-/// but the system columns, in declared order.
+/// INSERT of rows, for the columns that are listed, or else for all but the system columns, in
+/// declared order. Whether each row has a value for each of them is judged against the table.
 #[derive(Drop, Debug)]
 pub struct InsertRows {
     pub table: Name,

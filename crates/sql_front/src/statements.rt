@@ -2,6 +2,7 @@
 
 ghost use Rattle.std.specs.Prelude.{◌≡◌, IfOk};
 ghost use Rattle.sql_front.specs.declared.unread.Unread.TheVariants.{Syntax};
+ghost use Rattle.sql_front.specs.Depth.{most_open};
 ghost use Rattle.sql_front.specs.Gives.{Gives};
 ghost use Rattle.sql_front.specs.Grammar.{Spells};
 ghost use Rattle.sql_front.specs.Lexemes.{lexemes};
@@ -12,6 +13,7 @@ ghost use Rattle.sql_front.specs.StandIns.{stand_in};
 ghost use Rattle.sql_front.specs.StatementReaders.{statement_read};
 
 use crate::changes::{read_at, read_delete, read_insert, read_update};
+use crate::depth::MOST_OPEN;
 use crate::mark::{Mark, starts};
 use crate::queries::read_sequenced;
 use crate::statement::{Statement, StatementForm};
@@ -21,15 +23,12 @@ use crate::token::Token;
 use crate::unread::Unread;
 use std::alloc::Global;
 
-/// How many parentheses may be open at one place.
-const DEPTH: usize = 32;
-
 #[tactic(auto, unfolding(crate::specs::StatementReaders::statement_read))]
 fn read_statement<'a, 'b>(
     alloc: Global,
     tokens: &'b [Token<'a>],
 ) -> Result<(StatementForm, &'b [Token<'a>]), Unread>
-    ensures { Gives (λ x. (plain_form x.0, lexemes x.1.now)) result (statement_read 32 (lexemes tokens.now)) }
+    ensures { Gives (λ x. (plain_form x.0, lexemes x.1.now)) result (statement_read most_open (lexemes tokens.now)) }
 {
     if starts(tokens, Mark::Keyword("AT")) {
         return match read_at(tokens) {
@@ -46,23 +45,23 @@ fn read_statement<'a, 'b>(
         return Ok((StatementForm::Insert(rows), rest));
     }
     if starts(tokens, Mark::Keyword("UPDATE")) {
-        let (rows, rest) = read_update(alloc, DEPTH, tokens)?;
+        let (rows, rest) = read_update(alloc, MOST_OPEN, tokens)?;
         return Ok((StatementForm::Update(rows), rest));
     }
     if starts(tokens, Mark::Keyword("DELETE")) {
-        let (rows, rest) = read_delete(alloc, DEPTH, tokens)?;
+        let (rows, rest) = read_delete(alloc, MOST_OPEN, tokens)?;
         return Ok((StatementForm::Delete(rows), rest));
     }
     if starts(tokens, Mark::Keyword("VALIDTIME")) {
-        let (query, rest) = read_sequenced(alloc, DEPTH, tokens)?;
+        let (query, rest) = read_sequenced(alloc, MOST_OPEN, tokens)?;
         return Ok((StatementForm::Sequenced(query), rest));
     }
-    let (query, rest) = read_stored(alloc, DEPTH, tokens)?;
+    let (query, rest) = read_stored(alloc, MOST_OPEN, tokens)?;
     Ok((StatementForm::Stored(query), rest))
 }
 
 fn read_all(alloc: Global, tokens: &[Token<'_>]) -> Result<Statement, Unread>
-    ensures { Gives plain result (whole_read (statement_read 32) (lexemes tokens.now)) }
+    ensures { Gives plain result (whole_read (statement_read most_open) (lexemes tokens.now)) }
 {
     let (found, rest) = read_statement(alloc, tokens)?;
     if !rest.is_empty() {
@@ -71,7 +70,7 @@ fn read_all(alloc: Global, tokens: &[Token<'_>]) -> Result<Statement, Unread>
     Ok(Statement::new(found))
 }
 
-/// The statement that the tokens spell, all of them. At most 32 parentheses are open at one place.
+/// The statement that the tokens spell, all of them, with at most 32 parentheses open.
 pub fn spelled(alloc: Global, tokens: &[Token<'_>]) -> Result<Statement, Unread>
     // What is read is spelled so, with a stand-in for a literal that names no value.
     ensures found { IfOk result (λ s. Spells stand_in (lexemes tokens.now) (plain s)) }
