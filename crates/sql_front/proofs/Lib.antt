@@ -2,6 +2,7 @@ pub mod ByteOrderMark
 pub mod ChangeLevels
 pub mod ChangesRead
 pub mod ColumnElementsRead
+pub mod ComparisonExamples
 pub mod ConditionLevels
 pub mod ConditionsRead
 pub mod ConditionViews
@@ -36,8 +37,11 @@ pub mod PeriodsRead
 pub mod PieceFaults
 pub mod PiecesFacts
 pub mod PiecesOnce
+pub mod PlainExamples
+pub mod PredicateExamples
 pub mod PredicatesRead
 pub mod QueriesRead
+pub mod QueryExamples
 pub mod QueryLevels
 pub mod QueryViews
 pub mod Quotes
@@ -56,5 +60,6 @@ pub mod TokenLists
 pub mod TokenShapes
 pub mod ValueExamples
 pub mod Whole
+pub mod WindowExamples
 pub mod WindowsRead
 pub mod WordsFacts

@@ -25,16 +25,16 @@ use Rattle.sql_front.proofs.Spelling.{none_if_unread, spelled_if_read}
 
 -- ---- tokens
 
-abbrev word : List ℕ → Lexeme
+abbrev pub word : List ℕ → Lexeme
 word text = record { kind = Word; text = text; start = 0; end = 0 }
 
-abbrev sign : List ℕ → Lexeme
+abbrev pub sign : List ℕ → Lexeme
 sign text = record { kind = Symbol; text = text; start = 0; end = 0 }
 
-abbrev digits : List ℕ → Lexeme
+abbrev pub digits : List ℕ → Lexeme
 digits text = record { kind = Number; text = text; start = 0; end = 0 }
 
-abbrev quoted_text : List ℕ → Lexeme
+abbrev pub quoted_text : List ℕ → Lexeme
 quoted_text text = record { kind = Text; text = text; start = 0; end = 0 }
 
 -- ---- a query

@@ -1,0 +1,198 @@
+-- Worked rows of period predicates, in the conditions of stored queries.
+use Rattle.std.proofs.Common.{◌≡◌, pos, List, [], ◌∷◌, ◌++◌, Some, None, codes, refl}
+use Rattle.period_core.specs.TextReading.{date_at, date_parts_of, day_of_text, is_date}
+use Rattle.period_core.specs.declared.value.Value.TheVariants as value
+use Rattle.sql_front.specs.declared.statement.Comparison.TheVariants.{Equal}
+use Rattle.sql_front.specs.declared.statement.Operand.TheVariants.{Column, Literal}
+use Rattle.sql_front.specs.declared.statement.PeriodOperand.{PeriodOperand}
+use Rattle.sql_front.specs.declared.statement.PeriodOperand.TheVariants.{Dates, Named}
+use Rattle.sql_front.specs.declared.statement.PeriodPredicate.TheVariants.{Contains, Equals, ImmediatelyPrecedes, ImmediatelySucceeds, Overlaps, Precedes, Succeeds}
+use Rattle.sql_front.specs.declared.statement.StoredTest.{StoredTest}
+use Rattle.sql_front.specs.declared.statement.StoredTest.TheVariants.{ContainsDay, Periods, Values}
+use Rattle.sql_front.specs.Lexemes.{Lexeme}
+use Rattle.sql_front.specs.Names.{is_plain_word}
+use Rattle.sql_front.specs.Words.{is_reserved}
+use Rattle.sql_front.specs.Trees.{Condition, Statement, all, any, conditions_of, negated, stored, test}
+use Rattle.sql_front.specs.Grammar.{IsStatement}
+use Rattle.sql_front.specs.LeafValues.{day_of_token, day_value}
+use Rattle.sql_front.specs.Leaves.{date_read, literal_read, name_read, number_read, unsigned_read}
+use Rattle.sql_front.specs.ConditionReaders.{column_read, compare_read, comparison_read, condition_read, conjunction_read, factor_read, inner_read, operand_read, test_read, where_read}
+use Rattle.sql_front.specs.PredicateReaders.{begins_contains_date, period_operand_read, predicate_ahead, predicate_read, relation_behind_column, relation_read, relation_word, said_read, stored_test_read}
+use Rattle.sql_front.specs.WindowReaders.{for_window_read}
+use Rattle.sql_front.specs.StatementReaders.{statement_read, stored_read}
+use Rattle.sql_front.specs.Reading.{bounded_read, whole_read}
+use Rattle.sql_front.proofs.Spelling.{spelled_if_read}
+use Rattle.sql_front.proofs.StatementExamples.{digits, quoted_text, sign, word}
+use Rattle.sql_front.proofs.QueryExamples.{column, column_of, condition_of}
+use Rattle.sql_front.proofs.WindowExamples.{stored_from}
+
+-- SELECT * FROM T WHERE
+abbrev asking : List Lexeme → List Lexeme
+asking condition = stored_from (word (codes "WHERE") ∷ condition)
+
+abbrev asked : Condition StoredTest → Statement
+asked condition = stored (record { table = codes "T"; window = None; condition = Some condition })
+
+-- P, Q and T.P
+abbrev p : PeriodOperand
+p = Named (column (codes "P"))
+
+abbrev q : PeriodOperand
+q = Named (column (codes "Q"))
+
+abbrev t_p : PeriodOperand
+t_p = Named (column_of (codes "T") (codes "P"))
+
+-- PERIOD (DATE '2010-01-01', DATE '2011-01-01')
+abbrev year : List Lexeme
+year =
+    word (codes "PERIOD") ∷ sign (codes "(") ∷ word (codes "DATE") ∷ quoted_text (codes "'2010-01-01'") ∷ sign (codes ",")
+    ∷ word (codes "DATE") ∷ quoted_text (codes "'2011-01-01'") ∷ sign (codes ")") ∷ []
+
+abbrev year_tree : PeriodOperand
+year_tree = Dates (pos 14_610) (pos 14_975)
+
+-- ---- two periods
+
+-- SELECT * FROM T WHERE P OVERLAPS PERIOD (DATE '2010-01-01', DATE '2011-01-01')
+abbrev overlapping : List Lexeme
+overlapping = asking (word (codes "P") ∷ word (codes "OVERLAPS") ∷ year)
+
+abbrev overlapping_tree : Statement
+overlapping_tree = asked (condition_of (Periods p Overlaps year_tree))
+
+overlapping_is_read : whole_read (statement_read 0) overlapping ≡ Some overlapping_tree
+unfolding statement_read stored_read for_window_read where_read condition_read conjunction_read factor_read test_read stored_test_read predicate_ahead relation_behind_column relation_word predicate_read period_operand_read said_read begins_contains_date relation_read column_read date_read day_value day_of_token day_of_text date_at date_parts_of is_date name_read bounded_read is_plain_word is_reserved
+overlapping_is_read = refl
+
+pub overlapping_spelled : IsStatement overlapping overlapping_tree
+unfolding day_of_token day_of_text date_at date_parts_of is_date
+overlapping_spelled = spelled_if_read 0 overlapping overlapping_tree overlapping_is_read refl refl refl
+
+-- SELECT * FROM T WHERE T.P EQUALS Q
+abbrev equal : List Lexeme
+equal = asking (word (codes "T") ∷ sign (codes ".") ∷ word (codes "P") ∷ word (codes "EQUALS") ∷ word (codes "Q") ∷ [])
+
+abbrev equal_tree : Statement
+equal_tree = asked (condition_of (Periods t_p Equals q))
+
+equal_is_read : whole_read (statement_read 0) equal ≡ Some equal_tree
+unfolding statement_read stored_read for_window_read where_read condition_read conjunction_read factor_read test_read stored_test_read predicate_ahead relation_behind_column relation_word predicate_read period_operand_read said_read begins_contains_date relation_read column_read name_read bounded_read is_plain_word is_reserved
+equal_is_read = refl
+
+pub equal_spelled : IsStatement equal equal_tree
+equal_spelled = spelled_if_read 0 equal equal_tree equal_is_read refl refl refl
+
+-- SELECT * FROM T WHERE P CONTAINS Q
+abbrev containing : List Lexeme
+containing = asking (word (codes "P") ∷ word (codes "CONTAINS") ∷ word (codes "Q") ∷ [])
+
+abbrev containing_tree : Statement
+containing_tree = asked (condition_of (Periods p Contains q))
+
+containing_is_read : whole_read (statement_read 0) containing ≡ Some containing_tree
+unfolding statement_read stored_read for_window_read where_read condition_read conjunction_read factor_read test_read stored_test_read predicate_ahead relation_behind_column relation_word predicate_read period_operand_read said_read begins_contains_date relation_read column_read name_read bounded_read is_plain_word is_reserved
+containing_is_read = refl
+
+pub containing_spelled : IsStatement containing containing_tree
+containing_spelled = spelled_if_read 0 containing containing_tree containing_is_read refl refl refl
+
+-- SELECT * FROM T WHERE PERIOD (DATE '2010-01-01', DATE '2011-01-01') PRECEDES P
+abbrev preceding : List Lexeme
+preceding = asking (year ++ word (codes "PRECEDES") ∷ word (codes "P") ∷ [])
+
+abbrev preceding_tree : Statement
+preceding_tree = asked (condition_of (Periods year_tree Precedes p))
+
+preceding_is_read : whole_read (statement_read 0) preceding ≡ Some preceding_tree
+unfolding statement_read stored_read for_window_read where_read condition_read conjunction_read factor_read test_read stored_test_read predicate_ahead relation_behind_column relation_word predicate_read period_operand_read said_read begins_contains_date relation_read column_read date_read day_value day_of_token day_of_text date_at date_parts_of is_date name_read bounded_read is_plain_word is_reserved
+preceding_is_read = refl
+
+pub preceding_spelled : IsStatement preceding preceding_tree
+unfolding day_of_token day_of_text date_at date_parts_of is_date
+preceding_spelled = spelled_if_read 0 preceding preceding_tree preceding_is_read refl refl refl
+
+-- SELECT * FROM T WHERE P SUCCEEDS T.P
+abbrev succeeding : List Lexeme
+succeeding = asking (word (codes "P") ∷ word (codes "SUCCEEDS") ∷ word (codes "T") ∷ sign (codes ".") ∷ word (codes "P") ∷ [])
+
+abbrev succeeding_tree : Statement
+succeeding_tree = asked (condition_of (Periods p Succeeds t_p))
+
+succeeding_is_read : whole_read (statement_read 0) succeeding ≡ Some succeeding_tree
+unfolding statement_read stored_read for_window_read where_read condition_read conjunction_read factor_read test_read stored_test_read predicate_ahead relation_behind_column relation_word predicate_read period_operand_read said_read begins_contains_date relation_read column_read name_read bounded_read is_plain_word is_reserved
+succeeding_is_read = refl
+
+pub succeeding_spelled : IsStatement succeeding succeeding_tree
+succeeding_spelled = spelled_if_read 0 succeeding succeeding_tree succeeding_is_read refl refl refl
+
+-- SELECT * FROM T WHERE P IMMEDIATELY PRECEDES Q
+abbrev meeting : List Lexeme
+meeting = asking (word (codes "P") ∷ word (codes "IMMEDIATELY") ∷ word (codes "PRECEDES") ∷ word (codes "Q") ∷ [])
+
+abbrev meeting_tree : Statement
+meeting_tree = asked (condition_of (Periods p ImmediatelyPrecedes q))
+
+meeting_is_read : whole_read (statement_read 0) meeting ≡ Some meeting_tree
+unfolding statement_read stored_read for_window_read where_read condition_read conjunction_read factor_read test_read stored_test_read predicate_ahead relation_behind_column relation_word predicate_read period_operand_read said_read begins_contains_date relation_read column_read name_read bounded_read is_plain_word is_reserved
+meeting_is_read = refl
+
+pub meeting_spelled : IsStatement meeting meeting_tree
+meeting_spelled = spelled_if_read 0 meeting meeting_tree meeting_is_read refl refl refl
+
+-- SELECT * FROM T WHERE P IMMEDIATELY SUCCEEDS Q
+abbrev met : List Lexeme
+met = asking (word (codes "P") ∷ word (codes "IMMEDIATELY") ∷ word (codes "SUCCEEDS") ∷ word (codes "Q") ∷ [])
+
+abbrev met_tree : Statement
+met_tree = asked (condition_of (Periods p ImmediatelySucceeds q))
+
+met_is_read : whole_read (statement_read 0) met ≡ Some met_tree
+unfolding statement_read stored_read for_window_read where_read condition_read conjunction_read factor_read test_read stored_test_read predicate_ahead relation_behind_column relation_word predicate_read period_operand_read said_read begins_contains_date relation_read column_read name_read bounded_read is_plain_word is_reserved
+met_is_read = refl
+
+pub met_spelled : IsStatement met met_tree
+met_spelled = spelled_if_read 0 met met_tree met_is_read refl refl refl
+
+-- ---- a period and a day
+
+-- SELECT * FROM T WHERE T.P CONTAINS DATE '2011-02-03'
+abbrev holding : List Lexeme
+holding = asking (word (codes "T") ∷ sign (codes ".") ∷ word (codes "P") ∷ word (codes "CONTAINS") ∷ word (codes "DATE") ∷ quoted_text (codes "'2011-02-03'") ∷ [])
+
+abbrev holding_tree : Statement
+holding_tree = asked (condition_of (ContainsDay t_p (pos 15_008)))
+
+holding_is_read : whole_read (statement_read 0) holding ≡ Some holding_tree
+unfolding statement_read stored_read for_window_read where_read condition_read conjunction_read factor_read test_read stored_test_read predicate_ahead relation_behind_column relation_word predicate_read period_operand_read said_read begins_contains_date column_read date_read day_value day_of_token day_of_text date_at date_parts_of is_date name_read bounded_read is_plain_word is_reserved
+holding_is_read = refl
+
+pub holding_spelled : IsStatement holding holding_tree
+unfolding day_of_token day_of_text date_at date_parts_of is_date
+holding_spelled = spelled_if_read 0 holding holding_tree holding_is_read refl refl refl
+
+-- ---- predicates beside comparisons
+
+-- SELECT * FROM T WHERE NOT P OVERLAPS Q AND (A = 1 OR P EQUALS Q)
+abbrev mixed : List Lexeme
+mixed = asking (
+    word (codes "NOT") ∷ word (codes "P") ∷ word (codes "OVERLAPS") ∷ word (codes "Q") ∷ word (codes "AND")
+    ∷ sign (codes "(") ∷ word (codes "A") ∷ sign (codes "=") ∷ digits (codes "1")
+    ∷ word (codes "OR") ∷ word (codes "P") ∷ word (codes "EQUALS") ∷ word (codes "Q") ∷ sign (codes ")") ∷ [])
+
+-- parentheses hold OR together, and NOT takes the one predicate
+abbrev grouped : Condition StoredTest
+grouped = any (conditions_of (
+    all (conditions_of (test (Values (record { left = Column (column (codes "A")); comparison = Equal; right = Literal (value.Int (pos 1)) })) ∷ []))
+    ∷ all (conditions_of (test (Periods p Equals q) ∷ []))
+    ∷ []))
+
+abbrev mixed_tree : Statement
+mixed_tree = asked (any (conditions_of (all (conditions_of (negated (test (Periods p Overlaps q)) ∷ grouped ∷ [])) ∷ [])))
+
+mixed_is_read : whole_read (statement_read 1) mixed ≡ Some mixed_tree
+unfolding statement_read stored_read for_window_read where_read condition_read conjunction_read factor_read test_read inner_read stored_test_read predicate_ahead relation_behind_column relation_word predicate_read period_operand_read said_read begins_contains_date relation_read compare_read operand_read comparison_read column_read literal_read unsigned_read number_read name_read bounded_read is_plain_word is_reserved
+mixed_is_read = refl
+
+pub mixed_spelled : IsStatement mixed mixed_tree
+mixed_spelled = spelled_if_read 1 mixed mixed_tree mixed_is_read refl refl refl

@@ -1,0 +1,153 @@
+-- Worked rows of AT and of sequenced queries: items, new names, joins and chains.
+use Rattle.std.proofs.Common.{◌≡◌, ℕ, pos, List, [], ◌∷◌, Option, Some, None, codes, refl}
+use Rattle.period_core.specs.TextReading.{date_at, date_parts_of, is_date, is_time, moment_of_text, time_at, time_parts_of}
+use Rattle.sql_front.specs.declared.statement.ColumnReference.{ColumnReference}
+use Rattle.sql_front.specs.declared.statement.Compare.{Compare}
+use Rattle.sql_front.specs.declared.statement.Comparison.{Comparison}
+use Rattle.sql_front.specs.declared.statement.Comparison.TheVariants.{Equal, NotEqual}
+use Rattle.sql_front.specs.declared.statement.Operand.TheVariants.{Column}
+use Rattle.sql_front.specs.declared.statement.SelectItem.{SelectItem}
+use Rattle.sql_front.specs.declared.statement.TableReference.{TableReference}
+use Rattle.sql_front.specs.Lexemes.{Lexeme}
+use Rattle.sql_front.specs.Names.{is_plain_word}
+use Rattle.sql_front.specs.Words.{is_reserved}
+use Rattle.sql_front.specs.Trees.{Condition, JoinChain, Statement, all, any, at, combined, conditions_of, last, sequenced, simple, test}
+use Rattle.sql_front.specs.Grammar.{IsStatement}
+use Rattle.sql_front.specs.LeafValues.{clock_of_token, clock_value, moment_of_token}
+use Rattle.sql_front.specs.Leaves.{clock_moment_read, name_read}
+use Rattle.sql_front.specs.ConditionReaders.{column_read, compare_read, comparison_read, condition_read, conjunction_read, factor_read, operand_read, test_read, where_read}
+use Rattle.sql_front.specs.WindowReaders.{for_window_read}
+use Rattle.sql_front.specs.QueryReaders.{chain_read, item_read, join_read, joins_read, new_name_read, primary_read, query_read, reference_read, select_read, sequenced_read, step_read, steps_read}
+use Rattle.sql_front.specs.ChangeReaders.{at_read}
+use Rattle.sql_front.specs.StatementReaders.{statement_read}
+use Rattle.sql_front.specs.Reading.{bounded_read, whole_read}
+use Rattle.sql_front.proofs.Spelling.{spelled_if_read}
+use Rattle.sql_front.proofs.StatementExamples.{quoted_text, sign, word}
+
+-- ---- the moment
+
+-- AT TIMESTAMP '2011-01-02 03:04:05'
+abbrev clock : List Lexeme
+clock = word (codes "AT") ∷ word (codes "TIMESTAMP") ∷ quoted_text (codes "'2011-01-02 03:04:05'") ∷ []
+
+abbrev clocked : Statement
+clocked = at (pos 1_293_937_445)
+
+clock_is_read : whole_read (statement_read 0) clock ≡ Some clocked
+unfolding statement_read at_read clock_moment_read clock_value clock_of_token moment_of_token moment_of_text date_at time_at date_parts_of time_parts_of is_date is_time
+clock_is_read = refl
+
+pub clock_spelled : IsStatement clock clocked
+unfolding clock_of_token moment_of_token moment_of_text date_at time_at date_parts_of time_parts_of is_date is_time
+clock_spelled = spelled_if_read 0 clock clocked clock_is_read refl refl refl
+
+-- ---- columns and new names
+
+-- a column alone, and one behind the name of a table
+abbrev pub column : List ℕ → ColumnReference
+column name = record { qualifier = None; name = name }
+
+abbrev pub column_of : List ℕ → List ℕ → ColumnReference
+column_of table name = record { qualifier = Some table; name = name }
+
+-- a table without a window
+abbrev pub table : List ℕ → Option (List ℕ) → TableReference
+table name new_name = record { table = name; window = None; new_name = new_name }
+
+-- SELECT DISTINCT of these items
+abbrev selecting : List SelectItem → List JoinChain → Option (Condition Compare) → Statement
+selecting items chains condition = sequenced (combined (simple (record { items = items; chains = chains; condition = condition })) last)
+
+-- VALIDTIME SELECT DISTINCT T.A AS B, C D FROM T
+abbrev renaming : List Lexeme
+renaming =
+    word (codes "VALIDTIME") ∷ word (codes "SELECT") ∷ word (codes "DISTINCT")
+    ∷ word (codes "T") ∷ sign (codes ".") ∷ word (codes "A") ∷ word (codes "AS") ∷ word (codes "B") ∷ sign (codes ",")
+    ∷ word (codes "C") ∷ word (codes "D") ∷ word (codes "FROM") ∷ word (codes "T") ∷ []
+
+-- the first name of two is the table's, and a new name stands with AS or without
+abbrev renamed : Statement
+renamed =
+    selecting (
+    record { column = column_of (codes "T") (codes "A"); new_name = Some (codes "B") }
+    ∷ record { column = column (codes "C"); new_name = Some (codes "D") }
+    ∷ [])
+    (record { first = table (codes "T") None; joins = [] } ∷ [])
+    None
+
+renaming_is_read : whole_read (statement_read 0) renaming ≡ Some renamed
+unfolding statement_read sequenced_read query_read primary_read steps_read step_read select_read item_read chain_read joins_read reference_read new_name_read for_window_read where_read column_read name_read bounded_read is_plain_word is_reserved
+renaming_is_read = refl
+
+pub renaming_spelled : IsStatement renaming renamed
+renaming_spelled = spelled_if_read 0 renaming renamed renaming_is_read refl refl refl
+
+-- ---- tables
+
+-- VALIDTIME SELECT DISTINCT A FROM
+abbrev pub select_from : List Lexeme → List Lexeme
+select_from tables = word (codes "VALIDTIME") ∷ word (codes "SELECT") ∷ word (codes "DISTINCT") ∷ word (codes "A") ∷ word (codes "FROM") ∷ tables
+
+abbrev pub selected_where : List JoinChain → Option (Condition Compare) → Statement
+selected_where = selecting (record { column = column (codes "A"); new_name = None } ∷ [])
+
+abbrev pub selected_from : List JoinChain → Statement
+selected_from chains = selected_where chains None
+
+-- the condition of one test
+abbrev pub condition_of : {T : Type 0} → T → Condition T
+condition_of leaf = any (conditions_of (all (conditions_of (test leaf ∷ [])) ∷ []))
+
+abbrev of_two : ColumnReference → Comparison → ColumnReference → Condition Compare
+of_two left comparison right = condition_of (record { left = Column left; comparison = comparison; right = Column right })
+
+-- VALIDTIME SELECT DISTINCT A FROM T X JOIN U ON X.B <> U.C
+abbrev joining : List Lexeme
+joining = select_from (
+    word (codes "T") ∷ word (codes "X") ∷ word (codes "JOIN") ∷ word (codes "U") ∷ word (codes "ON")
+    ∷ word (codes "X") ∷ sign (codes ".") ∷ word (codes "B") ∷ sign (codes "<>") ∷ word (codes "U") ∷ sign (codes ".") ∷ word (codes "C")
+    ∷ [])
+
+abbrev joined : Statement
+joined = selected_from (record {
+  first = table (codes "T") (Some (codes "X"));
+  joins = record {
+    reference = table (codes "U") None;
+    condition = of_two (column_of (codes "X") (codes "B")) NotEqual (column_of (codes "U") (codes "C"));
+  } ∷ [];
+} ∷ [])
+
+joining_is_read : whole_read (statement_read 0) joining ≡ Some joined
+unfolding statement_read sequenced_read query_read primary_read steps_read step_read select_read item_read chain_read join_read joins_read reference_read new_name_read for_window_read where_read condition_read conjunction_read factor_read test_read compare_read operand_read comparison_read column_read name_read bounded_read is_plain_word is_reserved
+joining_is_read = refl
+
+pub joining_spelled : IsStatement joining joined
+joining_spelled = spelled_if_read 0 joining joined joining_is_read refl refl refl
+
+-- VALIDTIME SELECT DISTINCT A FROM T INNER JOIN U AS Y ON B = Y.C JOIN V ON B = C, W Z
+abbrev listing : List Lexeme
+listing = select_from (
+    word (codes "T") ∷ word (codes "INNER") ∷ word (codes "JOIN") ∷ word (codes "U") ∷ word (codes "AS") ∷ word (codes "Y") ∷ word (codes "ON")
+    ∷ word (codes "B") ∷ sign (codes "=") ∷ word (codes "Y") ∷ sign (codes ".") ∷ word (codes "C")
+    ∷ word (codes "JOIN") ∷ word (codes "V") ∷ word (codes "ON") ∷ word (codes "B") ∷ sign (codes "=") ∷ word (codes "C")
+    ∷ sign (codes ",") ∷ word (codes "W") ∷ word (codes "Z") ∷ [])
+
+-- INNER says nothing, the joins stand in their order, and a comma begins another chain
+abbrev listed : Statement
+listed = selected_from (
+    record {
+      first = table (codes "T") None;
+      joins =
+          record { reference = table (codes "U") (Some (codes "Y")); condition = of_two (column (codes "B")) Equal (column_of (codes "Y") (codes "C")) }
+          ∷ record { reference = table (codes "V") None; condition = of_two (column (codes "B")) Equal (column (codes "C")) }
+          ∷ [];
+    }
+    ∷ record { first = table (codes "W") (Some (codes "Z")); joins = [] }
+    ∷ [])
+
+listing_is_read : whole_read (statement_read 0) listing ≡ Some listed
+unfolding statement_read sequenced_read query_read primary_read steps_read step_read select_read item_read chain_read join_read joins_read reference_read new_name_read for_window_read where_read condition_read conjunction_read factor_read test_read compare_read operand_read comparison_read column_read name_read bounded_read is_plain_word is_reserved
+listing_is_read = refl
+
+pub listing_spelled : IsStatement listing listed
+listing_spelled = spelled_if_read 0 listing listed listing_is_read refl refl refl

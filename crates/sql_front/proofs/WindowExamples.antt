@@ -1,0 +1,140 @@
+-- Worked rows of system-time windows: AS OF, FROM and TO, BETWEEN and AND, of a stored query's table and of a reference.
+use Rattle.std.proofs.Common.{◌≡◌, pos, List, [], ◌∷◌, ◌++◌, Some, None, codes, refl}
+use Rattle.period_core.specs.Moments.{forever}
+use Rattle.period_core.specs.TextReading.{date_at, date_parts_of, is_date, is_time, moment_of_text, time_at, time_parts_of}
+use Rattle.sql_front.specs.declared.statement.SystemTime.{SystemTime}
+use Rattle.sql_front.specs.declared.statement.SystemTime.TheVariants.{AsOf, Between, FromTo}
+use Rattle.sql_front.specs.Lexemes.{Lexeme}
+use Rattle.sql_front.specs.Names.{is_plain_word}
+use Rattle.sql_front.specs.Words.{is_reserved}
+use Rattle.sql_front.specs.Trees.{Statement, stored}
+use Rattle.sql_front.specs.Grammar.{IsStatement}
+use Rattle.sql_front.specs.LeafValues.{clock_of_token, clock_value, moment_of_token, moment_value}
+use Rattle.sql_front.specs.Leaves.{clock_moment_read, moment_read, name_read}
+use Rattle.sql_front.specs.ConditionReaders.{column_read, where_read}
+use Rattle.sql_front.specs.WindowReaders.{for_window_read, window_read}
+use Rattle.sql_front.specs.QueryReaders.{chain_read, item_read, joins_read, new_name_read, primary_read, query_read, reference_read, select_read, sequenced_read, step_read, steps_read}
+use Rattle.sql_front.specs.StatementReaders.{statement_read, stored_read}
+use Rattle.sql_front.specs.Reading.{bounded_read, whole_read}
+use Rattle.sql_front.proofs.Spelling.{spelled_if_read}
+use Rattle.sql_front.proofs.StatementExamples.{quoted_text, sign, word}
+use Rattle.sql_front.proofs.QueryExamples.{select_from, selected_from}
+
+-- ---- moments and windows
+
+-- TIMESTAMP '2024-01-01 00:00:00'
+abbrev earlier : List Lexeme
+earlier = word (codes "TIMESTAMP") ∷ quoted_text (codes "'2024-01-01 00:00:00'") ∷ []
+
+-- TIMESTAMP '2024-01-03 12:30:15'
+abbrev later : List Lexeme
+later = word (codes "TIMESTAMP") ∷ quoted_text (codes "'2024-01-03 12:30:15'") ∷ []
+
+-- TIMESTAMP '9999-12-31 23:59:59'
+abbrev open_end : List Lexeme
+open_end = word (codes "TIMESTAMP") ∷ quoted_text (codes "'9999-12-31 23:59:59'") ∷ []
+
+-- FOR SYSTEM_TIME AS OF
+abbrev as_of : List Lexeme → List Lexeme
+as_of moment = word (codes "FOR") ∷ word (codes "SYSTEM_TIME") ∷ word (codes "AS") ∷ word (codes "OF") ∷ moment
+
+-- FOR SYSTEM_TIME FROM and TO
+abbrev from_to : List Lexeme → List Lexeme → List Lexeme
+from_to start end = word (codes "FOR") ∷ word (codes "SYSTEM_TIME") ∷ word (codes "FROM") ∷ start ++ word (codes "TO") ∷ end
+
+-- FOR SYSTEM_TIME BETWEEN and AND
+abbrev between : List Lexeme → List Lexeme → List Lexeme
+between start end = word (codes "FOR") ∷ word (codes "SYSTEM_TIME") ∷ word (codes "BETWEEN") ∷ start ++ word (codes "AND") ∷ end
+
+-- ---- the window of a stored query
+
+-- SELECT * FROM T
+abbrev pub stored_from : List Lexeme → List Lexeme
+stored_from rest = word (codes "SELECT") ∷ sign (codes "*") ∷ word (codes "FROM") ∷ word (codes "T") ∷ rest
+
+abbrev stored_in : SystemTime → Statement
+stored_in window = stored (record { table = codes "T"; window = Some window; condition = None })
+
+-- SELECT * FROM T FOR SYSTEM_TIME AS OF TIMESTAMP '2024-01-01 00:00:00'
+abbrev state : List Lexeme
+state = stored_from (as_of earlier)
+
+abbrev state_tree : Statement
+state_tree = stored_in (AsOf (pos 1_704_067_200))
+
+state_is_read : whole_read (statement_read 0) state ≡ Some state_tree
+unfolding statement_read stored_read for_window_read window_read clock_moment_read clock_value clock_of_token moment_of_token moment_of_text date_at time_at date_parts_of time_parts_of is_date is_time where_read name_read is_plain_word is_reserved
+state_is_read = refl
+
+pub state_spelled : IsStatement state state_tree
+unfolding clock_of_token moment_of_token moment_of_text date_at time_at date_parts_of time_parts_of is_date is_time
+state_spelled = spelled_if_read 0 state state_tree state_is_read refl refl refl
+
+-- SELECT * FROM T FOR SYSTEM_TIME FROM TIMESTAMP '2024-01-01 00:00:00' TO TIMESTAMP '2024-01-03 12:30:15'
+abbrev range : List Lexeme
+range = stored_from (from_to earlier later)
+
+abbrev range_tree : Statement
+range_tree = stored_in (FromTo (pos 1_704_067_200) (pos 1_704_285_015))
+
+range_is_read : whole_read (statement_read 0) range ≡ Some range_tree
+unfolding statement_read stored_read for_window_read window_read moment_read moment_value moment_of_token moment_of_text date_at time_at date_parts_of time_parts_of is_date is_time where_read name_read is_plain_word is_reserved
+range_is_read = refl
+
+pub range_spelled : IsStatement range range_tree
+unfolding moment_of_token moment_of_text date_at time_at date_parts_of time_parts_of is_date is_time
+range_spelled = spelled_if_read 0 range range_tree range_is_read refl refl refl
+
+-- SELECT * FROM T FOR SYSTEM_TIME BETWEEN TIMESTAMP '2024-01-01 00:00:00' AND TIMESTAMP '9999-12-31 23:59:59'
+abbrev history : List Lexeme
+history = stored_from (between earlier open_end)
+
+-- a window may reach to the open end
+abbrev history_tree : Statement
+history_tree = stored_in (Between (pos 1_704_067_200) forever)
+
+history_is_read : whole_read (statement_read 0) history ≡ Some history_tree
+unfolding statement_read stored_read for_window_read window_read moment_read moment_value moment_of_token moment_of_text date_at time_at date_parts_of time_parts_of is_date is_time where_read name_read is_plain_word is_reserved
+history_is_read = refl
+
+pub history_spelled : IsStatement history history_tree
+unfolding moment_of_token moment_of_text date_at time_at date_parts_of time_parts_of is_date is_time
+history_spelled = spelled_if_read 0 history history_tree history_is_read refl refl refl
+
+-- ---- the window of a reference, before its new name
+
+-- VALIDTIME SELECT DISTINCT A FROM T FOR SYSTEM_TIME AS OF TIMESTAMP '2024-01-01 00:00:00' X
+abbrev old : List Lexeme
+old = select_from (word (codes "T") ∷ as_of earlier ++ word (codes "X") ∷ [])
+
+abbrev old_tree : Statement
+old_tree = selected_from (record { first = record { table = codes "T"; window = Some (AsOf (pos 1_704_067_200)); new_name = Some (codes "X") }; joins = [] } ∷ [])
+
+old_is_read : whole_read (statement_read 0) old ≡ Some old_tree
+unfolding statement_read sequenced_read query_read primary_read steps_read step_read select_read item_read chain_read joins_read reference_read new_name_read for_window_read window_read clock_moment_read clock_value clock_of_token moment_of_token moment_of_text date_at time_at date_parts_of time_parts_of is_date is_time where_read column_read name_read bounded_read is_plain_word is_reserved
+old_is_read = refl
+
+pub old_spelled : IsStatement old old_tree
+unfolding clock_of_token moment_of_token moment_of_text date_at time_at date_parts_of time_parts_of is_date is_time
+old_spelled = spelled_if_read 0 old old_tree old_is_read refl refl refl
+
+-- VALIDTIME SELECT DISTINCT A FROM T FOR SYSTEM_TIME FROM TIMESTAMP '2024-01-01 00:00:00' TO TIMESTAMP '2024-01-03 12:30:15' AS X,
+--     U FOR SYSTEM_TIME BETWEEN TIMESTAMP '2024-01-01 00:00:00' AND TIMESTAMP '2024-01-03 12:30:15'
+abbrev several : List Lexeme
+several = select_from (
+    word (codes "T") ∷ from_to earlier later ++ word (codes "AS") ∷ word (codes "X") ∷ sign (codes ",")
+    ∷ word (codes "U") ∷ between earlier later)
+
+abbrev several_tree : Statement
+several_tree = selected_from (
+    record { first = record { table = codes "T"; window = Some (FromTo (pos 1_704_067_200) (pos 1_704_285_015)); new_name = Some (codes "X") }; joins = [] }
+    ∷ record { first = record { table = codes "U"; window = Some (Between (pos 1_704_067_200) (pos 1_704_285_015)); new_name = None }; joins = [] }
+    ∷ [])
+
+several_is_read : whole_read (statement_read 0) several ≡ Some several_tree
+unfolding statement_read sequenced_read query_read primary_read steps_read step_read select_read item_read chain_read joins_read reference_read new_name_read for_window_read window_read moment_read moment_value moment_of_token moment_of_text date_at time_at date_parts_of time_parts_of is_date is_time where_read column_read name_read bounded_read is_plain_word is_reserved
+several_is_read = refl
+
+pub several_spelled : IsStatement several several_tree
+unfolding moment_of_token moment_of_text date_at time_at date_parts_of time_parts_of is_date is_time
+several_spelled = spelled_if_read 0 several several_tree several_is_read refl refl refl
