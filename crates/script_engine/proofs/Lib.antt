@@ -15,5 +15,9 @@ mod Widths
 pub mod AppendFacts
 pub mod CheckExamples
 pub mod CsvFacts
+pub mod PieceExamples
+pub mod QueryExamples
 pub mod ReportExamples
 pub mod RunExamples
+pub mod ScriptExamples
+pub mod StepExamples

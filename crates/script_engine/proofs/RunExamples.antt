@@ -4,6 +4,7 @@ use Rattle.std.proofs.lemmas.Int.{ints}
 use Rattle.std.proofs.lemmas.Str.{is_utf8-from_IsUtf8}
 use Rattle.std.specs.Str.{IsUtf8, chars, is_utf8}
 use Rattle.period_core.specs.Codes.{code_of}
+use Rattle.period_core.specs.Leasts.{MayAnswer}
 use Rattle.period_core.specs.declared.answer.Answer.{Answer}
 use Rattle.period_core.specs.declared.refusal.Refusal.TheVariants.{BadToken, NotUtf8, ScriptTooLarge, Syntax}
 use Rattle.period_core.specs.declared.row.PeriodRow.{PeriodRow}
@@ -18,6 +19,7 @@ use Rattle.sql_front.specs.Lexis as lexis
 use Rattle.sql_front.specs.Lexis.{first_lexeme}
 use Rattle.sql_front.specs.declared.token.Kind.TheVariants.{Word}
 use Rattle.sql_front.specs.Trees as statement
+use Rattle.catalog_core.specs.Judged.{Holds}
 use Rattle.catalog_core.specs.Histories.{History, new_database, opened}
 use Rattle.script_engine.specs.Headline.{IsSequencedAnswer}
 use Rattle.script_engine.specs.Runs.{Step, StepsTo}
@@ -60,19 +62,20 @@ no_pieces history = refl
 lacking_result : (history new : History) (piece : List Lexeme) → RunPieces history (piece ∷ []) [] new → ⊥
 lacking_result history new piece h = h
 
+-- where 10 alone applies, it is answered
+pub syntax_alone : MayAnswer (Holds ((Syntax, true) ∷ [])) Syntax
+syntax_alone = inl (record {
+  applies = inl (refl, refl);
+  least = λ other h.
+      elim h [
+        | inl both ↦ subst (λ r. 10 ≤ code_of r) both.0 (omega arith)
+        | inr nothing ↦ absurd nothing
+      ];
+})
+
 -- a statement that is not carried out is refused by 10, and the history stays
 not_carried_out : (history : History) (moment : ℤ) → Step history (statement.at moment) (Err Syntax) history
-not_carried_out history moment = (
-  inl (record {
-    applies = inl (refl, refl);
-    least = λ other h.
-        elim h [
-          | inl both ↦ subst (λ r. 10 ≤ code_of r) both.0 (omega arith)
-          | inr nothing ↦ absurd nothing
-        ];
-  }),
-  refl,
-)
+not_carried_out history moment = (syntax_alone, refl)
 
 -- and what is kept stays
 kept_as_it_was : (moment : ℤ) → StepsTo (opened new_database) (statement.at moment) (Err Syntax) new_database
@@ -81,18 +84,18 @@ kept_as_it_was moment = (opened new_database, not_carried_out (opened new_databa
 -- ---- answers
 
 -- the value 7
-abbrev seven : List Value
+abbrev pub seven : List Value
 seven = Int (pos 7) ∷ []
 
 -- on each day from 5 to 7 the set has the value 7 alone, and on no other day it has a value
-abbrev Sets : ℤ → List Value → Type 0
+abbrev pub Sets : ℤ → List Value → Type 0
 Sets day values = (seven ≡ values) × (pos 5 ≤ℤ day) × (day <ℤ pos 8)
 
 abbrev seven_over : (start end : ℤ) → start <ℤ end → PeriodRow
 seven_over start end ordered = record { values = seven; period = record { start = start; end = end; ordered = ordered } }
 
 -- the value 7 from day 5 on and before day 8
-abbrev whole : PeriodRow
+abbrev pub whole : PeriodRow
 whole = seven_over (pos 5) (pos 8) (omega (arith, ints))
 
 whole-certified : IsCertified (whole ∷ [])
@@ -106,10 +109,10 @@ whole-certified = record {
 }
 
 -- the row with the days 5 and 4 as its witness
-abbrev one_row : Answer
+abbrev pub one_row : Answer
 one_row = record { columns = codes "V" ∷ []; rows = whole ∷ []; witnesses = record { held = pos 5; absent = Some (pos 4) } ∷ [] }
 
-is_answer : IsSequencedAnswer Sets one_row
+pub is_answer : IsSequencedAnswer Sets one_row
 is_answer = record {
   daily = λ day values. (
     λ there.
@@ -135,7 +138,7 @@ is_answer = record {
 }
 
 -- the row cut in two on day 6: on the day before, which is its witness, the values of the second are there
-abbrev two_rows : Answer
+abbrev pub two_rows : Answer
 two_rows = record {
   columns = codes "V" ∷ [];
   rows = seven_over (pos 5) (pos 6) (omega (arith, ints)) ∷ seven_over (pos 6) (pos 8) (omega (arith, ints)) ∷ [];

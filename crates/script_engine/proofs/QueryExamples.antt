@@ -1,0 +1,262 @@
+-- Worked rows: a sequenced query of a table with one row and of one with two that overlap, each as a step of the history.
+use Rattle.std.proofs.Common.{◌≡◌, ◌==◌, ◌∷◌, ◌↔◌, [], ℕ, zero, suc, ℤ, pos, Bool, true, false, List, Option, None, Some, Ok, map, codes, refl, sym, ap, ap₂, ◌∙◌, subst, inl, inr, arith}
+use Rattle.std.proofs.lemmas.Int.{by_lt_z, ints}
+use Rattle.std.specs.List.{Contains}
+use Rattle.period_core.specs.Leasts.{NoneApplies}
+use Rattle.period_core.specs.declared.answer.Answer.{Answer}
+use Rattle.period_core.specs.declared.row.PeriodRow.{PeriodRow}
+use Rattle.period_core.specs.declared.value.Value.{Value}
+use Rattle.temporal_model.specs.Snapshot.{InSnapshot, covers_day, values_on}
+use Rattle.temporal_model.proofs.Members.{Contains-cons_cases, Contains-here, Contains-nil, Contains-one, Contains-there}
+use Rattle.temporal_model.proofs.Snapshots.{CoversDay, held, in_snapshot}
+use Rattle.sql_front.specs.Trees as statement
+use Rattle.sql_front.specs.Trees.{Query, combined, last, simple}
+use Rattle.catalog_core.specs.Answers.{InAnswerOn, IsProjection, read_items}
+use Rattle.catalog_core.specs.Histories.{Asked, Database, History, last_state, rows_in, with_event}
+use Rattle.catalog_core.specs.Matches.{is_matching}
+use Rattle.catalog_core.specs.Naming.{Name}
+use Rattle.catalog_core.specs.Selection.{ResolvesQuery, has_many_items, item_parts, lacks_source, names_no_value, query_conditions, selects_ambiguous, selects_no_value, selects_unknown, value_position, written_item}
+use Rattle.catalog_core.specs.TableWords.{def_matches, is_value_column, number_of, some_def_match, table_of, table_of_name}
+use Rattle.catalog_core.specs.declared.query.Item.{Item}
+use Rattle.catalog_core.specs.declared.query.Select.{Select}
+use Rattle.catalog_core.specs.declared.table.TableDef.{TableDef}
+use Rattle.script_engine.specs.Headline.{IsSequencedAnswer}
+use Rattle.script_engine.specs.Runs.{Represents, StatementApplies, Step}
+use Rattle.script_engine.specs.declared.outcome.Outcome.TheVariants.{Answer as Answered}
+use Rattle.script_engine.proofs.Given.{same_values}
+use Rattle.script_engine.proofs.StepExamples.{colleague, emp, none_if_no_first, with_row, with_rows, worker}
+use Rattle.script_engine.proofs.RunExamples.{Sets, is_answer, one_row, seven, two_rows, whole}
+
+-- ---- the query
+
+-- VALIDTIME SELECT DISTINCT DEPT FROM EMP
+abbrev pub question : Query
+question =
+    combined
+    (simple (record {
+      items = record { column = record { qualifier = None; name = codes "DEPT" }; new_name = None } ∷ [];
+      chains = record { first = record { table = codes "EMP"; window = None; new_name = None }; joins = [] } ∷ [];
+      condition = None;
+    }))
+    last
+
+-- the second value of the rows of table 1
+abbrev departments : Select
+departments = record { table = 1; items = record { position = 1; name = codes "DEPT" } ∷ [] }
+
+-- department 7 from day 5 on and before day 8, with the days 5 and 4 as its witness
+abbrev pub answer : Answer
+answer = record one_row { columns = codes "DEPT" ∷ [] }
+
+-- no condition of a refusal holds for it where EMP is the one table
+question_is_sound : NoneApplies (StatementApplies (emp ∷ []) (statement.sequenced question))
+unfolding def_matches some_def_match is_matching number_of table_of_name has_many_items lacks_source names_no_value selects_ambiguous selects_no_value selects_unknown value_position is_value_column
+question_is_sound = none_if_no_first (query_conditions (emp ∷ []) (statement.sequenced question)) refl
+
+-- the row that the table holds
+abbrev kept_row : PeriodRow
+kept_row = record whole { values = worker }
+
+-- on a day that the row's period holds, and on one that it doesn't, the table has what the row holds
+state_by : (day : ℤ) (b : Bool) → covers_day (pos 5) (pos 8) day ≡ b → last_state with_row 1 day ≡ values_on (kept_row ∷ []) day
+state_by day true e = rw e refl
+state_by day false e = rw e refl
+
+-- so it does on each day
+state_on : (day : ℤ) → last_state with_row 1 day ≡ values_on (kept_row ∷ []) day
+state_on day = state_by day (covers_day (pos 5) (pos 8) day) refl
+
+-- what the query reads in a row of department 7
+department_seven : (row same values : List Value) → IsProjection departments.items row seven → row ≡ same → IsProjection departments.items same values → seven ≡ values
+department_seven row same values first its second = same_values seven values (sym first ∙ ap (read_items departments.items) its ∙ second)
+
+-- the ordinary query gives department 7 on the days from 5 to 7, and nothing else
+daily : (day : ℤ) (values : List Value) → (Sets day values ↔ InAnswerOn with_row departments day values)
+daily day values = (
+  λ among.
+      let (seven_same, from, to) = among in (
+        worker,
+        subst (λ (rows : List (List Value)). Contains rows worker) (sym (state_on day)) (in_snapshot (kept_row ∷ []) day worker (kept_row, Contains-here kept_row [], refl, (from, to))),
+        ap (map (λ (v : Value). Some v)) seven_same,
+      ),
+  λ answered.
+      let (row_values, seen, projection) = answered in
+      let (row, c, v, (from, to)) = held (kept_row ∷ []) day row_values (subst (λ (rows : List (List Value)). Contains rows row_values) (state_on day) seen) in
+      let same : kept_row ≡ row = Contains-one kept_row row c in
+      let its : worker ≡ row_values = ap (λ (r : PeriodRow). r.values) same ∙ v in
+      let starts : pos 5 ≡ row.period.start = ap (λ (r : PeriodRow). r.period.start) same in
+      let ends : pos 8 ≡ row.period.end = ap (λ (r : PeriodRow). r.period.end) same in
+      (department_seven worker row_values values refl its projection, omega (arith, ints), omega (arith, ints)),
+)
+
+-- where the sets are those of department 7 on the days from 5 to 7, the answer is right
+right_by : (InSet : ℤ → List Value → Type 0) → ((day : ℤ) (values : List Value) → (Sets day values ↔ InSet day values)) → IsSequencedAnswer InSet answer
+right_by InSet same = record {
+  daily = λ day values. (
+    λ there. (same day values).0 ((is_answer.daily day values).0 there),
+    λ among. (is_answer.daily day values).1 ((same day values).1 among),
+  );
+  shortest = is_answer.shortest;
+  ordered = is_answer.ordered;
+  witnessed = (
+    record {
+      days = refl;
+      held = (same (pos 5) seven).0 is_answer.witnessed.0.held;
+      absent = λ among. is_answer.witnessed.0.absent ((same (pos 4) seven).1 among);
+    },
+    tt,
+  );
+}
+
+-- the query is answered, and the rows stay as they are
+pub asked : Step with_row (statement.sequenced question) (Ok (Answered answer)) (with_event with_row Asked)
+unfolding number_of value_position is_value_column
+asked = (
+  question_is_sound,
+  (
+    answer,
+    refl,
+    record {
+      query = departments;
+      resolved = record { definition = emp; number = refl; table = refl; items = refl };
+      columns = refl;
+      right = right_by (InAnswerOn with_row departments) daily;
+      after = refl;
+    },
+  ),
+)
+
+-- a select of table 1 with these items is this one
+same_select : (query : Select) → query.table ≡ 1 → query.items ≡ departments.items → query ≡ departments
+same_select query table items =
+    let made : ℕ → List Item → Select = λ number its. record { table = number; items = its } in
+    ap₂ made table items
+
+-- an item that stands for DEPT at the position 1 is this one
+one_item : (items : List Item) → (Some 1, codes "DEPT") ∷ [] ≡ map item_parts items → items ≡ departments.items
+one_item [] e = cc
+one_item (item ∷ []) e =
+    let made : ℕ → Name → List Item = λ position name. record { position = position; name = name } ∷ [] in
+    let parts : (Some 1, codes "DEPT") ≡ item_parts item = cc in
+    let place : Some 1 ≡ Some item.position = ap (λ (p : Option ℕ × Name). p.0) parts in
+    let position : item.position ≡ 1 = cc in
+    let name : item.name ≡ codes "DEPT" = sym (ap (λ (p : Option ℕ × Name). p.1) parts) in
+    ap₂ made position name
+one_item (item ∷ other ∷ more) e = cc
+
+-- the statement reads department and table in one way alone
+same_query : (query : Select) → ResolvesQuery (emp ∷ []) (statement.sequenced question) query → query ≡ departments
+unfolding number_of value_position is_value_column
+same_query query resolved =
+    let number = resolved.number in
+    let table : query.table ≡ 1 = cc in
+    let there : table_of (emp ∷ []) 1 ≡ Some resolved.definition = subst (λ (n : ℕ). table_of (emp ∷ []) n ≡ Some resolved.definition) table resolved.table in
+    let its : emp ≡ resolved.definition = cc in
+    let items : map (written_item emp) (codes "DEPT" ∷ []) ≡ map item_parts query.items = subst (λ (d : TableDef). map (written_item d) (codes "DEPT" ∷ []) ≡ map item_parts query.items) (sym its) resolved.items in
+    same_select query table (one_item query.items items)
+
+-- the row cut in two is no answer of it: the day before the second is one on which department 7 is there
+not_cut_in_two : (new : History) → Step with_row (statement.sequenced question) (Ok (Answered two_rows)) new → ⊥
+not_cut_in_two new (sound, (given, same, answers)) =
+    let it : two_rows ≡ given = cc in
+    let right : IsSequencedAnswer (InAnswerOn with_row answers.query) two_rows = subst (λ (a : Answer). IsSequencedAnswer (InAnswerOn with_row answers.query) a) (sym it) answers.right in
+    let of_departments : IsSequencedAnswer (InAnswerOn with_row departments) two_rows =
+    subst (λ (q : Select). IsSequencedAnswer (InAnswerOn with_row q) two_rows) (same_query answers.query answers.resolved) right in
+    of_departments.witnessed.1.0.absent ((daily (pos 5) seven).0 (refl, omega (arith, ints), omega (arith, ints)))
+
+-- ---- what is kept
+
+-- the table with its row
+abbrev kept_database : Database
+kept_database = record { catalog = emp ∷ []; rows = (kept_row ∷ []) ∷ [] }
+
+-- on each day each table has what is kept of it
+represented_daily : (table : ℕ) (day : ℤ) (values : List Value) →
+    (InSnapshot (rows_in kept_database table) day values ↔ Contains (last_state with_row table day) values)
+represented_daily zero day values = (λ h. h, λ h. h)
+represented_daily (suc zero) day values = (
+  λ there. subst (λ (rows : List (List Value)). Contains rows values) (sym (state_on day)) there,
+  λ among. subst (λ (rows : List (List Value)). Contains rows values) (state_on day) among,
+)
+represented_daily (suc (suc place)) day values =
+    let other : (suc (suc place) == 1) ≡ false = grind arith in
+    rw other (λ h. h, λ h. h)
+
+-- what is kept is what the history says
+represented : Represents with_row kept_database
+represented = record { catalog = refl; daily = represented_daily }
+
+-- without the row it is not
+not_represented : Represents with_row (record { catalog = emp ∷ []; rows = [] ∷ [] }) → ⊥
+not_represented kept = Contains-nil worker ((kept.daily 1 (pos 5) worker).1 (0, omega arith, refl))
+
+-- ---- rows whose periods overlap
+
+-- the first of the two rows that the table holds
+abbrev earlier : PeriodRow
+earlier = record { values = worker; period = record { start = pos 5; end = pos 7; ordered = omega (arith, ints) } }
+
+-- the second
+abbrev later : PeriodRow
+later = record { values = colleague; period = record { start = pos 6; end = pos 8; ordered = omega (arith, ints) } }
+
+-- the two
+abbrev both_rows : List PeriodRow
+both_rows = earlier ∷ later ∷ []
+
+-- on a day that the one's period holds or doesn't, and the other's, the table has what the two hold
+both_by : (day : ℤ) (a b : Bool) → covers_day (pos 5) (pos 7) day ≡ a → covers_day (pos 6) (pos 8) day ≡ b → last_state with_rows 1 day ≡ values_on both_rows day
+both_by day true true e f = rw (e, f) refl
+both_by day true false e f = rw (e, f) refl
+both_by day false true e f = rw (e, f) refl
+both_by day false false e f = rw (e, f) refl
+
+-- so it does on each day
+both_on : (day : ℤ) → last_state with_rows 1 day ≡ values_on both_rows day
+both_on day = both_by day (covers_day (pos 5) (pos 7) day) (covers_day (pos 6) (pos 8) day) refl refl
+
+-- the ordinary query gives department 7 on the same days as before
+daily_of_both : (day : ℤ) (values : List Value) → (Sets day values ↔ InAnswerOn with_rows departments day values)
+daily_of_both day values = (
+  λ among.
+      let (seven_same, from, to) = among in
+      let shown : (row : PeriodRow) → Contains both_rows row → CoversDay row day → Contains (last_state with_rows 1 day) row.values =
+      λ row c covers. subst (λ (rows : List (List Value)). Contains rows row.values) (sym (both_on day)) (in_snapshot both_rows day row.values (row, c, refl, covers)) in
+      by_lt_z {P = InAnswerOn with_rows departments day values} day (pos 7)
+      (λ before. (worker, shown earlier (Contains-here earlier (later ∷ [])) (from, before), ap (map (λ (v : Value). Some v)) seven_same))
+      (λ after. (colleague, shown later (Contains-there earlier (later ∷ []) later (Contains-here later [])) (omega (arith, ints), to), ap (map (λ (v : Value). Some v)) seven_same)),
+  λ answered.
+      let (row_values, seen, projection) = answered in
+      let (row, c, v, (from, to)) = held both_rows day row_values (subst (λ (rows : List (List Value)). Contains rows row_values) (both_on day) seen) in
+      elim (Contains-cons_cases earlier (later ∷ []) row c) [
+        | inl same ↦
+            let its : worker ≡ row_values = ap (λ (r : PeriodRow). r.values) same ∙ v in
+            let starts : pos 5 ≡ row.period.start = ap (λ (r : PeriodRow). r.period.start) same in
+            let ends : pos 7 ≡ row.period.end = ap (λ (r : PeriodRow). r.period.end) same in
+            (department_seven worker row_values values refl its projection, omega (arith, ints), omega (arith, ints))
+        | inr rest ↦
+            let same : later ≡ row = Contains-one later row rest in
+            let its : colleague ≡ row_values = ap (λ (r : PeriodRow). r.values) same ∙ v in
+            let starts : pos 6 ≡ row.period.start = ap (λ (r : PeriodRow). r.period.start) same in
+            let ends : pos 8 ≡ row.period.end = ap (λ (r : PeriodRow). r.period.end) same in
+            (department_seven colleague row_values values refl its projection, omega (arith, ints), omega (arith, ints))
+      ],
+)
+
+-- the query is answered by one row: who was in department 7 is not asked, so the two rows are of equal values
+asked_of_both : Step with_rows (statement.sequenced question) (Ok (Answered answer)) (with_event with_rows Asked)
+unfolding number_of value_position is_value_column
+asked_of_both = (
+  question_is_sound,
+  (
+    answer,
+    refl,
+    record {
+      query = departments;
+      resolved = record { definition = emp; number = refl; table = refl; items = refl };
+      columns = refl;
+      right = right_by (InAnswerOn with_rows departments) daily_of_both;
+      after = refl;
+    },
+  ),
+)

@@ -1,0 +1,217 @@
+-- Worked rows: how long a piece may be, and the runs and checks of whole scripts.
+use Rattle.std.proofs.Common.{◌≡◌, ◌≤◌, ◌∷◌, ◌++◌, ◌∙◌, [], ℕ, false, List, None, Some, Ok, Err, codes, length, refl, sym, subst, inl, inr, arith}
+use Rattle.std.proofs.lemmas.Bool.{false≢true}
+use Rattle.period_core.specs.Codes.{code_of}
+use Rattle.period_core.specs.Leasts.{MayAnswer, NoneApplies}
+use Rattle.period_core.specs.declared.refusal.Refusal.{Refusal}
+use Rattle.period_core.specs.declared.refusal.Refusal.TheVariants.{BadDate, BadMoment, LimitReached, NumberRange, Syntax}
+use Rattle.sql_front.specs.Depth.{room}
+use Rattle.sql_front.specs.Grammar.{IsStatement}
+use Rattle.sql_front.specs.Lexemes.{Lexeme}
+use Rattle.sql_front.specs.Lexis as lexis
+use Rattle.sql_front.specs.Lexis.{first_lexeme}
+use Rattle.sql_front.specs.LiteralRefusals.{LiteralApplies}
+use Rattle.sql_front.specs.LiteralTests.{is_bad_date, is_bad_moment, number_above, somewhere}
+use Rattle.sql_front.specs.Names.{is_plain_word}
+use Rattle.sql_front.specs.PieceRefusals.{IsTooDeep, PieceApplies}
+use Rattle.sql_front.specs.Pieces as pieces
+use Rattle.sql_front.specs.ConditionReaders.{where_read}
+use Rattle.sql_front.specs.Leaves.{name_read}
+use Rattle.sql_front.specs.WindowReaders.{for_window_read}
+use Rattle.sql_front.specs.Reading.{whole_read}
+use Rattle.sql_front.specs.StatementReaders.{statement_read, stored_read}
+use Rattle.sql_front.specs.Trees.{Statement, stored}
+use Rattle.sql_front.specs.Words.{is_reserved}
+use Rattle.sql_front.specs.declared.token.Kind.TheVariants.{Symbol, Word}
+use Rattle.sql_front.proofs.DepthFacts.{some_shallow}
+use Rattle.sql_front.proofs.LiteralFaultFacts.{bad_date_somewhere, bad_moment_somewhere, number_somewhere}
+use Rattle.sql_front.proofs.Parsing.{no_statement, spelled_some}
+use Rattle.sql_front.proofs.PieceFaults.{piece_none}
+use Rattle.sql_front.proofs.Spelling.{none_if_unread, spelled_if_read}
+use Rattle.sql_front.proofs.StatementsRead.{read_spelled}
+use Rattle.catalog_core.specs.Histories.{History, new_database, opened}
+use Rattle.script_engine.specs.Check.{IsCheckOf, IsPieceCheck}
+use Rattle.script_engine.specs.Script.{IsCutInto, IsOverlong, IsRunOf, PieceStep, TextApplies}
+use Rattle.script_engine.proofs.PieceFacts.{none_of_text}
+use Rattle.script_engine.proofs.RunExamples.{syntax_alone}
+use Rattle.script_engine.proofs.ScriptFacts.{none_of_script}
+
+-- ---- how long a piece may be
+
+-- one token more than a piece may have
+overlong : (piece : List Lexeme) → length piece ≡ 10_001 → TextApplies piece LimitReached
+overlong piece e = inl (omega arith, refl)
+
+-- as many
+not_overlong : (piece : List Lexeme) → length piece ≡ 10_000 → IsOverlong piece → ⊥
+not_overlong piece e long = omega arith
+
+-- so its length is not what it is refused for
+not_limited : (piece : List Lexeme) → length piece ≡ 10_000 → TextApplies piece LimitReached → ⊥
+not_limited piece e (inl h) = not_overlong piece e h.0
+not_limited piece e (inr h) = h.1
+
+-- an overlong piece is refused for nothing else, however it is spelled
+overlong_alone : (piece : List Lexeme) (refusal : Refusal) → length piece ≡ 10_001 → TextApplies piece refusal → refusal ≡ LimitReached
+overlong_alone piece refusal e (inl h) = h.1
+overlong_alone piece refusal e (inr h) = absurd (h.0 (omega arith))
+
+-- so it is refused with 21
+overlong_refused : (piece : List Lexeme) → length piece ≡ 10_001 → MayAnswer (TextApplies piece) LimitReached
+overlong_refused piece e = inl (record {
+  applies = overlong piece e;
+  least = λ other h. subst (λ r. 21 ≤ code_of r) (sym (overlong_alone piece other e h)) (omega arith);
+})
+
+-- ---- pieces that are read as a statement
+
+faultless : (ts : List Lexeme) → somewhere is_bad_date ts ≡ false → somewhere is_bad_moment ts ≡ false → number_above false ts ≡ false → NoneApplies (LiteralApplies ts)
+faultless ts date moment number BadDate h = false≢true (sym date ∙ (bad_date_somewhere ts).1 h)
+faultless ts date moment number BadMoment h = false≢true (sym moment ∙ (bad_moment_somewhere ts).1 h)
+faultless ts date moment number NumberRange h = false≢true (sym number ∙ (number_somewhere ts).1 h)
+faultless ts date moment number other h = h
+
+-- no refusal applies to tokens that are read as a statement, are at most 10,000 and not too deep, and have no bad literal
+pub sound_if_read : (n left : ℕ) (ts : List Lexeme) (s : Statement) → whole_read (statement_read n) ts ≡ Some s → length ts ≤ 10_000 → room 32 ts ≡ Some left
+    → somewhere is_bad_date ts ≡ false → somewhere is_bad_moment ts ≡ false → number_above false ts ≡ false → NoneApplies (TextApplies ts)
+sound_if_read n left ts s read short shallow date moment number =
+    none_of_text ts (λ long. omega arith)
+    (piece_none ts (some_shallow 32 ts left shallow) (spelled_some ts s (read_spelled n ts s read)) (faultless ts date moment number))
+
+-- ---- a script without pieces
+
+-- no bytes have no tokens, and so no pieces
+nothing_cut : IsCutInto [] []
+unfolding lib.Utf8.encode
+nothing_cut = record {
+  sound = none_of_script [] [] (omega arith) ([], (refl, refl)) lexis.TokensFrom.ended;
+  tokens = [];
+  lexed = lexis.TokensFrom.ended;
+  parted = ([] ∷ [], pieces.Joined.one [] refl, refl);
+}
+
+-- it has no results, run
+nothing_run : IsRunOf [] []
+nothing_run = record { pieces = []; cut = nothing_cut; last = opened new_database; run = refl }
+
+-- nor checked
+nothing_checked : IsCheckOf [] []
+nothing_checked = record { pieces = []; cut = nothing_cut; checked = tt }
+
+-- ---- two pieces
+
+-- the script SELECT * FROM T;a
+abbrev script_text : List ℕ
+script_text = codes "SELECT * FROM T;a"
+
+-- its semicolon
+abbrev semicolon : Lexeme
+semicolon = record { kind = Symbol; text = codes ";"; start = 15; end = 16 }
+
+-- the tokens before it
+abbrev lookup : List Lexeme
+lookup =
+    record { kind = Word; text = codes "SELECT"; start = 0; end = 6 }
+    ∷ record { kind = Symbol; text = codes "*"; start = 7; end = 8 }
+    ∷ record { kind = Word; text = codes "FROM"; start = 9; end = 13 }
+    ∷ record { kind = Word; text = codes "T"; start = 14; end = 15 }
+    ∷ []
+
+-- the token behind it
+abbrev letter : List Lexeme
+letter = record { kind = Word; text = codes "a"; start = 16; end = 17 } ∷ []
+
+-- these are its tokens; what stands between them is white space
+lexed : lexis.TokensOf script_text (lookup ++ semicolon ∷ letter)
+unfolding first_lexeme
+lexed =
+    lexis.TokensFrom.token Word 6 refl (lexis.TokensFrom.blank 1 refl (lexis.TokensFrom.token Symbol 1 refl (lexis.TokensFrom.blank 1 refl
+    (lexis.TokensFrom.token Word 4 refl (lexis.TokensFrom.blank 1 refl (lexis.TokensFrom.token Word 1 refl
+    (lexis.TokensFrom.token Symbol 1 refl (lexis.TokensFrom.token Word 1 refl lexis.TokensFrom.ended))))))))
+
+-- the semicolon cuts it in two
+cut : IsCutInto script_text (lookup ∷ letter ∷ [])
+unfolding lib.Utf8.encode
+cut = record {
+  sound = none_of_script script_text (lookup ++ semicolon ∷ letter) (omega arith) (script_text, (refl, refl)) lexed;
+  tokens = lookup ++ semicolon ∷ letter;
+  lexed = lexed;
+  parted = (lookup ∷ letter ∷ [], pieces.Joined.more lookup semicolon refl refl (pieces.Joined.one letter refl), refl);
+}
+
+-- the first piece is a query of the rows of T as they are kept
+abbrev looked_up : Statement
+looked_up = stored (record { table = codes "T"; window = None; condition = None })
+
+-- its tokens are read as this statement, and so spell it
+lookup_is_read : whole_read (statement_read 0) lookup ≡ Some looked_up
+unfolding statement_read stored_read for_window_read where_read name_read is_plain_word is_reserved
+lookup_is_read = refl
+
+lookup_spelled : IsStatement lookup looked_up
+lookup_spelled = spelled_if_read 0 lookup looked_up lookup_is_read refl refl refl
+
+-- so no refusal applies to it: it has four tokens, no literal, and no parenthesis
+lookup_sound : NoneApplies (TextApplies lookup)
+unfolding room
+lookup_sound = sound_if_read 0 32 lookup looked_up lookup_is_read (omega arith) refl refl refl refl
+
+-- the second piece spells no statement
+letter_is_not_read : whole_read (statement_read 1) letter ≡ None
+unfolding statement_read stored_read
+letter_is_not_read = refl
+
+-- nor is it too deep
+letter_shallow : IsTooDeep letter → ⊥
+unfolding room
+letter_shallow = some_shallow 32 letter 32 refl
+
+-- nor overlong
+letter_short : IsOverlong letter → ⊥
+letter_short long = omega arith
+
+-- what may be answered of a piece for its spelling may be answered of one that is not overlong
+of_text : (piece : List Lexeme) (refusal : Refusal) → (IsOverlong piece → ⊥) → MayAnswer (PieceApplies piece) refusal → MayAnswer (TextApplies piece) refusal
+of_text piece refusal short (inr memory) = inr memory
+of_text piece refusal short (inl least) = inl (record {
+  applies = inr (short, least.applies);
+  least = λ other h.
+      elim h [
+        | inl long ↦ absurd (short long.0)
+        | inr its ↦ least.least other its.1
+      ];
+})
+
+-- so it is refused with 10
+letter_refused : MayAnswer (TextApplies letter) Syntax
+letter_refused = of_text letter Syntax letter_short (no_statement letter letter_shallow (none_if_unread letter letter_is_not_read))
+
+-- checked: the first piece is right
+lookup_checked : IsPieceCheck lookup (Ok tt)
+lookup_checked = ((looked_up, lookup_spelled), lookup_sound)
+
+-- and the second is refused with 10
+checked : IsCheckOf script_text (Ok tt ∷ Err Syntax ∷ [])
+checked = record { pieces = lookup ∷ letter ∷ []; cut = cut; checked = (lookup_checked, (letter_refused, tt)) }
+
+-- a piece that is right is not refused for its spelling
+lookup_not_refused : IsPieceCheck lookup (Err Syntax) → ⊥
+lookup_not_refused (inl least) = lookup_sound Syntax least.applies
+lookup_not_refused (inr memory) = cc
+
+-- run: the first is a statement that is not carried out, and refused with 10 too; the history stays
+lookup_step : (history : History) → PieceStep history lookup (Err Syntax) history
+lookup_step history = inr (looked_up, lookup_sound, lookup_spelled, (syntax_alone, refl))
+
+-- the second is refused as it is where it is checked
+letter_step : (history : History) → PieceStep history letter (Err Syntax) history
+letter_step history = inl (Syntax, refl, letter_refused, refl)
+
+-- so both are refused with 10
+run : IsRunOf script_text (Err Syntax ∷ Err Syntax ∷ [])
+run = record {
+  pieces = lookup ∷ letter ∷ [];
+  cut = cut;
+  last = opened new_database;
+  run = (opened new_database, lookup_step (opened new_database), (opened new_database, letter_step (opened new_database), refl));
+}

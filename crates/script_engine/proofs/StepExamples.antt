@@ -1,0 +1,255 @@
+-- Worked rows: CREATE TABLE and INSERT, accepted and refused, each as a step of the history.
+use Rattle.std.proofs.Common.{◌≡◌, ◌∷◌, ◌++◌, [], ℕ, pos, true, false, List, None, Some, Ok, Err, codes, refl, inl, inr, length, arith, lit≤}
+use Rattle.std.proofs.lemmas.Bool.{false≢true}
+use Rattle.std.specs.Str.{chars}
+use Rattle.period_core.specs.Leasts.{NoneApplies}
+use Rattle.period_core.specs.declared.refusal.Refusal.TheVariants.{EmptyPeriod, TableExists}
+use Rattle.period_core.specs.declared.value.Value.{Value}
+use Rattle.period_core.specs.declared.value.Value.TheVariants.{Int, Date}
+use Rattle.sql_front.specs.Trees as statement
+use Rattle.sql_front.specs.declared.create.ColumnElement.{ColumnElement}
+use Rattle.sql_front.specs.declared.create.CreateTable.{CreateTable}
+use Rattle.sql_front.specs.declared.create.Generated.TheVariants as generated
+use Rattle.sql_front.specs.declared.create.TypeName.TheVariants as type_name
+use Rattle.sql_front.specs.declared.statement.InsertRows.{InsertRows}
+use Rattle.catalog_core.specs.Creation.{create_conditions, own_matches, period_matches, some_own_match, some_parent_match, some_match, has_sort, sort_count, exceeds_limits, is_there, lacks_parent, names_other_period, lacks_period, lacks_name, is_ambiguous, is_shared, repeats_name, is_no_value_column, some_no_value, keys_period_column, lacks_one_of_each, has_bad_period, has_bad_system_period, is_bad_type, has_bad_column, is_used_otherwise, has_other_period, is_at, is_key_name, is_named, are_key, names_no_key, references_no_key, is_bad_definition, has_unequal_lists, own_kind, have_other_kinds, names_other_kind, references_other_kind}
+use Rattle.catalog_core.specs.Definition.{declared_kind, declared_reference, own_place}
+use Rattle.catalog_core.specs.Effects.{given_of}
+use Rattle.catalog_core.specs.Histories.{Changed, Created, History, new_database, opened, with_event}
+use Rattle.catalog_core.specs.Insertion.{gives_empty_row, wanted_names, given_names, lacks_table, lists_unknown, lists_ambiguous, lists_twice, is_system_name, some_system_name, lists_system, lacks_some, some_other_length, has_other_count, is_of_other_kind, is_longer, is_too_long, is_wrong, gives_wrong, has_wrong, given_value, value_for, is_no_period, gives_no_period, has_no_period}
+use Rattle.catalog_core.specs.Judged.{Holds, Judged, first_holding}
+use Rattle.catalog_core.specs.Kinds.{kind_of_type, kind_of_column, same_kind, differ}
+use Rattle.catalog_core.specs.Matches.{is_matching, is_of_sort}
+use Rattle.catalog_core.specs.Naming.{Name, match_count, repeats}
+use Rattle.catalog_core.specs.Resolution.{ResolvesAction, change_conditions, empty_period}
+use Rattle.catalog_core.specs.TableWords.{def_kind, def_matches, def_place, is_value_column, number_of, some_def_match, table_of_name}
+use Rattle.catalog_core.proofs.Least.{first_is_least}
+use Rattle.catalog_core.specs.declared.change.Action.{Action}
+use Rattle.catalog_core.specs.declared.change.Action.TheVariants.{Insert}
+use Rattle.catalog_core.specs.declared.change.Change.{Change}
+use Rattle.catalog_core.specs.declared.table.ColumnKind.TheVariants as kind
+use Rattle.catalog_core.specs.declared.table.TableDef.{TableDef}
+use Rattle.script_engine.specs.Runs.{StatementApplies, Step}
+use Rattle.script_engine.specs.declared.outcome.Outcome.TheVariants.{Done}
+use Rattle.script_engine.specs.declared.outcome.Word.TheVariants as word
+use Rattle.script_engine.proofs.Refused.{may_answer-empty}
+
+-- where no condition is the first that holds, none does
+pub none_if_no_first : (conditions : List Judged) → first_holding conditions ≡ None → NoneApplies (Holds conditions)
+none_if_no_first [] e refusal h = h
+none_if_no_first ((judged, true) ∷ more) e refusal h = cc
+none_if_no_first ((judged, false) ∷ more) e refusal h = elim h [
+  | inl here ↦ absurd (false≢true here.1)
+  | inr there ↦ none_if_no_first more e refusal there
+]
+
+-- ---- CREATE TABLE
+
+-- a column of integers, and one of days
+abbrev plain : Name → ColumnElement
+plain name = record { name = name; kind = type_name.Integer; generated = None }
+
+abbrev day_column : Name → ColumnElement
+day_column name = record { name = name; kind = type_name.Date; generated = None }
+
+-- CREATE TABLE EMP (ENO INTEGER, DEPT INTEGER, S DATE, E DATE,
+--  SS TIMESTAMP(12) GENERATED ALWAYS AS ROW START, SE TIMESTAMP(12) GENERATED ALWAYS AS ROW END,
+--  PERIOD FOR EP (S, E), PERIOD FOR SYSTEM_TIME (SS, SE), PRIMARY KEY (ENO, EP WITHOUT OVERLAPS)) WITH SYSTEM VERSIONING
+abbrev pub creation : CreateTable
+creation =
+    record {
+      name = codes "EMP";
+      columns =
+          plain (codes "ENO") ∷ plain (codes "DEPT") ∷ day_column (codes "S") ∷ day_column (codes "E")
+          ∷ record { name = codes "SS"; kind = type_name.Timestamp (Some 12); generated = Some generated.Start }
+          ∷ record { name = codes "SE"; kind = type_name.Timestamp (Some 12); generated = Some generated.End }
+          ∷ [];
+      periods = record { name = codes "EP"; start = codes "S"; end = codes "E" } ∷ [];
+      system_periods = record { start = codes "SS"; end = codes "SE" } ∷ [];
+      keys = record { columns = codes "ENO" ∷ []; period = codes "EP" } ∷ [];
+      references = [];
+    }
+
+-- the table that it gives: its period is over the columns at the places 2 and 3, its key the one at 0
+abbrev pub emp : TableDef
+emp =
+    record {
+      name = codes "EMP";
+      columns =
+          record { name = codes "ENO"; kind = kind.Integer }
+          ∷ record { name = codes "DEPT"; kind = kind.Integer }
+          ∷ record { name = codes "S"; kind = kind.Date }
+          ∷ record { name = codes "E"; kind = kind.Date }
+          ∷ record { name = codes "SS"; kind = kind.RowStart (Some 12) }
+          ∷ record { name = codes "SE"; kind = kind.RowEnd (Some 12) }
+          ∷ [];
+      period = record { name = codes "EP"; start = 2; end = 3 };
+      key = 0 ∷ [];
+      references = [];
+      sound = refl;
+    }
+
+-- the history of a new store, and the one in which the table was created
+abbrev pub at_first : History
+at_first = opened new_database
+
+abbrev pub with_table : History
+with_table = with_event at_first (Created emp)
+
+-- in a new store no condition of a refusal holds for it
+creation_is_sound : NoneApplies (StatementApplies [] (statement.create creation))
+unfolding own_matches period_matches def_matches some_own_match some_def_match some_parent_match some_match has_sort sort_count exceeds_limits is_there lacks_parent names_other_period lacks_period lacks_name is_ambiguous is_shared repeats repeats_name is_no_value_column some_no_value keys_period_column lacks_one_of_each has_bad_period has_bad_system_period is_bad_type has_bad_column is_used_otherwise has_other_period is_at is_key_name is_named are_key names_no_key references_no_key is_bad_definition has_unequal_lists own_kind def_kind have_other_kinds names_other_kind references_other_kind is_matching is_of_sort match_count number_of table_of_name kind_of_type kind_of_column same_kind differ
+creation_is_sound = none_if_no_first (create_conditions [] creation) refl
+
+-- the statement is accepted: it gives no rows, and the table is there from then on
+pub created : Step at_first (statement.create creation) (Ok (Done word.Create 0)) with_table
+unfolding own_place def_place declared_reference declared_kind number_of table_of_name
+created = (
+  creation_is_sound,
+  record {
+    definition = emp;
+    defined = record { name = refl; columns = refl; period = refl; key = refl; references = refl };
+    done = refl;
+    after = refl;
+  },
+)
+
+-- no rows are counted
+created_counts_none : Step at_first (statement.create creation) (Ok (Done word.Create 1)) with_table → ⊥
+created_counts_none (sound, creates) = cc
+
+-- and the table is kept
+created_is_kept : Step at_first (statement.create creation) (Ok (Done word.Create 0)) at_first → ⊥
+created_is_kept (sound, creates) = let e = creates.after in cc
+
+-- the same statement once more: the table is there, and nothing happens
+created_again : Step with_table (statement.create creation) (Err TableExists) with_table
+unfolding own_matches period_matches def_matches some_own_match some_def_match some_parent_match some_match has_sort sort_count exceeds_limits is_there lacks_parent names_other_period lacks_period lacks_name is_ambiguous is_shared repeats repeats_name is_no_value_column some_no_value keys_period_column lacks_one_of_each has_bad_period has_bad_system_period is_bad_type has_bad_column is_used_otherwise has_other_period is_at is_key_name is_named are_key names_no_key references_no_key is_bad_definition has_unequal_lists own_kind def_kind have_other_kinds names_other_kind references_other_kind is_matching is_of_sort match_count number_of table_of_name kind_of_type kind_of_column same_kind differ
+created_again = (
+  inl (first_is_least 0 (create_conditions (emp ∷ []) creation) (lit≤ tt, (lit≤ tt, (lit≤ tt, (lit≤ tt, (lit≤ tt, (lit≤ tt, (lit≤ tt, (lit≤ tt, (lit≤ tt, (lit≤ tt, tt))))))))))),
+  refl,
+)
+
+-- ---- INSERT
+
+-- an employee of department 7, from a day on and before another, as an INSERT writes it
+abbrev employee : ℕ → ℕ → ℕ → List Value
+employee number start end = Int (pos number) ∷ Int (pos 7) ∷ Date (pos start) ∷ Date (pos end) ∷ []
+
+-- INSERT INTO EMP, without a list of columns
+abbrev into_emp : List (List Value) → InsertRows
+into_emp rows = record { table = codes "EMP"; columns = None; rows = rows }
+
+-- INSERT INTO EMP VALUES (1, 7, DATE '1970-01-06', DATE '1970-01-09')
+abbrev pub insertion : InsertRows
+insertion = into_emp (employee 1 5 8 ∷ [])
+
+-- employee 1 of department 7
+abbrev pub worker : List Value
+worker = Int (pos 1) ∷ Int (pos 7) ∷ []
+
+-- in table 1, from day 5 on and before day 8
+abbrev inserted_row : Change
+inserted_row = record { table = 1; action = Insert (record { values = worker; start = pos 5; end = pos 8 } ∷ []) }
+
+-- the history in which the row was added
+abbrev pub with_row : History
+with_row = with_event with_table (Changed inserted_row)
+
+-- no condition of a refusal holds for it
+insertion_is_sound : NoneApplies (StatementApplies (emp ∷ []) (statement.insert insertion))
+unfolding def_matches some_def_match def_kind repeats is_matching match_count number_of table_of_name kind_of_column same_kind differ wanted_names given_names lacks_table lists_unknown lists_ambiguous lists_twice is_system_name some_system_name lists_system lacks_some some_other_length has_other_count is_of_other_kind is_longer is_too_long is_wrong gives_wrong has_wrong given_value value_for is_no_period gives_no_period has_no_period is_value_column chars
+insertion_is_sound =
+    none_if_no_first
+    (change_conditions (emp ∷ []) (statement.insert insertion) ++ empty_period (emp ∷ []) (statement.insert insertion) ∷ [])
+    refl
+
+-- the statement is accepted: it gives one row, which table 1 holds from then on
+pub inserted : Step with_table (statement.insert insertion) (Ok (Done word.Insert 1)) with_row
+unfolding number_of wanted_names given_names given_value value_for is_value_column
+inserted = (
+  insertion_is_sound,
+  record {
+    change = inserted_row;
+    resolved = record { definition = emp; number = refl; table = refl; action = refl };
+    done = refl;
+    after = refl;
+  },
+)
+
+-- a change that is the same statement gives one row
+given_one : (definition : TableDef) (action : Action) → ResolvesAction definition insertion action → length (given_of action) ≡ 1
+given_one definition (Insert []) e = cc
+given_one definition (Insert (given ∷ [])) e = refl
+given_one definition (Insert (given ∷ other ∷ more)) e = cc
+
+-- so the statement does not report two
+inserted_counts_one : (new : History) → Step with_table (statement.insert insertion) (Ok (Done word.Insert 2)) new → ⊥
+inserted_counts_one new (sound, changes) =
+    let one : length (given_of changes.change.action) ≡ 1 = given_one changes.resolved.definition changes.change.action changes.resolved.action in
+    let done = changes.done in
+    let two : 2 ≡ length (given_of changes.change.action) = cc in
+    omega arith
+
+-- INSERT INTO EMP VALUES (1, 7, DATE '1970-01-06', DATE '1970-01-09'), (2, 7, DATE '1970-01-09', DATE '1970-01-09')
+abbrev half_empty : InsertRows
+half_empty = into_emp (employee 1 5 8 ∷ employee 2 8 8 ∷ [])
+
+-- the second row ends on its first day: the statement is refused with 41, and its first row isn't added either
+refused_whole : Step with_table (statement.insert half_empty) (Err EmptyPeriod) with_table
+unfolding def_matches some_def_match def_kind repeats is_matching match_count number_of table_of_name kind_of_column same_kind differ wanted_names given_names lacks_table lists_unknown lists_ambiguous lists_twice is_system_name some_system_name lists_system lacks_some some_other_length has_other_count is_of_other_kind is_longer is_too_long is_wrong gives_wrong has_wrong given_value value_for is_no_period gives_no_period has_no_period is_value_column chars
+refused_whole = (
+  may_answer-empty
+      (change_conditions (emp ∷ []) (statement.insert half_empty))
+      (gives_empty_row (emp ∷ []) half_empty)
+      (none_if_no_first (change_conditions (emp ∷ []) (statement.insert half_empty)) refl)
+      refl,
+  refl,
+)
+
+-- no history in which the first row is there follows it
+first_row_not_added : Step with_table (statement.insert half_empty) (Err EmptyPeriod) with_row → ⊥
+first_row_not_added (may, same) = cc
+
+-- ---- rows whose periods overlap
+
+-- INSERT INTO EMP VALUES (1, 7, DATE '1970-01-06', DATE '1970-01-08'), (2, 7, DATE '1970-01-07', DATE '1970-01-09')
+abbrev overlapping : InsertRows
+overlapping = into_emp (employee 1 5 7 ∷ employee 2 6 8 ∷ [])
+
+-- employee 2 of department 7
+abbrev pub colleague : List Value
+colleague = Int (pos 2) ∷ Int (pos 7) ∷ []
+
+-- both in table 1: the first from day 5 on and before day 7, the second from day 6 on and before day 8
+abbrev inserted_rows : Change
+inserted_rows =
+    record {
+      table = 1;
+      action = Insert (record { values = worker; start = pos 5; end = pos 7 } ∷ record { values = colleague; start = pos 6; end = pos 8 } ∷ []);
+    }
+
+-- the history in which both were added
+abbrev pub with_rows : History
+with_rows = with_event with_table (Changed inserted_rows)
+
+-- no condition of a refusal holds for it
+overlapping_is_sound : NoneApplies (StatementApplies (emp ∷ []) (statement.insert overlapping))
+unfolding def_matches some_def_match def_kind repeats is_matching match_count number_of table_of_name kind_of_column same_kind differ wanted_names given_names lacks_table lists_unknown lists_ambiguous lists_twice is_system_name some_system_name lists_system lacks_some some_other_length has_other_count is_of_other_kind is_longer is_too_long is_wrong gives_wrong has_wrong given_value value_for is_no_period gives_no_period has_no_period is_value_column chars
+overlapping_is_sound =
+    none_if_no_first
+    (change_conditions (emp ∷ []) (statement.insert overlapping) ++ empty_period (emp ∷ []) (statement.insert overlapping) ∷ [])
+    refl
+
+-- the statement is accepted, and gives two rows
+inserted_both : Step with_table (statement.insert overlapping) (Ok (Done word.Insert 2)) with_rows
+unfolding number_of wanted_names given_names given_value value_for is_value_column
+inserted_both = (
+  overlapping_is_sound,
+  record {
+    change = inserted_rows;
+    resolved = record { definition = emp; number = refl; table = refl; action = refl };
+    done = refl;
+    after = refl;
+  },
+)
