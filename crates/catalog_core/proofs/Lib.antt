@@ -20,4 +20,5 @@ pub mod DefinitionExamples
 pub mod InsertExamples
 pub mod ModelExamples
 pub mod SelectExamples
+pub mod TableExamples
 pub mod HistoryLemmas
