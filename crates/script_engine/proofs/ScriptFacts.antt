@@ -9,7 +9,7 @@ use Rattle.sql_front.specs.declared.pieces.Span.{Span}
 use Rattle.sql_front.specs.declared.token.Token.{Token}
 use Rattle.sql_front.specs.Lexis.{TokensOf}
 use Rattle.sql_front.proofs.TokenLists.{never_both_of}
-use Rattle.catalog_core.specs.Histories.{Database, opened, rows_in}
+use Rattle.catalog_core.specs.Histories.{Database, opened}
 use Rattle.script_engine.specs.Runs.{Represents}
 use Rattle.script_engine.specs.Script.{IsCutInto, ScriptApplies, most_bytes}
 
