@@ -1,6 +1,8 @@
 -- Worked rows: the lines of faults, the status of results, what is read, and what a command line chooses.
-use Rattle.std.specs.Prelude.{◌≡◌, ◌∷◌, [], ℕ, Err, None, Ok, Option, Some, codes, refl}
+use Rattle.std.specs.Prelude.{◌≡◌, ◌∷◌, [], ℕ, Err, None, Ok, Option, Some, codes, false, refl, true}
+use Rattle.std.proofs.Common.{inl, inr}
 use Rattle.std.specs.Fmt.{digits}
+use Rattle.std.specs.declared.io.ErrorKind.TheVariants.{InvalidData, OutOfMemory}
 use Rattle.clap.specs.Words.{Row}
 use Rattle.clap.specs.declared.builder.value_parser.Reading.{Reading}
 use Rattle.clap.specs.declared.parser.matches.ValueSource.{ValueSource}
@@ -10,10 +12,10 @@ use Rattle.script_engine.specs.declared.outcome.Outcome.TheVariants.{Done}
 use Rattle.script_engine.specs.declared.outcome.Word.TheVariants.{Create}
 use Rattle.script_engine.specs.declared.report.ReportFault.TheVariants as report
 use Rattle.bitemporal_cli.specs.CommandLine.{Chooses, IsMode}
-use Rattle.bitemporal_cli.specs.Lines.{GetsFrontOf, fault_line, fault_of}
+use Rattle.bitemporal_cli.specs.Lines.{GetsFrontOf, IsTold, fault_line, fault_of, words_fault}
 use Rattle.bitemporal_cli.specs.Program.{IsRefusedWhole, MayEndSilently, read_of, status_of}
 use Rattle.bitemporal_cli.specs.declared.command.Mode.TheVariants.{Run, Check}
-use Rattle.bitemporal_cli.specs.declared.fault.RunFault.TheVariants.{Script, Memory, Read, Write}
+use Rattle.bitemporal_cli.specs.declared.fault.RunFault.TheVariants.{Script, Memory, Words, Read, Write}
 
 -- ---- lines
 
@@ -49,6 +51,27 @@ want_of_memory = refl
 failed_writer : fault_of report.Write ≡ Write
 failed_writer = refl
 
+words-line : fault_line Words ≡ codes "bitemporal: a word of the command line is not UTF-8\n"
+words-line = refl
+
+-- a word that is not UTF-8, and any other error of the system as it gives the words
+bad_word : words_fault InvalidData ≡ Words
+bad_word = refl
+
+no_memory_for_words : words_fault OutOfMemory ≡ Memory
+no_memory_for_words = refl
+
+-- a line is told whole, or in part by a writer that failed
+whole_line : IsTold false (Some (codes "a")) (Some (codes "abitemporal: cannot read the script\n")) (fault_line Read)
+whole_line = inl refl
+
+part_of_line : IsTold true (Some (codes "a")) (Some (codes "abitem")) (fault_line Read)
+part_of_line = inr (refl, (5, refl))
+
+no_part_of_line : IsTold false (Some []) (Some []) (fault_line Read) → ⊥
+no_part_of_line (inl told) = cc
+no_part_of_line (inr told) = cc
+
 -- a writer that fails may have got the first bytes of a line
 cut_line : GetsFrontOf (Some (codes "a")) (Some (codes "abitem")) (fault_line Read)
 cut_line = (5, refl)
@@ -80,9 +103,13 @@ short_script = refl
 empty_script : read_of [] ≡ []
 empty_script = refl
 
--- a writer that failed leaves no silent end, and of a script that is not known nothing is said
-not_silent : MayEndSilently None Write → ⊥
+-- a writer that failed leaves no silent end, a reader that did not fail is at no fault, and of a
+-- script that is not known nothing is said
+not_silent : MayEndSilently None true Write → ⊥
 not_silent h = h
+
+not_the_reader : MayEndSilently None false Read → ⊥
+not_the_reader same = cc
 
 not_known : IsRefusedWhole None → ⊥
 not_known h = h

@@ -1,5 +1,6 @@
 -- What a run of the program gives: its exit status, its report, and its line on standard error.
-use Rattle.std.specs.Prelude.{◌≡◌, ◌≤◌, ◌⊎◌, ◌+◌, ℕ, List, Option, None, Some, Result, IfSome, length, take, is_err, if◌then◌else◌, ⊤}
+use Rattle.std.specs.Prelude.{◌≡◌, ◌≢◌, ◌≤◌, ◌⊎◌, ◌+◌, ℕ, Bool, List, Option, None, Some, Result}
+use Rattle.std.specs.Prelude.{IfSome, length, take, true, is_err, if◌then◌else◌, ⊤}
 use Rattle.std.specs.List.{list_any}
 use Rattle.std.specs.Io.KnownBytes.{Appends, Consumes, Keeps}
 use Rattle.period_core.specs.declared.refusal.Refusal.{Refusal}
@@ -7,10 +8,12 @@ use Rattle.script_engine.specs.Check.{IsCheckOf}
 use Rattle.script_engine.specs.CheckReport.{check_text}
 use Rattle.script_engine.specs.Report.{report}
 use Rattle.script_engine.specs.Script.{IsRunOf, MayRefuseScript, ScriptApplies, most_bytes}
+use Rattle.bitemporal_cli.specs.Lines.{IsTold, fault_line}
 use Rattle.bitemporal_cli.specs.declared.command.Mode.{Mode}
 use Rattle.bitemporal_cli.specs.declared.command.Mode.TheVariants.{Run, Check}
 use Rattle.bitemporal_cli.specs.declared.fault.RunFault.{RunFault}
-use Rattle.bitemporal_cli.specs.declared.fault.RunFault.TheVariants.{Script, Memory, Read, Write}
+use Rattle.bitemporal_cli.specs.declared.fault.RunFault.TheVariants.{Script, Memory, Words, Read}
+use Rattle.bitemporal_cli.specs.declared.fault.RunFault.TheVariants.{Write}
 
 -- the most bytes that are read: one more than a script may have
 abbrev pub read_limit : ℕ
@@ -47,12 +50,14 @@ abbrev pub Reports : Mode → Option (List ℕ) → Option (List ℕ) → Option
 Reports Run = ReportsText IsRunOf report
 Reports Check = ReportsText IsCheckOf check_text
 
--- a fault of a script that gave no results
-abbrev pub MayEndSilently : Option (List ℕ) → RunFault → Type 0
-MayEndSilently input (Script refusal) = IfSome input (λ all. MayRefuseScript (read_of all) refusal)
-MayEndSilently input Memory = ⊤
-MayEndSilently input Read = ⊤
-MayEndSilently input Write = ⊥
+-- a fault of a script that gave no results; its reader is at fault only if a read failed
+abbrev pub MayEndSilently : Option (List ℕ) → Bool → RunFault → Type 0
+MayEndSilently input read_failed (Script refusal) =
+    IfSome input (λ all. MayRefuseScript (read_of all) refusal)
+MayEndSilently input read_failed Memory = ⊤
+MayEndSilently input read_failed Words = ⊥
+MayEndSilently input read_failed Read = read_failed ≡ true
+MayEndSilently input read_failed Write = ⊥
 
 -- the script that the reader has gives results of this kind
 abbrev pub GivesResults :
@@ -66,12 +71,56 @@ HasResults Check = GivesResults IsCheckOf
 
 -- a fault that the program may end in: the output got nothing; or the script has results, and
 -- memory or the writer failed as their report was written
-abbrev pub MayEndIn : Mode → Option (List ℕ) → Option (List ℕ) → Option (List ℕ) → RunFault → Type 0
-MayEndIn mode input old new fault =
-    (MayEndSilently input fault × Keeps old new)
+abbrev pub MayEndIn :
+    Mode → Option (List ℕ) → Bool → Option (List ℕ) → Option (List ℕ) → RunFault → Type 0
+MayEndIn mode input read_failed old new fault =
+    (MayEndSilently input read_failed fault × Keeps old new)
     ⊎ (HasResults mode input × ((fault ≡ Memory) ⊎ (fault ≡ Write)))
 
 -- the script that the reader has, where its bytes are known, is refused as a whole
 abbrev pub IsRefusedWhole : Option (List ℕ) → Type 0
 IsRefusedWhole None = ⊥
 IsRefusedWhole (Some all) = (refusal : Refusal) × ScriptApplies (read_of all) refusal
+
+-- a run of the program over a script: its mode, what is known of the script, of the output and of
+-- standard error before and after, whether a read or a write to standard error failed, the status
+pub record ProgramRun : Type 0 where
+  pub mode : Mode
+  pub script : Option (List ℕ)
+  pub read_failed : Bool
+  pub out_before : Option (List ℕ)
+  pub out_after : Option (List ℕ)
+  pub err_before : Option (List ℕ)
+  pub err_after : Option (List ℕ)
+  pub err_failed : Bool
+  pub status : ℕ
+
+-- with status 0 or 1 the output got the report, and standard error nothing
+abbrev pub EndsInReport : ProgramRun → Type 0
+EndsInReport r = r.status ≢ 2
+    → Reports r.mode r.script r.out_before r.out_after r.status × Keeps r.err_before r.err_after
+
+-- with status 2 there is a fault, and standard error got its line
+abbrev pub EndsInFault : ProgramRun → Type 0
+EndsInFault r = r.status ≡ 2 → (fault : RunFault)
+    × MayEndIn r.mode r.script r.read_failed r.out_before r.out_after fault
+    × IsTold r.err_failed r.err_before r.err_after (fault_line fault)
+
+-- a script that is refused as a whole ends with status 2, and the output got nothing
+abbrev pub EndsRefused : ProgramRun → Type 0
+EndsRefused r = IsRefusedWhole r.script → (r.status ≡ 2) × Keeps r.out_before r.out_after
+
+-- how each run ends
+abbrev pub EndsWell : ProgramRun → Type 0
+EndsWell r = (r.status ≤ 2) × EndsInReport r × EndsInFault r × EndsRefused r
+
+-- the bytes of the script: those of the file that is named, or else of the reader
+abbrev pub script_of :
+    (List ℕ → Option (List ℕ)) → Option (List ℕ) → Option (List ℕ) → Option (List ℕ)
+script_of content_of input None = input
+script_of content_of input (Some name) = content_of name
+
+-- whether the script may not be read: a named file may not open, the reader has failed or not
+abbrev pub may_fail : Bool → Option (List ℕ) → Bool
+may_fail read_failed None = read_failed
+may_fail read_failed (Some name) = true

@@ -1,11 +1,15 @@
 //! The command line: what it may say, and what it chooses.
 
-ghost use Rattle.std.specs.Prelude.{◌≡◌, ◌≢◌, false, codes, IfSome, IfNone, IfOk, map, option_map};
+ghost use Rattle.std.specs.Prelude.{◌≡◌, ◌≢◌, [], ℕ, List, Option, false, codes, IfSome, IfNone};
+ghost use Rattle.std.specs.Prelude.{IfErr, IfOk, MatchResult, OnOk, map, option_map};
 ghost use Rattle.std.specs.String.{string_bytes};
-ghost use Rattle.clap.specs.Words.{app_of, first_of, found_of, rows_of, rule_of, subcommand_of};
+ghost use Rattle.clap.specs.Words.{app_of, fault_of, first_of, found_of, kind_of, rows_of, rule_of};
+ghost use Rattle.clap.specs.Words.{subcommand_of};
 ghost use Rattle.clap.specs.declared.builder.Command.TheViews.{out-Command};
-ghost use Rattle.bitemporal_cli.specs.CommandLine.{Chooses, IsMode, bitemporal, file_word, script_command};
+ghost use Rattle.bitemporal_cli.specs.CommandLine.{AsksFor, Chooses, IsMode, bitemporal, file_word};
+ghost use Rattle.bitemporal_cli.specs.CommandLine.{script_command};
 
+use crate::help::{ABOUT, CHECK_ABOUT, FILE_HELP, REFUSALS, RUN_ABOUT, STATUSES, VERSION};
 use clap::error::ErrorKind;
 use clap::{Arg, ArgAction, ArgMatches, Command};
 use std::alloc::{AllocError, Global};
@@ -24,36 +28,20 @@ pub enum Mode {
 /// Why a command line chooses nothing.
 #[derive(Debug, Drop, Error)]
 pub enum CommandFault {
-    /// It is refused, or asks for help; the fault says which, and has the text.
+    /// It is refused, or asks for help or the version; the fault says which, and has the text.
     #[error(transparent)]
     Clap(clap::Error),
-    /// Want of memory.
+    /// Out of memory.
     #[error("out of memory")]
     Memory,
 }
-
-const ABOUT: &str =
-    "Runs or checks SQL over tables with a period of validity and a history, and prints a report.";
-
-const RUN_ABOUT: &str = "Runs the statements of a script in order, and prints what each gives.";
-
-const CHECK_ABOUT: &str =
-    "Says which statements of a script are not spelled right, and runs none of them.";
-
-const STATUSES: &str = "\
-Exit status:
-  0  every statement was accepted
-  1  a statement was refused
-  2  the command line, the file, the whole script or the output was refused, or memory was
-
-A refusal has a number and a name. docs/PROFILE.md lists them all.";
 
 fn file_argument<'a>(alloc: Global) -> Arg<'a>
     ensures rule { rule_of result ≡ file_word }
     ensures local { result.global ≡ false }
 {
     Arg::new(alloc, "FILE")
-        .help("The script; without it, standard input is read")
+        .help(FILE_HELP)
         .action(ArgAction::Set)
 }
 
@@ -72,14 +60,16 @@ fn script_subcommand<'a>(
     Ok(whole)
 }
 
-fn command<'a>(alloc: Global) -> Result<Command<'a>, AllocError>
+// The program's command line, with this text below its own help.
+fn command<'a>(alloc: Global, after: &'a str) -> Result<Command<'a>, AllocError>
     ensures { IfOk result (λ c. app_of c ≡ bitemporal) }
 {
     let run = script_subcommand(alloc, "run", RUN_ABOUT)?;
     let check = script_subcommand(alloc, "check", CHECK_ABOUT)?;
     let named = Command::new(alloc, "bitemporal")
         .about(ABOUT)
-        .after_help(STATUSES);
+        .version(VERSION)
+        .after_help(after);
     let top = named.subcommand_required(true);
     let running = top.subcommand(run)?;
     let whole = running.subcommand(check)?;
@@ -116,16 +106,28 @@ fn file_of(alloc: Global, matches: &ArgMatches<'_>) -> Result<Option<String>, Al
 }
 
 /// What a command line, with the program's name as its first word, asks for: the mode, and the
-/// file where one is named. Else clap's fault, with the text that it prints, or want of memory.
+/// file where one is named. Else clap's fault, with the text to show, or out of memory.
 pub fn command_line<S: AsStr>(
     alloc: Global,
     words: &[S],
 ) -> Result<(Mode, Option<String>), CommandFault>
-    ensures { IfOk result
-        (λ r. Chooses (subcommand_of bitemporal (map S.text words.now)) r.0
-        (option_map string_bytes r.1)) }
+    // Lines of these forms are accepted.
+    ensures accepts { (mode : Mode) (file : Option (List ℕ))
+        → AsksFor (map S.text words.now) mode file
+        → MatchResult result
+        (λ chosen. (chosen.0 ≡ mode) × (option_map string_bytes chosen.1 ≡ file))
+        (λ fault. fault ≡ CommandFault.Memory) }
+
+    // No other line is accepted than those in which clap finds no fault.
+    ensures refuses { OnOk result (fault_of bitemporal (map S.text words.now) ≡ []) }
+    ensures chosen { IfOk result
+        (λ chosen. Chooses (subcommand_of bitemporal (map S.text words.now)) chosen.0
+        (option_map string_bytes chosen.1)) }
 {
-    let Ok(mut command) = command(alloc) else {
+    let Ok(after) = format!(in alloc; "{STATUSES}\n\n{REFUSALS}") else {
+        return Err(CommandFault::Memory);
+    };
+    let Ok(mut command) = command(alloc, after.as_str()) else {
         return Err(CommandFault::Memory);
     };
     let matches = match command.try_get_matches_from_mut(words) {
@@ -144,8 +146,10 @@ pub fn command_line<S: AsStr>(
     }
 }
 
-// Want of memory in clap is want of memory here.
-fn of_clap(fault: clap::Error) -> CommandFault {
+// Out of memory in clap is out of memory here.
+fn of_clap(fault: clap::Error) -> CommandFault
+    ensures { kind_of fault ≡ ErrorKind.OutOfMemory → result ≡ CommandFault.Memory }
+{
     if fault.kind() == ErrorKind::OutOfMemory {
         return CommandFault::Memory;
     }

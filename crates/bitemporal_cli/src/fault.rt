@@ -2,24 +2,43 @@
 
 ghost use Rattle.std.specs.Prelude.{◌≡◌, ◌⊎◌, [], IfOk, Some};
 ghost use Rattle.std.specs.String.{string_bytes};
-ghost use Rattle.bitemporal_cli.specs.Lines.{GetsFrontOf, detail_of, fault_line, line_of, offset_of, refusal_line};
+ghost use Rattle.std.specs.IoError.{error_kind};
+ghost use Rattle.bitemporal_cli.specs.Lines.{IsTold, MayBeToldAs, detail_of, fault_line, line_of};
+ghost use Rattle.bitemporal_cli.specs.Lines.{offset_of, refusal_line, words_fault};
 
+use crate::tracked::Tracked;
 use period_core::Refusal;
 use script_engine::ReportFault;
 use std::alloc::{AllocError, Global};
-use std::io::Write;
+use std::io;
+use std::io::{ErrorKind, Write};
 
-/// Why a script gave no report.
+/// Why the program gave no whole report, where its words ask for one.
 #[derive(Clone, Copy, Debug, PartialEq, Eq)]
 pub enum RunFault {
     /// The whole script was refused.
     Script(Refusal),
-    /// Want of memory outside the script's statements.
+    /// Out of memory outside the script's statements.
     Memory,
-    /// The reader of the script failed.
+    /// A word of the command line is not UTF-8.
+    Words,
+    /// The script's file did not open, or its reader failed.
     Read,
     /// The writer of the report failed.
     Write,
+}
+
+impl RunFault {
+    /// Why the system did not give the words of the command line: out of memory, where no word is
+    /// said not to be UTF-8.
+    pub fn of_words(error: &io::Error) -> RunFault
+        ensures { result ≡ words_fault (error_kind error.now) }
+    {
+        match error.kind() {
+            ErrorKind::InvalidData => RunFault::Words,
+            _ => RunFault::Memory,
+        }
+    }
 }
 
 impl From<ReportFault> for RunFault {
@@ -37,6 +56,8 @@ impl From<ReportFault> for RunFault {
 }
 
 const MEMORY_LINE: &[u8] = b"bitemporal: 61 Memory\n";
+
+const WORDS_LINE: &[u8] = b"bitemporal: a word of the command line is not UTF-8\n";
 
 const READ_LINE: &[u8] = b"bitemporal: cannot read the script\n";
 
@@ -77,26 +98,40 @@ fn offset_line(alloc: Global, code: u8, name: &str, offset: usize) -> Result<Str
     format!(in alloc; "bitemporal: {code} {name} {offset}\n")
 }
 
-/// Writes the line of a fault, as far as the writer takes it. Where there is no memory for the
-/// line of a refusal, it is the line of want of memory.
-pub fn tell<W: Write>(alloc: Global, err: &mut W, fault: RunFault)
-    ensures { GetsFrontOf (W.contents err.old) (W.contents err.new) (fault_line fault)
-        ⊎ GetsFrontOf (W.contents err.old) (W.contents err.new) (fault_line RunFault.Memory) }
+// Writes the line of a fault: the whole line, unless a write failed. Where there is no memory for
+// the line of a refusal, it is the line of out of memory.
+fn tell<W: Write>(alloc: Global, err: &mut Tracked<W>, fault: RunFault)
+    ensures { (told : RunFault) × MayBeToldAs fault told
+        × IsTold err.new.has_failed (W.contents err.old.inner) (W.contents err.new.inner)
+        (fault_line told) }
 {
     match fault {
         RunFault::Script(refusal) => match line_of_refusal(alloc, &refusal) {
-            Ok(line) => write_front(err, line.as_bytes()),
-            Err(_) => write_front(err, MEMORY_LINE),
+            Ok(line) => write_line(err, line.as_bytes()),
+            Err(_) => write_line(err, MEMORY_LINE),
         },
-        RunFault::Memory => write_front(err, MEMORY_LINE),
-        RunFault::Read => write_front(err, READ_LINE),
-        RunFault::Write => write_front(err, WRITE_LINE),
+        RunFault::Memory => write_line(err, MEMORY_LINE),
+        RunFault::Words => write_line(err, WORDS_LINE),
+        RunFault::Read => write_line(err, READ_LINE),
+        RunFault::Write => write_line(err, WRITE_LINE),
     }
 }
 
-// Writes as much of the line as the writer takes before it fails.
-fn write_front<W: Write>(err: &mut W, line: &[u8])
-    ensures { GetsFrontOf (W.contents err.old) (W.contents err.new) line.now }
+/// Ends the program in a fault: writes its line, and gives the exit status.
+pub fn end_in<W: Write>(alloc: Global, err: &mut Tracked<W>, fault: RunFault) -> u8
+    ensures status { result ≡ 2 }
+    ensures told { (told : RunFault) × MayBeToldAs fault told
+        × IsTold err.new.has_failed (W.contents err.old.inner) (W.contents err.new.inner)
+        (fault_line told) }
+{
+    tell(alloc, err, fault);
+    2
+}
+
+// Writes the line, or as much of it as the writer takes before it fails.
+fn write_line<W: Write>(err: &mut Tracked<W>, line: &[u8])
+    ensures { IsTold err.new.has_failed
+        (W.contents err.old.inner) (W.contents err.new.inner) line.now }
 {
     let mut written = 0;
     'writes: while written < line.len() {

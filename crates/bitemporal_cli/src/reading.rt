@@ -1,9 +1,10 @@
 //! The script as its reader gives it.
 
-ghost use Rattle.std.specs.Prelude.{◌≡◌, ◌⊎◌, ◌≤◌, length, IfOk, IfErr, IfSome};
+ghost use Rattle.std.specs.Prelude.{◌≡◌, ◌⊎◌, ◌≤◌, length, true, IfOk, IfErr, IfSome};
 ghost use Rattle.bitemporal_cli.specs.Program.{TakesAtMost, read_limit, read_of};
 
 use crate::fault::RunFault;
+use crate::tracked::Tracked;
 use script_engine::MOST_BYTES;
 use std::alloc::Global;
 use std::io::Read;
@@ -14,13 +15,14 @@ pub const MOST: usize = MOST_BYTES + 1;
 const CHUNK: usize = 4096;
 
 /// Reads the script, but at most one byte more than it may have. An interrupted read is a fault.
-pub fn read_script<R: Read>(alloc: Global, input: &mut R) -> Result<Vec<u8>, RunFault>
+pub fn read_script<R: Read>(alloc: Global, input: &mut Tracked<R>) -> Result<Vec<u8>, RunFault>
     ensures bytes { IfOk result
-        (λ text. IfSome (R.remaining input.old) (λ all. text.items ≡ read_of all)) }
+        (λ text. IfSome (R.remaining input.old.inner) (λ all. text.items ≡ read_of all)) }
     ensures bounded { IfOk result (λ text. length text.items ≤ MOST) }
-    ensures taken { TakesAtMost read_limit (R.remaining input.old) (R.remaining input.new) }
-    ensures refused { IfErr result
-        (λ fault. (fault ≡ RunFault.Memory) ⊎ (fault ≡ RunFault.Read)) }
+    ensures taken { TakesAtMost read_limit
+        (R.remaining input.old.inner) (R.remaining input.new.inner) }
+    ensures refused { IfErr result (λ fault. (fault ≡ RunFault.Memory)
+        ⊎ ((fault ≡ RunFault.Read) × (input.new.has_failed ≡ true))) }
 {
     let mut text = Vec::new(alloc);
     let mut buffer = [0u8; CHUNK];

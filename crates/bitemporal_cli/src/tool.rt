@@ -5,12 +5,13 @@ ghost use Rattle.std.specs.Prelude.{◌≡◌, ◌≢◌, ◌≤◌, IfErr, IfOk
 ghost use Rattle.std.specs.Io.KnownBytes.{Keeps};
 ghost use Rattle.script_engine.specs.Check.{IsCheckOf};
 ghost use Rattle.script_engine.specs.Script.{IsRunOf};
-ghost use Rattle.bitemporal_cli.specs.Lines.{GetsFrontOf, fault_line};
-ghost use Rattle.bitemporal_cli.specs.Program.{AreOfReader, IsRefusedWhole, MayEndIn, MayEndSilently, Reports, TakesAtMost, read_limit, status_of};
+ghost use Rattle.bitemporal_cli.specs.Program.{AreOfReader, EndsWell, MayEndIn, MayEndSilently};
+ghost use Rattle.bitemporal_cli.specs.Program.{Reports, TakesAtMost, read_limit, status_of};
 
 use crate::command::Mode;
-use crate::fault::{RunFault, tell};
+use crate::fault::{RunFault, end_in};
 use crate::reading::read_script;
+use crate::tracked::Tracked;
 use period_core::Refusal;
 use script_engine::{Outcome, check_script, run_script, write_check, write_report};
 use sqlite::Connection;
@@ -19,26 +20,29 @@ use std::io::{Read, Write};
 
 /// Runs the script that the reader has, over a new store in memory, or checks it, as the mode says,
 /// and writes the report. Gives the exit status: 0, or 1 where a statement was refused, or 2 where
-/// the script was refused as a whole, or the reader, the writer or memory failed. With 2 `err` gets a
-/// line as far as it takes it, and after a fault of the writer `out` may hold a part of the report.
+/// the script was refused as a whole, or the reader, the writer or memory failed. With 2 `err` gets
+/// a line, whole unless a write failed, and after a fault of the writer `out` may hold a part of
+/// the report.
 pub fn run_tool<R: Read, W: Write, E: Write>(
     alloc: Global,
     mode: Mode,
-    input: &mut R,
+    input: &mut Tracked<R>,
     out: &mut W,
-    err: &mut E,
+    err: &mut Tracked<E>,
 ) -> u8
-    ensures status { result ≤ 2 }
-    ensures reported { result ≢ 2
-        → Reports mode (R.remaining input.old) (W.contents out.old) (W.contents out.new) result }
-    ensures silent { result ≢ 2 → Keeps (E.contents err.old) (E.contents err.new) }
-    ensures told { result ≡ 2
-        → (fault : RunFault)
-        × MayEndIn mode (R.remaining input.old) (W.contents out.old) (W.contents out.new) fault
-        × GetsFrontOf (E.contents err.old) (E.contents err.new) (fault_line fault) }
-    ensures refused { IsRefusedWhole (R.remaining input.old)
-        → (result ≡ 2) × Keeps (W.contents out.old) (W.contents out.new) }
-    ensures taken { TakesAtMost read_limit (R.remaining input.old) (R.remaining input.new) }
+    ensures ends { EndsWell (record {
+      mode = mode;
+      script = R.remaining input.old.inner;
+      read_failed = input.new.has_failed;
+      out_before = W.contents out.old;
+      out_after = W.contents out.new;
+      err_before = E.contents err.old.inner;
+      err_after = E.contents err.new.inner;
+      err_failed = err.new.has_failed;
+      status = result;
+    }) }
+    ensures taken { TakesAtMost read_limit
+        (R.remaining input.old.inner) (R.remaining input.new.inner) }
 {
     let ended = match mode {
         Mode::Run => report_run(alloc, input, out),
@@ -46,21 +50,24 @@ pub fn run_tool<R: Read, W: Write, E: Write>(
     };
     match ended {
         Ok(status) => status,
-        Err(fault) => {
-            tell(alloc, err, fault);
-            2
-        }
+        Err(fault) => end_in(alloc, err, fault),
     }
 }
 
 // Runs the script and writes its report. Gives the exit status.
-fn report_run<R: Read, W: Write>(alloc: Global, input: &mut R, out: &mut W) -> Result<u8, RunFault>
+fn report_run<R: Read, W: Write>(
+    alloc: Global,
+    input: &mut Tracked<R>,
+    out: &mut W,
+) -> Result<u8, RunFault>
     ensures reported { IfOk result
-        (Reports Mode.Run (R.remaining input.old) (W.contents out.old) (W.contents out.new)) }
+        (Reports Mode.Run (R.remaining input.old.inner) (W.contents out.old) (W.contents out.new)) }
     ensures status { IfOk result (λ status. status ≤ 1) }
     ensures refused { IfErr result
-        (MayEndIn Mode.Run (R.remaining input.old) (W.contents out.old) (W.contents out.new)) }
-    ensures taken { TakesAtMost read_limit (R.remaining input.old) (R.remaining input.new) }
+        (MayEndIn Mode.Run (R.remaining input.old.inner) input.new.has_failed
+        (W.contents out.old) (W.contents out.new)) }
+    ensures taken { TakesAtMost read_limit
+        (R.remaining input.old.inner) (R.remaining input.new.inner) }
 {
     let results = run_results(alloc, input)?;
     write_report(alloc, out, results.as_slice())?;
@@ -70,15 +77,18 @@ fn report_run<R: Read, W: Write>(alloc: Global, input: &mut R, out: &mut W) -> R
 // Checks the script and writes the report of that. Gives the exit status.
 fn report_check<R: Read, W: Write>(
     alloc: Global,
-    input: &mut R,
+    input: &mut Tracked<R>,
     out: &mut W,
 ) -> Result<u8, RunFault>
     ensures reported { IfOk result
-        (Reports Mode.Check (R.remaining input.old) (W.contents out.old) (W.contents out.new)) }
+        (Reports Mode.Check (R.remaining input.old.inner)
+        (W.contents out.old) (W.contents out.new)) }
     ensures status { IfOk result (λ status. status ≤ 1) }
     ensures refused { IfErr result
-        (MayEndIn Mode.Check (R.remaining input.old) (W.contents out.old) (W.contents out.new)) }
-    ensures taken { TakesAtMost read_limit (R.remaining input.old) (R.remaining input.new) }
+        (MayEndIn Mode.Check (R.remaining input.old.inner) input.new.has_failed
+        (W.contents out.old) (W.contents out.new)) }
+    ensures taken { TakesAtMost read_limit
+        (R.remaining input.old.inner) (R.remaining input.new.inner) }
 {
     let results = check_results(alloc, input)?;
     write_check(alloc, out, results.as_slice())?;
@@ -88,12 +98,14 @@ fn report_check<R: Read, W: Write>(
 // The results of the script's statements.
 fn run_results<R: Read>(
     alloc: Global,
-    input: &mut R,
+    input: &mut Tracked<R>,
 ) -> Result<Vec<Result<Outcome, Refusal>>, RunFault>
     ensures run { IfOk result
-        (λ results. AreOfReader IsRunOf (R.remaining input.old) results.items) }
-    ensures refused { IfErr result (MayEndSilently (R.remaining input.old)) }
-    ensures taken { TakesAtMost read_limit (R.remaining input.old) (R.remaining input.new) }
+        (λ results. AreOfReader IsRunOf (R.remaining input.old.inner) results.items) }
+    ensures refused { IfErr result
+        (MayEndSilently (R.remaining input.old.inner) input.new.has_failed) }
+    ensures taken { TakesAtMost read_limit
+        (R.remaining input.old.inner) (R.remaining input.new.inner) }
 {
     let script = read_script(alloc, input)?;
     let Ok(connection) = Connection::open_in_memory(alloc) else {
@@ -108,12 +120,14 @@ fn run_results<R: Read>(
 // The results of the check of the script's statements.
 fn check_results<R: Read>(
     alloc: Global,
-    input: &mut R,
+    input: &mut Tracked<R>,
 ) -> Result<Vec<Result<(), Refusal>>, RunFault>
     ensures check { IfOk result
-        (λ results. AreOfReader IsCheckOf (R.remaining input.old) results.items) }
-    ensures refused { IfErr result (MayEndSilently (R.remaining input.old)) }
-    ensures taken { TakesAtMost read_limit (R.remaining input.old) (R.remaining input.new) }
+        (λ results. AreOfReader IsCheckOf (R.remaining input.old.inner) results.items) }
+    ensures refused { IfErr result
+        (MayEndSilently (R.remaining input.old.inner) input.new.has_failed) }
+    ensures taken { TakesAtMost read_limit
+        (R.remaining input.old.inner) (R.remaining input.new.inner) }
 {
     let script = read_script(alloc, input)?;
     match check_script(alloc, script.as_slice()) {

@@ -1,5 +1,6 @@
 pub mod Least
 pub mod Sound
+pub mod AnyTests
 pub mod Finds
 pub mod Kept
 pub mod Places
@@ -11,9 +12,14 @@ pub mod DefinitionParts
 pub mod Built
 pub mod DatePeriods
 pub mod GivenValues
+pub mod Distinct
+pub mod DistinctDefined
+pub mod GivenPlaces
+pub mod KeyedColumns
 pub mod Fronts
 pub mod DefinitionFronts
 pub mod DefinitionSpelling
+pub mod DefinitionSame
 pub mod Tables
 pub mod CreateExamples
 pub mod DefinitionExamples

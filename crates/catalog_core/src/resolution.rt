@@ -5,11 +5,13 @@ ghost use Rattle.period_core.specs.Leasts.{MayAnswer, NoneApplies};
 ghost use Rattle.sql_front.specs.Plain.{plain};
 ghost use Rattle.catalog_core.specs.Insertion.{gives_empty_row, insert_conditions};
 ghost use Rattle.catalog_core.specs.Judged.{Holds};
-ghost use Rattle.catalog_core.specs.Resolution.{IsChange, ResolvesChange, ResolvesInsert, change_conditions, empty_period, has_empty_row};
+ghost use Rattle.catalog_core.specs.Resolution.{IsChange, ResolvesChange, ResolvesInsert};
+ghost use Rattle.catalog_core.specs.Resolution.{change_conditions, empty_period, has_empty_row};
 
 use crate::catalog::Catalog;
 use crate::change::{Action, Change};
 use crate::given_rows::given_rows;
+use crate::insert_places::given_places;
 use crate::insertion::insert_fault;
 use period_core::{Items, Memory, Refusal};
 use sql_front::{InsertRows, Statement, StatementForm};
@@ -26,7 +28,8 @@ fn numbered(alloc: Global, catalog: &Catalog, insert: &InsertRows) -> Result<Cha
     let Some(table) = catalog.def(number) else {
         unreachable!()
     };
-    let rows = given_rows(alloc, table, insert)?;
+    let places = given_places(alloc, table, &insert.columns)?;
+    let rows = given_rows(alloc, table, insert, places.as_slice())?;
     Ok(Change {
         table: number,
         action: Action::Insert(Items::from_vec(rows)),
@@ -44,15 +47,16 @@ fn resolve_insert(alloc: Global, catalog: &Catalog, insert: &InsertRows) -> Resu
     ensures refused { IfErr result
         (MayAnswer (Holds (insert_conditions catalog.now.tables insert.now))) }
 {
-    if let Some(fault) = insert_fault(catalog, insert) {
+    let fault = insert_fault(alloc, catalog, insert)?;
+    if let Some(fault) = fault {
         return Err(fault);
     }
     Ok(numbered(alloc, catalog, insert)?)
 }
 
-/// The change that an INSERT makes; or the refusal of the least number, 23 to 31, whose condition
-/// holds, or want of memory. The statement is an INSERT. Whether a row's period ends after its start is
-/// not yet judged: `empty` says that the given rows decide it.
+/// The change that an INSERT makes. An `Err` is the lowest-numbered of the refusals 23 to 31 that
+/// apply, or out of memory. The statement is an INSERT. Whether a row's period ends after its start
+/// is not yet judged: `empty` says that the given rows decide it.
 pub fn resolve_change(
     alloc: Global,
     catalog: &Catalog,

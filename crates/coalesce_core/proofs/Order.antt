@@ -8,7 +8,7 @@ use Rattle.std.specs.Cmp.{IsTotalOrder}
 use Rattle.std.specs.Ordering.{int_cmp, is_lt, is_gt, ordering_then, ordering_reverse}
 use Rattle.std.proofs.lemmas.Cmp.{then_total, on_total, int_cmp_total, upto, tied_itself}
 use Rattle.std.proofs.lemmas.Int.{ints, by_lt_z}
-use Rattle.period_core.specs.Order.{values_cmp}
+use Rattle.period_core.specs.Order.{values_cmp, row_cmp}
 use Rattle.period_core.specs.OrderLaws.{values_cmp_total, values_cmp-same}
 use Rattle.period_core.specs.declared.row.PeriodRow.{PeriodRow}
 use Rattle.temporal_model.specs.Answer.{answer_cmp}
@@ -88,10 +88,7 @@ PrecedesWithGap-same_start a b c v s p =
 pub NotAfter-refl : (a : PeriodRow) → NotAfter a a
 NotAfter-refl a = ap is_lt (tied_itself answer_cmp_total a)
 
--- the order of rows by which the code sorts: the end breaks ties
-abbrev pub row_cmp : PeriodRow → PeriodRow → Ordering
-row_cmp a b = ordering_then (values_cmp a.values b.values) (ordering_then (int_cmp a.period.start b.period.start) (int_cmp a.period.end b.period.end))
-
+-- the order by which the code sorts
 pub row_cmp_total : IsTotalOrder row_cmp
 row_cmp_total = then_total (on_total (λ (r : PeriodRow). r.values) values_cmp_total) (then_total (on_total (λ (r : PeriodRow). r.period.start) int_cmp_total) (on_total (λ (r : PeriodRow). r.period.end) int_cmp_total))
 

@@ -11,7 +11,7 @@ use Rattle.std.proofs.lemmas.List.{get_or_default}
 use Rattle.std.proofs.lemmas.List.Elements.{Contains-append_left, Contains-push, Contains-push_cases, Contains-get_or}
 use Rattle.std.proofs.lemmas.List.Quantifiers.{all_pairs_push}
 use Rattle.period_core.specs.declared.row.PeriodRow.{PeriodRow}
-use Rattle.temporal_model.specs.Snapshot.{InSnapshot, Equivalent}
+use Rattle.temporal_model.specs.Snapshot.{Equivalent}
 use Rattle.temporal_model.proofs.Snapshots.{Equivalent-append, Equivalent-trans, HoldsOn, held, in_snapshot}
 use Rattle.temporal_model.specs.Answer.{IsCertified, IsInAnswerOrder}
 use Rattle.coalesce_core.specs.Coalesced.{PrecedesWithGap, NotAfter, IsCoalesced, NoneAfter}

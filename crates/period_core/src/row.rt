@@ -7,7 +7,8 @@ use crate::period::Period;
 use crate::value::Values;
 use std::alloc::Global;
 
-/// Values that hold on each day of a period. Rows stand by their values, then by their periods.
+/// Values that hold on each day of a period. Rows are in the order of their values, and those with
+/// the same values in the order of their periods.
 #[derive(Drop, Debug, PartialEq, Eq, PartialOrd, Ord)]
 pub struct PeriodRow {
     /// The values, column by column.
@@ -17,7 +18,7 @@ pub struct PeriodRow {
 }
 
 impl PeriodRow {
-    /// An equal row. An `Err` says that memory was refused.
+    /// An equal row. The only error is out of memory.
     pub fn copy(&self, alloc: Global) -> Result<PeriodRow, Memory>
         ensures { IfOk result (λ r. r ≡ self.now) }
     {

@@ -13,6 +13,7 @@ mod Steps
 mod TableNumbers
 mod Widths
 pub mod AppendFacts
+pub mod BufferFacts
 pub mod CheckExamples
 pub mod CsvFacts
 pub mod PieceExamples

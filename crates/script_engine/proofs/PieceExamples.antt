@@ -1,17 +1,17 @@
 -- Worked rows: the pieces of a CREATE TABLE, an INSERT and a query that are accepted, and the run of the three.
 use Rattle.std.proofs.Common.{◌≡◌, ◌∷◌, ◌++◌, [], ℕ, List, Some, Ok, codes, refl, inr, arith}
 use Rattle.period_core.specs.TextReading.{date_at, date_parts_of, day_of_text, is_date}
-use Rattle.sql_front.specs.ChangeReaders.{columns_read, insert_read}
+use Rattle.sql_front.specs.ChangeReaders.{columns_read, insert_read, inserted_read, values_read}
 use Rattle.sql_front.specs.ConditionReaders.{column_read, where_read}
 use Rattle.sql_front.specs.Depth.{room}
-use Rattle.sql_front.specs.ElementReaders.{create_read, elements_read, element_read, column_element_read, not_null_read, key_element_read, key_names_read, reference_element_read, versioning_read, without_overlaps_read, all_and_last_read, type_read, length_read, generated_read, row_end_read, pair_read, some_period_read, period_element_read, system_element_read}
+use Rattle.sql_front.specs.ElementReaders.{create_read, elements_read, element_read, column_element_read, not_null_read, key_element_read, key_names_read, reference_element_read, versioning_read, without_overlaps_read, all_and_last_read, type_read, length_read, generated_read, row_end_read, pair_read, some_period_read, period_element_read, system_element_read, created_table_read, timestamp_read, key_list_read}
 use Rattle.sql_front.specs.LeafValues.{day_of_token, day_value}
 use Rattle.sql_front.specs.Leaves.{date_read, literal_read, name_read, number_read, tuple_read, unsigned_read}
 use Rattle.sql_front.specs.Lexemes.{Lexeme}
 use Rattle.sql_front.specs.Names.{is_plain_word}
-use Rattle.sql_front.specs.QueryReaders.{chain_read, item_read, joins_read, new_name_read, primary_read, query_read, reference_read, select_read, sequenced_read, step_read, steps_read}
+use Rattle.sql_front.specs.QueryReaders.{chain_read, item_read, joins_read, new_name_read, primary_read, query_read, reference_read, select_read, sequenced_read, step_read, steps_read, selected_read, from_read}
 use Rattle.sql_front.specs.Reading.{bounded_read, whole_read}
-use Rattle.sql_front.specs.StatementReaders.{statement_read}
+use Rattle.sql_front.specs.StatementReaders.{later_statement_read, query_statement_read, statement_read}
 use Rattle.sql_front.specs.Trees as statement
 use Rattle.sql_front.specs.WindowReaders.{for_window_read}
 use Rattle.sql_front.specs.Words.{is_reserved}
@@ -47,7 +47,7 @@ question_tokens =
     written (codes "VALIDTIME") ∷ written (codes "SELECT") ∷ written (codes "DISTINCT") ∷ written (codes "DEPT") ∷ written (codes "FROM") ∷ written (codes "EMP") ∷ []
 
 question_is_read : whole_read (statement_read 0) question_tokens ≡ Some (statement.sequenced question)
-unfolding statement_read sequenced_read query_read primary_read steps_read step_read select_read item_read chain_read joins_read reference_read new_name_read for_window_read where_read column_read name_read bounded_read is_plain_word is_reserved
+unfolding statement_read later_statement_read query_statement_read sequenced_read query_read primary_read steps_read step_read select_read selected_read from_read item_read chain_read joins_read reference_read new_name_read for_window_read where_read column_read name_read bounded_read is_plain_word is_reserved
 question_is_read = refl
 
 -- its piece is answered as the query is
@@ -74,7 +74,7 @@ insertion_tokens =
     ∷ date_tokens (codes "'1970-01-06'") ++ sign (codes ",") ∷ date_tokens (codes "'1970-01-09'") ++ sign (codes ")") ∷ []
 
 insertion_is_read : whole_read (statement_read 0) insertion_tokens ≡ Some (statement.insert insertion)
-unfolding statement_read insert_read columns_read name_read tuple_read literal_read unsigned_read number_read date_read day_value day_of_token day_of_text date_at date_parts_of is_date bounded_read is_plain_word is_reserved
+unfolding statement_read later_statement_read insert_read inserted_read values_read columns_read name_read tuple_read literal_read unsigned_read number_read date_read day_value day_of_token day_of_text date_at date_parts_of is_date bounded_read is_plain_word is_reserved
 insertion_is_read = refl
 
 -- its piece adds one row
@@ -118,7 +118,7 @@ creation_tokens =
     ∷ written (codes "WITH") ∷ written (codes "SYSTEM") ∷ written (codes "VERSIONING") ∷ []
 
 creation_is_read : whole_read (statement_read 0) creation_tokens ≡ Some (statement.create creation)
-unfolding statement_read create_read elements_read element_read column_element_read not_null_read key_element_read key_names_read reference_element_read versioning_read without_overlaps_read all_and_last_read type_read length_read generated_read row_end_read pair_read some_period_read period_element_read system_element_read number_read name_read bounded_read is_plain_word is_reserved
+unfolding statement_read create_read created_table_read timestamp_read key_list_read elements_read element_read column_element_read not_null_read key_element_read key_names_read reference_element_read versioning_read without_overlaps_read all_and_last_read type_read length_read generated_read row_end_read pair_read some_period_read period_element_read system_element_read number_read name_read bounded_read is_plain_word is_reserved
 creation_is_read = refl
 
 -- its piece makes the table

@@ -3,6 +3,7 @@ use Rattle.std.proofs.Common.{◌≡◌, ◌==◌, ◌∷◌, ◌↔◌, [], ℕ
 use Rattle.std.proofs.lemmas.Int.{by_lt_z, ints}
 use Rattle.std.specs.List.{Contains}
 use Rattle.period_core.specs.Leasts.{NoneApplies}
+use Rattle.period_core.proofs.Periods.{period_over}
 use Rattle.period_core.specs.declared.answer.Answer.{Answer}
 use Rattle.period_core.specs.declared.row.PeriodRow.{PeriodRow}
 use Rattle.period_core.specs.declared.value.Value.{Value}
@@ -194,11 +195,11 @@ not_represented kept = Contains-nil worker ((kept.daily 1 (pos 5) worker).1 (0, 
 
 -- the first of the two rows that the table holds
 abbrev earlier : PeriodRow
-earlier = record { values = worker; period = record { start = pos 5; end = pos 7; ordered = omega (arith, ints) } }
+earlier = record { values = worker; period = period_over (pos 5) (pos 7) refl }
 
 -- the second
 abbrev later : PeriodRow
-later = record { values = colleague; period = record { start = pos 6; end = pos 8; ordered = omega (arith, ints) } }
+later = record { values = colleague; period = period_over (pos 6) (pos 8) refl }
 
 -- the two
 abbrev both_rows : List PeriodRow

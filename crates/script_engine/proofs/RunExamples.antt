@@ -5,6 +5,7 @@ use Rattle.std.proofs.lemmas.Str.{is_utf8-from_IsUtf8}
 use Rattle.std.specs.Str.{IsUtf8, chars, is_utf8}
 use Rattle.period_core.specs.Codes.{code_of}
 use Rattle.period_core.specs.Leasts.{MayAnswer}
+use Rattle.period_core.proofs.Periods.{are_ends, period_over}
 use Rattle.period_core.specs.declared.answer.Answer.{Answer}
 use Rattle.period_core.specs.declared.refusal.Refusal.TheVariants.{BadToken, NotUtf8, ScriptTooLarge, Syntax}
 use Rattle.period_core.specs.declared.row.PeriodRow.{PeriodRow}
@@ -91,12 +92,12 @@ seven = Int (pos 7) ∷ []
 abbrev pub Sets : ℤ → List Value → Type 0
 Sets day values = (seven ≡ values) × (pos 5 ≤ℤ day) × (day <ℤ pos 8)
 
-abbrev seven_over : (start end : ℤ) → start <ℤ end → PeriodRow
-seven_over start end ordered = record { values = seven; period = record { start = start; end = end; ordered = ordered } }
+abbrev seven_over : (start end : ℤ) → are_ends start end ≡ true → PeriodRow
+seven_over start end ends = record { values = seven; period = period_over start end ends }
 
 -- the value 7 from day 5 on and before day 8
 abbrev pub whole : PeriodRow
-whole = seven_over (pos 5) (pos 8) (omega (arith, ints))
+whole = seven_over (pos 5) (pos 8) refl
 
 whole-certified : IsCertified (whole ∷ [])
 whole-certified = record {
@@ -141,7 +142,7 @@ is_answer = record {
 abbrev pub two_rows : Answer
 two_rows = record {
   columns = codes "V" ∷ [];
-  rows = seven_over (pos 5) (pos 6) (omega (arith, ints)) ∷ seven_over (pos 6) (pos 8) (omega (arith, ints)) ∷ [];
+  rows = seven_over (pos 5) (pos 6) refl ∷ seven_over (pos 6) (pos 8) refl ∷ [];
   witnesses = record { held = pos 5; absent = Some (pos 4) } ∷ record { held = pos 6; absent = Some (pos 5) } ∷ [];
 }
 

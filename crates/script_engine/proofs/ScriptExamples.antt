@@ -19,7 +19,7 @@ use Rattle.sql_front.specs.ConditionReaders.{where_read}
 use Rattle.sql_front.specs.Leaves.{name_read}
 use Rattle.sql_front.specs.WindowReaders.{for_window_read}
 use Rattle.sql_front.specs.Reading.{whole_read}
-use Rattle.sql_front.specs.StatementReaders.{statement_read, stored_read}
+use Rattle.sql_front.specs.StatementReaders.{later_statement_read, query_statement_read, statement_read, stored_read, stored_table_read}
 use Rattle.sql_front.specs.Trees.{Statement, stored}
 use Rattle.sql_front.specs.Words.{is_reserved}
 use Rattle.sql_front.specs.declared.token.Kind.TheVariants.{Symbol, Word}
@@ -145,7 +145,7 @@ looked_up = stored (record { table = codes "T"; window = None; condition = None 
 
 -- its tokens are read as this statement, and so spell it
 lookup_is_read : whole_read (statement_read 0) lookup ≡ Some looked_up
-unfolding statement_read stored_read for_window_read where_read name_read is_plain_word is_reserved
+unfolding statement_read later_statement_read query_statement_read stored_read stored_table_read for_window_read where_read name_read is_plain_word is_reserved
 lookup_is_read = refl
 
 lookup_spelled : IsStatement lookup looked_up
@@ -158,7 +158,7 @@ lookup_sound = sound_if_read 0 32 lookup looked_up lookup_is_read (omega arith) 
 
 -- the second piece spells no statement
 letter_is_not_read : whole_read (statement_read 1) letter ≡ None
-unfolding statement_read stored_read
+unfolding statement_read later_statement_read query_statement_read stored_read
 letter_is_not_read = refl
 
 -- nor is it too deep

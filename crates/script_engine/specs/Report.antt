@@ -1,5 +1,6 @@
 -- The report as bytes, a function of the list of results.
-use Rattle.std.specs.Prelude.{◌==◌, ◌||◌, ◌+◌, ◌∷◌, ◌++◌, ℕ, ℤ, Bool, List, [], Option, Some, None, flat_map, length, map, codes, Result, Ok, Err, if◌then◌else◌}
+use Rattle.std.specs.Prelude.{◌==◌, ◌||◌, ◌+◌, ◌∷◌, ◌++◌, ℕ, ℤ, Bool, List, [], ⊤, if◌then◌else◌}
+use Rattle.std.specs.Prelude.{Option, Some, None, Result, Ok, Err, flat_map, length, map, codes}
 use Rattle.std.specs.Fmt.{decimal, signed_decimal}
 use Rattle.std.specs.List.{list_any, zip}
 use Rattle.period_core.specs.Calendar.{day_text}
@@ -15,6 +16,8 @@ use Rattle.script_engine.specs.declared.outcome.Outcome.{Outcome}
 use Rattle.script_engine.specs.declared.outcome.Outcome.TheVariants as outcome
 use Rattle.script_engine.specs.declared.outcome.Word.{Word}
 use Rattle.script_engine.specs.declared.outcome.Word.TheVariants.{Create, Insert}
+use Rattle.script_engine.specs.declared.report.ReportFault.{ReportFault}
+use Rattle.script_engine.specs.declared.report.ReportFault.TheVariants.{Memory, Write}
 
 -- the bytes that stand apart in a record
 abbrev pub comma : ℕ
@@ -131,3 +134,8 @@ report_from n (result ∷ results) = text_of n result ++ report_from (n + 1) res
 -- the report: the results are numbered from 1
 abbrev pub report : List (Result Outcome Refusal) → List ℕ
 report results = report_from 1 results
+
+-- why a report may fail: memory may always be missing, and else the writer failed
+abbrev pub MayFail : Type 0 → ReportFault → Type 0
+MayFail writer_failed Memory = ⊤
+MayFail writer_failed Write = writer_failed

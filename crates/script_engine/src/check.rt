@@ -7,9 +7,6 @@ ghost use Rattle.sql_front.specs.Pieces.{IsWithin, spanned};
 ghost use Rattle.script_engine.specs.Check.{IsCheckOf, IsPieceCheck};
 ghost use Rattle.script_engine.specs.Script.{MayRefuseScript};
 
-#[cfg(test)]
-mod tests;
-
 use crate::script::{script_text, script_tokens, statement_of};
 use period_core::Refusal;
 use sql_front::{Span, Token, cut};
@@ -20,7 +17,11 @@ fn check_piece(alloc: Global, script: &str, piece: &[Token<'_>]) -> Result<(), R
     ensures { IsPieceCheck (lexemes piece.now) result }
 {
     match statement_of(alloc, script, piece) {
-        Ok(_statement) => Ok(()),
+        Ok(statement) => {
+            // By a call: the proof of an implicit drop goes through each kind of statement.
+            drop(statement);
+            Ok(())
+        }
         Err(refusal) => Err(refusal),
     }
 }
@@ -47,7 +48,7 @@ fn check_pieces(
 }
 
 /// Says of each statement of a script, in order, whether it is spelled right, or its refusal;
-/// nothing is carried out. An `Err` is the refusal of the whole script, or want of memory.
+/// nothing is run. An `Err` is the refusal of the whole script, or out of memory.
 pub fn check_script(alloc: Global, script: &[u8]) -> Result<Vec<Result<(), Refusal>>, Refusal>
     ensures check { IfOk result (λ results. IsCheckOf script.now results.items) }
     ensures refused { IfErr result (MayRefuseScript script.now) }

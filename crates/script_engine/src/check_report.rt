@@ -1,31 +1,36 @@
 //! The report of a check: the records of the refused statements, and how many there are.
 
-ghost use Rattle.std.specs.Prelude.{◌≡◌, ◌≤◌, OnOk, count_by, is_err, length};
-ghost use Rattle.std.specs.Io.KnownBytes.{Appends};
+ghost use Rattle.std.specs.Prelude.{◌≡◌, IfErr, OnOk, count_by, is_err};
+ghost use Rattle.std.specs.Io.KnownBytes.{Appends, append_known};
 ghost use Rattle.script_engine.specs.CheckReport.{check_text, checked_record, refusal_text};
-ghost use Rattle.script_engine.specs.Report.{record_text};
+ghost use Rattle.script_engine.specs.Report.{MayFail};
 
+use crate::report::buffer::{CAPACITY, ReportBuffer};
 use crate::report::record::Record;
-use crate::report::{ReportFault, write_refused};
+use crate::report::writer::ReportWriter;
+use crate::report::{ReportFault, fill_refused};
 use period_core::Refusal;
 use std::alloc::Global;
-use std::io::Write;
 
 // The record of a statement that is refused; of another, nothing.
-fn write_refusal<W: Write>(
+fn write_refusal<W: ReportWriter>(
     alloc: Global,
     line: &mut Record,
+    buffer: &mut ReportBuffer,
     out: &mut W,
     number: u64,
     entry: &Result<(), Refusal>,
 ) -> Result<(), ReportFault>
-    ensures { OnOk result
-        (Appends (W.contents out.old) (W.contents out.new) (refusal_text number entry.now)) }
+    ensures ok { OnOk result
+        (Appends (append_known (W.contents out.old) buffer.old)
+        (append_known (W.contents out.new) buffer.new) (refusal_text number entry.now)) }
+    ensures err { IfErr result (MayFail (W.has_failed out.new)) }
 {
-    match entry {
-        Ok(()) => Ok(()),
-        Err(refusal) => write_refused(alloc, line, out, number, refusal),
+    if let Err(refusal) = entry {
+        fill_refused(alloc, line, number, refusal)?;
+        buffer.write(alloc, out, line)?;
     }
+    Ok(())
 }
 
 fn refused_count(results: &[Result<(), Refusal>]) -> u64
@@ -40,37 +45,52 @@ fn refused_count(results: &[Result<(), Refusal>]) -> u64
     count
 }
 
-// The record that says how many statements there are, and how many are refused.
-fn write_counts<W: Write>(
+// How many statements there are, and how many are refused.
+fn fill_counts(
     alloc: Global,
     line: &mut Record,
-    out: &mut W,
     results: &[Result<(), Refusal>],
 ) -> Result<(), ReportFault>
-    ensures { OnOk result
-        (Appends (W.contents out.old) (W.contents out.new)
-        (record_text (checked_record results.now))) }
+    ensures ok { OnOk result (line.new ≡ checked_record results.now) }
+    ensures err { IfErr result (λ e. e ≡ ReportFault.Memory) }
 {
     line.start("checked")?;
     line.push_number(alloc, results.len() as u64)?;
-    line.push_number(alloc, refused_count(results))?;
-    line.write_to(alloc, out)
+    line.push_number(alloc, refused_count(results))
 }
 
 /// Writes the report of a check: the records of the refused statements, numbered from 1 among all,
-/// and then how many there are, each record by one `write_all`. After a fault the writer may hold a
-/// part of it.
-pub fn write_check<W: Write>(
+/// and then how many there are, in parts of some 64 KiB, each by one `write_all`. After a fault the
+/// writer may hold a part of the report.
+pub fn write_check<W: ReportWriter>(
     alloc: Global,
     out: &mut W,
     results: &[Result<(), Refusal>],
 ) -> Result<(), ReportFault>
-    ensures { OnOk result
+    ensures ok { OnOk result
         (Appends (W.contents out.old) (W.contents out.new) (check_text results.now)) }
+    ensures err { IfErr result (MayFail (W.has_failed out.new)) }
+{
+    write_check_with_capacity(alloc, out, results, CAPACITY)
+}
+
+/// The same, in parts of some `capacity` bytes: with 0 each record is one `write_all`.
+pub fn write_check_with_capacity<W: ReportWriter>(
+    alloc: Global,
+    out: &mut W,
+    results: &[Result<(), Refusal>],
+    capacity: usize,
+) -> Result<(), ReportFault>
+    ensures ok { OnOk result
+        (Appends (W.contents out.old) (W.contents out.new) (check_text results.now)) }
+    ensures err { IfErr result (MayFail (W.has_failed out.new)) }
 {
     let mut line = Record::new(alloc);
+    let mut buffer = ReportBuffer::new(alloc, capacity);
     for (i, entry) in results.iter().enumerate() {
-        write_refusal(alloc, &mut line, out, i as u64 + 1, entry)?;
+        write_refusal(alloc, &mut line, &mut buffer, out, i as u64 + 1, entry)?;
     }
-    write_counts(alloc, &mut line, out, results)
+    fill_counts(alloc, &mut line, results)?;
+    buffer.write(alloc, out, &line)?;
+    buffer.finish(alloc, out)
 }

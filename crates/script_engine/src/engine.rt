@@ -1,11 +1,12 @@
-//! The engine: a catalog, the rows of its tables, and the statements that it carries out.
+//! The engine: a catalog, the rows of its tables, and the statements that it runs.
 
-ghost use Rattle.std.specs.Prelude.{◌≡◌, ◌<◌, ◌≤◌, ◌+◌, ◌-◌, ◌++◌, ◌∷◌, [], ℕ, List, Some, length, IfOk, IfErr, IsOkAnd, OnOk, OnErr, slice_set, slice_index_or, true};
+ghost use Rattle.std.specs.Prelude.{◌≡◌, ◌<◌, ◌≤◌, ◌+◌, ◌-◌, ◌++◌, ◌∷◌, [], ℕ, List, Some, true, length};
+ghost use Rattle.std.specs.Prelude.{IfOk, IfErr, IsOkAnd, OnOk, OnErr, slice_set, slice_index_or};
 ghost use Rattle.catalog_core.specs.Histories.{History, Database, opened, new_database, rows_in};
 ghost use Rattle.catalog_core.specs.Limits.{most_tables};
 ghost use Rattle.catalog_core.specs.Resolution.{IsChange};
 ghost use Rattle.catalog_core.specs.Selection.{IsSequenced};
-ghost use Rattle.catalog_core.specs.TableWords.{has_date_period, table_of};
+ghost use Rattle.catalog_core.specs.TableWords.{has_date_period, has_distinct_names, table_of};
 ghost use Rattle.catalog_core.specs.declared.table.TableDef.{TableDef};
 ghost use Rattle.script_engine.specs.Runs.{Represents, StepsTo};
 ghost use Rattle.script_engine.specs.Widths.{HaveWidth};
@@ -23,8 +24,8 @@ use sqlite_trees::store::Alter;
 use std::alloc::Global;
 use std::marker::Model;
 
-/// What was stored and what is asked: the tables' definitions, and in the same places their rows.
-/// It holds the connection that it was handed.
+/// The tables' definitions and, in the same places, their rows, beside the connection that it was
+/// handed.
 #[derive(Drop)]
 pub struct Engine<S: Alter> {
     connection: Connection<S>,
@@ -70,12 +71,13 @@ impl<S: Alter> Engine<S> {
     fn add_table(&mut self, alloc: Global, definition: TableDef) -> Result<(), Memory>
         requires room { length self.old.catalog < most_tables }
         requires dated { has_date_period definition ≡ true }
+        requires distinct { has_distinct_names definition ≡ true }
         ensures catalog { OnOk result (self.new.catalog ≡ self.old.catalog ++ definition ∷ []) }
         ensures rows { OnOk result (self.new.rows ≡ self.old.rows ++ [] ∷ []) }
         ensures err { OnErr result (self.new ≡ self.old) }
     {
         self.rows.reserve(1)?;
-        self.catalog.push(alloc, definition)?;
+        self.catalog.push(definition)?;
         self.rows.push_reserved(Items::empty(alloc));
         Ok(())
     }
@@ -98,15 +100,18 @@ impl<S: Alter> Engine<S> {
         requires width { (definition : TableDef)
             → table_of self.old.catalog table ≡ Some definition → HaveWidth definition added }
         ensures catalog { self.new.catalog ≡ self.old.catalog }
-        ensures rows { OnOk result (self.new.rows ≡ slice_set self.old.rows (table - 1) (slice_index_or self.old.rows (table - 1) [] ++ added)) }
+        ensures rows { OnOk result
+            (self.new.rows ≡ slice_set self.old.rows (table - 1)
+            (slice_index_or self.old.rows (table - 1) [] ++ added)) }
         ensures err { OnErr result (self.new ≡ self.old) }
     {
         self.rows[usize::from(table) - 1].append(added)
     }
 
-    /// Carries out a CREATE. An `Err` changes nothing.
+    /// Runs a CREATE. An `Err` changes nothing.
     fn create(&mut self, alloc: Global, create: &CreateTable) -> Result<Outcome, Refusal>
-        ensures step { (history : History) → Represents history self.old → StepsTo history (statement.create create.now) result self.new }
+        ensures step { (history : History) → Represents history self.old
+            → StepsTo history (statement.create create.now) result self.new }
         ensures err { OnErr result (self.new ≡ self.old) }
     {
         let definition = define(alloc, &self.catalog, create)?;
@@ -114,10 +119,11 @@ impl<S: Alter> Engine<S> {
         Ok(Outcome::Done(Word::Create, 0))
     }
 
-    /// Carries out an INSERT. An `Err` changes nothing.
+    /// Runs an INSERT. An `Err` changes nothing.
     fn insert(&mut self, alloc: Global, statement: &Statement) -> Result<Outcome, Refusal>
         requires { IsChange (plain statement.now) }
-        ensures step { (history : History) → Represents history self.old → StepsTo history (plain statement.now) result self.new }
+        ensures step { (history : History) → Represents history self.old
+            → StepsTo history (plain statement.now) result self.new }
         ensures err { OnErr result (self.new ≡ self.old) }
     {
         let Change { table, action } = resolve_change(alloc, &self.catalog, statement)?;
@@ -130,7 +136,8 @@ impl<S: Alter> Engine<S> {
     /// Answers a sequenced query.
     fn answer(&self, alloc: Global, statement: &Statement) -> Result<Outcome, Refusal>
         requires { IsSequenced (plain statement.now) }
-        ensures { (history : History) → Represents history self.now → StepsTo history (plain statement.now) result self.now }
+        ensures { (history : History) → Represents history self.now
+            → StepsTo history (plain statement.now) result self.now }
     {
         let query = resolve_query(alloc, &self.catalog, statement)?;
         let items = query.items.as_slice();
@@ -144,18 +151,20 @@ impl<S: Alter> Engine<S> {
         }))
     }
 
-    /// Carries out a statement. An `Err` changes nothing: it is the refusal of the least number whose
-    /// condition holds, 10 where statements of its form are not carried out yet, or want of memory.
+    /// Runs a statement. An `Err` changes nothing: it is the refusal of the least number whose
+    /// condition holds, 10 where statements of its form are not run yet, or out of memory.
     pub fn execute(&mut self, alloc: Global, statement: &Statement) -> Result<Outcome, Refusal>
-        // Whatever history the engine represents, the call is a step of it, and the engine represents the new one.
-        ensures step { (history : History) → Represents history self.old → StepsTo history (plain statement.now) result self.new }
+        // Whatever history the engine represents, the call is a step of it, and the engine then
+        // represents the new one.
+        ensures step { (history : History) → Represents history self.old
+            → StepsTo history (plain statement.now) result self.new }
         ensures err { OnErr result (self.new ≡ self.old) }
     {
         match statement.form() {
             StatementForm::Create(create) => self.create(alloc, create.table()),
             StatementForm::Insert(_) => self.insert(alloc, statement),
             StatementForm::Sequenced(_) => self.answer(alloc, statement),
-            // The other forms are not carried out yet.
+            // The other forms are not run yet.
             StatementForm::At(_)
             | StatementForm::Update(_)
             | StatementForm::Delete(_)

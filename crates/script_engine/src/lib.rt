@@ -1,4 +1,4 @@
-//! The engine, the scripts that it carries out, their checks, and the reports of both.
+//! The engine, the scripts that it runs, their checks, and the reports of both.
 #![tactic(auto)]
 
 pub mod check;
@@ -9,12 +9,11 @@ pub mod outcome;
 pub mod report;
 mod rows;
 pub mod script;
-#[cfg(test)]
-mod tests;
 
 pub use check::check_script;
-pub use check_report::write_check;
+pub use check_report::{write_check, write_check_with_capacity};
 pub use engine::Engine;
 pub use outcome::{Outcome, Word};
-pub use report::{ReportFault, write_report};
+pub use report::writer::{ReportWriter, WriteRefused};
+pub use report::{ReportFault, write_report, write_report_with_capacity};
 pub use script::{MOST_BYTES, MOST_TOKENS, run_script};

@@ -1,19 +1,22 @@
 //! The report: for each statement, in order, the records of what it gave.
 
-ghost use Rattle.std.specs.Prelude.{◌≡◌, Err, Ok, OnOk};
-ghost use Rattle.std.specs.Io.KnownBytes.{Appends};
-ghost use Rattle.script_engine.specs.Report.{answer_record, columns_record, record_text, report, row_record, text_of, word_text};
+ghost use Rattle.std.specs.Prelude.{◌≡◌, IfErr, Ok, OnOk};
+ghost use Rattle.std.specs.Io.KnownBytes.{Appends, append_known};
+ghost use Rattle.script_engine.specs.Report.{MayFail, report, text_of, word_text};
+ghost use Rattle.script_engine.specs.Report.{answer_record, columns_record, done_record};
+ghost use Rattle.script_engine.specs.Report.{refused_record, row_record};
 
+pub(crate) mod buffer;
 pub(crate) mod record;
-#[cfg(test)]
-mod tests;
+pub mod writer;
 
 use crate::outcome::{Outcome, Word};
-use period_core::{Answer, PeriodRow, Refusal, Witness};
+use buffer::{CAPACITY, ReportBuffer};
+use period_core::{Answer, PeriodRow, Refusal, Text, Witness};
 use record::Record;
 use std::alloc::Global;
-use std::io::Write;
 use thiserror::Error;
+use writer::ReportWriter;
 
 /// Why a report was not written.
 #[derive(Debug, Drop, Error)]
@@ -38,99 +41,86 @@ impl Word {
     }
 }
 
-fn write_done<W: Write>(
+fn fill_done(
     alloc: Global,
     line: &mut Record,
-    out: &mut W,
     number: u64,
     word: Word,
     count: u64,
 ) -> Result<(), ReportFault>
-    ensures { OnOk result
-        (Appends (W.contents out.old) (W.contents out.new)
-        (text_of number (Ok (Outcome.Done word count)))) }
+    ensures ok { OnOk result (line.new ≡ done_record number word count) }
+    ensures err { IfErr result (λ e. e ≡ ReportFault.Memory) }
 {
     line.start("done")?;
     line.push_number(alloc, number)?;
     line.push(word.name().as_bytes())?;
-    line.push_number(alloc, count)?;
-    line.write_to(alloc, out)
+    line.push_number(alloc, count)
 }
 
-pub(crate) fn write_refused<W: Write>(
+pub(crate) fn fill_refused(
     alloc: Global,
     line: &mut Record,
-    out: &mut W,
     number: u64,
     refusal: &Refusal,
 ) -> Result<(), ReportFault>
-    ensures { OnOk result
-        (Appends (W.contents out.old) (W.contents out.new) (text_of number (Err refusal.now))) }
+    ensures ok { OnOk result (line.new ≡ refused_record number refusal.now) }
+    ensures err { IfErr result (λ e. e ≡ ReportFault.Memory) }
 {
     line.start("refused")?;
     line.push_number(alloc, number)?;
     line.push_number(alloc, u64::from(refusal.code()))?;
     line.push(refusal.name().as_bytes())?;
     match refusal {
-        Refusal::KeyOverlap(day) | Refusal::PeriodReference(day) => line.push_day(*day)?,
-        _ => line.push(b"")?,
+        Refusal::KeyOverlap(day) | Refusal::PeriodReference(day) => line.push_day(*day),
+        _ => line.push(b""),
     }
-    line.write_to(alloc, out)
 }
 
-// The record that says how many value columns and rows follow.
-fn write_head<W: Write>(
+// How many value columns and rows follow.
+fn fill_head(
     alloc: Global,
     line: &mut Record,
-    out: &mut W,
     number: u64,
     answer: &Answer,
 ) -> Result<(), ReportFault>
-    ensures { OnOk result
-        (Appends (W.contents out.old) (W.contents out.new)
-        (record_text (answer_record number answer.now))) }
+    ensures ok { OnOk result (line.new ≡ answer_record number answer.now) }
+    ensures err { IfErr result (λ e. e ≡ ReportFault.Memory) }
 {
     line.start("answer")?;
     line.push_number(alloc, number)?;
     line.push_number(alloc, answer.columns.len() as u64)?;
-    line.push_number(alloc, answer.rows.len() as u64)?;
-    line.write_to(alloc, out)
+    line.push_number(alloc, answer.rows.len() as u64)
 }
 
-// The record that names the columns.
-fn write_columns<W: Write>(
+// The names of the columns.
+fn fill_columns(
     alloc: Global,
     line: &mut Record,
-    out: &mut W,
     number: u64,
-    answer: &Answer,
+    columns: &[Text],
 ) -> Result<(), ReportFault>
-    ensures { OnOk result
-        (Appends (W.contents out.old) (W.contents out.new)
-        (record_text (columns_record number answer.now.columns))) }
+    ensures ok { OnOk result (line.new ≡ columns_record number columns.now) }
+    ensures err { IfErr result (λ e. e ≡ ReportFault.Memory) }
 {
     line.start("columns")?;
     line.push_number(alloc, number)?;
-    line.push_texts(answer.columns.as_slice())?;
+    line.push_texts(columns)?;
     line.push(b"valid_from")?;
     line.push(b"valid_to")?;
     line.push(b"held")?;
-    line.push(b"absent")?;
-    line.write_to(alloc, out)
+    line.push(b"absent")
 }
 
-// The record of one row and its witness.
-fn write_row<W: Write>(
+// One row and its witness.
+fn fill_row(
     alloc: Global,
     line: &mut Record,
-    out: &mut W,
     number: u64,
     row: &PeriodRow,
     witness: &Witness,
 ) -> Result<(), ReportFault>
-    ensures { OnOk result
-        (Appends (W.contents out.old) (W.contents out.new)
-        (record_text (row_record number (row.now, witness.now)))) }
+    ensures ok { OnOk result (line.new ≡ row_record number (row.now, witness.now)) }
+    ensures err { IfErr result (λ e. e ≡ ReportFault.Memory) }
 {
     line.start("row")?;
     line.push_number(alloc, number)?;
@@ -138,60 +128,87 @@ fn write_row<W: Write>(
     line.push_day(row.period.start())?;
     line.push_day(row.period.end())?;
     line.push_day(witness.held)?;
-    line.push_absent(witness.absent)?;
-    line.write_to(alloc, out)
+    line.push_absent(witness.absent)
 }
 
-fn write_answer<W: Write>(
+fn write_answer<W: ReportWriter>(
     alloc: Global,
     line: &mut Record,
+    buffer: &mut ReportBuffer,
     out: &mut W,
     number: u64,
     answer: &Answer,
 ) -> Result<(), ReportFault>
-    ensures { OnOk result
-        (Appends (W.contents out.old) (W.contents out.new)
+    ensures ok { OnOk result
+        (Appends (append_known (W.contents out.old) buffer.old)
+        (append_known (W.contents out.new) buffer.new)
         (text_of number (Ok (Outcome.Answer answer.now)))) }
+    ensures err { IfErr result (MayFail (W.has_failed out.new)) }
 {
-    write_head(alloc, line, out, number, answer)?;
-    write_columns(alloc, line, out, number, answer)?;
+    fill_head(alloc, line, number, answer)?;
+    buffer.write(alloc, out, line)?;
+    fill_columns(alloc, line, number, answer.columns.as_slice())?;
+    buffer.write(alloc, out, line)?;
     let witnesses = answer.witnesses.as_slice();
     for (row, witness) in answer.rows.as_slice().iter().zip(witnesses) {
-        write_row(alloc, line, out, number, row, witness)?;
+        fill_row(alloc, line, number, row, witness)?;
+        buffer.write(alloc, out, line)?;
     }
     Ok(())
 }
 
-fn write_result<W: Write>(
+fn write_result<W: ReportWriter>(
     alloc: Global,
     line: &mut Record,
+    buffer: &mut ReportBuffer,
     out: &mut W,
     number: u64,
     entry: &Result<Outcome, Refusal>,
 ) -> Result<(), ReportFault>
-    ensures { OnOk result
-        (Appends (W.contents out.old) (W.contents out.new) (text_of number entry.now)) }
+    ensures ok { OnOk result
+        (Appends (append_known (W.contents out.old) buffer.old)
+        (append_known (W.contents out.new) buffer.new) (text_of number entry.now)) }
+    ensures err { IfErr result (MayFail (W.has_failed out.new)) }
 {
     match entry {
-        Ok(Outcome::Done(word, count)) => write_done(alloc, line, out, number, *word, *count),
-        Ok(Outcome::Answer(answer)) => write_answer(alloc, line, out, number, answer),
-        Err(refusal) => write_refused(alloc, line, out, number, refusal),
+        Ok(Outcome::Done(word, count)) => fill_done(alloc, line, number, *word, *count)?,
+        Ok(Outcome::Answer(answer)) => {
+            return write_answer(alloc, line, buffer, out, number, answer);
+        }
+        Err(refusal) => fill_refused(alloc, line, number, refusal)?,
     }
+    buffer.write(alloc, out, line)
 }
 
-/// Writes the report of the results, numbered from 1, each record by one `write_all`. After a fault
-/// the writer may hold a part of it.
-pub fn write_report<W: Write>(
+/// Writes the report of the results, numbered from 1, in parts of some 64 KiB, each by one
+/// `write_all`. After a fault the writer may hold a part of the report.
+pub fn write_report<W: ReportWriter>(
     alloc: Global,
     out: &mut W,
     results: &[Result<Outcome, Refusal>],
 ) -> Result<(), ReportFault>
-    ensures { OnOk result
+    ensures ok { OnOk result
         (Appends (W.contents out.old) (W.contents out.new) (report results.now)) }
+    ensures err { IfErr result (MayFail (W.has_failed out.new)) }
+{
+    write_report_with_capacity(alloc, out, results, CAPACITY)
+}
+
+/// The same, in parts of some `capacity` bytes: with 0 each record is one `write_all`.
+pub fn write_report_with_capacity<W: ReportWriter>(
+    alloc: Global,
+    out: &mut W,
+    results: &[Result<Outcome, Refusal>],
+    capacity: usize,
+) -> Result<(), ReportFault>
+    ensures ok { OnOk result
+        (Appends (W.contents out.old) (W.contents out.new) (report results.now)) }
+    ensures err { IfErr result (MayFail (W.has_failed out.new)) }
 {
     let mut line = Record::new(alloc);
+    let mut buffer = ReportBuffer::new(alloc, capacity);
     for (i, entry) in results.iter().enumerate() {
-        write_result(alloc, &mut line, out, i as u64 + 1, entry)?;
+        write_result(alloc, &mut line, &mut buffer, out, i as u64 + 1, entry)?;
     }
-    Ok(())
+    buffer.finish(alloc, out)
 }

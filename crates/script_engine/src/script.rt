@@ -1,6 +1,6 @@
 //! Scripts: their text, their pieces, and the results of these.
 
-ghost use Rattle.std.specs.Prelude.{◌≡◌, ◌<◌, ◌≤◌, ◌⊎◌, ℕ, All, IfErr, IfOk, OnErr, OnOk, length, map};
+ghost use Rattle.std.specs.Prelude.{◌≡◌, ◌≤◌, All, IfErr, IfOk, OnErr, OnOk, length, map};
 ghost use Rattle.std.specs.Str.{IsUtf8};
 ghost use Rattle.period_core.specs.Leasts.{MayAnswer, NoneApplies};
 ghost use Rattle.period_core.specs.declared.refusal.Refusal.TheVariants.{NotUtf8, ScriptTooLarge};
@@ -11,7 +11,8 @@ ghost use Rattle.sql_front.specs.Pieces.{IsWithin, spanned};
 ghost use Rattle.sql_front.specs.Plain.{plain};
 ghost use Rattle.catalog_core.specs.Histories.{History, new_database, opened};
 ghost use Rattle.script_engine.specs.Runs.{Represents};
-ghost use Rattle.script_engine.specs.Script.{IsRunOf, MayRefuseScript, PieceStepsTo, RunPieces, ScriptApplies, TextApplies, most_bytes};
+ghost use Rattle.script_engine.specs.Script.{IsRunOf, MayRefuseScript, PieceStepsTo, RunPieces};
+ghost use Rattle.script_engine.specs.Script.{ScriptApplies, TextApplies, most_bytes};
 
 use crate::engine::Engine;
 use crate::outcome::Outcome;
@@ -81,11 +82,15 @@ fn run_piece<S: Alter>(
     script: &str,
     piece: &[Token<'_>],
 ) -> Result<Outcome, Refusal>
-    ensures step { (history : History) → Represents history engine.old → PieceStepsTo history (lexemes piece.now) result engine.new }
+    ensures step { (history : History) → Represents history engine.old
+        → PieceStepsTo history (lexemes piece.now) result engine.new }
     ensures err { OnErr result (engine.new ≡ engine.old) }
 {
     let statement = statement_of(alloc, script, piece)?;
-    engine.execute(alloc, &statement)
+    let result = engine.execute(alloc, &statement);
+    // By a call: the proof of an implicit drop goes through each kind of statement.
+    drop(statement);
+    result
 }
 
 /// The results of the pieces of a script, one after the other, over a new engine.
@@ -98,7 +103,9 @@ fn run_pieces<S: Alter>(
 ) -> Result<Vec<Result<Outcome, Refusal>>, Refusal>
     requires within { All (IsWithin (length tokens.now)) pieces.now }
     requires new { Represents (opened new_database) engine.old }
-    ensures run { IfOk result (λ results. (last : History) × RunPieces (opened new_database) (map (spanned (lexemes tokens.now)) pieces.now) results.items last) }
+    ensures run { IfOk result (λ results. (last : History)
+        × RunPieces (opened new_database) (map (spanned (lexemes tokens.now)) pieces.now)
+        results.items last) }
     ensures memory { IfErr result (λ refusal. refusal ≡ Refusal.Memory) }
 {
     let mut results = Vec::with_capacity(alloc, pieces.len())?;
@@ -109,8 +116,8 @@ fn run_pieces<S: Alter>(
     Ok(results)
 }
 
-/// Carries out a script over a new engine. The results are those of its statements, refused ones too, in order;
-/// an `Err` is the refusal of the whole script, of which nothing is carried out, or want of memory.
+/// Runs a script over a new engine. The results are those of its statements, refused ones too, in
+/// order; an `Err` is the refusal of the whole script, of which nothing is run, or out of memory.
 pub fn run_script<S: Alter + Drop>(
     alloc: Global,
     connection: Connection<S>,

@@ -5,7 +5,7 @@ use Rattle.sql_front.specs.Builders.{assignment_of, delete_of, portion_of, rows_
 use Rattle.sql_front.specs.Grammar.{comma, IsWhere}
 use Rattle.sql_front.proofs.ReadGrammar.{IsAssignment, IsAt, IsClockMoment, IsCompare, IsDelete, IsInsert, IsNames, IsPortion, IsTuple, IsUpdate}
 use Rattle.sql_front.specs.ConditionReaders.{compare_read, where_read}
-use Rattle.sql_front.specs.ChangeReaders.{assignment_read, at_read, columns_read, delete_read, in_portion_read, insert_read, portion_read, update_read}
+use Rattle.sql_front.specs.ChangeReaders.{assignment_read, at_read, columns_read, delete_read, in_portion_read, insert_read, portion_read, update_read, named_portion_read, bounds_read, inserted_read, values_read, deleted_read, set_read}
 use Rattle.sql_front.proofs.First.{Starts, starts_preceded}
 use Rattle.sql_front.proofs.Laws.{Any, Reads, reads_both, reads_built, reads_preceded}
 use Rattle.sql_front.proofs.NamesRead.{reads_name, reads_names}
@@ -32,7 +32,7 @@ unfolding columns_read
 reads_columns ss e = reads_optional_next (sign (codes "(") ∷ []) ss e starts_names (reads_next ss reads_names)
 
 pub reads_insert : Reads IsInsert (Next []) insert_read
-unfolding insert_read
+unfolding insert_read inserted_read values_read
 reads_insert =
     let values = starts_preceded (keyword (codes "VALUES")) (Separated comma IsTuple) in
     reads_preceded (keyword (codes "INSERT")) (reads_preceded (keyword (codes "INTO"))
@@ -51,7 +51,7 @@ pub starts_portion : Starts (any_of (word (codes "FOR") ∷ [])) IsPortion
 starts_portion = starts_preceded (keyword (codes "FOR")) _
 
 reads_in_portion : Reads IsPortion Any in_portion_read
-unfolding in_portion_read
+unfolding in_portion_read named_portion_read bounds_read
 reads_in_portion =
     reads_preceded (keyword (codes "FOR")) (reads_preceded (keyword (codes "PORTION")) (reads_preceded (keyword (codes "OF"))
     (reads_built portion_of (reads_both reads_name (reads_preceded (keyword (codes "FROM"))
@@ -72,7 +72,7 @@ reads_last_where : (n : ℕ) → Reads (IsWhere IsCompare (suc n)) (Next []) (wh
 reads_last_where n = reads_less [] where_ends refl (reads_compare_where n)
 
 pub reads_update : (n : ℕ) → Reads (IsUpdate (suc n)) (Next []) (update_read n)
-unfolding update_read
+unfolding update_read set_read
 reads_update n =
     let set = starts_preceded (keyword (codes "SET")) (Sequence (Separated comma IsAssignment) (IsWhere IsCompare (suc n))) in
     let assigned = sign (codes ",") ∷ word (codes "WHERE") ∷ [] in
@@ -92,7 +92,7 @@ starts_update n = starts_preceded (keyword (codes "UPDATE")) _
 -- ---- DELETE
 
 pub reads_delete : (n : ℕ) → Reads (IsDelete (suc n)) (Next []) (delete_read n)
-unfolding delete_read
+unfolding delete_read deleted_read
 reads_delete n =
     reads_preceded (keyword (codes "DELETE")) (reads_preceded (keyword (codes "FROM"))
     (reads_built delete_of (reads_both reads_name

@@ -6,8 +6,8 @@ use Rattle.sql_front.specs.declared.create.TypeName.TheVariants.{Integer, Date, 
 use Rattle.sql_front.specs.Language.{Language, keyword, symbol, Built, Choice, Fixed, Optional, Preceded, StandsFor}
 use Rattle.sql_front.specs.Builders.{column_of, column_element}
 use Rattle.sql_front.proofs.ReadGrammar.{IsLength, IsType, IsGenerated, IsNotNull, IsColumnElement}
-use Rattle.sql_front.specs.Reading.{Reader, built_read, optional_read, preceded_read}
-use Rattle.sql_front.specs.ElementReaders.{length_read, type_read, row_end_read, generated_read, not_null_read, column_element_read}
+use Rattle.sql_front.specs.Reading.{Reader, built_read, preceded_read}
+use Rattle.sql_front.specs.ElementReaders.{length_read, type_read, row_end_read, generated_read, not_null_read, column_element_read, timestamp_read}
 use Rattle.sql_front.proofs.First.{Starts, starts_built, starts_choice, starts_preceded, starts_sequence, starts_stands}
 use Rattle.sql_front.proofs.Laws.{Any, Reads, reads_both, reads_built, reads_fixed, reads_preceded, reads_stands}
 use Rattle.sql_front.proofs.Sorts.{Next, Sort, a_name, any_of, leads_optional, leads_sequence, reads_both_next, reads_choice_next, reads_enclosed_next, reads_next, reads_optional_next, sign, word}
@@ -68,11 +68,8 @@ starts_varying = starts_built Varchar (starts_preceded (keyword (codes "CHARACTE
 starts_varchar : Starts (any_of (word (codes "VARCHAR") ∷ [])) IsVarchar
 starts_varchar = starts_built Varchar (starts_preceded (keyword (codes "VARCHAR")) IsLength)
 
-abbrev timestamp_read : Reader TypeName
-timestamp_read =
-    built_read Timestamp (preceded_read (keyword (codes "TIMESTAMP")) (optional_read (symbol (codes "(")) length_read))
-
 reads_timestamp : Reads IsTimestamp (Next after_type) timestamp_read
+unfolding timestamp_read
 reads_timestamp =
     reads_built Timestamp (reads_preceded (keyword (codes "TIMESTAMP"))
     (reads_optional_next (sign (codes "(") ∷ []) after_type refl (starts_preceded (symbol (codes "(")) _)

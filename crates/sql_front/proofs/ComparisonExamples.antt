@@ -15,9 +15,9 @@ use Rattle.sql_front.specs.LeafValues.{day_of_token, day_value}
 use Rattle.sql_front.specs.Leaves.{date_read, literal_read, name_read, number_read, unsigned_read}
 use Rattle.sql_front.specs.ConditionReaders.{column_read, compare_read, comparison_read, condition_read, conjunction_read, factor_read, operand_read, test_read, where_read}
 use Rattle.sql_front.specs.WindowReaders.{for_window_read}
-use Rattle.sql_front.specs.QueryReaders.{chain_read, item_read, joins_read, new_name_read, primary_read, query_read, reference_read, select_read, sequenced_read, step_read, steps_read}
-use Rattle.sql_front.specs.ChangeReaders.{delete_read, portion_read}
-use Rattle.sql_front.specs.StatementReaders.{statement_read}
+use Rattle.sql_front.specs.QueryReaders.{chain_read, item_read, joins_read, new_name_read, primary_read, query_read, reference_read, select_read, sequenced_read, step_read, steps_read, selected_read, from_read}
+use Rattle.sql_front.specs.ChangeReaders.{delete_read, portion_read, deleted_read}
+use Rattle.sql_front.specs.StatementReaders.{statement_read, later_statement_read, query_statement_read}
 use Rattle.sql_front.specs.Reading.{bounded_read, whole_read}
 use Rattle.sql_front.proofs.Spelling.{spelled_if_read}
 use Rattle.sql_front.proofs.StatementExamples.{digits, quoted_text, sign, word}
@@ -42,7 +42,7 @@ abbrev other_tree : Statement
 other_tree = deleted (Column (column (codes "A"))) NotEqual (Literal (value.Int (neg_ℤ (pos 5))))
 
 other_is_read : whole_read (statement_read 0) other ≡ Some other_tree
-unfolding statement_read delete_read portion_read where_read condition_read conjunction_read factor_read test_read compare_read operand_read comparison_read column_read literal_read name_read bounded_read is_plain_word is_reserved
+unfolding statement_read later_statement_read query_statement_read delete_read deleted_read portion_read where_read condition_read conjunction_read factor_read test_read compare_read operand_read comparison_read column_read literal_read name_read bounded_read is_plain_word is_reserved
 other_is_read = refl
 
 pub other_spelled : IsStatement other other_tree
@@ -56,7 +56,7 @@ abbrev before_tree : Statement
 before_tree = deleted (Column (column_of (codes "T") (codes "A"))) Less (Literal (value.Text (codes "it's")))
 
 before_is_read : whole_read (statement_read 0) before ≡ Some before_tree
-unfolding statement_read delete_read portion_read where_read condition_read conjunction_read factor_read test_read compare_read operand_read comparison_read column_read literal_read name_read bounded_read is_plain_word is_reserved
+unfolding statement_read later_statement_read query_statement_read delete_read deleted_read portion_read where_read condition_read conjunction_read factor_read test_read compare_read operand_read comparison_read column_read literal_read name_read bounded_read is_plain_word is_reserved
 before_is_read = refl
 
 pub before_spelled : IsStatement before before_tree
@@ -70,7 +70,7 @@ abbrev not_after_tree : Statement
 not_after_tree = deleted (Column (column (codes "A"))) LessOrEqual (Literal (value.Date (pos 14_610)))
 
 not_after_is_read : whole_read (statement_read 0) not_after ≡ Some not_after_tree
-unfolding statement_read delete_read portion_read where_read condition_read conjunction_read factor_read test_read compare_read operand_read comparison_read column_read literal_read date_read day_value day_of_token day_of_text date_at date_parts_of is_date name_read bounded_read is_plain_word is_reserved
+unfolding statement_read later_statement_read query_statement_read delete_read deleted_read portion_read where_read condition_read conjunction_read factor_read test_read compare_read operand_read comparison_read column_read literal_read date_read day_value day_of_token day_of_text date_at date_parts_of is_date name_read bounded_read is_plain_word is_reserved
 not_after_is_read = refl
 
 pub not_after_spelled : IsStatement not_after not_after_tree
@@ -86,7 +86,7 @@ abbrev above_tree : Statement
 above_tree = deleted (Literal (value.Int (pos 7))) Greater (Column (column (codes "A")))
 
 above_is_read : whole_read (statement_read 0) above ≡ Some above_tree
-unfolding statement_read delete_read portion_read where_read condition_read conjunction_read factor_read test_read compare_read operand_read comparison_read column_read literal_read unsigned_read number_read name_read bounded_read is_plain_word is_reserved
+unfolding statement_read later_statement_read query_statement_read delete_read deleted_read portion_read where_read condition_read conjunction_read factor_read test_read compare_read operand_read comparison_read column_read literal_read unsigned_read number_read name_read bounded_read is_plain_word is_reserved
 above_is_read = refl
 
 pub above_spelled : IsStatement above above_tree
@@ -103,7 +103,7 @@ not_below_tree = selected_where
     (Some (condition_of (record { left = Column (column_of (codes "T") (codes "B")); comparison = GreaterOrEqual; right = Literal (value.Text []) })))
 
 not_below_is_read : whole_read (statement_read 0) not_below ≡ Some not_below_tree
-unfolding statement_read sequenced_read query_read primary_read steps_read step_read select_read item_read chain_read joins_read reference_read new_name_read for_window_read where_read condition_read conjunction_read factor_read test_read compare_read operand_read comparison_read column_read literal_read name_read bounded_read is_plain_word is_reserved
+unfolding statement_read later_statement_read query_statement_read sequenced_read query_read primary_read steps_read step_read select_read selected_read from_read item_read chain_read joins_read reference_read new_name_read for_window_read where_read condition_read conjunction_read factor_read test_read compare_read operand_read comparison_read column_read literal_read name_read bounded_read is_plain_word is_reserved
 not_below_is_read = refl
 
 pub not_below_spelled : IsStatement not_below not_below_tree

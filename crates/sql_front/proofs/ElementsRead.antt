@@ -7,7 +7,7 @@ use Rattle.sql_front.specs.Builders.{Element, period_of, system_of, key_of, refe
 use Rattle.sql_front.specs.Grammar.{comma, name}
 use Rattle.sql_front.proofs.ReadGrammar.{IsName, IsColumnElement, IsPair, IsPeriodElement, IsSystemElement, IsWithoutOverlaps, IsKeyElement, IsReferenceList, IsReferenceElement, IsElement, IsVersioning, IsCreate}
 use Rattle.sql_front.specs.Reading.{Reader, begins, third_is}
-use Rattle.sql_front.specs.ElementReaders.{second_is, one_more_name, more_names_read, leading_names_read, pair_read, period_element_read, system_element_read, without_overlaps_read, key_names_read, key_element_read, reference_list_read, reference_element_read, some_period_read, element_read, versioning_read, elements_read, create_read}
+use Rattle.sql_front.specs.ElementReaders.{second_is, one_more_name, more_names_read, leading_names_read, pair_read, period_element_read, system_element_read, without_overlaps_read, key_names_read, key_element_read, reference_list_read, reference_element_read, some_period_read, element_read, versioning_read, elements_read, create_read, created_table_read, key_list_read, last_period_read, parent_read}
 use Rattle.sql_front.proofs.First.{Starts, starts_built, starts_choice, starts_preceded, starts_sequence}
 use Rattle.sql_front.proofs.Laws.{Any, Reads, reads_both, reads_built, reads_decided, reads_fixed, reads_preceded, reads_repetition, reads_sequence, reads_weaken}
 use Rattle.sql_front.proofs.Sorts.{Next, Sort, a_name, any_of, apart_lists, leads_starts, next_not, reads_both_next, reads_choice_next, reads_enclosed_next, reads_next, reads_separated_next, sign, word}
@@ -78,7 +78,7 @@ reads_key_names =
     (reads_all_and_last comma IsName reads_name (λ z h. tt))
 
 reads_key_element : Reads IsKeyElement Any key_element_read
-unfolding key_element_read
+unfolding key_element_read key_list_read
 reads_key_element =
     let without = starts_preceded (keyword (codes "WITHOUT")) (Fixed (keyword (codes "OVERLAPS"))) in
     let before_without = leads_starts after_key_names after_key_names closing refl without in
@@ -114,14 +114,14 @@ reads_leading_names =
     (reads_repetition one_more_name (Preceded comma IsName) Any _ (reads_preceded comma reads_name) one_more (λ z h. tt)))
 
 reads_reference_list : Reads IsReferenceList Any reference_list_read
-unfolding reference_list_read
+unfolding reference_list_read last_period_read
 reads_reference_list =
     reads_enclosed_next closing refl (reads_next closing
     (reads_sequence reads_leading_names (reads_preceded comma (reads_preceded (keyword (codes "PERIOD")) reads_name))
     (λ y a rest h n. (tt, no_more y a rest h))))
 
 reads_reference_element : Reads IsReferenceElement Any reference_element_read
-unfolding reference_element_read
+unfolding reference_element_read parent_read
 reads_reference_element =
     reads_preceded (keyword (codes "FOREIGN")) (reads_preceded (keyword (codes "KEY"))
     (reads_built reference_of (reads_both reads_reference_list
@@ -184,7 +184,7 @@ reads_versioning =
     (reads_fixed (keyword (codes "VERSIONING"))))
 
 pub reads_create : Reads IsCreate Any create_read
-unfolding create_read elements_read
+unfolding create_read created_table_read elements_read
 reads_create =
     reads_preceded (keyword (codes "CREATE")) (reads_preceded (keyword (codes "TABLE"))
     (reads_built table_of (reads_both reads_name (reads_both

@@ -1,5 +1,5 @@
 -- Each way of making a language has its way of reading it.
-use Rattle.std.proofs.Common.{◌≡◌, ℕ, zero, suc, ◌≤◌, ◌<◌, Bool, true, false, List, [], ◌∷◌, ◌++◌, length, Option, Some, None, refl, sym, ap, subst, ◌∙◌, append_assoc, arith, codes, inl, inr, length-append}
+use Rattle.std.proofs.Common.{◌≡◌, ℕ, zero, suc, ◌≤◌, ◌<◌, Bool, true, false, cond, List, [], ◌∷◌, ◌++◌, length, Option, Some, None, refl, sym, ap, subst, ◌∙◌, append_assoc, arith, codes, inl, inr, length-append}
 use Rattle.period_core.proofs.OptionFacts.{bind_some, if_some, none_some, some_is}
 use Rattle.sql_front.proofs.First.{Apart, Starts, starts_preceded, begins_apart}
 use Rattle.sql_front.specs.Lexemes.{Lexeme}
@@ -166,8 +166,30 @@ reads_separated {A} test {L} {F} {p} r next =
     (λ y b rest h follow. after_one (begins test) (Preceded test L) F (preceded_read test p) (reads_preceded test r) (starts_preceded test L).at next y b rest h follow.0 follow.1))
 
 -- a token or none, then the language
+same_value : {A : Type 0} (read : Option (A × List Lexeme)) (rest : List Lexeme)
+    → built_read (λ (v : Unit {0} × A). v.1) (sequence_read (λ (ts : List Lexeme). Some (tt, rest)) (λ (ts : List Lexeme). read)) rest ≡ read
+same_value None rest = refl
+same_value (Some x) rest = refl
+
+either_way_by : {A : Type 0} (decided : Bool) (p : Reader A) (t : Lexeme) (rest : List Lexeme)
+    → cond decided (built_read (λ (v : Unit {0} × A). v.1) (sequence_read (λ (ts : List Lexeme). cond decided (Some (tt, rest)) None) p) (t ∷ rest)) (p (t ∷ rest))
+    ≡ p (cond decided rest (t ∷ rest))
+either_way_by true p t rest = same_value (p rest) rest
+either_way_by false p t rest = refl
+
+-- with the token or without
+either_way : {A : Type 0} (test : Lexeme → Bool) (p : Reader A) (ts : List Lexeme)
+    → choice_read (begins test) (preceded_read test p) p ts ≡ preceded_or_not_read test p ts
+either_way test p [] = refl
+either_way test p (t ∷ rest) = either_way_by (test t) p t rest
+
 pub reads_preceded_or_not : {A : Type 0} {test other : Lexeme → Bool} {L : List Lexeme → A → Type 0} {F : List Lexeme → Type 0} {p : Reader A} → Starts other L → Apart other test → Reads L F p → Reads (PrecededOrNot test L) F (preceded_or_not_read test p)
-reads_preceded_or_not {A} {test} {other} {L} s apart r = reads_choice (starts_preceded test L) s apart (reads_preceded test r) r
+reads_preceded_or_not {A} {test} {other} {L} {F} {p} s apart r =
+    let either = reads_choice (starts_preceded test L) s apart (reads_preceded test r) r in
+    record {
+      found = λ ts x e. either.found ts x (either_way test p ts ∙ e);
+      again = λ front a rest h follow. sym (either_way test p (front ++ rest)) ∙ either.again front a rest h follow;
+    }
 
 -- a token that stands for a value
 pub reads_stands : {A : Type 0} (a : A) (test : Lexeme → Bool) → Reads (StandsFor a test) Any (stands_read a test)

@@ -9,7 +9,7 @@ use Rattle.sql_front.specs.Builders.{dates_of}
 use Rattle.sql_front.specs.Grammar.{comma}
 use Rattle.sql_front.proofs.ReadGrammar.{IsColumn, IsDate, IsPeriodOperand, IsRelation}
 use Rattle.sql_front.specs.Reading.{begins, choice_read, stands_read}
-use Rattle.sql_front.specs.PredicateReaders.{period_operand_read, relation_read}
+use Rattle.sql_front.specs.PredicateReaders.{period_operand_read, relation_read, dates_read}
 use Rattle.sql_front.proofs.First.{Starts, starts_built, starts_choice, starts_preceded, starts_stands}
 use Rattle.sql_front.proofs.Laws.{Any, Reads, reads_both, reads_built, reads_preceded, reads_stands}
 use Rattle.sql_front.proofs.LeavesRead.{reads_date}
@@ -34,7 +34,7 @@ pub starts_period_operand : Starts (any_of period_firsts) IsPeriodOperand
 starts_period_operand = starts_choice starts_dates starts_named
 
 pub reads_period_operand : (ss : List Sort) → all_differ ss (sign (codes ".") ∷ []) ≡ true → Reads IsPeriodOperand (Next ss) period_operand_read
-unfolding period_operand_read
+unfolding period_operand_read dates_read
 reads_period_operand ss e =
     reads_choice_next (word (codes "PERIOD") ∷ []) (a_name ∷ []) refl starts_dates starts_named
     (reads_next ss (reads_built dates_of (reads_preceded (keyword (codes "PERIOD")) (reads_enclosed_next (sign (codes ")") ∷ []) refl (reads_next (sign (codes ")") ∷ []) (reads_both reads_date (reads_preceded comma reads_date)))))))

@@ -11,7 +11,7 @@ use Rattle.sql_front.specs.Grammar.{QueryBelow}
 use Rattle.sql_front.specs.StandIns.{stand_in}
 use Rattle.sql_front.proofs.ReadGrammar.{IsChain, IsCompare, IsItem, IsJoin, IsNewName, IsPrimary, IsQuery, IsReference, IsSelect, IsSequenced, IsStep}
 use Rattle.sql_front.specs.Reading.{Reader}
-use Rattle.sql_front.specs.QueryReaders.{chain_read, inner_query_read, item_read, join_read, joins_read, new_name_read, operator_read, primary_read, primary_with, query_read, query_with, reference_read, select_read, sequenced_read, step_read, step_with, steps_read, steps_with}
+use Rattle.sql_front.specs.QueryReaders.{chain_read, inner_query_read, item_read, join_read, joins_read, new_name_read, operator_read, primary_read, primary_with, query_read, query_with, reference_read, select_read, sequenced_read, step_read, step_with, steps_read, steps_with, selected_read, from_read, joined_read}
 use Rattle.sql_front.proofs.First.{Starts, starts_built, starts_choice, starts_preceded, starts_preceded_or_not, starts_sequence, starts_stands}
 use Rattle.period_core.proofs.OptionFacts.{none_some}
 use Rattle.sql_front.proofs.Laws.{Any, Reads, reads_both, reads_built, reads_preceded, reads_preceded_or_not, reads_stands}
@@ -88,7 +88,7 @@ starts_join : (n : ℕ) → Starts (any_of join_firsts) (IsJoin n)
 starts_join n = starts_built join_of (starts_preceded_or_not (keyword (codes "INNER")) (starts_preceded (keyword (codes "JOIN")) _))
 
 reads_join : (n : ℕ) → Reads (IsJoin (suc n)) (Next join_ends) (join_read n)
-unfolding join_read
+unfolding join_read joined_read
 reads_join n =
     let on = starts_preceded (keyword (codes "ON")) (ConditionBelow IsCompare (suc n)) in
     let joined = Sequence IsReference (Preceded (keyword (codes "ON")) (ConditionBelow IsCompare (suc n))) in
@@ -115,7 +115,7 @@ pub starts_select : (n : ℕ) → Starts (any_of (word (codes "SELECT") ∷ []))
 starts_select n = starts_preceded (keyword (codes "SELECT")) _
 
 pub reads_select : (n : ℕ) → Reads (IsSelect (suc n)) (Next select_ends) (select_read n)
-unfolding select_read
+unfolding select_read selected_read from_read
 reads_select n =
     let from = starts_preceded (keyword (codes "FROM")) (Sequence (Separated comma (IsChain (suc n))) (IsWhere IsCompare (suc n))) in
     reads_preceded (keyword (codes "SELECT")) (reads_preceded (keyword (codes "DISTINCT"))

@@ -17,9 +17,9 @@ use Rattle.sql_front.specs.LeafValues.{day_of_token, day_value}
 use Rattle.sql_front.specs.Leaves.{date_read, literal_read, name_read, number_read, tuple_read, unsigned_read}
 use Rattle.sql_front.specs.ConditionReaders.{column_read, compare_read, comparison_read, condition_read, conjunction_read, factor_read, operand_read, test_read, where_read}
 use Rattle.sql_front.specs.WindowReaders.{for_window_read}
-use Rattle.sql_front.specs.QueryReaders.{chain_read, inner_query_read, item_read, joins_read, new_name_read, operator_read, primary_read, query_read, reference_read, select_read, sequenced_read, step_read, steps_read}
-use Rattle.sql_front.specs.ChangeReaders.{assignment_read, columns_read, delete_read, in_portion_read, insert_read, portion_read, update_read}
-use Rattle.sql_front.specs.StatementReaders.{statement_read, stored_read}
+use Rattle.sql_front.specs.QueryReaders.{chain_read, inner_query_read, item_read, joins_read, new_name_read, operator_read, primary_read, query_read, reference_read, select_read, sequenced_read, step_read, steps_read, selected_read, from_read}
+use Rattle.sql_front.specs.ChangeReaders.{assignment_read, columns_read, delete_read, in_portion_read, insert_read, portion_read, update_read, named_portion_read, bounds_read, inserted_read, values_read, deleted_read, set_read}
+use Rattle.sql_front.specs.StatementReaders.{statement_read, stored_read, stored_table_read, later_statement_read, query_statement_read}
 use Rattle.sql_front.specs.Reading.{bounded_read, whole_read}
 use Rattle.sql_front.proofs.Spelling.{none_if_unread, spelled_if_read}
 
@@ -58,7 +58,7 @@ abbrev query : List Lexeme
 query = word (codes "VALIDTIME") ∷ select (codes "eno") (codes "emp")
 
 query_is_read : whole_read (statement_read 0) query ≡ Some (sequenced (one_select (codes "ENO") (codes "EMP")))
-unfolding statement_read sequenced_read query_read primary_read steps_read step_read select_read item_read chain_read joins_read reference_read new_name_read for_window_read where_read column_read name_read bounded_read is_plain_word is_reserved
+unfolding statement_read later_statement_read query_statement_read sequenced_read query_read primary_read steps_read step_read select_read selected_read from_read item_read chain_read joins_read reference_read new_name_read for_window_read where_read column_read name_read bounded_read is_plain_word is_reserved
 query_is_read = refl
 
 pub query_spelled : IsStatement query (sequenced (one_select (codes "ENO") (codes "EMP")))
@@ -69,7 +69,7 @@ abbrev undistinct : List Lexeme
 undistinct = word (codes "VALIDTIME") ∷ word (codes "SELECT") ∷ word (codes "ENO") ∷ word (codes "FROM") ∷ word (codes "EMP") ∷ []
 
 undistinct_is_not_read : whole_read (statement_read 5) undistinct ≡ None
-unfolding statement_read sequenced_read query_read primary_read select_read
+unfolding statement_read later_statement_read query_statement_read sequenced_read query_read primary_read select_read selected_read from_read
 undistinct_is_not_read = refl
 
 pub undistinct_spells_none : SpellsNone undistinct
@@ -89,7 +89,7 @@ chained =
     (step Except (simple (selected (codes "A") (codes "U"))) (step Union (simple (selected (codes "A") (codes "V"))) last))
 
 chain_is_read : whole_read (statement_read 0) chain ≡ Some (sequenced chained)
-unfolding statement_read sequenced_read query_read primary_read operator_read steps_read step_read select_read item_read chain_read joins_read reference_read new_name_read for_window_read where_read column_read name_read bounded_read is_plain_word is_reserved
+unfolding statement_read later_statement_read query_statement_read sequenced_read query_read primary_read operator_read steps_read step_read select_read selected_read from_read item_read chain_read joins_read reference_read new_name_read for_window_read where_read column_read name_read bounded_read is_plain_word is_reserved
 chain_is_read = refl
 
 pub operators_apply_from_left_to_right : IsStatement chain (sequenced chained)
@@ -107,7 +107,7 @@ grouping =
     (step Except (combined (simple (selected (codes "A") (codes "U"))) (step Union (simple (selected (codes "A") (codes "V"))) last)) last)
 
 grouped_is_read : whole_read (statement_read 1) grouped ≡ Some (sequenced grouping)
-unfolding statement_read sequenced_read query_read inner_query_read primary_read operator_read steps_read step_read select_read item_read chain_read joins_read reference_read new_name_read for_window_read where_read column_read name_read bounded_read is_plain_word is_reserved
+unfolding statement_read later_statement_read query_statement_read sequenced_read query_read inner_query_read primary_read operator_read steps_read step_read select_read selected_read from_read item_read chain_read joins_read reference_read new_name_read for_window_read where_read column_read name_read bounded_read is_plain_word is_reserved
 grouped_is_read = refl
 
 pub parentheses_group : IsStatement grouped (sequenced grouping)
@@ -140,7 +140,7 @@ deleted = delete (record {
 })
 
 deletion_is_read : whole_read (statement_read 0) deletion ≡ Some deleted
-unfolding statement_read delete_read portion_read where_read condition_read conjunction_read factor_read test_read compare_read operand_read comparison_read column_read literal_read unsigned_read number_read name_read bounded_read is_plain_word is_reserved
+unfolding statement_read later_statement_read query_statement_read delete_read deleted_read portion_read where_read condition_read conjunction_read factor_read test_read compare_read operand_read comparison_read column_read literal_read unsigned_read number_read name_read bounded_read is_plain_word is_reserved
 deletion_is_read = refl
 
 pub and_binds_tighter_than_or : IsStatement deletion deleted
@@ -164,7 +164,7 @@ inserted = insert (record {
 })
 
 insertion_is_read : whole_read (statement_read 0) insertion ≡ Some inserted
-unfolding statement_read insert_read columns_read name_read tuple_read literal_read unsigned_read number_read date_read day_value day_of_token day_of_text date_at date_parts_of is_date bounded_read is_plain_word is_reserved
+unfolding statement_read later_statement_read query_statement_read insert_read inserted_read values_read columns_read name_read tuple_read literal_read unsigned_read number_read date_read day_value day_of_token day_of_text date_at date_parts_of is_date bounded_read is_plain_word is_reserved
 insertion_is_read = refl
 
 pub insertion_spelled : IsStatement insertion inserted
@@ -188,7 +188,7 @@ changed = update (record {
 })
 
 change_is_read : whole_read (statement_read 0) change ≡ Some changed
-unfolding statement_read update_read portion_read in_portion_read assignment_read where_read name_read literal_read unsigned_read number_read date_read day_value day_of_token day_of_text date_at date_parts_of is_date bounded_read is_plain_word is_reserved
+unfolding statement_read later_statement_read query_statement_read update_read set_read portion_read in_portion_read named_portion_read bounds_read assignment_read where_read name_read literal_read unsigned_read number_read date_read day_value day_of_token day_of_text date_at date_parts_of is_date bounded_read is_plain_word is_reserved
 change_is_read = refl
 
 pub change_spelled : IsStatement change changed
@@ -205,7 +205,7 @@ abbrev looked_up : Statement
 looked_up = stored (record { table = codes "EMP"; window = None; condition = None })
 
 lookup_is_read : whole_read (statement_read 0) lookup ≡ Some looked_up
-unfolding statement_read stored_read for_window_read where_read name_read is_plain_word is_reserved
+unfolding statement_read later_statement_read query_statement_read stored_read stored_table_read for_window_read where_read name_read is_plain_word is_reserved
 lookup_is_read = refl
 
 pub lookup_spelled : IsStatement lookup looked_up
@@ -213,7 +213,7 @@ lookup_spelled = spelled_if_read 0 lookup looked_up lookup_is_read refl refl ref
 
 -- a query of columns is not stored: VALIDTIME stands before it
 bare_is_not_read : whole_read (statement_read 5) (select (codes "ENO") (codes "EMP")) ≡ None
-unfolding statement_read stored_read
+unfolding statement_read later_statement_read query_statement_read stored_read stored_table_read
 bare_is_not_read = refl
 
 pub bare_select_spells_none : SpellsNone (select (codes "ENO") (codes "EMP"))
@@ -221,7 +221,7 @@ bare_select_spells_none = none_if_unread (select (codes "ENO") (codes "EMP")) ba
 
 -- nothing spells none
 nothing_is_not_read : whole_read (statement_read 0) [] ≡ None
-unfolding statement_read stored_read
+unfolding statement_read later_statement_read query_statement_read stored_read stored_table_read
 nothing_is_not_read = refl
 
 pub nothing_spells_none : SpellsNone []

@@ -8,7 +8,7 @@ use Rattle.sql_front.specs.Trees.{Statement, at, create, delete, insert, sequenc
 use Rattle.sql_front.specs.Builders.{stored_of}
 use Rattle.sql_front.proofs.ReadGrammar.{IsStatement, IsStored, IsStoredTest, StatementBelow}
 use Rattle.sql_front.specs.Reading.{whole_read}
-use Rattle.sql_front.specs.StatementReaders.{statement_read, stored_read}
+use Rattle.sql_front.specs.StatementReaders.{statement_read, stored_read, stored_table_read, later_statement_read, query_statement_read}
 use Rattle.sql_front.proofs.First.{Starts, starts_built, starts_choice, starts_preceded}
 use Rattle.period_core.proofs.OptionFacts.{none_some}
 use Rattle.sql_front.proofs.Laws.{Reads, reads_both, reads_built, reads_preceded}
@@ -31,7 +31,7 @@ use Rattle.sql_front.proofs.Whole.{whole_again, whole_found, whole_unique}
 -- ---- stored queries
 
 pub reads_stored : (n : ℕ) → Reads (IsStored (suc n)) (Next []) (stored_read n)
-unfolding stored_read
+unfolding stored_read stored_table_read
 reads_stored n =
     reads_preceded (keyword (codes "SELECT")) (reads_preceded (symbol (codes "*")) (reads_preceded (keyword (codes "FROM"))
     (reads_built stored_of (reads_both reads_name
@@ -50,7 +50,7 @@ level_stored n k =
 -- ---- statements
 
 pub reads_statement : (n : ℕ) → Reads (StatementBelow (suc n)) (Next []) (statement_read n)
-unfolding statement_read
+unfolding statement_read later_statement_read query_statement_read
 reads_statement n =
     let stored_starts = starts_built stored (starts_stored (suc n)) in
     let query_starts = starts_built sequenced (starts_sequenced (suc n)) in

@@ -12,9 +12,9 @@ use Rattle.sql_front.specs.Grammar.{IsStatement}
 use Rattle.sql_front.specs.LeafValues.{clock_of_token, clock_value, moment_of_token, moment_value}
 use Rattle.sql_front.specs.Leaves.{clock_moment_read, moment_read, name_read}
 use Rattle.sql_front.specs.ConditionReaders.{column_read, where_read}
-use Rattle.sql_front.specs.WindowReaders.{for_window_read, window_read}
-use Rattle.sql_front.specs.QueryReaders.{chain_read, item_read, joins_read, new_name_read, primary_read, query_read, reference_read, select_read, sequenced_read, step_read, steps_read}
-use Rattle.sql_front.specs.StatementReaders.{statement_read, stored_read}
+use Rattle.sql_front.specs.WindowReaders.{for_window_read, window_read, two_moments_read}
+use Rattle.sql_front.specs.QueryReaders.{chain_read, item_read, joins_read, new_name_read, primary_read, query_read, reference_read, select_read, sequenced_read, step_read, steps_read, selected_read, from_read}
+use Rattle.sql_front.specs.StatementReaders.{statement_read, stored_read, stored_table_read, later_statement_read, query_statement_read}
 use Rattle.sql_front.specs.Reading.{bounded_read, whole_read}
 use Rattle.sql_front.proofs.Spelling.{spelled_if_read}
 use Rattle.sql_front.proofs.StatementExamples.{quoted_text, sign, word}
@@ -63,7 +63,7 @@ abbrev state_tree : Statement
 state_tree = stored_in (AsOf (pos 1_704_067_200))
 
 state_is_read : whole_read (statement_read 0) state ≡ Some state_tree
-unfolding statement_read stored_read for_window_read window_read clock_moment_read clock_value clock_of_token moment_of_token moment_of_text date_at time_at date_parts_of time_parts_of is_date is_time where_read name_read is_plain_word is_reserved
+unfolding statement_read later_statement_read query_statement_read stored_read stored_table_read for_window_read window_read two_moments_read clock_moment_read clock_value clock_of_token moment_of_token moment_of_text date_at time_at date_parts_of time_parts_of is_date is_time where_read name_read is_plain_word is_reserved
 state_is_read = refl
 
 pub state_spelled : IsStatement state state_tree
@@ -78,7 +78,7 @@ abbrev range_tree : Statement
 range_tree = stored_in (FromTo (pos 1_704_067_200) (pos 1_704_285_015))
 
 range_is_read : whole_read (statement_read 0) range ≡ Some range_tree
-unfolding statement_read stored_read for_window_read window_read moment_read moment_value moment_of_token moment_of_text date_at time_at date_parts_of time_parts_of is_date is_time where_read name_read is_plain_word is_reserved
+unfolding statement_read later_statement_read query_statement_read stored_read stored_table_read for_window_read window_read two_moments_read moment_read moment_value moment_of_token moment_of_text date_at time_at date_parts_of time_parts_of is_date is_time where_read name_read is_plain_word is_reserved
 range_is_read = refl
 
 pub range_spelled : IsStatement range range_tree
@@ -94,7 +94,7 @@ abbrev history_tree : Statement
 history_tree = stored_in (Between (pos 1_704_067_200) forever)
 
 history_is_read : whole_read (statement_read 0) history ≡ Some history_tree
-unfolding statement_read stored_read for_window_read window_read moment_read moment_value moment_of_token moment_of_text date_at time_at date_parts_of time_parts_of is_date is_time where_read name_read is_plain_word is_reserved
+unfolding statement_read later_statement_read query_statement_read stored_read stored_table_read for_window_read window_read two_moments_read moment_read moment_value moment_of_token moment_of_text date_at time_at date_parts_of time_parts_of is_date is_time where_read name_read is_plain_word is_reserved
 history_is_read = refl
 
 pub history_spelled : IsStatement history history_tree
@@ -111,7 +111,7 @@ abbrev old_tree : Statement
 old_tree = selected_from (record { first = record { table = codes "T"; window = Some (AsOf (pos 1_704_067_200)); new_name = Some (codes "X") }; joins = [] } ∷ [])
 
 old_is_read : whole_read (statement_read 0) old ≡ Some old_tree
-unfolding statement_read sequenced_read query_read primary_read steps_read step_read select_read item_read chain_read joins_read reference_read new_name_read for_window_read window_read clock_moment_read clock_value clock_of_token moment_of_token moment_of_text date_at time_at date_parts_of time_parts_of is_date is_time where_read column_read name_read bounded_read is_plain_word is_reserved
+unfolding statement_read later_statement_read query_statement_read sequenced_read query_read primary_read steps_read step_read select_read selected_read from_read item_read chain_read joins_read reference_read new_name_read for_window_read window_read two_moments_read clock_moment_read clock_value clock_of_token moment_of_token moment_of_text date_at time_at date_parts_of time_parts_of is_date is_time where_read column_read name_read bounded_read is_plain_word is_reserved
 old_is_read = refl
 
 pub old_spelled : IsStatement old old_tree
@@ -132,7 +132,7 @@ several_tree = selected_from (
     ∷ [])
 
 several_is_read : whole_read (statement_read 0) several ≡ Some several_tree
-unfolding statement_read sequenced_read query_read primary_read steps_read step_read select_read item_read chain_read joins_read reference_read new_name_read for_window_read window_read moment_read moment_value moment_of_token moment_of_text date_at time_at date_parts_of time_parts_of is_date is_time where_read column_read name_read bounded_read is_plain_word is_reserved
+unfolding statement_read later_statement_read query_statement_read sequenced_read query_read primary_read steps_read step_read select_read selected_read from_read item_read chain_read joins_read reference_read new_name_read for_window_read window_read two_moments_read moment_read moment_value moment_of_token moment_of_text date_at time_at date_parts_of time_parts_of is_date is_time where_read column_read name_read bounded_read is_plain_word is_reserved
 several_is_read = refl
 
 pub several_spelled : IsStatement several several_tree

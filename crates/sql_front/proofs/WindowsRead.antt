@@ -4,7 +4,7 @@ use Rattle.sql_front.specs.declared.statement.SystemTime.TheVariants.{AsOf}
 use Rattle.sql_front.specs.Language.{keyword, Optional, Preceded, Sequence}
 use Rattle.sql_front.specs.Builders.{between_of, from_to_of}
 use Rattle.sql_front.proofs.ReadGrammar.{IsClockMoment, IsForWindow, IsMoment, IsWindow}
-use Rattle.sql_front.specs.WindowReaders.{for_window_read, window_read}
+use Rattle.sql_front.specs.WindowReaders.{for_window_read, window_read, two_moments_read}
 use Rattle.sql_front.proofs.First.{Starts, starts_built, starts_choice, starts_preceded}
 use Rattle.sql_front.proofs.Laws.{Any, Reads, reads_both, reads_built, reads_preceded}
 use Rattle.sql_front.proofs.LeavesRead.{level_clock_moment, level_moment, reads_clock_moment, reads_moment}
@@ -12,7 +12,7 @@ use Rattle.sql_front.proofs.Levels.{Level, level_built, level_choice, level_prec
 use Rattle.sql_front.proofs.Sorts.{all_differ, any_of, Next, reads_choice_next, reads_next, reads_optional_next, Sort, word}
 
 pub reads_window : Reads IsWindow Any window_read
-unfolding window_read
+unfolding window_read two_moments_read
 reads_window =
     let as_of_starts = starts_built AsOf (starts_preceded (keyword (codes "AS")) (Preceded (keyword (codes "OF")) IsClockMoment)) in
     let from_starts = starts_built from_to_of (starts_preceded (keyword (codes "FROM")) (Sequence IsMoment (Preceded (keyword (codes "TO")) IsMoment))) in

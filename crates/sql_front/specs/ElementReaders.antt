@@ -62,6 +62,11 @@ leading_names_read =
 unfoldable pub length_read : Reader ℕ
 length_read = enclosed_read number_read
 
+-- TIMESTAMP [ '(' num ')' ]
+unfoldable pub timestamp_read : Reader TypeName
+timestamp_read =
+    built_read Timestamp (preceded_read (keyword (codes "TIMESTAMP")) (optional_read (symbol (codes "(")) length_read))
+
 unfoldable pub type_read : Reader TypeName
 type_read =
     choice_read (begins (keyword (codes "INTEGER"))) (stands_read Integer (keyword (codes "INTEGER")))
@@ -70,7 +75,7 @@ type_read =
     (built_read Varchar (preceded_read (keyword (codes "VARCHAR")) length_read))
     (choice_read (begins (keyword (codes "CHARACTER")))
     (built_read Varchar (preceded_read (keyword (codes "CHARACTER")) (preceded_read (keyword (codes "VARYING")) length_read)))
-    (built_read Timestamp (preceded_read (keyword (codes "TIMESTAMP")) (optional_read (symbol (codes "(")) length_read))))))
+    timestamp_read)))
 
 -- START | END
 unfoldable pub row_end_read : Reader Generated
@@ -121,22 +126,29 @@ without_overlaps_read = preceded_read (keyword (codes "WITHOUT")) (fixed_read (k
 unfoldable pub key_names_read : Reader (List (List ℕ) × List ℕ)
 key_names_read = all_and_last_read comma name_read
 
+-- '(' names WITHOUT OVERLAPS ')'
+unfoldable pub key_list_read : Reader KeyElement
+key_list_read = enclosed_read (built_read key_of (sequence_read key_names_read without_overlaps_read))
+
 unfoldable pub key_element_read : Reader KeyElement
-key_element_read =
-    preceded_read (keyword (codes "PRIMARY")) (preceded_read (keyword (codes "KEY"))
-    (enclosed_read (built_read key_of (sequence_read key_names_read without_overlaps_read))))
+key_element_read = preceded_read (keyword (codes "PRIMARY")) (preceded_read (keyword (codes "KEY")) key_list_read)
+
+-- ',' PERIOD name
+unfoldable pub last_period_read : Reader (List ℕ)
+last_period_read = preceded_read comma (preceded_read (keyword (codes "PERIOD")) name_read)
 
 -- '(' name { ',' name } ',' PERIOD name ')'
 unfoldable pub reference_list_read : Reader (List (List ℕ) × List ℕ)
-reference_list_read =
-    enclosed_read (sequence_read leading_names_read
-    (preceded_read comma (preceded_read (keyword (codes "PERIOD")) name_read)))
+reference_list_read = enclosed_read (sequence_read leading_names_read last_period_read)
+
+-- REFERENCES name list
+unfoldable pub parent_read : Reader (List ℕ × (List (List ℕ) × List ℕ))
+parent_read = preceded_read (keyword (codes "REFERENCES")) (sequence_read name_read reference_list_read)
 
 unfoldable pub reference_element_read : Reader ReferenceElement
 reference_element_read =
     preceded_read (keyword (codes "FOREIGN")) (preceded_read (keyword (codes "KEY"))
-    (built_read reference_of (sequence_read reference_list_read
-    (preceded_read (keyword (codes "REFERENCES")) (sequence_read name_read reference_list_read)))))
+    (built_read reference_of (sequence_read reference_list_read parent_read)))
 
 -- ---- elements
 
@@ -163,7 +175,9 @@ versioning_read =
 unfoldable pub elements_read : Reader (List Element)
 elements_read = enclosed_read (separated_read comma element_read)
 
+-- what stands behind CREATE TABLE
+unfoldable pub created_table_read : Reader CreateTable
+created_table_read = built_read table_of (sequence_read name_read (sequence_read elements_read versioning_read))
+
 unfoldable pub create_read : Reader CreateTable
-create_read =
-    preceded_read (keyword (codes "CREATE")) (preceded_read (keyword (codes "TABLE"))
-    (built_read table_of (sequence_read name_read (sequence_read elements_read versioning_read))))
+create_read = preceded_read (keyword (codes "CREATE")) (preceded_read (keyword (codes "TABLE")) created_table_read)

@@ -14,10 +14,14 @@ use Rattle.sql_front.specs.Reading.{Reader, begins, third_is, sequence_read, bui
 use Rattle.sql_front.specs.Leaves.{date_read}
 use Rattle.sql_front.specs.ConditionReaders.{column_read, compare_read}
 
+-- '(' date ',' date ')'
+unfoldable pub dates_read : Reader (ℤ × ℤ)
+dates_read = enclosed_read (sequence_read date_read (preceded_read comma date_read))
+
 unfoldable pub period_operand_read : Reader PeriodOperand
 period_operand_read =
     choice_read (begins (keyword (codes "PERIOD")))
-    (built_read dates_of (preceded_read (keyword (codes "PERIOD")) (enclosed_read (sequence_read date_read (preceded_read comma date_read)))))
+    (built_read dates_of (preceded_read (keyword (codes "PERIOD")) dates_read))
     (built_read Named column_read)
 
 unfoldable pub relation_read : Reader PeriodPredicate

@@ -9,7 +9,8 @@ use Rattle.sql_front.specs.declared.statement.SelectDistinct as selects
 use Rattle.sql_front.specs.Plain.{plain_query}
 use Rattle.sql_front.specs.Lexemes.{Lexeme}
 use Rattle.sql_front.specs.Language.{keyword, symbol, or_test}
-use Rattle.sql_front.specs.Trees.{Join, JoinChain, Select, Query, simple}
+use Rattle.sql_front.specs.declared.statement.Compare.{Compare}
+use Rattle.sql_front.specs.Trees.{Condition, Join, JoinChain, Select, Query, simple}
 use Rattle.sql_front.specs.Builders.{table_reference_of, join_of, chain_of, item_of, select_of, combined_of}
 use Rattle.sql_front.specs.Grammar.{name, comma}
 use Rattle.sql_front.specs.Reading.{Reader, begins, sequence_read, built_read, choice_read, optional_read, repetition_read, preceded_read, preceded_or_not_read, stands_read, separated_read, enclosed_read}
@@ -34,10 +35,14 @@ item_read = built_read item_of (sequence_read column_read new_name_read)
 
 -- ---- selects, whose conditions' parentheses nest at most n deep
 
+-- JOIN reference ON cond
+unfoldable pub joined_read : ℕ → Reader (TableReference × Condition Compare)
+joined_read n =
+    preceded_read (keyword (codes "JOIN"))
+    (sequence_read reference_read (preceded_read (keyword (codes "ON")) (condition_read compare_read n)))
+
 unfoldable pub join_read : ℕ → Reader Join
-join_read n =
-    built_read join_of (preceded_or_not_read (keyword (codes "INNER")) (preceded_read (keyword (codes "JOIN"))
-    (sequence_read reference_read (preceded_read (keyword (codes "ON")) (condition_read compare_read n)))))
+join_read n = built_read join_of (preceded_or_not_read (keyword (codes "INNER")) (joined_read n))
 
 abbrev pub begins_join : Lexeme → Bool
 begins_join = or_test (keyword (codes "INNER")) (keyword (codes "JOIN"))
@@ -48,11 +53,18 @@ joins_read n = repetition_read (begins begins_join) (join_read n)
 unfoldable pub chain_read : ℕ → Reader JoinChain
 chain_read n = built_read chain_of (sequence_read reference_read (joins_read n))
 
+-- FROM chain { ',' chain } [ WHERE cond ]
+unfoldable pub from_read : ℕ → Reader (List JoinChain × Option (Condition Compare))
+from_read n =
+    preceded_read (keyword (codes "FROM")) (sequence_read (separated_read comma (chain_read n)) (where_read compare_read n))
+
+-- what stands behind SELECT DISTINCT
+unfoldable pub selected_read : ℕ → Reader Select
+selected_read n = built_read select_of (sequence_read (separated_read comma item_read) (from_read n))
+
 unfoldable pub select_read : ℕ → Reader Select
 select_read n =
-    preceded_read (keyword (codes "SELECT")) (preceded_read (keyword (codes "DISTINCT"))
-    (built_read select_of (sequence_read (separated_read comma item_read)
-    (preceded_read (keyword (codes "FROM")) (sequence_read (separated_read comma (chain_read n)) (where_read compare_read n))))))
+    preceded_read (keyword (codes "SELECT")) (preceded_read (keyword (codes "DISTINCT")) (selected_read n))
 
 -- ---- queries
 

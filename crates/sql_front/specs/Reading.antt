@@ -54,8 +54,13 @@ repetition_read d p ts = bounded_read d p (length ts) ts
 abbrev pub preceded_read : {A : Type 0} → (Lexeme → Bool) → Reader A → Reader A
 preceded_read {A} test p = built_read (λ (v : Unit {0} × A). v.1) (sequence_read (fixed_read test) p)
 
+-- the tokens after one that meets the test, or all of them
+abbrev pub behind_optional : (Lexeme → Bool) → List Lexeme → List Lexeme
+behind_optional test [] = []
+behind_optional test (t ∷ rest) = cond (test t) rest (t ∷ rest)
+
 abbrev pub preceded_or_not_read : {A : Type 0} → (Lexeme → Bool) → Reader A → Reader A
-preceded_or_not_read test p = choice_read (begins test) (preceded_read test p) p
+preceded_or_not_read test p ts = p (behind_optional test ts)
 
 abbrev pub stands_read : {A : Type 0} → A → (Lexeme → Bool) → Reader A
 stands_read a test = built_read (λ (nothing : Unit {0}). a) (fixed_read test)

@@ -1,12 +1,13 @@
 //! AT, INSERT, UPDATE and DELETE, read from the front.
 
 ghost use Rattle.std.specs.Prelude.{◌≡◌, ◌≤◌, length, IfOk};
-ghost use Rattle.sql_front.specs.ChangeReaders.{assignment_read, at_read, columns_read, delete_read, in_portion_read, insert_read, portion_read, update_read};
+ghost use Rattle.sql_front.specs.ChangeReaders.{assignment_read, at_read, bounds_read, columns_read, delete_read, deleted_read, in_portion_read, insert_read, inserted_read, named_portion_read, portion_read, set_read, update_read, values_read};
 ghost use Rattle.sql_front.specs.Gives.{Gives};
 ghost use Rattle.sql_front.specs.Grammar.{comma};
 ghost use Rattle.sql_front.specs.Leaves.{tuple_read};
 ghost use Rattle.sql_front.specs.Lexemes.{lexemes};
-ghost use Rattle.sql_front.specs.Plain.{plain_delete, plain_update};
+ghost use Rattle.sql_front.specs.Plain.{plain_condition, plain_delete, plain_update};
+ghost use Rattle.std.specs.Option.{option_map};
 ghost use Rattle.sql_front.specs.Reading.{separated_read};
 ghost use Rattle.sql_front.specs.declared.statement.Assignment as assignments;
 
@@ -19,8 +20,9 @@ use crate::name::Name;
 use crate::nonempty::NonEmpty;
 use crate::statement::{Assignment, Compare, DeleteRows, InsertRows, Portion, UpdateRows};
 use crate::token::Token;
+use crate::tree::Tree;
 use crate::unread::Unread;
-use period_core::Value;
+use period_core::{Day, Value};
 use std::alloc::Global;
 
 /// AT with a moment, and the tokens after it.
@@ -60,6 +62,40 @@ fn read_rows<'a, 'b>(
     Ok((NonEmpty::from_vec(rows), rest))
 }
 
+/// VALUES with rows, and the tokens after them.
+#[tactic(auto, unfolding(crate::specs::ChangeReaders::values_read))]
+fn read_values<'a, 'b>(
+    alloc: Global,
+    tokens: &'b [Token<'a>],
+) -> Result<(NonEmpty<NonEmpty<Value>>, &'b [Token<'a>]), Unread>
+    ensures value { Gives (λ x. (x.0, lexemes x.1.now)) result (values_read (lexemes tokens.now)) }
+    ensures rest { IfOk result (λ x. length x.1.now ≤ length tokens.now) }
+{
+    read_rows(alloc, skip(tokens, Mark::Keyword("VALUES"))?)
+}
+
+/// A table with columns and rows, and the tokens after them.
+#[tactic(auto, unfolding(crate::specs::ChangeReaders::inserted_read))]
+fn read_inserted<'a, 'b>(
+    alloc: Global,
+    tokens: &'b [Token<'a>],
+) -> Result<(InsertRows, &'b [Token<'a>]), Unread>
+    ensures value { Gives (λ x. (x.0, lexemes x.1.now)) result (inserted_read (lexemes tokens.now)) }
+    ensures rest { IfOk result (λ x. length x.1.now ≤ length tokens.now) }
+{
+    let (table, rest) = read_name(alloc, tokens)?;
+    let (columns, rest) = read_columns(alloc, rest)?;
+    let (rows, rest) = read_values(alloc, rest)?;
+    Ok((
+        InsertRows {
+            table,
+            columns,
+            rows,
+        },
+        rest,
+    ))
+}
+
 /// INSERT, and the tokens after it.
 #[tactic(auto, unfolding(crate::specs::ChangeReaders::insert_read))]
 pub fn read_insert<'a, 'b>(
@@ -70,19 +106,39 @@ pub fn read_insert<'a, 'b>(
     ensures rest { IfOk result (λ x. length x.1.now ≤ length tokens.now) }
 {
     let rest = skip(tokens, Mark::Keyword("INSERT"))?;
-    let rest = skip(rest, Mark::Keyword("INTO"))?;
-    let (table, rest) = read_name(alloc, rest)?;
-    let (columns, rest) = read_columns(alloc, rest)?;
-    let rest = skip(rest, Mark::Keyword("VALUES"))?;
-    let (rows, rest) = read_rows(alloc, rest)?;
-    Ok((
-        InsertRows {
-            table,
-            columns,
-            rows,
-        },
-        rest,
-    ))
+    read_inserted(alloc, skip(rest, Mark::Keyword("INTO"))?)
+}
+
+/// FROM a day TO another, and the tokens after them.
+#[tactic(auto, unfolding(crate::specs::ChangeReaders::bounds_read))]
+fn read_bounds<'a, 'b>(tokens: &'b [Token<'a>]) -> Result<((Day, Day), &'b [Token<'a>]), Unread>
+    ensures value { Gives (λ x. (x.0, lexemes x.1.now)) result (bounds_read (lexemes tokens.now)) }
+    ensures rest { IfOk result (λ x. length x.1.now ≤ length tokens.now) }
+{
+    let (from, rest) = match read_date(skip(tokens, Mark::Keyword("FROM"))?) {
+        Ok(found) => found,
+        Err(unread) => return Err(unread),
+    };
+    match read_date(skip(rest, Mark::Keyword("TO"))?) {
+        Ok((to, rest)) => Ok(((from, to), rest)),
+        Err(unread) => Err(unread),
+    }
+}
+
+/// A period with its bounds, and the tokens after them.
+#[tactic(auto, unfolding(crate::specs::ChangeReaders::named_portion_read))]
+fn read_named_portion<'a, 'b>(
+    alloc: Global,
+    tokens: &'b [Token<'a>],
+) -> Result<(Portion, &'b [Token<'a>]), Unread>
+    ensures value { Gives (λ x. (x.0, lexemes x.1.now)) result (named_portion_read (lexemes tokens.now)) }
+    ensures rest { IfOk result (λ x. length x.1.now ≤ length tokens.now) }
+{
+    let (period, rest) = read_name(alloc, tokens)?;
+    match read_bounds(rest) {
+        Ok(((from, to), rest)) => Ok((Portion { period, from, to }, rest)),
+        Err(unread) => Err(unread),
+    }
 }
 
 #[tactic(auto, unfolding(crate::specs::ChangeReaders::in_portion_read))]
@@ -95,19 +151,7 @@ fn read_in_portion<'a, 'b>(
 {
     let rest = skip(tokens, Mark::Keyword("FOR"))?;
     let rest = skip(rest, Mark::Keyword("PORTION"))?;
-    let rest = skip(rest, Mark::Keyword("OF"))?;
-    let (period, rest) = read_name(alloc, rest)?;
-    let rest = skip(rest, Mark::Keyword("FROM"))?;
-    let (from, rest) = match read_date(rest) {
-        Ok(found) => found,
-        Err(unread) => return Err(unread),
-    };
-    let rest = skip(rest, Mark::Keyword("TO"))?;
-    let (to, rest) = match read_date(rest) {
-        Ok(found) => found,
-        Err(unread) => return Err(unread),
-    };
-    Ok((Portion { period, from, to }, rest))
+    read_named_portion(alloc, skip(rest, Mark::Keyword("OF"))?)
 }
 
 /// FOR PORTION OF a period with its bounds or nothing, and the tokens after them.
@@ -157,6 +201,28 @@ fn read_assignments<'a, 'b>(
     Ok((NonEmpty::from_vec(assignments), rest))
 }
 
+/// SET with assignments and a condition, and the tokens after them. At most `depth` parentheses
+/// open in it.
+#[tactic(auto, unfolding(crate::specs::ChangeReaders::set_read))]
+fn read_set<'a, 'b>(
+    alloc: Global,
+    depth: usize,
+    tokens: &'b [Token<'a>],
+) -> Result<
+    (
+        (NonEmpty<Assignment>, Option<Tree<Compare>>),
+        &'b [Token<'a>],
+    ),
+    Unread,
+>
+    ensures value { Gives (λ x. ((x.0.0, option_map plain_condition x.0.1), lexemes x.1.now)) result (set_read depth (lexemes tokens.now)) }
+    ensures rest { IfOk result (λ x. length x.1.now ≤ length tokens.now) }
+{
+    let (assignments, rest) = read_assignments(alloc, skip(tokens, Mark::Keyword("SET"))?)?;
+    let (condition, rest) = read_where::<Compare>(alloc, depth, rest)?;
+    Ok(((assignments, condition), rest))
+}
+
 /// UPDATE, and the tokens after it. At most `depth` parentheses open in it.
 #[tactic(auto, unfolding(crate::specs::ChangeReaders::update_read))]
 pub fn read_update<'a, 'b>(
@@ -169,13 +235,36 @@ pub fn read_update<'a, 'b>(
 {
     let (table, rest) = read_name(alloc, skip(tokens, Mark::Keyword("UPDATE"))?)?;
     let (portion, rest) = read_portion(alloc, rest)?;
-    let (assignments, rest) = read_assignments(alloc, skip(rest, Mark::Keyword("SET"))?)?;
-    let (condition, rest) = read_where::<Compare>(alloc, depth, rest)?;
+    let ((assignments, condition), rest) = read_set(alloc, depth, rest)?;
     Ok((
         UpdateRows {
             table,
             portion,
             assignments,
+            condition,
+        },
+        rest,
+    ))
+}
+
+/// A table with a portion and a condition, and the tokens after them. At most `depth` parentheses
+/// open in it.
+#[tactic(auto, unfolding(crate::specs::ChangeReaders::deleted_read))]
+fn read_deleted<'a, 'b>(
+    alloc: Global,
+    depth: usize,
+    tokens: &'b [Token<'a>],
+) -> Result<(DeleteRows, &'b [Token<'a>]), Unread>
+    ensures value { Gives (λ x. (plain_delete x.0, lexemes x.1.now)) result (deleted_read depth (lexemes tokens.now)) }
+    ensures rest { IfOk result (λ x. length x.1.now ≤ length tokens.now) }
+{
+    let (table, rest) = read_name(alloc, tokens)?;
+    let (portion, rest) = read_portion(alloc, rest)?;
+    let (condition, rest) = read_where::<Compare>(alloc, depth, rest)?;
+    Ok((
+        DeleteRows {
+            table,
+            portion,
             condition,
         },
         rest,
@@ -193,15 +282,5 @@ pub fn read_delete<'a, 'b>(
     ensures rest { IfOk result (λ x. length x.1.now ≤ length tokens.now) }
 {
     let rest = skip(tokens, Mark::Keyword("DELETE"))?;
-    let (table, rest) = read_name(alloc, skip(rest, Mark::Keyword("FROM"))?)?;
-    let (portion, rest) = read_portion(alloc, rest)?;
-    let (condition, rest) = read_where::<Compare>(alloc, depth, rest)?;
-    Ok((
-        DeleteRows {
-            table,
-            portion,
-            condition,
-        },
-        rest,
-    ))
+    read_deleted(alloc, depth, skip(rest, Mark::Keyword("FROM"))?)
 }

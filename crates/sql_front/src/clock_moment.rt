@@ -1,7 +1,7 @@
 //! The moments that the clock may have.
 
 ghost use Rattle.std.specs.Prelude.{◌≡◌, ◌↔◌, ◌<ℤ◌, IsSome, IfSome};
-ghost use Rattle.period_core.specs.Moments.{forever};
+ghost use Rattle.period_core.specs.Moments.{IsMomentNumber, first_moment, forever};
 
 use period_core::Moment;
 use std::marker::Model;
@@ -14,13 +14,13 @@ pub struct ClockMoment {
 
 impl Model for ClockMoment {
     ghost use Rattle.std.specs.Prelude.{ℤ, ◌<ℤ◌};
-    ghost use Rattle.period_core.specs.Moments.{forever};
+    ghost use Rattle.period_core.specs.Moments.{IsMomentNumber, forever};
 
     ghost Value = { ℤ };
 
     ghost view = { λ m. m.moment };
 
-    ghost invariant = { λ m. m.moment <ℤ forever };
+    ghost invariant = { λ m. IsMomentNumber m.moment × (m.moment <ℤ forever) };
 
     ghost inverse = { λ n. record { moment = n } };
 }
@@ -31,7 +31,7 @@ impl ClockMoment {
         ensures there { IsSome result ↔ (moment <ℤ forever) }
         ensures value { IfSome result (λ m. m ≡ moment) }
     {
-        if moment < Moment::forever() {
+        if moment.number() < Moment::forever().number() {
             Some(ClockMoment { moment })
         } else {
             None
@@ -40,7 +40,7 @@ impl ClockMoment {
 
     /// The first moment, at which a new store begins.
     pub fn first() -> ClockMoment
-        ensures { result ≡ Rattle.period_core.specs.Moments.first_moment }
+        ensures { result ≡ first_moment }
     {
         ClockMoment {
             moment: Moment::first(),
@@ -49,7 +49,9 @@ impl ClockMoment {
 
     /// The moment.
     pub fn moment(self) -> Moment
-        ensures { result ≡ self }
+        ensures value { result ≡ self }
+        ensures in_range { IsMomentNumber result }
+        ensures below { result <ℤ forever }
     {
         self.moment
     }

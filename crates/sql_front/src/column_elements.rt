@@ -1,7 +1,7 @@
 //! The columns of CREATE TABLE, read from the front.
 
 ghost use Rattle.std.specs.Prelude.{◌≡◌, ◌≤◌, length, IfOk, codes};
-ghost use Rattle.sql_front.specs.ElementReaders.{column_element_read, generated_read, length_read, not_null_read, row_end_read, type_read};
+ghost use Rattle.sql_front.specs.ElementReaders.{column_element_read, generated_read, length_read, not_null_read, row_end_read, timestamp_read, type_read};
 ghost use Rattle.sql_front.specs.Gives.{Gives};
 ghost use Rattle.sql_front.specs.Language.{keyword};
 ghost use Rattle.sql_front.specs.Lexemes.{lexemes};
@@ -9,7 +9,7 @@ ghost use Rattle.sql_front.specs.Reading.{optional_read};
 
 use crate::create::{ColumnElement, Generated, TypeName};
 use crate::leaves::{read_name, read_number};
-use crate::mark::{Mark, skip, starts};
+use crate::mark::{Mark, after, skip, starts};
 use crate::token::Token;
 use crate::unread::Unread;
 use std::alloc::Global;
@@ -24,27 +24,12 @@ fn read_length<'a, 'b>(tokens: &'b [Token<'a>]) -> Result<(u64, &'b [Token<'a>])
     Ok((length, skip(rest, Mark::Symbol(")"))?))
 }
 
-// A type by its keywords.
-#[tactic(auto, unfolding(crate::specs::ElementReaders::type_read))]
-fn read_type<'a, 'b>(tokens: &'b [Token<'a>]) -> Result<(TypeName, &'b [Token<'a>]), Unread>
-    ensures value { Gives (λ x. (x.0, lexemes x.1.now)) result (type_read (lexemes tokens.now)) }
+// TIMESTAMP with a precision or without.
+#[tactic(auto, unfolding(crate::specs::ElementReaders::timestamp_read))]
+fn read_timestamp<'a, 'b>(tokens: &'b [Token<'a>]) -> Result<(TypeName, &'b [Token<'a>]), Unread>
+    ensures value { Gives (λ x. (x.0, lexemes x.1.now)) result (timestamp_read (lexemes tokens.now)) }
     ensures rest { IfOk result (λ x. length x.1.now ≤ length tokens.now) }
 {
-    if starts(tokens, Mark::Keyword("INTEGER")) {
-        return Ok((TypeName::Integer, skip(tokens, Mark::Keyword("INTEGER"))?));
-    }
-    if starts(tokens, Mark::Keyword("DATE")) {
-        return Ok((TypeName::Date, skip(tokens, Mark::Keyword("DATE"))?));
-    }
-    if starts(tokens, Mark::Keyword("VARCHAR")) {
-        let (length, rest) = read_length(skip(tokens, Mark::Keyword("VARCHAR"))?)?;
-        return Ok((TypeName::Varchar(length), rest));
-    }
-    if starts(tokens, Mark::Keyword("CHARACTER")) {
-        let rest = skip(tokens, Mark::Keyword("CHARACTER"))?;
-        let (length, rest) = read_length(skip(rest, Mark::Keyword("VARYING"))?)?;
-        return Ok((TypeName::Varchar(length), rest));
-    }
     let rest = skip(tokens, Mark::Keyword("TIMESTAMP"))?;
     if !starts(rest, Mark::Symbol("(")) {
         return Ok((TypeName::Timestamp(None), rest));
@@ -53,14 +38,37 @@ fn read_type<'a, 'b>(tokens: &'b [Token<'a>]) -> Result<(TypeName, &'b [Token<'a
     Ok((TypeName::Timestamp(Some(precision)), rest))
 }
 
+// A type by its keywords.
+#[tactic(auto, unfolding(crate::specs::ElementReaders::type_read))]
+fn read_type<'a, 'b>(tokens: &'b [Token<'a>]) -> Result<(TypeName, &'b [Token<'a>]), Unread>
+    ensures value { Gives (λ x. (x.0, lexemes x.1.now)) result (type_read (lexemes tokens.now)) }
+    ensures rest { IfOk result (λ x. length x.1.now ≤ length tokens.now) }
+{
+    if let Some(rest) = after(tokens, Mark::Keyword("INTEGER")) {
+        return Ok((TypeName::Integer, rest));
+    }
+    if let Some(rest) = after(tokens, Mark::Keyword("DATE")) {
+        return Ok((TypeName::Date, rest));
+    }
+    if let Some(rest) = after(tokens, Mark::Keyword("VARCHAR")) {
+        let (length, rest) = read_length(rest)?;
+        return Ok((TypeName::Varchar(length), rest));
+    }
+    if let Some(rest) = after(tokens, Mark::Keyword("CHARACTER")) {
+        let (length, rest) = read_length(skip(rest, Mark::Keyword("VARYING"))?)?;
+        return Ok((TypeName::Varchar(length), rest));
+    }
+    read_timestamp(tokens)
+}
+
 // START or END.
 #[tactic(auto, unfolding(crate::specs::ElementReaders::row_end_read))]
 fn read_row_end<'a, 'b>(tokens: &'b [Token<'a>]) -> Result<(Generated, &'b [Token<'a>]), Unread>
     ensures value { Gives (λ x. (x.0, lexemes x.1.now)) result (row_end_read (lexemes tokens.now)) }
     ensures rest { IfOk result (λ x. length x.1.now ≤ length tokens.now) }
 {
-    if starts(tokens, Mark::Keyword("START")) {
-        return Ok((Generated::Start, skip(tokens, Mark::Keyword("START"))?));
+    if let Some(rest) = after(tokens, Mark::Keyword("START")) {
+        return Ok((Generated::Start, rest));
     }
     Ok((Generated::End, skip(tokens, Mark::Keyword("END"))?))
 }
@@ -73,10 +81,9 @@ fn read_generated<'a, 'b>(
     ensures value { Gives (λ x. (x.0, lexemes x.1.now)) result (optional_read (keyword (codes "GENERATED")) generated_read (lexemes tokens.now)) }
     ensures rest { IfOk result (λ x. length x.1.now ≤ length tokens.now) }
 {
-    if !starts(tokens, Mark::Keyword("GENERATED")) {
+    let Some(rest) = after(tokens, Mark::Keyword("GENERATED")) else {
         return Ok((None, tokens));
-    }
-    let rest = skip(tokens, Mark::Keyword("GENERATED"))?;
+    };
     let rest = skip(rest, Mark::Keyword("ALWAYS"))?;
     let rest = skip(rest, Mark::Keyword("AS"))?;
     let (generated, rest) = read_row_end(skip(rest, Mark::Keyword("ROW"))?)?;
@@ -89,10 +96,9 @@ fn read_not_null<'a, 'b>(tokens: &'b [Token<'a>]) -> Result<(Option<()>, &'b [To
     ensures value { Gives (λ x. (x.0, lexemes x.1.now)) result (optional_read (keyword (codes "NOT")) not_null_read (lexemes tokens.now)) }
     ensures rest { IfOk result (λ x. length x.1.now ≤ length tokens.now) }
 {
-    if !starts(tokens, Mark::Keyword("NOT")) {
+    let Some(rest) = after(tokens, Mark::Keyword("NOT")) else {
         return Ok((None, tokens));
-    }
-    let rest = skip(tokens, Mark::Keyword("NOT"))?;
+    };
     Ok((Some(()), skip(rest, Mark::Keyword("NULL"))?))
 }
 

@@ -7,7 +7,7 @@ ghost use Rattle.sql_front.specs.Lexemes.{lexemes};
 
 use crate::conditions::Test;
 use crate::leaves::{read_literal, read_name};
-use crate::mark::{Mark, skip, starts, starts_name};
+use crate::mark::{Mark, after, skip, starts_name};
 use crate::statement::{ColumnReference, Compare, Comparison, Operand};
 use crate::token::Token;
 use crate::unread::Unread;
@@ -23,14 +23,14 @@ pub fn read_column<'a, 'b>(
     ensures rest { IfOk result (λ x. length x.1.now ≤ length tokens.now) }
 {
     let (first, rest) = read_name(alloc, tokens)?;
-    if !starts(rest, Mark::Symbol(".")) {
+    let Some(behind) = after(rest, Mark::Symbol(".")) else {
         let column = ColumnReference {
             qualifier: None,
             name: first,
         };
         return Ok((column, rest));
-    }
-    let (second, rest) = read_name(alloc, skip(rest, Mark::Symbol("."))?)?;
+    };
+    let (second, rest) = read_name(alloc, behind)?;
     let column = ColumnReference {
         qualifier: Some(first),
         name: second,
@@ -59,20 +59,20 @@ fn read_comparison<'a, 'b>(tokens: &'b [Token<'a>]) -> Result<(Comparison, &'b [
     ensures value { Gives (λ x. (x.0, lexemes x.1.now)) result (comparison_read (lexemes tokens.now)) }
     ensures rest { IfOk result (λ x. length x.1.now ≤ length tokens.now) }
 {
-    if starts(tokens, Mark::Symbol("=")) {
-        return Ok((Comparison::Equal, skip(tokens, Mark::Symbol("="))?));
+    if let Some(rest) = after(tokens, Mark::Symbol("=")) {
+        return Ok((Comparison::Equal, rest));
     }
-    if starts(tokens, Mark::Symbol("<>")) {
-        return Ok((Comparison::NotEqual, skip(tokens, Mark::Symbol("<>"))?));
+    if let Some(rest) = after(tokens, Mark::Symbol("<>")) {
+        return Ok((Comparison::NotEqual, rest));
     }
-    if starts(tokens, Mark::Symbol("<")) {
-        return Ok((Comparison::Less, skip(tokens, Mark::Symbol("<"))?));
+    if let Some(rest) = after(tokens, Mark::Symbol("<")) {
+        return Ok((Comparison::Less, rest));
     }
-    if starts(tokens, Mark::Symbol("<=")) {
-        return Ok((Comparison::LessOrEqual, skip(tokens, Mark::Symbol("<="))?));
+    if let Some(rest) = after(tokens, Mark::Symbol("<=")) {
+        return Ok((Comparison::LessOrEqual, rest));
     }
-    if starts(tokens, Mark::Symbol(">")) {
-        return Ok((Comparison::Greater, skip(tokens, Mark::Symbol(">"))?));
+    if let Some(rest) = after(tokens, Mark::Symbol(">")) {
+        return Ok((Comparison::Greater, rest));
     }
     Ok((
         Comparison::GreaterOrEqual,

@@ -8,7 +8,7 @@ ghost use Rattle.sql_front.specs.Builders.{all_of, any_of};
 ghost use Rattle.sql_front.specs.Lexemes.{Lexeme, lexemes};
 ghost use Rattle.sql_front.specs.Plain.{plain_condition};
 
-use crate::mark::{Mark, skip, starts};
+use crate::mark::{Mark, after, skip, starts};
 use crate::token::Token;
 use crate::tree::Tree;
 use crate::unread::Unread;
@@ -98,10 +98,10 @@ fn read_factor<'a, 'b, T: Test>(
     ensures value { Gives (λ x. (plain_condition x.0, lexemes x.1.now)) result (factor_read T.reader depth (lexemes tokens.now)) }
     ensures rest { IfOk result (λ x. length x.1.now ≤ length tokens.now) }
 {
-    if !starts(tokens, Mark::Keyword("NOT")) {
+    let Some(negated) = after(tokens, Mark::Keyword("NOT")) else {
         return read_test::<T>(alloc, depth, tokens);
-    }
-    let (inner, rest) = read_test::<T>(alloc, depth, skip(tokens, Mark::Keyword("NOT"))?)?;
+    };
+    let (inner, rest) = read_test::<T>(alloc, depth, negated)?;
     Ok((Tree::Not(Box::new(alloc, inner)?), rest))
 }
 
@@ -115,12 +115,19 @@ fn read_test<'a, 'b, T: Test>(
     ensures value { Gives (λ x. (plain_condition x.0, lexemes x.1.now)) result (test_read T.reader depth (lexemes tokens.now)) }
     ensures rest { IfOk result (λ x. length x.1.now ≤ length tokens.now) }
 {
-    if !starts(tokens, Mark::Symbol("(")) {
+    let Some(inside) = after(tokens, Mark::Symbol("(")) else {
         let (test, rest) = T::read(alloc, tokens)?;
         return Ok((Tree::Test(test), rest));
+    };
+    let (inner, rest) = read_nested::<T>(alloc, depth, inside)?;
+    match skip(rest, Mark::Symbol(")")) {
+        Ok(rest) => Ok((inner, rest)),
+        Err(unread) => {
+            // By a call: the proof of an implicit drop goes through the whole of a condition.
+            drop(inner);
+            Err(unread)
+        }
     }
-    let (inner, rest) = read_nested::<T>(alloc, depth, skip(tokens, Mark::Symbol("("))?)?;
-    Ok((inner, skip(rest, Mark::Symbol(")"))?))
 }
 
 /// What stands in parentheses.
@@ -150,10 +157,9 @@ pub fn read_where<'a, 'b, T: Test>(
     ensures value { Gives (λ x. (option_map plain_condition x.0, lexemes x.1.now)) result (where_read T.reader depth (lexemes tokens.now)) }
     ensures rest { IfOk result (λ x. length x.1.now ≤ length tokens.now) }
 {
-    if !starts(tokens, Mark::Keyword("WHERE")) {
+    let Some(rest) = after(tokens, Mark::Keyword("WHERE")) else {
         return Ok((None, tokens));
-    }
-    let rest = skip(tokens, Mark::Keyword("WHERE"))?;
+    };
     let (condition, rest) = read_condition::<T>(alloc, depth, rest)?;
     Ok((Some(condition), rest))
 }

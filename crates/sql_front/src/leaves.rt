@@ -13,7 +13,7 @@ use crate::clock_moment::ClockMoment;
 use crate::date_tokens::{named_clock_moment, named_day, named_moment};
 use crate::decimal::{negative_value, number_value};
 use crate::list::{Item, separated};
-use crate::mark::{Mark, name, number, skip, starts, starts_text, text};
+use crate::mark::{Mark, name, number, skip, skip_optional, starts, starts_text, text};
 use crate::name::Name;
 use crate::nonempty::NonEmpty;
 use crate::texts::text_of;
@@ -86,11 +86,7 @@ fn read_unsigned<'a, 'b>(tokens: &'b [Token<'a>]) -> Result<(Value, &'b [Token<'
     ensures value { Gives (λ x. (x.0, lexemes x.1.now)) result (unsigned_read (lexemes tokens.now)) }
     ensures rest { IfOk result (λ x. length x.1.now ≤ length tokens.now) }
 {
-    if starts(tokens, Mark::Symbol("+")) {
-        let (digits, rest) = number(skip(tokens, Mark::Symbol("+"))?)?;
-        return Ok((Value::Int(number_value(digits) as i64), rest));
-    }
-    let (digits, rest) = number(tokens)?;
+    let (digits, rest) = number(skip_optional(tokens, Mark::Symbol("+")))?;
     Ok((Value::Int(number_value(digits) as i64), rest))
 }
 

@@ -1,11 +1,11 @@
 //! Single tokens, read from the front.
 
-ghost use Rattle.std.specs.Prelude.{◌≡◌, true, List, ◌≤◌, ◌<◌, length, IfOk};
+ghost use Rattle.std.specs.Prelude.{◌≡◌, true, List, ◌≤◌, ◌<◌, length, is_some, Some, IfOk, IfSome};
 ghost use Rattle.sql_front.specs.Lexemes.{lexeme, lexemes};
 ghost use Rattle.sql_front.specs.Language.{number, text};
 ghost use Rattle.sql_front.specs.Grammar.{name};
 ghost use Rattle.sql_front.specs.Names.{is_plain_word};
-ghost use Rattle.sql_front.specs.Reading.{begins, third_is, fixed_read, one_read};
+ghost use Rattle.sql_front.specs.Reading.{begins, behind_optional, third_is, fixed_read, one_read};
 ghost use Rattle.sql_front.specs.Marks.{mark};
 ghost use Rattle.sql_front.specs.Gives.{Gives};
 
@@ -59,6 +59,29 @@ pub fn skip<'a, 'b>(tokens: &'b [Token<'a>], want: Mark<'_>) -> Result<&'b [Toke
     match tokens {
         [first, rest @ ..] if is_mark(first, want) => Ok(rest),
         _ => Err(Unread::Syntax),
+    }
+}
+
+/// The tokens after this mark, where they begin with it.
+pub fn after<'a, 'b>(tokens: &'b [Token<'a>], want: Mark<'_>) -> Option<&'b [Token<'a>]>
+    ensures there { is_some result ≡ begins (mark want.entry) (lexemes tokens.now) }
+    ensures value { IfSome result (λ r. fixed_read (mark want.entry) (lexemes tokens.now) ≡ Some (tt, lexemes r.now)) }
+    ensures rest { IfSome result (λ r. length r.now < length tokens.now) }
+{
+    match tokens {
+        [first, rest @ ..] if is_mark(first, want) => Some(rest),
+        _ => None,
+    }
+}
+
+/// The tokens after this mark, or all of them where they do not begin with it.
+pub fn skip_optional<'a, 'b>(tokens: &'b [Token<'a>], want: Mark<'_>) -> &'b [Token<'a>]
+    ensures value { lexemes result.now ≡ behind_optional (mark want.entry) (lexemes tokens.now) }
+    ensures rest { length result.now ≤ length tokens.now }
+{
+    match tokens {
+        [first, rest @ ..] if is_mark(first, want) => rest,
+        _ => tokens,
     }
 }
 

@@ -58,7 +58,8 @@ impl Name {
 
     /// The name as a text.
     pub fn as_text(&self) -> &Text
-        ensures { result.now ≡ self.now }
+        ensures value { result.now ≡ self.now }
+        ensures named { is_name self.now ≡ true }
     {
         &self.text
     }

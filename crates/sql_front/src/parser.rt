@@ -35,7 +35,11 @@ pub fn parse(alloc: Global, _script: &str, tokens: &[Token<'_>]) -> Result<State
     match spelled(alloc, tokens) {
         Ok(statement) => match literal_fault(tokens) {
             None => Ok(statement),
-            Some(refusal) => Err(refusal),
+            Some(refusal) => {
+                // By a call: the proof of an implicit drop goes through each kind of statement.
+                drop(statement);
+                Err(refusal)
+            }
         },
         Err(Unread::Memory) => Err(Refusal::Memory),
         Err(Unread::Syntax) => Err(Refusal::Syntax),

@@ -3,17 +3,36 @@
 ghost use Rattle.std.specs.Prelude.{◌≡◌, ◌≤◌, length, IfOk};
 ghost use Rattle.sql_front.specs.Gives.{Gives};
 ghost use Rattle.sql_front.specs.Lexemes.{lexemes};
-ghost use Rattle.sql_front.specs.PredicateReaders.{begins_contains_date, period_operand_read, predicate_ahead, predicate_read, relation_behind_column, relation_read, relation_word, stored_test_read};
+ghost use Rattle.sql_front.specs.PredicateReaders.{begins_contains_date, dates_read, period_operand_read, predicate_ahead, predicate_read, relation_behind_column, relation_read, relation_word, stored_test_read};
 ghost use Rattle.sql_front.specs.Reading.{begins};
 
 use crate::comparisons::{read_column, read_compare};
 use crate::conditions::Test;
 use crate::leaves::read_date;
-use crate::mark::{Mark, is_mark, skip, starts, starts_name};
+use crate::mark::{Mark, after, is_mark, skip, starts, starts_name};
 use crate::statement::{PeriodOperand, PeriodPredicate, StoredTest};
 use crate::token::Token;
 use crate::unread::Unread;
+use period_core::Day;
 use std::alloc::Global;
+
+/// Two days in parentheses, and the tokens after them.
+#[tactic(auto, unfolding(crate::specs::PredicateReaders::dates_read))]
+fn read_dates<'a, 'b>(tokens: &'b [Token<'a>]) -> Result<((Day, Day), &'b [Token<'a>]), Unread>
+    ensures value { Gives (λ x. (x.0, lexemes x.1.now)) result (dates_read (lexemes tokens.now)) }
+    ensures rest { IfOk result (λ x. length x.1.now ≤ length tokens.now) }
+{
+    let (from, rest) = match read_date(skip(tokens, Mark::Symbol("("))?) {
+        Ok(read) => read,
+        Err(fault) => return Err(fault),
+    };
+    let (to, rest) = match read_date(skip(rest, Mark::Symbol(","))?) {
+        Ok(read) => read,
+        Err(fault) => return Err(fault),
+    };
+    let rest = skip(rest, Mark::Symbol(")"))?;
+    Ok(((from, to), rest))
+}
 
 #[tactic(auto, unfolding(crate::specs::PredicateReaders::period_operand_read))]
 fn read_period_operand<'a, 'b>(
@@ -23,21 +42,14 @@ fn read_period_operand<'a, 'b>(
     ensures value { Gives (λ x. (x.0, lexemes x.1.now)) result (period_operand_read (lexemes tokens.now)) }
     ensures rest { IfOk result (λ x. length x.1.now ≤ length tokens.now) }
 {
-    if !starts(tokens, Mark::Keyword("PERIOD")) {
+    let Some(dates) = after(tokens, Mark::Keyword("PERIOD")) else {
         let (column, rest) = read_column(alloc, tokens)?;
         return Ok((PeriodOperand::Named(column), rest));
+    };
+    match read_dates(dates) {
+        Ok(((from, to), rest)) => Ok((PeriodOperand::Dates(from, to), rest)),
+        Err(fault) => Err(fault),
     }
-    let rest = skip(tokens, Mark::Keyword("PERIOD"))?;
-    let (from, rest) = match read_date(skip(rest, Mark::Symbol("("))?) {
-        Ok(read) => read,
-        Err(fault) => return Err(fault),
-    };
-    let (to, rest) = match read_date(skip(rest, Mark::Symbol(","))?) {
-        Ok(read) => read,
-        Err(fault) => return Err(fault),
-    };
-    let rest = skip(rest, Mark::Symbol(")"))?;
-    Ok((PeriodOperand::Dates(from, to), rest))
 }
 
 #[tactic(auto, unfolding(crate::specs::PredicateReaders::relation_read))]
@@ -47,47 +59,27 @@ fn read_relation<'a, 'b>(
     ensures value { Gives (λ x. (x.0, lexemes x.1.now)) result (relation_read (lexemes tokens.now)) }
     ensures rest { IfOk result (λ x. length x.1.now ≤ length tokens.now) }
 {
-    if starts(tokens, Mark::Keyword("OVERLAPS")) {
-        return Ok((
-            PeriodPredicate::Overlaps,
-            skip(tokens, Mark::Keyword("OVERLAPS"))?,
-        ));
+    if let Some(rest) = after(tokens, Mark::Keyword("OVERLAPS")) {
+        return Ok((PeriodPredicate::Overlaps, rest));
     }
-    if starts(tokens, Mark::Keyword("EQUALS")) {
-        return Ok((
-            PeriodPredicate::Equals,
-            skip(tokens, Mark::Keyword("EQUALS"))?,
-        ));
+    if let Some(rest) = after(tokens, Mark::Keyword("EQUALS")) {
+        return Ok((PeriodPredicate::Equals, rest));
     }
-    if starts(tokens, Mark::Keyword("CONTAINS")) {
-        return Ok((
-            PeriodPredicate::Contains,
-            skip(tokens, Mark::Keyword("CONTAINS"))?,
-        ));
+    if let Some(rest) = after(tokens, Mark::Keyword("CONTAINS")) {
+        return Ok((PeriodPredicate::Contains, rest));
     }
-    if starts(tokens, Mark::Keyword("IMMEDIATELY")) {
-        let rest = skip(tokens, Mark::Keyword("IMMEDIATELY"))?;
-        if starts(rest, Mark::Keyword("PRECEDES")) {
-            return Ok((
-                PeriodPredicate::ImmediatelyPrecedes,
-                skip(rest, Mark::Keyword("PRECEDES"))?,
-            ));
+    if let Some(behind) = after(tokens, Mark::Keyword("IMMEDIATELY")) {
+        if let Some(rest) = after(behind, Mark::Keyword("PRECEDES")) {
+            return Ok((PeriodPredicate::ImmediatelyPrecedes, rest));
         }
-        return Ok((
-            PeriodPredicate::ImmediatelySucceeds,
-            skip(rest, Mark::Keyword("SUCCEEDS"))?,
-        ));
+        let rest = skip(behind, Mark::Keyword("SUCCEEDS"))?;
+        return Ok((PeriodPredicate::ImmediatelySucceeds, rest));
     }
-    if starts(tokens, Mark::Keyword("PRECEDES")) {
-        return Ok((
-            PeriodPredicate::Precedes,
-            skip(tokens, Mark::Keyword("PRECEDES"))?,
-        ));
+    if let Some(rest) = after(tokens, Mark::Keyword("PRECEDES")) {
+        return Ok((PeriodPredicate::Precedes, rest));
     }
-    Ok((
-        PeriodPredicate::Succeeds,
-        skip(tokens, Mark::Keyword("SUCCEEDS"))?,
-    ))
+    let rest = skip(tokens, Mark::Keyword("SUCCEEDS"))?;
+    Ok((PeriodPredicate::Succeeds, rest))
 }
 
 /// Do the tokens begin with CONTAINS DATE?

@@ -1,14 +1,14 @@
 //! Queries, read from the front.
 
-ghost use Rattle.std.specs.Prelude.{◌≡◌, ◌≤◌, ◌<◌, List, ℕ, Some, length, map, IfOk};
+ghost use Rattle.std.specs.Prelude.{◌≡◌, ◌≤◌, ◌<◌, List, [], ℕ, Some, length, map, IfOk};
 ghost use Rattle.sql_front.specs.Gives.{Gives};
 ghost use Rattle.sql_front.specs.Lexemes.{lexemes};
 ghost use Rattle.sql_front.specs.Plain.{plain_query, steps_of};
 ghost use Rattle.sql_front.specs.Reading.{begins};
 ghost use Rattle.sql_front.specs.Trees as trees;
-ghost use Rattle.sql_front.specs.QueryReaders.{begins_step, inner_query_read, operator_read, plain_step, primary_read, query_read, sequenced_read, step_read};
+ghost use Rattle.sql_front.specs.QueryReaders.{begins_step, inner_query_read, operator_read, plain_step, primary_read, query_read, sequenced_read, step_read, steps_read};
 
-use crate::mark::{Mark, skip, starts};
+use crate::mark::{Mark, after, skip, skip_optional, starts};
 use crate::selects::read_select;
 use crate::statement::SelectDistinct;
 use crate::token::Token;
@@ -29,8 +29,8 @@ fn read_operator<'a, 'b>(tokens: &'b [Token<'a>]) -> Result<(SetOperator, &'b [T
     ensures value { Gives (λ x. (x.0, lexemes x.1.now)) result (operator_read (lexemes tokens.now)) }
     ensures rest { IfOk result (λ x. length x.1.now < length tokens.now) }
 {
-    if starts(tokens, Mark::Keyword("UNION")) {
-        return Ok((SetOperator::Union, skip(tokens, Mark::Keyword("UNION"))?));
+    if let Some(rest) = after(tokens, Mark::Keyword("UNION")) {
+        return Ok((SetOperator::Union, rest));
     }
     Ok((SetOperator::Except, skip(tokens, Mark::Keyword("EXCEPT"))?))
 }
@@ -58,14 +58,54 @@ pub fn read_query<'a, 'b>(
     ensures value { Gives (λ x. (plain_query x.0, lexemes x.1.now)) result (query_read depth (lexemes tokens.now)) }
     ensures rest { IfOk result (λ x. length x.1.now ≤ length tokens.now) }
 {
-    let mut items = Vec::new(alloc);
-    let (first, mut rest) = read_primary(alloc, depth, tokens)?;
+    let (first, rest) = read_primary(alloc, depth, tokens)?;
+    match read_steps(alloc, depth, rest) {
+        Ok((steps, rest)) => Ok((combined(alloc, first, steps)?, rest)),
+        Err(unread) => {
+            // By a call: the proof of an implicit drop goes through the whole of a query.
+            drop(first);
+            Err(unread)
+        }
+    }
+}
+
+/// No step yet, and the tokens.
+fn no_steps<'a, 'b>(
+    alloc: Global,
+    tokens: &'b [Token<'a>],
+) -> (
+    Vec<(SetOperator, QueryTree<SelectDistinct>)>,
+    &'b [Token<'a>],
+)
+    ensures none { result.0.items ≡ [] }
+    ensures rest { result.1.now ≡ tokens.now }
+{
+    (Vec::new(alloc), tokens)
+}
+
+/// Set operators with the queries behind them, or none, and the tokens after them.
+#[cycle(queries)]
+fn read_steps<'a, 'b>(
+    alloc: Global,
+    depth: usize,
+    tokens: &'b [Token<'a>],
+) -> Result<
+    (
+        Vec<(SetOperator, QueryTree<SelectDistinct>)>,
+        &'b [Token<'a>],
+    ),
+    Unread,
+>
+    ensures value { Gives (λ x. (map plain_step x.0.items, lexemes x.1.now)) result (steps_read depth (lexemes tokens.now)) }
+    ensures rest { IfOk result (λ x. length x.1.now ≤ length tokens.now) }
+{
+    let (mut items, mut rest) = no_steps(alloc, tokens);
     'items: while starts_step(rest) {
         let (next, after) = read_step(alloc, depth, rest)?;
         items.push(next)?;
         rest = after;
     }
-    Ok((combined(alloc, first, items)?, rest))
+    Ok((items, rest))
 }
 
 /// A set operator with the query behind it, and the tokens after them.
@@ -80,11 +120,8 @@ fn read_step<'a, 'b>(
     ensures rest { IfOk result (λ x. length x.1.now < length tokens.now) }
 {
     let (operator, rest) = read_operator(tokens)?;
-    if starts(rest, Mark::Keyword("DISTINCT")) {
-        let (next, rest) = read_primary(alloc, depth, skip(rest, Mark::Keyword("DISTINCT"))?)?;
-        return Ok(((operator, next), rest));
-    }
-    let (next, rest) = read_primary(alloc, depth, rest)?;
+    let primary = skip_optional(rest, Mark::Keyword("DISTINCT"));
+    let (next, rest) = read_primary(alloc, depth, primary)?;
     Ok(((operator, next), rest))
 }
 
@@ -99,12 +136,19 @@ fn read_primary<'a, 'b>(
     ensures value { Gives (λ x. (plain_query x.0, lexemes x.1.now)) result (primary_read depth (lexemes tokens.now)) }
     ensures rest { IfOk result (λ x. length x.1.now ≤ length tokens.now) }
 {
-    if !starts(tokens, Mark::Symbol("(")) {
+    let Some(inside) = after(tokens, Mark::Symbol("(")) else {
         let (select, rest) = read_select(alloc, depth, tokens)?;
         return Ok((QueryTree::Select(select), rest));
+    };
+    let (inner, rest) = read_inner_query(alloc, depth, inside)?;
+    match skip(rest, Mark::Symbol(")")) {
+        Ok(rest) => Ok((inner, rest)),
+        Err(unread) => {
+            // By a call: the proof of an implicit drop goes through the whole of a query.
+            drop(inner);
+            Err(unread)
+        }
     }
-    let (inner, rest) = read_inner_query(alloc, depth, skip(tokens, Mark::Symbol("("))?)?;
-    Ok((inner, skip(rest, Mark::Symbol(")"))?))
 }
 
 /// A query in parentheses, where `depth` may open, and the tokens after it.

@@ -10,7 +10,7 @@ ghost use Rattle.sql_front.specs.QueryReaders.{begins_new_name, item_read, new_n
 use crate::comparisons::read_column;
 use crate::leaves::read_name;
 use crate::list::Item;
-use crate::mark::{Mark, skip, starts, starts_name};
+use crate::mark::{Mark, skip_optional, starts, starts_name};
 use crate::name::Name;
 use crate::statement::{SelectItem, TableReference};
 use crate::token::Token;
@@ -37,11 +37,7 @@ fn read_new_name<'a, 'b>(
     if !starts_new_name(tokens) {
         return Ok((None, tokens));
     }
-    if starts(tokens, Mark::Keyword("AS")) {
-        let (new_name, rest) = read_name(alloc, skip(tokens, Mark::Keyword("AS"))?)?;
-        return Ok((Some(new_name), rest));
-    }
-    let (new_name, rest) = read_name(alloc, tokens)?;
+    let (new_name, rest) = read_name(alloc, skip_optional(tokens, Mark::Keyword("AS")))?;
     Ok((Some(new_name), rest))
 }
 

@@ -3,18 +3,22 @@
 ghost use Rattle.std.specs.Prelude.{◌≡◌, ◌≤◌, ◌<◌, List, length, map, IfOk};
 ghost use Rattle.sql_front.specs.Gives.{Gives};
 ghost use Rattle.sql_front.specs.Lexemes.{lexemes};
-ghost use Rattle.sql_front.specs.Plain.{plain_chain, plain_join, plain_select};
+ghost use Rattle.sql_front.specs.Plain.{plain_chain, plain_condition, plain_join, plain_select};
 ghost use Rattle.sql_front.specs.Reading.{begins};
 ghost use Rattle.sql_front.specs.Trees as trees;
-ghost use Rattle.sql_front.specs.QueryReaders.{begins_join, chain_read, join_read, select_read};
+ghost use Rattle.sql_front.specs.QueryReaders.{begins_join, chain_read, from_read, item_read, join_read, joined_read, select_read, selected_read};
+ghost use Rattle.sql_front.specs.Grammar.{comma};
+ghost use Rattle.sql_front.specs.Reading.{separated_read};
+ghost use Rattle.std.specs.Option.{option_map};
 
 use crate::conditions::{read_condition, read_where};
 use crate::list::{Item, separated};
-use crate::mark::{Mark, skip, starts};
+use crate::mark::{Mark, skip, skip_optional, starts};
 use crate::nonempty::NonEmpty;
 use crate::references::read_reference;
-use crate::statement::{Compare, Join, JoinChain, SelectDistinct, SelectItem};
+use crate::statement::{Compare, Join, JoinChain, SelectDistinct, SelectItem, TableReference};
 use crate::token::Token;
+use crate::tree::Tree;
 use crate::unread::Unread;
 use period_core::Items;
 use std::alloc::Global;
@@ -24,6 +28,22 @@ fn starts_join(tokens: &[Token<'_>]) -> bool
     ensures { result ≡ begins begins_join (lexemes tokens.now) }
 {
     starts(tokens, Mark::Keyword("INNER")) || starts(tokens, Mark::Keyword("JOIN"))
+}
+
+/// JOIN with a table and ON with a condition, and the tokens after them.
+#[tactic(auto, unfolding(crate::specs::QueryReaders::joined_read))]
+fn read_joined<'a, 'b>(
+    alloc: Global,
+    depth: usize,
+    tokens: &'b [Token<'a>],
+) -> Result<((TableReference, Tree<Compare>), &'b [Token<'a>]), Unread>
+    ensures value { Gives (λ x. ((x.0.0, plain_condition x.0.1), lexemes x.1.now)) result (joined_read depth (lexemes tokens.now)) }
+    ensures rest { IfOk result (λ x. length x.1.now < length tokens.now) }
+{
+    let (reference, rest) = read_reference(alloc, skip(tokens, Mark::Keyword("JOIN"))?)?;
+    let rest = skip(rest, Mark::Keyword("ON"))?;
+    let (condition, rest) = read_condition::<Compare>(alloc, depth, rest)?;
+    Ok(((reference, condition), rest))
 }
 
 /// JOIN of a table with its condition, and the tokens after it.
@@ -36,22 +56,8 @@ fn read_join<'a, 'b>(
     ensures value { Gives (λ x. (plain_join x.0, lexemes x.1.now)) result (join_read depth (lexemes tokens.now)) }
     ensures rest { IfOk result (λ x. length x.1.now < length tokens.now) }
 {
-    if starts(tokens, Mark::Keyword("INNER")) {
-        let rest = skip(tokens, Mark::Keyword("INNER"))?;
-        let (reference, rest) = read_reference(alloc, skip(rest, Mark::Keyword("JOIN"))?)?;
-        let rest = skip(rest, Mark::Keyword("ON"))?;
-        let (condition, rest) = read_condition::<Compare>(alloc, depth, rest)?;
-        return Ok((
-            Join {
-                reference,
-                condition,
-            },
-            rest,
-        ));
-    }
-    let (reference, rest) = read_reference(alloc, skip(tokens, Mark::Keyword("JOIN"))?)?;
-    let rest = skip(rest, Mark::Keyword("ON"))?;
-    let (condition, rest) = read_condition::<Compare>(alloc, depth, rest)?;
+    let joined = skip_optional(tokens, Mark::Keyword("INNER"));
+    let ((reference, condition), rest) = read_joined(alloc, depth, joined)?;
     Ok((
         Join {
             reference,
@@ -103,6 +109,76 @@ impl<'a> Item<'a> for JoinChain {
     }
 }
 
+/// The items of a select list with commas, and the tokens after them.
+fn read_items<'a, 'b>(
+    alloc: Global,
+    tokens: &'b [Token<'a>],
+) -> Result<(NonEmpty<SelectItem>, &'b [Token<'a>]), Unread>
+    ensures value { Gives (λ x. (x.0, lexemes x.1.now)) result (separated_read comma item_read (lexemes tokens.now)) }
+    ensures rest { IfOk result (λ x. length x.1.now ≤ length tokens.now) }
+{
+    let (items, rest) = separated::<SelectItem>(alloc, 0, tokens)?;
+    Ok((NonEmpty::from_vec(items), rest))
+}
+
+/// Joined tables with commas, and the tokens after them. At most `depth` parentheses open in them.
+fn read_chains<'a, 'b>(
+    alloc: Global,
+    depth: usize,
+    tokens: &'b [Token<'a>],
+) -> Result<(NonEmpty<JoinChain>, &'b [Token<'a>]), Unread>
+    ensures value { Gives (λ x. (map plain_chain x.0, lexemes x.1.now)) result (separated_read comma (chain_read depth) (lexemes tokens.now)) }
+    ensures rest { IfOk result (λ x. length x.1.now ≤ length tokens.now) }
+{
+    let (chains, rest) = separated::<JoinChain>(alloc, depth, tokens)?;
+    Ok((NonEmpty::from_vec(chains), rest))
+}
+
+/// FROM with tables and a condition, and the tokens after them. At most `depth` parentheses open
+/// in it.
+#[tactic(auto, unfolding(crate::specs::QueryReaders::from_read))]
+fn read_from<'a, 'b>(
+    alloc: Global,
+    depth: usize,
+    tokens: &'b [Token<'a>],
+) -> Result<
+    (
+        (NonEmpty<JoinChain>, Option<Tree<Compare>>),
+        &'b [Token<'a>],
+    ),
+    Unread,
+>
+    ensures value { Gives (λ x. ((map plain_chain x.0.0, option_map plain_condition x.0.1), lexemes x.1.now)) result (from_read depth (lexemes tokens.now)) }
+    ensures rest { IfOk result (λ x. length x.1.now ≤ length tokens.now) }
+{
+    let (chains, rest) = read_chains(alloc, depth, skip(tokens, Mark::Keyword("FROM"))?)?;
+    let (condition, rest) = read_where::<Compare>(alloc, depth, rest)?;
+    Ok(((chains, condition), rest))
+}
+
+/// The items, the tables and the condition of a select, and the tokens after them. At most `depth`
+/// parentheses open in it.
+#[tactic(auto, unfolding(crate::specs::QueryReaders::selected_read))]
+fn read_selected<'a, 'b>(
+    alloc: Global,
+    depth: usize,
+    tokens: &'b [Token<'a>],
+) -> Result<(SelectDistinct, &'b [Token<'a>]), Unread>
+    ensures value { Gives (λ x. (plain_select x.0, lexemes x.1.now)) result (selected_read depth (lexemes tokens.now)) }
+    ensures rest { IfOk result (λ x. length x.1.now ≤ length tokens.now) }
+{
+    let (items, rest) = read_items(alloc, tokens)?;
+    let ((chains, condition), rest) = read_from(alloc, depth, rest)?;
+    Ok((
+        SelectDistinct {
+            items,
+            chains,
+            condition,
+        },
+        rest,
+    ))
+}
+
 /// SELECT DISTINCT with its items, its tables and its condition, and the tokens after it. At most
 /// `depth` parentheses open in it.
 #[tactic(auto, unfolding(crate::specs::QueryReaders::select_read))]
@@ -116,16 +192,5 @@ pub fn read_select<'a, 'b>(
 {
     let rest = skip(tokens, Mark::Keyword("SELECT"))?;
     let rest = skip(rest, Mark::Keyword("DISTINCT"))?;
-    let (items, rest) = separated::<SelectItem>(alloc, depth, rest)?;
-    let rest = skip(rest, Mark::Keyword("FROM"))?;
-    let (chains, rest) = separated::<JoinChain>(alloc, depth, rest)?;
-    let (condition, rest) = read_where::<Compare>(alloc, depth, rest)?;
-    Ok((
-        SelectDistinct {
-            items: NonEmpty::from_vec(items),
-            chains: NonEmpty::from_vec(chains),
-            condition,
-        },
-        rest,
-    ))
+    read_selected(alloc, depth, rest)
 }

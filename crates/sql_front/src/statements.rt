@@ -10,7 +10,7 @@ ghost use Rattle.sql_front.specs.PieceRefusals.{IsTooDeep, SpellsNone};
 ghost use Rattle.sql_front.specs.Plain.{plain, plain_form};
 ghost use Rattle.sql_front.specs.Reading.{whole_read};
 ghost use Rattle.sql_front.specs.StandIns.{stand_in};
-ghost use Rattle.sql_front.specs.StatementReaders.{statement_read};
+ghost use Rattle.sql_front.specs.StatementReaders.{later_statement_read, query_statement_read, statement_read};
 
 use crate::changes::{read_at, read_delete, read_insert, read_update};
 use crate::depth::MOST_OPEN;
@@ -22,6 +22,45 @@ use crate::tables::read_create;
 use crate::token::Token;
 use crate::unread::Unread;
 use std::alloc::Global;
+
+/// A query by its first keyword, and the tokens after it.
+#[tactic(auto, unfolding(crate::specs::StatementReaders::query_statement_read))]
+fn read_query_statement<'a, 'b>(
+    alloc: Global,
+    tokens: &'b [Token<'a>],
+) -> Result<(StatementForm, &'b [Token<'a>]), Unread>
+    ensures { Gives (λ x. (plain_form x.0, lexemes x.1.now)) result (query_statement_read most_open (lexemes tokens.now)) }
+{
+    if starts(tokens, Mark::Keyword("VALIDTIME")) {
+        let (query, rest) = read_sequenced(alloc, MOST_OPEN, tokens)?;
+        return Ok((StatementForm::Sequenced(query), rest));
+    }
+    let (query, rest) = read_stored(alloc, MOST_OPEN, tokens)?;
+    Ok((StatementForm::Stored(query), rest))
+}
+
+/// INSERT, UPDATE, DELETE or a query, and the tokens after it.
+#[tactic(auto, unfolding(crate::specs::StatementReaders::later_statement_read))]
+fn read_later_statement<'a, 'b>(
+    alloc: Global,
+    tokens: &'b [Token<'a>],
+) -> Result<(StatementForm, &'b [Token<'a>]), Unread>
+    ensures { Gives (λ x. (plain_form x.0, lexemes x.1.now)) result (later_statement_read most_open (lexemes tokens.now)) }
+{
+    if starts(tokens, Mark::Keyword("INSERT")) {
+        let (rows, rest) = read_insert(alloc, tokens)?;
+        return Ok((StatementForm::Insert(rows), rest));
+    }
+    if starts(tokens, Mark::Keyword("UPDATE")) {
+        let (rows, rest) = read_update(alloc, MOST_OPEN, tokens)?;
+        return Ok((StatementForm::Update(rows), rest));
+    }
+    if starts(tokens, Mark::Keyword("DELETE")) {
+        let (rows, rest) = read_delete(alloc, MOST_OPEN, tokens)?;
+        return Ok((StatementForm::Delete(rows), rest));
+    }
+    read_query_statement(alloc, tokens)
+}
 
 #[tactic(auto, unfolding(crate::specs::StatementReaders::statement_read))]
 fn read_statement<'a, 'b>(
@@ -40,24 +79,7 @@ fn read_statement<'a, 'b>(
         let (table, rest) = read_create(alloc, tokens)?;
         return Ok((StatementForm::Create(table), rest));
     }
-    if starts(tokens, Mark::Keyword("INSERT")) {
-        let (rows, rest) = read_insert(alloc, tokens)?;
-        return Ok((StatementForm::Insert(rows), rest));
-    }
-    if starts(tokens, Mark::Keyword("UPDATE")) {
-        let (rows, rest) = read_update(alloc, MOST_OPEN, tokens)?;
-        return Ok((StatementForm::Update(rows), rest));
-    }
-    if starts(tokens, Mark::Keyword("DELETE")) {
-        let (rows, rest) = read_delete(alloc, MOST_OPEN, tokens)?;
-        return Ok((StatementForm::Delete(rows), rest));
-    }
-    if starts(tokens, Mark::Keyword("VALIDTIME")) {
-        let (query, rest) = read_sequenced(alloc, MOST_OPEN, tokens)?;
-        return Ok((StatementForm::Sequenced(query), rest));
-    }
-    let (query, rest) = read_stored(alloc, MOST_OPEN, tokens)?;
-    Ok((StatementForm::Stored(query), rest))
+    read_later_statement(alloc, tokens)
 }
 
 fn read_all(alloc: Global, tokens: &[Token<'_>]) -> Result<Statement, Unread>
@@ -65,6 +87,8 @@ fn read_all(alloc: Global, tokens: &[Token<'_>]) -> Result<Statement, Unread>
 {
     let (found, rest) = read_statement(alloc, tokens)?;
     if !rest.is_empty() {
+        // By a call: the proof of an implicit drop goes through each kind of statement.
+        drop(found);
         return Err(Unread::Syntax);
     }
     Ok(Statement::new(found))

@@ -4,7 +4,7 @@ ghost use Rattle.std.specs.Prelude.{◌≡◌, ◌≤◌, length, IfOk};
 ghost use Rattle.sql_front.specs.Gives.{Gives};
 ghost use Rattle.sql_front.specs.Lexemes.{lexemes};
 ghost use Rattle.sql_front.specs.Plain.{plain_stored};
-ghost use Rattle.sql_front.specs.StatementReaders.{stored_read};
+ghost use Rattle.sql_front.specs.StatementReaders.{stored_read, stored_table_read};
 
 use crate::conditions::read_where;
 use crate::leaves::read_name;
@@ -15,19 +15,18 @@ use crate::unread::Unread;
 use crate::windows::read_for_window;
 use std::alloc::Global;
 
-/// SELECT * of a table, and the tokens after it. At most `depth` parentheses open in it.
-#[tactic(auto, unfolding(crate::specs::StatementReaders::stored_read))]
-pub fn read_stored<'a, 'b>(
+/// A table with a window and a condition, and the tokens after them. At most `depth` parentheses
+/// open in it.
+#[tactic(auto, unfolding(crate::specs::StatementReaders::stored_table_read))]
+fn read_stored_table<'a, 'b>(
     alloc: Global,
     depth: usize,
     tokens: &'b [Token<'a>],
 ) -> Result<(StoredQuery, &'b [Token<'a>]), Unread>
-    ensures value { Gives (λ x. (plain_stored x.0, lexemes x.1.now)) result (stored_read depth (lexemes tokens.now)) }
+    ensures value { Gives (λ x. (plain_stored x.0, lexemes x.1.now)) result (stored_table_read depth (lexemes tokens.now)) }
     ensures rest { IfOk result (λ x. length x.1.now ≤ length tokens.now) }
 {
-    let rest = skip(tokens, Mark::Keyword("SELECT"))?;
-    let rest = skip(rest, Mark::Symbol("*"))?;
-    let (table, rest) = read_name(alloc, skip(rest, Mark::Keyword("FROM"))?)?;
+    let (table, rest) = read_name(alloc, tokens)?;
     let (window, rest) = match read_for_window(rest) {
         Ok(found) => found,
         Err(unread) => return Err(unread),
@@ -41,4 +40,19 @@ pub fn read_stored<'a, 'b>(
         },
         rest,
     ))
+}
+
+/// SELECT * of a table, and the tokens after it. At most `depth` parentheses open in it.
+#[tactic(auto, unfolding(crate::specs::StatementReaders::stored_read))]
+pub fn read_stored<'a, 'b>(
+    alloc: Global,
+    depth: usize,
+    tokens: &'b [Token<'a>],
+) -> Result<(StoredQuery, &'b [Token<'a>]), Unread>
+    ensures value { Gives (λ x. (plain_stored x.0, lexemes x.1.now)) result (stored_read depth (lexemes tokens.now)) }
+    ensures rest { IfOk result (λ x. length x.1.now ≤ length tokens.now) }
+{
+    let rest = skip(tokens, Mark::Keyword("SELECT"))?;
+    let rest = skip(rest, Mark::Symbol("*"))?;
+    read_stored_table(alloc, depth, skip(rest, Mark::Keyword("FROM"))?)
 }

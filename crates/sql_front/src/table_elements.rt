@@ -1,7 +1,7 @@
 //! The periods, keys and references of CREATE TABLE, read from the front.
 
 ghost use Rattle.std.specs.Prelude.{◌≡◌, ◌≤◌, ◌<◌, length, IfOk};
-ghost use Rattle.sql_front.specs.ElementReaders.{key_element_read, key_names_read, leading_names_read, one_more_name, pair_read, period_element_read, reference_element_read, reference_list_read, split_last, system_element_read, without_overlaps_read};
+ghost use Rattle.sql_front.specs.ElementReaders.{key_element_read, key_list_read, key_names_read, last_period_read, leading_names_read, one_more_name, pair_read, parent_read, period_element_read, reference_element_read, reference_list_read, split_last, system_element_read, without_overlaps_read};
 ghost use Rattle.sql_front.specs.Gives.{Gives};
 ghost use Rattle.sql_front.specs.Lexemes.{lexemes};
 
@@ -101,6 +101,22 @@ fn skip_without_overlaps<'a, 'b>(tokens: &'b [Token<'a>]) -> Result<&'b [Token<'
     )
 }
 
+// A key's columns and period WITHOUT OVERLAPS, in parentheses.
+#[tactic(auto, unfolding(crate::specs::ElementReaders::key_list_read))]
+fn read_key_list<'a, 'b>(
+    alloc: Global,
+    tokens: &'b [Token<'a>],
+) -> Result<(KeyElement, &'b [Token<'a>]), Unread>
+    ensures value { Gives (λ x. (x.0, lexemes x.1.now)) result (key_list_read (lexemes tokens.now)) }
+    ensures rest { IfOk result (λ x. length x.1.now ≤ length tokens.now) }
+{
+    let inside = skip(tokens, Mark::Symbol("("))?;
+    let ((columns, period), rest) = read_key_names(alloc, inside)?;
+    let rest = skip_without_overlaps(rest)?;
+    let rest = skip(rest, Mark::Symbol(")"))?;
+    Ok((KeyElement { columns, period }, rest))
+}
+
 /// PRIMARY KEY of columns and a period WITHOUT OVERLAPS, and the tokens after it.
 #[tactic(auto, unfolding(crate::specs::ElementReaders::key_element_read))]
 pub fn read_key_element<'a, 'b>(
@@ -111,12 +127,7 @@ pub fn read_key_element<'a, 'b>(
     ensures rest { IfOk result (λ x. length x.1.now ≤ length tokens.now) }
 {
     let rest = skip(tokens, Mark::Keyword("PRIMARY"))?;
-    let rest = skip(rest, Mark::Keyword("KEY"))?;
-    let rest = skip(rest, Mark::Symbol("("))?;
-    let ((columns, period), rest) = read_key_names(alloc, rest)?;
-    let rest = skip_without_overlaps(rest)?;
-    let rest = skip(rest, Mark::Symbol(")"))?;
-    Ok((KeyElement { columns, period }, rest))
+    read_key_list(alloc, skip(rest, Mark::Keyword("KEY"))?)
 }
 
 // Does a name come after a comma? What else may come there is a keyword.
@@ -149,6 +160,19 @@ fn read_leading_names<'a, 'b>(
     Ok((NonEmpty::from_vec(names), rest))
 }
 
+// PERIOD with a name, after a comma.
+#[tactic(auto, unfolding(crate::specs::ElementReaders::last_period_read))]
+fn read_last_period<'a, 'b>(
+    alloc: Global,
+    tokens: &'b [Token<'a>],
+) -> Result<(Name, &'b [Token<'a>]), Unread>
+    ensures value { Gives (λ x. (x.0, lexemes x.1.now)) result (last_period_read (lexemes tokens.now)) }
+    ensures rest { IfOk result (λ x. length x.1.now ≤ length tokens.now) }
+{
+    let rest = skip(tokens, Mark::Symbol(","))?;
+    read_name(alloc, skip(rest, Mark::Keyword("PERIOD"))?)
+}
+
 // Columns and PERIOD with a name, in parentheses.
 #[tactic(auto, unfolding(crate::specs::ElementReaders::reference_list_read))]
 fn read_reference_list<'a, 'b>(
@@ -159,10 +183,22 @@ fn read_reference_list<'a, 'b>(
     ensures rest { IfOk result (λ x. length x.1.now ≤ length tokens.now) }
 {
     let (columns, rest) = read_leading_names(alloc, skip(tokens, Mark::Symbol("("))?)?;
-    let rest = skip(rest, Mark::Symbol(","))?;
-    let rest = skip(rest, Mark::Keyword("PERIOD"))?;
-    let (period, rest) = read_name(alloc, rest)?;
+    let (period, rest) = read_last_period(alloc, rest)?;
     Ok(((columns, period), skip(rest, Mark::Symbol(")"))?))
+}
+
+// REFERENCES with the parent and its list.
+#[tactic(auto, unfolding(crate::specs::ElementReaders::parent_read))]
+fn read_parent<'a, 'b>(
+    alloc: Global,
+    tokens: &'b [Token<'a>],
+) -> Result<((Name, (NonEmpty<Name>, Name)), &'b [Token<'a>]), Unread>
+    ensures value { Gives (λ x. (x.0, lexemes x.1.now)) result (parent_read (lexemes tokens.now)) }
+    ensures rest { IfOk result (λ x. length x.1.now ≤ length tokens.now) }
+{
+    let (parent, rest) = read_name(alloc, skip(tokens, Mark::Keyword("REFERENCES"))?)?;
+    let (list, rest) = read_reference_list(alloc, rest)?;
+    Ok(((parent, list), rest))
 }
 
 /// FOREIGN KEY with the child's list, the parent and its list, and the tokens after it.
@@ -177,9 +213,7 @@ pub fn read_reference_element<'a, 'b>(
     let rest = skip(tokens, Mark::Keyword("FOREIGN"))?;
     let rest = skip(rest, Mark::Keyword("KEY"))?;
     let ((columns, period), rest) = read_reference_list(alloc, rest)?;
-    let rest = skip(rest, Mark::Keyword("REFERENCES"))?;
-    let (parent, rest) = read_name(alloc, rest)?;
-    let ((parent_columns, parent_period), rest) = read_reference_list(alloc, rest)?;
+    let ((parent, (parent_columns, parent_period)), rest) = read_parent(alloc, rest)?;
     let reference = ReferenceElement {
         columns,
         period,

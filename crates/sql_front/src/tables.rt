@@ -1,7 +1,7 @@
 //! CREATE TABLE, read from the front.
 
 ghost use Rattle.std.specs.Prelude.{◌≡◌, ◌≤◌, ◌<◌, ℕ, List, Some, length, map, IfOk, OnOk};
-ghost use Rattle.sql_front.specs.ElementReaders.{create_read, element_read, elements_read, some_period_read, versioning_read};
+ghost use Rattle.sql_front.specs.ElementReaders.{create_read, element_read, elements_read, some_period_read, created_table_read, versioning_read};
 ghost use Rattle.sql_front.specs.Gives.{Gives};
 ghost use Rattle.sql_front.specs.Builders.{Element, table_of};
 ghost use Rattle.sql_front.specs.Lexemes.{lexemes};
@@ -155,6 +155,21 @@ fn skip_versioning<'a, 'b>(tokens: &'b [Token<'a>]) -> Result<&'b [Token<'a>], U
     skip(rest, Mark::Keyword("VERSIONING"))
 }
 
+// A table by its name, its elements and its versioning.
+#[tactic(auto, unfolding(crate::specs::ElementReaders::created_table_read))]
+fn read_table<'a, 'b>(
+    alloc: Global,
+    tokens: &'b [Token<'a>],
+) -> Result<(CreateStatement, &'b [Token<'a>]), Unread>
+    ensures value { Gives (λ x. (x.0, lexemes x.1.now)) result (created_table_read (lexemes tokens.now)) }
+    ensures rest { IfOk result (λ x. length x.1.now ≤ length tokens.now) }
+{
+    let (name, rest) = read_name(alloc, tokens)?;
+    let (elements, rest) = read_elements(alloc, rest)?;
+    let rest = skip_versioning(rest)?;
+    Ok((table_with(alloc, name, elements)?, rest))
+}
+
 /// CREATE TABLE, and the tokens after it.
 #[tactic(auto, unfolding(crate::specs::ElementReaders::create_read))]
 pub fn read_create<'a, 'b>(
@@ -165,9 +180,5 @@ pub fn read_create<'a, 'b>(
     ensures rest { IfOk result (λ x. length x.1.now ≤ length tokens.now) }
 {
     let rest = skip(tokens, Mark::Keyword("CREATE"))?;
-    let rest = skip(rest, Mark::Keyword("TABLE"))?;
-    let (name, rest) = read_name(alloc, rest)?;
-    let (elements, rest) = read_elements(alloc, rest)?;
-    let rest = skip_versioning(rest)?;
-    Ok((table_with(alloc, name, elements)?, rest))
+    read_table(alloc, skip(rest, Mark::Keyword("TABLE"))?)
 }

@@ -3,16 +3,37 @@
 ghost use Rattle.std.specs.Prelude.{◌≡◌, ◌≤◌, length, IfOk};
 ghost use Rattle.sql_front.specs.Gives.{Gives};
 ghost use Rattle.sql_front.specs.Lexemes.{lexemes};
-ghost use Rattle.sql_front.specs.WindowReaders.{for_window_read, window_read};
+ghost use Rattle.sql_front.specs.WindowReaders.{for_window_read, two_moments_read, window_read};
+ghost use Rattle.sql_front.specs.Marks.{mark};
 
 use crate::leaves::{read_clock_moment, read_moment};
-use crate::mark::{Mark, skip, starts};
+use crate::mark::{Mark, after, skip};
 use crate::statement::SystemTime;
 use crate::token::Token;
 use crate::unread::Unread;
+use period_core::Moment;
 
 // Moments beside borrowed tokens are passed on by `match`: for a `?` there the borrow checker has
 // no rule.
+
+/// Two moments with this mark between them, and the tokens after them.
+#[tactic(auto, unfolding(crate::specs::WindowReaders::two_moments_read))]
+fn read_two_moments<'a, 'b>(
+    tokens: &'b [Token<'a>],
+    between: Mark<'_>,
+) -> Result<((Moment, Moment), &'b [Token<'a>]), Unread>
+    ensures value { Gives (λ x. (x.0, lexemes x.1.now)) result (two_moments_read (mark between.entry) (lexemes tokens.now)) }
+    ensures rest { IfOk result (λ x. length x.1.now ≤ length tokens.now) }
+{
+    let (from, rest) = match read_moment(tokens) {
+        Ok(read) => read,
+        Err(unread) => return Err(unread),
+    };
+    match read_moment(skip(rest, between)?) {
+        Ok((to, rest)) => Ok(((from, to), rest)),
+        Err(unread) => Err(unread),
+    }
+}
 
 /// A window, and the tokens after it.
 #[tactic(auto, unfolding(crate::specs::WindowReaders::window_read))]
@@ -20,34 +41,23 @@ fn read_window<'a, 'b>(tokens: &'b [Token<'a>]) -> Result<(SystemTime, &'b [Toke
     ensures value { Gives (λ x. (x.0, lexemes x.1.now)) result (window_read (lexemes tokens.now)) }
     ensures rest { IfOk result (λ x. length x.1.now ≤ length tokens.now) }
 {
-    if starts(tokens, Mark::Keyword("AS")) {
-        let rest = skip(tokens, Mark::Keyword("AS"))?;
-        let (moment, rest) = match read_clock_moment(skip(rest, Mark::Keyword("OF"))?) {
-            Ok(read) => read,
-            Err(unread) => return Err(unread),
+    if let Some(rest) = after(tokens, Mark::Keyword("AS")) {
+        return match read_clock_moment(skip(rest, Mark::Keyword("OF"))?) {
+            Ok((moment, rest)) => Ok((SystemTime::AsOf(moment), rest)),
+            Err(unread) => Err(unread),
         };
-        return Ok((SystemTime::AsOf(moment), rest));
     }
-    if starts(tokens, Mark::Keyword("FROM")) {
-        let (from, rest) = match read_moment(skip(tokens, Mark::Keyword("FROM"))?) {
-            Ok(read) => read,
-            Err(unread) => return Err(unread),
+    if let Some(rest) = after(tokens, Mark::Keyword("FROM")) {
+        return match read_two_moments(rest, Mark::Keyword("TO")) {
+            Ok(((from, to), rest)) => Ok((SystemTime::FromTo(from, to), rest)),
+            Err(unread) => Err(unread),
         };
-        let (to, rest) = match read_moment(skip(rest, Mark::Keyword("TO"))?) {
-            Ok(read) => read,
-            Err(unread) => return Err(unread),
-        };
-        return Ok((SystemTime::FromTo(from, to), rest));
     }
-    let (from, rest) = match read_moment(skip(tokens, Mark::Keyword("BETWEEN"))?) {
-        Ok(read) => read,
-        Err(unread) => return Err(unread),
-    };
-    let (to, rest) = match read_moment(skip(rest, Mark::Keyword("AND"))?) {
-        Ok(read) => read,
-        Err(unread) => return Err(unread),
-    };
-    Ok((SystemTime::Between(from, to), rest))
+    let rest = skip(tokens, Mark::Keyword("BETWEEN"))?;
+    match read_two_moments(rest, Mark::Keyword("AND")) {
+        Ok(((from, to), rest)) => Ok((SystemTime::Between(from, to), rest)),
+        Err(unread) => Err(unread),
+    }
 }
 
 /// FOR SYSTEM_TIME with a window or nothing, and the tokens after it.
@@ -58,10 +68,9 @@ pub fn read_for_window<'a, 'b>(
     ensures value { Gives (λ x. (x.0, lexemes x.1.now)) result (for_window_read (lexemes tokens.now)) }
     ensures rest { IfOk result (λ x. length x.1.now ≤ length tokens.now) }
 {
-    if !starts(tokens, Mark::Keyword("FOR")) {
+    let Some(rest) = after(tokens, Mark::Keyword("FOR")) else {
         return Ok((None, tokens));
-    }
-    let rest = skip(tokens, Mark::Keyword("FOR"))?;
+    };
     match read_window(skip(rest, Mark::Keyword("SYSTEM_TIME"))?) {
         Ok((window, rest)) => Ok((Some(window), rest)),
         Err(unread) => Err(unread),

@@ -1,8 +1,9 @@
 -- Worked rows: a row's witness, the order of an answer, and a list that is certified and so shortest.
-use Rattle.std.proofs.Common.{◌≡◌, ◌<ℤ◌, ◌-ℤ◌, zero, suc, ℤ, pos, neg_ℤ, [], ◌∷◌, Option, Some, None, ap, refl, inl, inr, arith}
+use Rattle.std.proofs.Common.{◌≡◌, ◌-ℤ◌, zero, suc, true, ℤ, pos, neg_ℤ, [], ◌∷◌, Option, Some, None, ap, refl, inl, inr, arith}
 use Rattle.std.specs.List.{AllPairs}
 use Rattle.std.proofs.lemmas.Int.{ints}
 use Rattle.std.specs.declared.cmp.Ordering.TheVariants.{Less, Equal, Greater}
+use Rattle.period_core.proofs.Periods.{are_ends, period_over}
 use Rattle.period_core.specs.declared.answer.Witness.{Witness}
 use Rattle.period_core.specs.declared.value.Value.TheVariants.{Int}
 use Rattle.period_core.specs.declared.row.PeriodRow.{PeriodRow}
@@ -13,22 +14,22 @@ use Rattle.temporal_model.proofs.Members.{Contains-here, Contains-nil, Contains-
 use Rattle.temporal_model.proofs.Certificate.{shortest}
 use Rattle.temporal_model.proofs.Snapshots.{held}
 
-abbrev number_over : (n : ℤ) (start end : ℤ) → start <ℤ end → PeriodRow
-number_over n start end ordered = record { values = Int n ∷ []; period = record { start = start; end = end; ordered = ordered } }
+abbrev number_over : (n : ℤ) (start end : ℤ) → are_ends start end ≡ true → PeriodRow
+number_over n start end ends = record { values = Int n ∷ []; period = period_over start end ends }
 
 -- the value 7 from day 3 to day 5, from day 5 to day 8, and from day 10 to day 12
 abbrev early : PeriodRow
-early = number_over (pos 7) (pos 3) (pos 5) (omega (arith, ints))
+early = number_over (pos 7) (pos 3) (pos 5) refl
 
 abbrev middle : PeriodRow
-middle = number_over (pos 7) (pos 5) (pos 8) (omega (arith, ints))
+middle = number_over (pos 7) (pos 5) (pos 8) refl
 
 abbrev late : PeriodRow
-late = number_over (pos 7) (pos 10) (pos 12) (omega (arith, ints))
+late = number_over (pos 7) (pos 10) (pos 12) refl
 
 -- the value 9 from day 1 to day 2
 abbrev nine : PeriodRow
-nine = number_over (pos 9) (pos 1) (pos 2) (omega (arith, ints))
+nine = number_over (pos 9) (pos 1) (pos 2) refl
 
 -- ---- witnesses
 
@@ -40,11 +41,11 @@ witness-of_day_5 : witness_of middle ≡ shown_by (pos 5) (Some (pos 4))
 witness-of_day_5 = refl
 
 -- a row that begins on 0001-01-01 has no day before
-witness-of_first_day : witness_of (number_over (pos 7) (neg_ℤ (pos 719_162)) (pos 0) (omega (arith, ints))) ≡ shown_by (neg_ℤ (pos 719_162)) None
+witness-of_first_day : witness_of (number_over (pos 7) (neg_ℤ (pos 719_162)) (pos 0) refl) ≡ shown_by (neg_ℤ (pos 719_162)) None
 witness-of_first_day = refl
 
 -- one that begins on 0001-01-02 has it
-witness-of_second_day : witness_of (number_over (pos 7) (neg_ℤ (pos 719_161)) (pos 0) (omega (arith, ints))) ≡ shown_by (neg_ℤ (pos 719_161)) (Some (neg_ℤ (pos 719_162)))
+witness-of_second_day : witness_of (number_over (pos 7) (neg_ℤ (pos 719_161)) (pos 0) refl) ≡ shown_by (neg_ℤ (pos 719_161)) (Some (neg_ℤ (pos 719_162)))
 witness-of_second_day = refl
 
 -- alone in its list it is held on day 5, and not on day 4
@@ -76,7 +77,7 @@ two_rows-in_order zero (suc (suc j)) d lt below = absurd (omega arith)
 two_rows-in_order (suc i) zero d lt below = absurd (omega arith)
 two_rows-in_order (suc i) (suc j) d lt below = absurd (omega arith)
 
--- values come before days: 7 from day 5 stands before 9 from day 1
+-- values come before days: 7 from day 5 comes before 9 from day 1
 values-before_days : IsInAnswerOrder (middle ∷ nine ∷ [])
 values-before_days zero zero d lt below = absurd (omega arith)
 values-before_days zero (suc zero) d lt below = refl

@@ -7,10 +7,8 @@ use Rattle.std.proofs.lemmas.List.{get_or_default}
 use Rattle.std.proofs.lemmas.List.Sorted.{Contains-permutation}
 use Rattle.std.specs.declared.cmp.Ordering.TheVariants.{Less}
 use Rattle.std.proofs.lemmas.Bool.{cases_lt}
-use Rattle.std.proofs.Props.{props}
-use mathlib.Core.HLevel.{is_prop→PathP}
+use Rattle.period_core.proofs.Periods.{row_same}
 use Rattle.period_core.specs.declared.row.PeriodRow.{PeriodRow}
-use Rattle.period_core.specs.declared.period.Period.{Period}
 use Rattle.temporal_model.specs.Snapshot.{InSnapshot, Equivalent}
 use Rattle.temporal_model.specs.Answer.{IsShortest, IsUniqueUpToOrder, IsInAnswerOrder, IsCertified, SameBeginning, answer_cmp}
 use Rattle.temporal_model.proofs.AnswerOrder.{strictly}
@@ -76,15 +74,6 @@ pub begins_back :
 begins_back rows others certified same short =
     onto SameBeginning rows others (begins_in rows others certified same)
     (λ i j d lt below other a b. certified.distinct i j d lt below (a.0 ∙ sym b.0, a.1 ∙ sym b.1)) short
-
--- a period is its two ends
-pub period_same : (a b : Period) → a.start ≡ b.start → a.end ≡ b.end → a ≡ b
-period_same a b s e = λ i. record { start = s i; end = e i; ordered = is_prop→PathP (λ j. s j <ℤ e j) (λ j. hlevel props) a.ordered b.ordered i }
-
-pub row_same :
-    (a b : PeriodRow) → a.values ≡ b.values → a.period.start ≡ b.period.start
-    → a.period.end ≡ b.period.end → a ≡ b
-row_same a b v s e = λ i. record { values = v i; period = period_same a.period b.period s e i }
 
 -- an equivalent list that is no longer has each row
 pub inside_equivalent :

@@ -3,22 +3,24 @@ use Rattle.std.proofs.Common.{◌≤ℤ◌, ◌<ℤ◌, ℤ, List, arith}
 use Rattle.std.proofs.lemmas.Int.{ints, by_lt_z}
 use Rattle.period_core.specs.declared.value.Value.{Value}
 use Rattle.period_core.specs.declared.row.PeriodRow.{PeriodRow}
-use Rattle.temporal_model.specs.Snapshot.{InSnapshot, IsDay, AreInRange}
+use Rattle.temporal_model.specs.Snapshot.{InSnapshot, IsDay}
 use Rattle.temporal_model.specs.Laws.{AgreementOnDaysSuffices, ConstantBetweenChanges}
 use Rattle.temporal_model.proofs.Snapshots.{held, in_snapshot}
 
--- rows in range hold on days alone
+-- rows hold on days alone
 pub InSnapshot-IsDay :
-    (rows : List PeriodRow) → AreInRange rows → (day : ℤ) (values : List Value)
+    (rows : List PeriodRow) (day : ℤ) (values : List Value)
     → InSnapshot rows day values → IsDay day
-InSnapshot-IsDay rows ranged day values h =
+InSnapshot-IsDay rows day values h =
     let (row, c, v, (from, to)) = held rows day values h in
-    let range = ranged row c in
-    (omega (arith, ints, range.0.0), omega (arith, ints, range.1.1))
+    let days = row.period.days in
+    (omega (arith, ints, days.0.0), omega (arith, ints, days.1.1))
 
 pub agreement_on_days : AgreementOnDaysSuffices
-agreement_on_days xs ys in_xs in_ys same day values =
-    (λ h. (same day values (InSnapshot-IsDay xs in_xs day values h)).0 h, λ h. (same day values (InSnapshot-IsDay ys in_ys day values h)).1 h)
+agreement_on_days xs ys same day values = (
+  λ h. (same day values (InSnapshot-IsDay xs day values h)).0 h,
+  λ h. (same day values (InSnapshot-IsDay ys day values h)).1 h,
+)
 
 pub constant_between : ConstantBetweenChanges
 constant_between rows first second order none values = (

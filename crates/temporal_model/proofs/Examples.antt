@@ -1,6 +1,7 @@
 -- Worked rows: a row holds on its first day and not on its end; two rows that meet are not the shortest list, joined they are.
-use Rattle.std.proofs.Common.{◌≡◌, ◌<ℤ◌, ◌-ℤ◌, ◌≤◌, ℤ, pos, [], ◌∷◌, ap, refl, ◌∙◌, inl, inr, arith}
+use Rattle.std.proofs.Common.{◌≡◌, ◌-ℤ◌, ◌≤◌, true, ℤ, pos, [], ◌∷◌, ap, refl, ◌∙◌, inl, inr, arith}
 use Rattle.std.proofs.lemmas.Int.{ints, by_lt_z}
+use Rattle.period_core.proofs.Periods.{are_ends, period_over}
 use Rattle.period_core.specs.declared.value.Value.TheVariants.{Int}
 use Rattle.period_core.specs.declared.row.PeriodRow.{PeriodRow}
 use Rattle.temporal_model.specs.Snapshot.{InSnapshot, Equivalent, values_on}
@@ -9,18 +10,18 @@ use Rattle.temporal_model.proofs.Members.{Contains-here, Contains-there, Contain
 use Rattle.temporal_model.proofs.Certificate.{shortest}
 use Rattle.temporal_model.proofs.Snapshots.{HoldsOn, held, in_snapshot}
 
-abbrev seven_over : (start end : ℤ) → start <ℤ end → PeriodRow
-seven_over start end ordered = record { values = Int (pos 7) ∷ []; period = record { start = start; end = end; ordered = ordered } }
+abbrev seven_over : (start end : ℤ) → are_ends start end ≡ true → PeriodRow
+seven_over start end ends = record { values = Int (pos 7) ∷ []; period = period_over start end ends }
 
 -- the value 7 from day 1 to day 3, from day 3 to day 5, and from day 1 to day 5
 abbrev early : PeriodRow
-early = seven_over (pos 1) (pos 3) (omega (arith, ints))
+early = seven_over (pos 1) (pos 3) refl
 
 abbrev late : PeriodRow
-late = seven_over (pos 3) (pos 5) (omega (arith, ints))
+late = seven_over (pos 3) (pos 5) refl
 
 abbrev whole : PeriodRow
-whole = seven_over (pos 1) (pos 5) (omega (arith, ints))
+whole = seven_over (pos 1) (pos 5) refl
 
 first_day-holds : InSnapshot (early ∷ []) (pos 1) (Int (pos 7) ∷ [])
 first_day-holds = Contains-here (Int (pos 7) ∷ []) []

@@ -14,11 +14,13 @@ IsShortest rows = (others : List PeriodRow) → Equivalent rows others → lengt
 -- each equivalent list of the same length is this one in another order
 abbrev pub IsUniqueUpToOrder : List PeriodRow → Type 0
 IsUniqueUpToOrder rows =
-    (others : List PeriodRow) → Equivalent rows others → length others ≡ length rows → IsPermutation others rows
+    (others : List PeriodRow) → Equivalent rows others
+    → length others ≡ length rows → IsPermutation others rows
 
 -- by values column by column, then by first day
 abbrev pub answer_cmp : PeriodRow → PeriodRow → Ordering
-answer_cmp a b = ordering_then (values_cmp a.values b.values) (int_cmp a.period.start b.period.start)
+answer_cmp a b =
+    ordering_then (values_cmp a.values b.values) (int_cmp a.period.start b.period.start)
 
 -- each row comes before all later ones
 abbrev pub IsInAnswerOrder : List PeriodRow → Type 0
@@ -31,5 +33,6 @@ SameBeginning a b = (a.values ≡ b.values) × (a.period.start ≡ b.period.star
 -- the certificate of a list: each row's values are absent on the day before its first,
 -- and no two rows are value-equivalent and begin on the same day
 pub record IsCertified (rows : List PeriodRow) : Type 0 where
-  pub absent_before : (row : PeriodRow) → Contains rows row → InSnapshot rows (row.period.start -ℤ pos 1) row.values → ⊥
+  pub absent_before : (row : PeriodRow) → Contains rows row
+      → InSnapshot rows (row.period.start -ℤ pos 1) row.values → ⊥
   pub distinct : AllPairs (λ a b. SameBeginning a b → ⊥) rows

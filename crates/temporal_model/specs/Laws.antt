@@ -2,8 +2,9 @@
 use Rattle.std.specs.Prelude.{◌≡◌, ◌↔◌, ◌≤ℤ◌, ◌<◌, ℕ, ℤ, List, length, slice_index_or}
 use Rattle.period_core.specs.declared.value.Value.{Value}
 use Rattle.period_core.specs.declared.row.PeriodRow.{PeriodRow}
-use Rattle.temporal_model.specs.Snapshot.{InSnapshot, Equivalent, IsDay, AreInRange, NoChangeBetween}
-use Rattle.temporal_model.specs.Answer.{IsShortest, IsUniqueUpToOrder, IsInAnswerOrder, SameBeginning, IsCertified}
+use Rattle.temporal_model.specs.Snapshot.{InSnapshot, Equivalent, IsDay, NoChangeBetween}
+use Rattle.temporal_model.specs.Answer.{IsShortest, IsUniqueUpToOrder, IsInAnswerOrder}
+use Rattle.temporal_model.specs.Answer.{SameBeginning, IsCertified}
 
 -- a certified list is the shortest of its snapshots
 abbrev pub CertifiedIsShortest : Type 0
@@ -16,12 +17,14 @@ pub record MapsOneToOne (rows others : List PeriodRow) : Type 0 where
   pub inside : (i : ℕ) (h : i < length rows) → place i h < length others
   pub begins : (i : ℕ) (h : i < length rows) (d : PeriodRow)
       → SameBeginning (slice_index_or rows i d) (slice_index_or others (place i h) d)
-  pub one_to_one : (i j : ℕ) (h : i < length rows) (k : j < length rows) → place i h ≡ place j k → i ≡ j
+  pub one_to_one : (i j : ℕ) (h : i < length rows) (k : j < length rows)
+      → place i h ≡ place j k → i ≡ j
 
 -- an equivalent list has a row of its own for each row of a certified list
 abbrev pub CertifiedMapsOneToOne : Type 0
 CertifiedMapsOneToOne =
-    (rows others : List PeriodRow) → IsCertified rows → Equivalent rows others → MapsOneToOne rows others
+    (rows others : List PeriodRow)
+    → IsCertified rows → Equivalent rows others → MapsOneToOne rows others
 
 -- an equivalent list of the same length is the certified list in another order
 abbrev pub CertifiedIsUnique : Type 0
@@ -37,11 +40,13 @@ SameSnapshotsSameRows =
 
 -- the two lists agree on every day that a period can cover
 abbrev pub AgreeOnDays : List PeriodRow → List PeriodRow → Type 0
-AgreeOnDays xs ys = (day : ℤ) (values : List Value) → IsDay day → (InSnapshot xs day values ↔ InSnapshot ys day values)
+AgreeOnDays xs ys =
+    (day : ℤ) (values : List Value) → IsDay day
+    → (InSnapshot xs day values ↔ InSnapshot ys day values)
 
--- lists of rows in range that agree on the days are equivalent: no row holds outside the days
+-- lists of rows that agree on the days are equivalent: no row holds outside the days
 abbrev pub AgreementOnDaysSuffices : Type 0
-AgreementOnDaysSuffices = (xs ys : List PeriodRow) → AreInRange xs → AreInRange ys → AgreeOnDays xs ys → Equivalent xs ys
+AgreementOnDaysSuffices = (xs ys : List PeriodRow) → AgreeOnDays xs ys → Equivalent xs ys
 
 -- a snapshot stays the same where no row begins or ends
 abbrev pub ConstantBetweenChanges : Type 0

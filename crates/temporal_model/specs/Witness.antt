@@ -1,4 +1,5 @@
--- What shows that an answer's row is needed: a day on which its values are in the set, and the day before, on which they are not.
+-- What shows that an answer's row is needed: a day on which its values are in the set, and the day
+-- before, on which they are not.
 use Rattle.std.specs.Prelude.{◌≡◌, ◌-ℤ◌, ℤ, pos, List}
 use Rattle.std.specs.List.{AllZip}
 use Rattle.period_core.specs.Calendar.{day_before}
@@ -11,7 +12,8 @@ abbrev pub witness_of : PeriodRow → Witness
 witness_of row = record { held = row.period.start; absent = day_before row.period.start }
 
 -- a witness of the row against daily sets, which say of each day which values are in its set
-pub record IsWitness (sets : ℤ → List Value → Type 0) (row : PeriodRow) (witness : Witness) : Type 0 where
+pub record IsWitness (sets : ℤ → List Value → Type 0) (row : PeriodRow) (witness : Witness)
+    : Type 0 where
   pub days : witness ≡ witness_of row
   pub held : sets row.period.start row.values
   pub absent : sets (row.period.start -ℤ pos 1) row.values → ⊥

@@ -1,8 +1,10 @@
-//! Snapshots, shortest lists and witnesses. The definitions stand in `specs/`; each function here
+//! Snapshots, shortest lists and witnesses. The definitions are in `specs/`; each function here
 //! does nothing, and its contract is a law over them.
 #![tactic(auto)]
 
-ghost use Rattle.temporal_model.specs.Laws.{CertifiedIsShortest, CertifiedMapsOneToOne, CertifiedIsUnique, SameSnapshotsSameRows, AgreementOnDaysSuffices, ConstantBetweenChanges};
+ghost use Rattle.temporal_model.specs.Laws.{CertifiedIsShortest, CertifiedMapsOneToOne};
+ghost use Rattle.temporal_model.specs.Laws.{CertifiedIsUnique, SameSnapshotsSameRows};
+ghost use Rattle.temporal_model.specs.Laws.{AgreementOnDaysSuffices, ConstantBetweenChanges};
 
 /// A certified list is the shortest of its snapshots.
 pub fn certified_is_shortest()
@@ -25,7 +27,7 @@ pub fn same_snapshots_same_rows()
     ensures { SameSnapshotsSameRows }
 {}
 
-/// Lists of rows in range that agree on every day are equivalent.
+/// Lists of rows that agree on every day that a period can cover are equivalent.
 pub fn agreement_on_days_suffices()
     ensures { AgreementOnDaysSuffices }
 {}

@@ -1,24 +1,20 @@
-//! One record of the report: its fields, and the text that they make.
+//! One record of the report: its fields.
 
-ghost use Rattle.std.specs.Prelude.{◌≡◌, ◌≤◌, ◌++◌, ◌∷◌, [], IfErr, IfOk, OnOk, length, map};
+ghost use Rattle.std.specs.Prelude.{◌≡◌, ◌++◌, ◌∷◌, [], IfErr, OnOk, map};
 ghost use Rattle.std.specs.Fmt.{decimal, signed_decimal};
-ghost use Rattle.std.specs.Io.KnownBytes.{Appends};
-ghost use Rattle.script_engine.specs.Report.{absent_text, printed_day, record_text, value_text};
+ghost use Rattle.csv.specs.Records.{fields_of};
+ghost use Rattle.script_engine.specs.Report.{absent_text, printed_day, value_text};
 
 use crate::report::ReportFault;
-use csv::{ByteRecord, WriterBuilder};
+use csv::ByteRecord;
 use period_core::{Day, Text, Value};
 use std::alloc::Global;
-use std::io::Write;
 use std::marker::Model;
-use std::mem;
 
 /// The fields of one record, which contracts see as their list.
 #[derive(Drop)]
 pub(crate) struct Record {
     inner: ByteRecord,
-    // The memory of the text that was written last.
-    buffer: Vec<u8>,
 }
 
 impl Model for Record {
@@ -39,7 +35,6 @@ impl Record {
     {
         Record {
             inner: ByteRecord::new(alloc),
-            buffer: Vec::new(alloc),
         }
     }
 
@@ -121,7 +116,8 @@ impl Record {
 
     /// Adds the texts.
     pub(crate) fn push_texts(&mut self, texts: &[Text]) -> Result<(), ReportFault>
-        ensures { OnOk result (self.new ≡ self.old ++ texts.now) }
+        ensures ok { OnOk result (self.new ≡ self.old ++ texts.now) }
+        ensures err { IfErr result (λ e. e ≡ ReportFault.Memory) }
     {
         for text in texts {
             self.push(text.as_str().as_bytes())?;
@@ -131,7 +127,8 @@ impl Record {
 
     /// Adds the values.
     pub(crate) fn push_values(&mut self, alloc: Global, values: &[Value]) -> Result<(), ReportFault>
-        ensures { OnOk result (self.new ≡ self.old ++ map value_text values.now) }
+        ensures ok { OnOk result (self.new ≡ self.old ++ map value_text values.now) }
+        ensures err { IfErr result (λ e. e ≡ ReportFault.Memory) }
     {
         for value in values {
             self.push_value(alloc, value)?;
@@ -139,40 +136,10 @@ impl Record {
         Ok(())
     }
 
-    // The text of the record, in this memory.
-    fn text(&self, mut buffer: Vec<u8>) -> Result<Vec<u8>, ReportFault>
-        requires { 2 ≤ length self.now }
-        ensures ok { IfOk result (λ text. text.items ≡ record_text self.now) }
-        ensures err { IfErr result (λ e. e ≡ ReportFault.Memory) }
+    /// The fields as the crate `csv` has them.
+    pub(crate) fn fields(&self) -> &ByteRecord
+        ensures { fields_of result.now ≡ self.now }
     {
-        buffer.clear();
-        let mut writer = WriterBuilder::new().from_writer(buffer);
-        match writer.write_byte_record(&self.inner) {
-            Ok(()) => match writer.into_inner() {
-                Ok(text) => Ok(text),
-                Err(_) => Err(ReportFault::Memory),
-            },
-            Err(_) => Err(ReportFault::Memory),
-        }
-    }
-
-    /// Writes the record by one `write_all`.
-    pub(crate) fn write_to<W: Write>(
-        &mut self,
-        alloc: Global,
-        out: &mut W,
-    ) -> Result<(), ReportFault>
-        requires { 2 ≤ length self.old }
-        ensures { OnOk result
-            (Appends (W.contents out.old) (W.contents out.new) (record_text self.old)) }
-    {
-        let buffer = mem::replace(&mut self.buffer, Vec::new(alloc));
-        let text = self.text(buffer)?;
-        let written = out.write_all(text.as_slice());
-        self.buffer = text;
-        match written {
-            Ok(()) => Ok(()),
-            Err(_) => Err(ReportFault::Write),
-        }
+        &self.inner
     }
 }

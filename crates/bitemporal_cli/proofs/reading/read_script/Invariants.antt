@@ -6,7 +6,7 @@ use Rattle.bitemporal_cli.proofs.reading.read_script.Given as goal
 abbrev pub invariant-loop-buffer : goal.invariant-loop-buffer
 invariant-loop-buffer g l = record {
   bounded : vec_len l.text ≤ read_limit;
-  taken : Consumes (g.R.Read.remaining l.fn.input) (g.R.Read.remaining l.input) l.text.items;
+  taken : Consumes (g.R.Read.remaining l.fn.input.inner) (g.R.Read.remaining l.input.inner) l.text.items;
 }
 
 abbrev pub decreases-loop-buffer : goal.decreases-loop-buffer

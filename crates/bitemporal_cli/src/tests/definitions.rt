@@ -1,0 +1,4 @@
+//! Definitions as bytes: those of tables that were declared, and bytes of none.
+
+mod bytes;
+mod parts;

@@ -1,0 +1,5 @@
+//! Reports of runs and of checks, and the refusals that they name.
+
+mod checks;
+mod refusals;
+mod runs;

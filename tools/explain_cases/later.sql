@@ -1,0 +1,10 @@
+-- Refusals that this version cannot answer, or only where memory is short. later.made, in the place
+-- of a report, is made by hand.
+AT TIMESTAMP '2024-01-02 00:00:00';
+AT TIMESTAMP '2024-01-01 00:00:00';
+INSERT INTO EMP VALUES (1, 4, DATE '2024-01-31', DATE '2024-03-01');
+DELETE FROM DEP FOR PORTION OF DP FROM DATE '2024-05-01' TO DATE '2024-05-02';
+SELECT * FROM EMP;
+VALIDTIME SELECT DISTINCT ENO FROM EMP;
+INSERT INTO EMP VALUES (1, 4, DATE '2024-04-01', DATE '2024-05-01');
+DELETE FROM EMP
