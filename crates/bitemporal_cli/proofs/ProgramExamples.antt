@@ -7,9 +7,9 @@ use Rattle.clap.specs.Words.{Row}
 use Rattle.clap.specs.declared.builder.value_parser.Reading.{Reading}
 use Rattle.clap.specs.declared.parser.matches.ValueSource.{ValueSource}
 use Rattle.period_core.specs.declared.refusal.Refusal.TheVariants.{BadToken, NotUtf8, ScriptTooLarge, Syntax}
-use Rattle.script_engine.specs.declared.outcome.Outcome.{Outcome}
-use Rattle.script_engine.specs.declared.outcome.Outcome.TheVariants.{Done}
-use Rattle.script_engine.specs.declared.outcome.Word.TheVariants.{Create}
+use Rattle.script_engine.specs.declared.engine.outcome.Outcome.{Outcome}
+use Rattle.script_engine.specs.declared.engine.outcome.Outcome.TheVariants.{Done}
+use Rattle.script_engine.specs.declared.engine.outcome.Word.TheVariants.{Create}
 use Rattle.script_engine.specs.declared.report.ReportFault.TheVariants as report
 use Rattle.bitemporal_cli.specs.CommandLine.{Chooses, IsMode}
 use Rattle.bitemporal_cli.specs.Lines.{GetsFrontOf, IsTold, fault_line, fault_of, words_fault}

@@ -33,7 +33,7 @@ line_of code name detail =
 abbrev pub refusal_line : Refusal → List ℕ
 refusal_line refusal = line_of (code_of refusal) (name_of refusal) (detail_of (offset_of refusal))
 
--- the fault of a run whose report was not written: want of memory, or that its writer failed
+-- the fault of a run whose report was not written: out of memory, or that its writer failed
 abbrev pub fault_of : ReportFault → RunFault
 fault_of report.Memory = Memory
 fault_of report.Write = Write

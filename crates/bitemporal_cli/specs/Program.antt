@@ -4,10 +4,10 @@ use Rattle.std.specs.Prelude.{IfSome, length, take, true, is_err, if◌then◌el
 use Rattle.std.specs.List.{list_any}
 use Rattle.std.specs.Io.KnownBytes.{Appends, Consumes, Keeps}
 use Rattle.period_core.specs.declared.refusal.Refusal.{Refusal}
-use Rattle.script_engine.specs.Check.{IsCheckOf}
-use Rattle.script_engine.specs.CheckReport.{check_text}
-use Rattle.script_engine.specs.Report.{report}
-use Rattle.script_engine.specs.Script.{IsRunOf, MayRefuseScript, ScriptApplies, most_bytes}
+use Rattle.script_engine.specs.script.Check.{IsCheckOf}
+use Rattle.script_engine.specs.report.CheckReport.{check_text}
+use Rattle.script_engine.specs.report.Report.{report}
+use Rattle.script_engine.specs.script.Script.{IsRunOf, MayRefuseScript, ScriptApplies, most_bytes}
 use Rattle.bitemporal_cli.specs.Lines.{IsTold, fault_line}
 use Rattle.bitemporal_cli.specs.declared.command.Mode.{Mode}
 use Rattle.bitemporal_cli.specs.declared.command.Mode.TheVariants.{Run, Check}

@@ -21,7 +21,7 @@ use thiserror::Error;
 pub enum Mode {
     /// Runs a script and prints its report.
     Run,
-    /// Says which statements of a script are not spelled right, and runs none.
+    /// Checks the syntax of a script without running it.
     Check,
 }
 

@@ -12,7 +12,7 @@ pub const RUN_ABOUT: &str = "Runs the statements of a script in order, and print
 
 /// What `check` does.
 pub const CHECK_ABOUT: &str =
-    "Says which statements of a script are not spelled right, and runs none of them.";
+    "Checks the syntax of a script without running it; covers planned statements too.";
 
 /// What FILE is.
 pub const FILE_HELP: &str = "The script; without it, standard input is read";

@@ -1,7 +1,6 @@
 //! The program: the words of its command line, the script that they name, its exit status.
 
-ghost use Rattle.std.specs.Prelude.{◌≡◌, ◌⊎◌, ◌≤◌, ℕ, List, Option, false, true, IfErr, IfOk, map};
-ghost use Rattle.std.specs.Prelude.{option_map};
+ghost use Rattle.std.specs.Prelude.{◌≡◌, ◌≤◌, ℕ, List, Option, IfErr, IfOk, IsOk, OnOk, map};
 ghost use Rattle.std.specs.String.{string_bytes};
 ghost use Rattle.std.specs.Io.KnownBytes.{Keeps};
 ghost use Rattle.std.specs.IoError.{error_kind};
@@ -19,10 +18,12 @@ use std::env::Args;
 use std::io;
 use std::io::{Read, Write};
 
-/// The words of the command line, or why the system did not give them.
+/// The words of the command line, or why there are none: out of memory, or what the system says.
 pub fn words_of(alloc: Global, args: io::Result<Args>) -> Result<Vec<String>, RunFault>
-    ensures refused { IfErr result (λ fault. (fault ≡ RunFault.Memory)
-        ⊎ IfErr args (λ error. fault ≡ words_fault (error_kind error))) }
+    ensures given { OnOk result (IsOk args) }
+    ensures memory { IfOk args (λ _. IfErr result (λ fault. fault ≡ RunFault.Memory)) }
+    ensures refused { IfErr args
+        (λ error. IfErr result (λ fault. fault ≡ words_fault (error_kind error))) }
 {
     match args {
         Ok(args) => match args.collect(alloc) {

@@ -3,8 +3,8 @@
 
 ghost use Rattle.std.specs.Prelude.{◌≡◌, ◌≢◌, ◌≤◌, IfErr, IfOk};
 ghost use Rattle.std.specs.Io.KnownBytes.{Keeps};
-ghost use Rattle.script_engine.specs.Check.{IsCheckOf};
-ghost use Rattle.script_engine.specs.Script.{IsRunOf};
+ghost use Rattle.script_engine.specs.script.Check.{IsCheckOf};
+ghost use Rattle.script_engine.specs.script.Script.{IsRunOf};
 ghost use Rattle.bitemporal_cli.specs.Program.{AreOfReader, EndsWell, MayEndIn, MayEndSilently};
 ghost use Rattle.bitemporal_cli.specs.Program.{Reports, TakesAtMost, read_limit, status_of};
 

@@ -9,11 +9,11 @@ use Rattle.period_core.specs.declared.value.Value.{Value}
 use Rattle.catalog_core.proofs.DefinitionFronts.{behind_columns, behind_name, behind_period, fit, split}
 use Rattle.catalog_core.proofs.DefinitionParts.{reference_parts}
 use Rattle.catalog_core.proofs.Fronts.{IsPrefixCode, any_all, behind_parent, column_code, counted_code, counted_length, period_rest, place_code, places_rest, reference_code, same_length}
-use Rattle.catalog_core.specs.DefinitionEncoding.{is_writable}
-use Rattle.catalog_core.specs.DefinitionLaws.{DefinitionReadsBack}
-use Rattle.catalog_core.specs.DefinitionReading.{is_any, is_column, is_small_reference}
-use Rattle.catalog_core.specs.DefinitionValues.{column_values, counted, definition_values, kind_values, number, period_values, place_values, reference_values, written_precision}
-use Rattle.catalog_core.specs.IsDefinition.{IsDefinition, is_definition, is_reference}
+use Rattle.catalog_core.specs.bytes.DefinitionEncoding.{is_writable}
+use Rattle.catalog_core.specs.bytes.DefinitionLaws.{DefinitionReadsBack}
+use Rattle.catalog_core.specs.bytes.DefinitionReading.{is_any, is_column, is_small_reference}
+use Rattle.catalog_core.specs.bytes.DefinitionValues.{column_values, counted, definition_values, kind_values, number, period_values, place_values, reference_values, written_precision}
+use Rattle.catalog_core.specs.table.IsDefinition.{IsDefinition, is_definition, is_reference}
 use Rattle.catalog_core.specs.declared.table.Column.{Column}
 use Rattle.catalog_core.specs.declared.table.ColumnKind.{ColumnKind}
 use Rattle.catalog_core.specs.declared.table.ColumnKind.TheVariants.{Integer, Varchar, Date, RowStart, RowEnd}

@@ -8,9 +8,9 @@ use Rattle.std.proofs.lemmas.Slice.Eq.{bytes_eq-Decides}
 use Rattle.catalog_core.proofs.Built.{place_within}
 use Rattle.catalog_core.proofs.Positions.{none_passes}
 use Rattle.catalog_core.proofs.Sound.{fails_at}
-use Rattle.catalog_core.specs.Matches.{is_matching}
-use Rattle.catalog_core.specs.TableWords.{def_matches, def_place, has_distinct_names}
-use Rattle.catalog_core.specs.declared.matching.Matching.TheVariants.{Several}
+use Rattle.catalog_core.specs.table.Matches.{is_matching}
+use Rattle.catalog_core.specs.table.TableWords.{def_matches, def_place, has_distinct_names}
+use Rattle.catalog_core.specs.declared.table.matching.Matching.TheVariants.{Several}
 use Rattle.catalog_core.specs.declared.table.Column.{Column}
 use Rattle.catalog_core.specs.declared.table.TableDef.{TableDef}
 

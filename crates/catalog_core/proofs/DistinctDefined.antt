@@ -4,18 +4,18 @@ use Rattle.std.specs.List.{list_any}
 use Rattle.std.proofs.lemmas.Bool.{or_parts}
 use Rattle.std.proofs.lemmas.Bool.Decides.{nat_tests}
 use Rattle.std.proofs.lemmas.List.Sums.{length-filter}
-use Rattle.sql_front.specs.declared.create.ColumnElement.{ColumnElement}
-use Rattle.sql_front.specs.declared.create.CreateTable.{CreateTable}
-use Rattle.sql_front.specs.declared.create.KeyElement.{KeyElement}
-use Rattle.sql_front.specs.declared.create.PeriodElement.{PeriodElement}
-use Rattle.sql_front.specs.declared.create.ReferenceElement.{ReferenceElement}
+use Rattle.sql_statements.specs.declared.create.ColumnElement.{ColumnElement}
+use Rattle.sql_statements.specs.declared.create.CreateTable.{CreateTable}
+use Rattle.sql_statements.specs.declared.create.KeyElement.{KeyElement}
+use Rattle.sql_statements.specs.declared.create.PeriodElement.{PeriodElement}
+use Rattle.sql_statements.specs.declared.create.ReferenceElement.{ReferenceElement}
 use Rattle.catalog_core.proofs.AnyTests.{any_same, none_stronger}
-use Rattle.catalog_core.specs.Creation.{is_shared, own_matches, period_matches, repeats_name}
-use Rattle.catalog_core.specs.Definition.{Defines, column_parts, declared_column}
-use Rattle.catalog_core.specs.Matches.{is_matching}
-use Rattle.catalog_core.specs.Naming.{Name, repeats}
-use Rattle.catalog_core.specs.TableWords.{def_matches, has_distinct_names}
-use Rattle.catalog_core.specs.declared.matching.Matching.TheVariants.{Several}
+use Rattle.catalog_core.specs.create.Creation.{is_shared, own_matches, period_matches, repeats_name}
+use Rattle.catalog_core.specs.create.Definition.{Defines, column_parts, declared_column}
+use Rattle.catalog_core.specs.table.Matches.{is_matching}
+use Rattle.catalog_core.specs.table.Naming.{Name, repeats}
+use Rattle.catalog_core.specs.table.TableWords.{def_matches, has_distinct_names}
+use Rattle.catalog_core.specs.declared.table.matching.Matching.TheVariants.{Several}
 use Rattle.catalog_core.specs.declared.table.Column.{Column}
 use Rattle.catalog_core.specs.declared.table.ColumnKind.{ColumnKind}
 use Rattle.catalog_core.specs.declared.table.TableDef.{TableDef}

@@ -9,19 +9,19 @@ use Rattle.std.proofs.lemmas.List.Quantifiers.{position-Some}
 use Rattle.std.proofs.lemmas.Option.{none-some, same_Some, slice_get_within, get_or_from_slice_get, slice_get-get_or}
 use Rattle.std.proofs.lemmas.Slice.Eq.{bytes_eq-Decides}
 use Rattle.period_core.specs.declared.value.Value.{Value}
-use Rattle.sql_front.specs.declared.statement.InsertRows.{InsertRows}
+use Rattle.sql_statements.specs.declared.statement.InsertRows.{InsertRows}
 use Rattle.catalog_core.proofs.AnyTests.{any_same}
 use Rattle.catalog_core.proofs.Built.{place_within}
 use Rattle.catalog_core.proofs.Distinct.{few_named, its_place, only_one, own_name}
 use Rattle.catalog_core.proofs.GivenValues.{date_column, date_given, date_parts, found_first, given_there, value_plain}
-use Rattle.catalog_core.specs.Insertion.{given_names, given_value, gives_wrong, has_wrong, is_longer, is_of_other_kind, is_too_long, is_wrong, lacks_some, value_for}
-use Rattle.catalog_core.specs.InsertPlaces.{ArePlaces, HasDate, HasValue, HasValues, gives_wrong_at, has_wrong_at, is_wrong_at, is_wrong_for, row_at, value_at}
-use Rattle.catalog_core.specs.Kinds.{differ, kind_of_column, kind_of_value}
-use Rattle.catalog_core.specs.Naming.{Name, passes}
-use Rattle.catalog_core.specs.Resolution.{written_row}
-use Rattle.catalog_core.specs.TableWords.{def_kind, def_place, has_date_period, has_distinct_names, is_date_column, is_value_column, value_columns, value_names}
-use Rattle.catalog_core.specs.declared.insert_values.Wrong.{Wrong}
-use Rattle.catalog_core.specs.declared.insert_values.Wrong.TheVariants as wrong
+use Rattle.catalog_core.specs.change.Insertion.{given_names, given_value, gives_wrong, has_wrong, is_longer, is_of_other_kind, is_too_long, is_wrong, lacks_some, value_for}
+use Rattle.catalog_core.specs.change.InsertPlaces.{ArePlaces, HasDate, HasValue, HasValues, gives_wrong_at, has_wrong_at, is_wrong_at, is_wrong_for, row_at, value_at}
+use Rattle.catalog_core.specs.table.Kinds.{differ, kind_of_column, kind_of_value}
+use Rattle.catalog_core.specs.table.Naming.{Name, passes}
+use Rattle.catalog_core.specs.change.Resolution.{written_row}
+use Rattle.catalog_core.specs.table.TableWords.{def_kind, def_place, has_date_period, has_distinct_names, is_date_column, is_value_column, value_columns, value_names}
+use Rattle.catalog_core.specs.declared.change.insert_values.Wrong.{Wrong}
+use Rattle.catalog_core.specs.declared.change.insert_values.Wrong.TheVariants as wrong
 use Rattle.catalog_core.specs.declared.table.Column.{Column}
 use Rattle.catalog_core.specs.declared.table.Kind.{Kind}
 use Rattle.catalog_core.specs.declared.table.TableDef.{TableDef}

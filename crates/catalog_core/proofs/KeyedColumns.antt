@@ -3,18 +3,18 @@ use Rattle.std.proofs.Common.{◌≡◌, ◌∷◌, ◌&&◌, ◌||◌, ◌∙�
 use Rattle.std.specs.List.{list_any}
 use Rattle.std.proofs.lemmas.Bool.{and_parts, false≢true, or_parts}
 use Rattle.std.proofs.lemmas.Slice.Eq.{bytes_eq-Decides}
-use Rattle.sql_front.specs.declared.create.ColumnElement.{ColumnElement}
-use Rattle.sql_front.specs.declared.create.CreateTable.{CreateTable}
-use Rattle.sql_front.specs.declared.create.KeyElement.{KeyElement}
-use Rattle.sql_front.specs.declared.create.ReferenceElement.{ReferenceElement}
+use Rattle.sql_statements.specs.declared.create.ColumnElement.{ColumnElement}
+use Rattle.sql_statements.specs.declared.create.CreateTable.{CreateTable}
+use Rattle.sql_statements.specs.declared.create.KeyElement.{KeyElement}
+use Rattle.sql_statements.specs.declared.create.ReferenceElement.{ReferenceElement}
 use Rattle.catalog_core.proofs.AnyTests.{any_gives, any_weaker, or_right}
 use Rattle.catalog_core.proofs.GivenValues.{any_counted}
 use Rattle.catalog_core.proofs.Shape.{all_match}
-use Rattle.catalog_core.specs.Creation.{is_no_value_column, keys_period_column, own_matches, some_match, some_no_value, some_own_match}
-use Rattle.catalog_core.specs.Keyed.{is_keyed, some_keyed_no_value}
-use Rattle.catalog_core.specs.Matches.{is_matching}
-use Rattle.catalog_core.specs.Naming.{Name}
-use Rattle.catalog_core.specs.declared.matching.Matching.TheVariants.{Nothing}
+use Rattle.catalog_core.specs.create.Creation.{is_no_value_column, keys_period_column, own_matches, some_match, some_no_value, some_own_match}
+use Rattle.catalog_core.specs.create.Keyed.{is_keyed, some_keyed_no_value}
+use Rattle.catalog_core.specs.table.Matches.{is_matching}
+use Rattle.catalog_core.specs.table.Naming.{Name}
+use Rattle.catalog_core.specs.declared.table.matching.Matching.TheVariants.{Nothing}
 use Rattle.catalog_core.specs.declared.table.TableDef.{TableDef}
 
 same_name : (name : Name) → bytes_eq name name ≡ true

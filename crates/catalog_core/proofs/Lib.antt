@@ -24,7 +24,5 @@ pub mod Tables
 pub mod CreateExamples
 pub mod DefinitionExamples
 pub mod InsertExamples
-pub mod ModelExamples
 pub mod SelectExamples
 pub mod TableExamples
-pub mod HistoryLemmas

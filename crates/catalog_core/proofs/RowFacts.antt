@@ -8,13 +8,13 @@ use Rattle.period_core.specs.Leasts.{IsLeast}
 use Rattle.period_core.specs.declared.refusal.Refusal.{Refusal}
 use Rattle.period_core.specs.declared.refusal.Refusal.TheVariants.{EmptyPeriod}
 use Rattle.period_core.specs.declared.value.Value.{Value}
-use Rattle.sql_front.specs.declared.statement.InsertRows.{InsertRows}
-use Rattle.catalog_core.specs.Insertion.{gives_empty_row, gives_no_period, has_no_period, insert_conditions, is_no_period}
+use Rattle.sql_statements.specs.declared.statement.InsertRows.{InsertRows}
+use Rattle.catalog_core.specs.change.Insertion.{gives_empty_row, gives_no_period, has_no_period, insert_conditions, is_no_period}
 use Rattle.catalog_core.proofs.Least.{least_stays, within}
 use Rattle.catalog_core.specs.Judged.{Holds}
-use Rattle.catalog_core.specs.Naming.{Name, passes}
-use Rattle.catalog_core.specs.Resolution.{ResolvesAction, ResolvesInsert, RowParts, has_empty_row, is_empty_row, row_parts, written_row}
-use Rattle.catalog_core.specs.TableWords.{number_of, table_of, table_of_name, value_count}
+use Rattle.catalog_core.specs.table.Naming.{Name, passes}
+use Rattle.catalog_core.specs.change.Resolution.{ResolvesAction, ResolvesInsert, RowParts, has_empty_row, is_empty_row, row_parts, written_row}
+use Rattle.catalog_core.specs.table.TableWords.{number_of, table_of, table_of_name, value_count}
 use Rattle.catalog_core.specs.declared.change.Action.{Action}
 use Rattle.catalog_core.specs.declared.change.Action.TheVariants.{Insert}
 use Rattle.catalog_core.specs.declared.change.Change.{Change}

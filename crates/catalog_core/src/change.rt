@@ -1,5 +1,12 @@
 //! Changes with positions in place of names.
 
+pub mod given_rows;
+pub mod insert_names;
+pub mod insert_places;
+pub mod insert_values;
+pub mod insertion;
+pub mod resolution;
+
 use period_core::{Day, Items, Values};
 
 /// A row of INSERT: its values in the order of the value columns, and the start and the end of its

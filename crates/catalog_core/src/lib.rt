@@ -1,39 +1,27 @@
 //! The tables of a store and their bytes, and the statements about them with positions in place of
-//! names, or the refusal of the least number.
+//! names, or the lowest-numbered refusal that applies. What to touch in order to add
+//!
+//! - a form of change or query: its resolved form in `change` or `query`, its conditions and what it
+//!   is by positions in the folder of that name in `specs/`, a file beside `change/insertion.rt` or
+//!   `query/selection.rt`, and what it makes of a day in `history_model`;
+//! - a condition of a statement: the list of its conditions (`create_conditions`,
+//!   `insert_conditions`, `select_conditions`), and its `first_fault`, both in ascending order;
+//! - a column type: `ColumnKind` and `Kind`, `specs/table/Kinds`, `create/building.rt`, and its
+//!   number in `bytes/`.
 #![tactic(auto)]
 
-mod building;
-mod catalog;
+mod bytes;
 mod change;
-mod columns;
-mod create_names;
-mod create_shape;
-mod creation;
-mod definition_bytes;
-mod definition_laws;
-mod definition_list;
-mod definition_reader;
-mod given_rows;
-mod insert_names;
-mod insert_places;
-mod insert_values;
-mod insertion;
-mod kinds;
-mod matching;
-mod period_counts;
+mod create;
 mod query;
-mod resolution;
-mod selection;
-mod simple_select;
 mod table;
-mod value_reader;
 
-pub use catalog::Catalog;
+pub use bytes::laws::definition_reads_back;
+pub use bytes::{decode_def, encode_def};
+pub use change::resolution::{resolve_change, resolve_insert};
 pub use change::{Action, Change, GivenRow};
-pub use creation::define;
-pub use definition_bytes::{decode_def, encode_def};
-pub use definition_laws::definition_reads_back;
+pub use create::define;
+pub use query::selection::{resolve_query, resolve_sequenced};
 pub use query::{Item, Query, Select};
-pub use resolution::resolve_change;
-pub use selection::resolve_query;
+pub use table::catalog::Catalog;
 pub use table::{Column, ColumnKind, Kind, PeriodColumns, Reference, TableDef};

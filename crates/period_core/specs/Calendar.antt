@@ -1,5 +1,7 @@
 -- Dates of ISO 8601's proleptic Gregorian calendar, years 1 to 9999: their numbers and texts.
-use Rattle.std.specs.Prelude.{nat_lt, zero, suc, unsigned_abs, ◌+ℤ◌, ◌≡◌, ◌≤◌, ◌==◌, ◌+◌, ◌-◌, ◌*◌, ◌/◌, ◌%◌, ◌&&◌, ◌||◌, Bool, not, ℕ, ℤ, pos, neg_ℤ, ◌-ℤ◌, ◌≤ℤ◌, List, [], ◌∷◌, ◌++◌, Option, Some, None, sum, take, get_or, if◌then◌else◌}
+use Rattle.std.specs.Prelude.{nat_lt, zero, suc, unsigned_abs, ◌+ℤ◌, ◌≡◌, ◌≤◌, ◌==◌, ◌+◌, ◌-◌, ◌*◌}
+use Rattle.std.specs.Prelude.{◌/◌, ◌%◌, ◌&&◌, ◌||◌, Bool, not, ℕ, ℤ, pos, neg_ℤ, ◌-ℤ◌, ◌≤ℤ◌, List}
+use Rattle.std.specs.Prelude.{[], ◌∷◌, ◌++◌, Option, Some, None, sum, take, get_or, if◌then◌else◌}
 use Rattle.std.specs.Ordering.{int_cmp, is_lt}
 
 -- a multiple of 4 that is not one of 100, or a multiple of 400

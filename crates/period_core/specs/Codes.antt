@@ -1,7 +1,18 @@
 -- The number and the name of each refusal, the same whatever it carries.
 use Rattle.std.specs.Prelude.{ℕ, List, codes}
 use Rattle.period_core.specs.declared.refusal.Refusal.{Refusal}
-use Rattle.period_core.specs.declared.refusal.Refusal.TheVariants.{NotUtf8, ScriptTooLarge, BadToken, Syntax, TooDeep, BadDate, BadMoment, NumberRange, LimitReached, TableExists, UnknownTable, UnknownColumn, AmbiguousColumn, DuplicateName, PeriodColumn, BadDefinition, ColumnCount, TypeMismatch, TextTooLong, MomentBack, EmptyPeriod, KeyOverlap, PeriodReference, BadStore, Memory, Store}
+use Rattle.period_core.specs.declared.refusal.Refusal.TheVariants.{NotUtf8, ScriptTooLarge}
+use Rattle.period_core.specs.declared.refusal.Refusal.TheVariants.{BadToken, Syntax, TooDeep}
+use Rattle.period_core.specs.declared.refusal.Refusal.TheVariants.{BadDate, BadMoment, NumberRange}
+use Rattle.period_core.specs.declared.refusal.Refusal.TheVariants.{LimitReached, TableExists}
+use Rattle.period_core.specs.declared.refusal.Refusal.TheVariants.{UnknownTable, UnknownColumn}
+use Rattle.period_core.specs.declared.refusal.Refusal.TheVariants.{AmbiguousColumn, DuplicateName}
+use Rattle.period_core.specs.declared.refusal.Refusal.TheVariants.{PeriodColumn, BadDefinition}
+use Rattle.period_core.specs.declared.refusal.Refusal.TheVariants.{ColumnCount, TypeMismatch}
+use Rattle.period_core.specs.declared.refusal.Refusal.TheVariants.{TextTooLong, MomentBack}
+use Rattle.period_core.specs.declared.refusal.Refusal.TheVariants.{EmptyPeriod, KeyOverlap}
+use Rattle.period_core.specs.declared.refusal.Refusal.TheVariants.{PeriodReference, BadStore}
+use Rattle.period_core.specs.declared.refusal.Refusal.TheVariants.{Memory, Store}
 
 -- of several refusals, the one of the least number is answered
 abbrev pub code_of : Refusal → ℕ

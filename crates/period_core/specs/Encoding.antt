@@ -1,5 +1,6 @@
 -- Values as bytes, one after the other, so that the bytes stand in the order of the values.
-use Rattle.std.specs.Prelude.{◌≡◌, ◌++◌, [], ◌∷◌, zero, suc, ℕ, ℤ, pos, neg_ℤ, unsigned_abs, ◌-ℤ◌, ◌≤ℤ◌, List}
+use Rattle.std.specs.Prelude.{◌≡◌, ◌++◌, [], ◌∷◌, zero, suc, ℕ, ℤ, pos, neg_ℤ, unsigned_abs, ◌-ℤ◌}
+use Rattle.std.specs.Prelude.{◌≤ℤ◌, List}
 use Rattle.std.specs.Int.{bytes_high_first}
 use Rattle.std.specs.List.{All, flat_map}
 use Rattle.std.specs.Str.{IsUtf8}

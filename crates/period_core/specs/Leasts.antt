@@ -9,7 +9,7 @@ pub record IsLeast (Applies : Refusal → Type 0) (refusal : Refusal) : Type 0 w
   pub applies : Applies refusal
   pub least : (other : Refusal) → Applies other → code_of refusal ≤ code_of other
 
--- what a call may answer: the least, or want of memory in its place
+-- what a call may answer: the least, or out of memory in its place
 abbrev pub MayAnswer : (Refusal → Type 0) → Refusal → Type 0
 MayAnswer Applies refusal = IsLeast Applies refusal ⊎ (refusal ≡ Memory)
 

@@ -1,6 +1,9 @@
 -- Moments: whole seconds from 0001-01-01 00:00:00 to 9999-12-31 23:59:59, their numbers and texts.
-use Rattle.std.specs.Prelude.{◌≡◌, ◌≤◌, ◌+◌, ◌*◌, ◌/◌, ◌%◌, ◌++◌, ℕ, ℤ, pos, neg_ℤ, unsigned_abs, ◌+ℤ◌, ◌-ℤ◌, ◌*ℤ◌, ◌≤ℤ◌, int_lt, List, Option, Some, None, codes, if◌then◌else◌}
-use Rattle.period_core.specs.Calendar.{IsDate, first_day, day_number, day_text, date_text, two_digits}
+use Rattle.std.specs.Prelude.{◌≡◌, ◌≤◌, ◌+◌, ◌*◌, ◌/◌, ◌%◌, ◌++◌, ℕ, ℤ, pos, neg_ℤ, unsigned_abs}
+use Rattle.std.specs.Prelude.{◌+ℤ◌, ◌-ℤ◌, ◌*ℤ◌, ◌≤ℤ◌, int_lt, List, Option, Some, None, codes}
+use Rattle.std.specs.Prelude.{if◌then◌else◌}
+use Rattle.period_core.specs.Calendar.{IsDate, first_day, day_number, day_text, date_text}
+use Rattle.period_core.specs.Calendar.{two_digits}
 
 -- the number of 0001-01-01 00:00:00, the least
 abbrev pub first_moment : ℤ

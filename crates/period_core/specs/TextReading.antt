@@ -1,5 +1,6 @@
 -- The day and the moment that a text shows, as they are read from it, place by place.
-use Rattle.std.specs.Prelude.{ℕ, ℤ, ◌+◌, ◌-◌, ◌*◌, ◌==◌, ◌&&◌, Bool, cond, nat_lt, nat_le, List, length, slice_index, Option, Some, None, option_and_then}
+use Rattle.std.specs.Prelude.{ℕ, ℤ, ◌+◌, ◌-◌, ◌*◌, ◌==◌, ◌&&◌, Bool, cond, nat_lt, nat_le, List}
+use Rattle.std.specs.Prelude.{length, slice_index, Option, Some, None, option_and_then}
 use Rattle.period_core.specs.Calendar.{day_number, month_length}
 use Rattle.period_core.specs.Moments.{moment_number}
 

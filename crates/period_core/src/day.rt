@@ -1,7 +1,8 @@
 //! Days of the proleptic Gregorian calendar of ISO 8601, by their numbers; their dates are jiff's.
 
 ghost use Rattle.std.specs.Prelude.{◌≡◌, ◌↔◌, IsSome, IfSome, ℤ, pos, ◌+ℤ◌, ◌-ℤ◌, neg_ℤ, ◌<ℤ◌};
-ghost use Rattle.period_core.specs.Calendar.{IsDate, IsDayNumber, IsDayText, day_after, day_before, day_number, day_text, first_day};
+ghost use Rattle.period_core.specs.Calendar.{IsDate, IsDayNumber, IsDayText, day_after, day_before};
+ghost use Rattle.period_core.specs.Calendar.{day_number, day_text, first_day};
 ghost use Rattle.period_core.specs.TextReading.{day_of_text};
 
 use crate::text_reading::day_of_bytes;

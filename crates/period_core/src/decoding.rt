@@ -3,7 +3,8 @@
 ghost use Rattle.std.specs.Prelude.{◌≡◌, ◌++◌, ◌∷◌, [], ℕ, List, IfOk, IfErr};
 ghost use Rattle.std.specs.List.{All};
 ghost use Rattle.period_core.specs.Decoding.{HasFirst};
-ghost use Rattle.period_core.specs.Encoding.{IsColumnValue, IsEncoding, encoded, encoded_value, escaped_text};
+ghost use Rattle.period_core.specs.Encoding.{IsColumnValue, IsEncoding, encoded, encoded_value};
+ghost use Rattle.period_core.specs.Encoding.{escaped_text};
 ghost use Rattle.period_core.specs.declared.decoding.DecodeFault.TheVariants.{Malformed};
 
 use crate::day::{Day, FIRST as FIRST_DAY};

@@ -1,7 +1,10 @@
 //! Moments of system time, of the proleptic Gregorian calendar, by their numbers.
 
-ghost use Rattle.std.specs.Prelude.{◌≡◌, ◌↔◌, IsSome, IfSome, ℤ, pos, neg_ℤ, ◌+ℤ◌, ◌-ℤ◌, ◌*ℤ◌, ◌≤ℤ◌};
-ghost use Rattle.period_core.specs.Moments.{IsMoment, IsMomentNumber, IsMomentText, first_moment, forever, moment_after, moment_before, moment_number, moment_text};
+ghost use Rattle.std.specs.Prelude.{◌≡◌, ◌↔◌, IsSome, IfSome, ℤ, pos, neg_ℤ, ◌+ℤ◌, ◌-ℤ◌, ◌*ℤ◌};
+ghost use Rattle.std.specs.Prelude.{◌≤ℤ◌};
+ghost use Rattle.period_core.specs.Moments.{IsMoment, IsMomentNumber, IsMomentText, first_moment};
+ghost use Rattle.period_core.specs.Moments.{forever, moment_after, moment_before, moment_number};
+ghost use Rattle.period_core.specs.Moments.{moment_text};
 ghost use Rattle.period_core.specs.TextReading.{moment_of_text};
 
 use crate::day::{Day, FIRST as FIRST_DAY};

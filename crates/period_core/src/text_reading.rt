@@ -1,8 +1,10 @@
 //! Days and moments read back from their texts.
 
-ghost use Rattle.std.specs.Prelude.{◌≡◌, ◌↔◌, ◌+◌, ◌*◌, ◌-◌, ◌<◌, length, slice_index, IsSome, IfSome, Some, None};
+ghost use Rattle.std.specs.Prelude.{◌≡◌, ◌↔◌, ◌+◌, ◌*◌, ◌-◌, ◌<◌, length, slice_index, IsSome};
+ghost use Rattle.std.specs.Prelude.{IfSome, Some, None};
 ghost use Rattle.period_core.specs.TextReading as reading;
-ghost use Rattle.period_core.specs.TextReading.{date_parts_of, day_of_text, digit_of, moment_of_text, time_parts_of, two_of};
+ghost use Rattle.period_core.specs.TextReading.{date_parts_of, day_of_text, digit_of};
+ghost use Rattle.period_core.specs.TextReading.{moment_of_text, time_parts_of, two_of};
 
 use crate::day::Day;
 use crate::moment::Moment;

@@ -10,19 +10,19 @@ use Rattle.temporal_model.specs.Snapshot.{InSnapshot, Equivalent, values_on}
 use Rattle.temporal_model.specs.Answer.{IsCertified, IsInAnswerOrder, IsShortest}
 use Rattle.temporal_model.specs.Witness.{WitnessEachRow, witness_of}
 use Rattle.temporal_model.proofs.Witnesses.{witnessed_by_sets}
-use Rattle.sql_front.specs.Trees.{Statement}
-use Rattle.sql_front.specs.Trees as statement
+use Rattle.sql_statements.specs.Trees.{Statement}
+use Rattle.sql_statements.specs.Trees as statement
 use Rattle.catalog_core.specs.Judged.{Holds}
-use Rattle.catalog_core.specs.Selection.{IsSequenced, ResolvesQuery, query_conditions}
-use Rattle.catalog_core.specs.Answers.{InAnswerOn, read_items}
-use Rattle.catalog_core.specs.Histories.{Asked, Database, History, last_state, rows_in, with_event}
-use Rattle.catalog_core.proofs.HistoryLemmas.{catalog_of-asked, last_state-asked}
+use Rattle.catalog_core.specs.query.Selection.{IsSequenced, ResolvesQuery, query_conditions}
+use Rattle.history_model.specs.Answers.{InAnswerOn, read_items}
+use Rattle.history_model.specs.Histories.{Asked, Database, History, last_state, rows_in, with_event}
+use Rattle.history_model.proofs.HistoryLemmas.{catalog_of-asked, last_state-asked}
 use Rattle.catalog_core.specs.declared.query.Item.{Item}
 use Rattle.catalog_core.specs.declared.query.Select.{Select}
 use Rattle.script_engine.specs.Headline.{IsSequencedAnswer}
-use Rattle.script_engine.specs.Rows.{read_row, whole_row}
-use Rattle.script_engine.specs.Runs.{Represents, StepsTo}
-use Rattle.script_engine.specs.declared.outcome.Outcome.TheVariants.{Answer as Answered}
+use Rattle.script_engine.specs.engine.Rows.{read_row, whole_row}
+use Rattle.script_engine.specs.engine.Runs.{Represents, StepsTo}
+use Rattle.script_engine.specs.declared.engine.outcome.Outcome.TheVariants.{Answer as Answered}
 use Rattle.script_engine.proofs.Images.{image_from, image_of}
 use Rattle.script_engine.proofs.Given.{same_values, values_on-read}
 use Rattle.script_engine.proofs.Steps.{carried, refused_step}

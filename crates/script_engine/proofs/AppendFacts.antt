@@ -8,9 +8,9 @@ use Rattle.period_core.specs.declared.answer.Answer.{Answer}
 use Rattle.period_core.specs.declared.answer.Witness.{Witness}
 use Rattle.period_core.specs.declared.refusal.Refusal.{Refusal}
 use Rattle.period_core.specs.declared.row.PeriodRow.{PeriodRow}
-use Rattle.script_engine.specs.Report.{answer_record, columns_record, record_text, report_from, row_record, text_of}
-use Rattle.script_engine.specs.declared.outcome.Outcome.{Outcome}
-use Rattle.script_engine.specs.declared.outcome.Outcome.TheVariants as outcome
+use Rattle.script_engine.specs.report.Report.{answer_record, columns_record, record_text, report_from, row_record, text_of}
+use Rattle.script_engine.specs.declared.engine.outcome.Outcome.{Outcome}
+use Rattle.script_engine.specs.declared.engine.outcome.Outcome.TheVariants as outcome
 
 -- the text of a list that ends in one more result
 pub report-more : (n k : ℕ) (results : List (Result Outcome Refusal)) (result : Result Outcome Refusal) → n + length results ≡ k → report_from n (results ++ result ∷ []) ≡ report_from n results ++ text_of k result

@@ -8,20 +8,20 @@ use Rattle.period_core.specs.Leasts.{NoneApplies}
 use Rattle.period_core.specs.declared.row.PeriodRow.{PeriodRow}
 use Rattle.period_core.specs.declared.value.Value.{Value}
 use Rattle.temporal_model.specs.Snapshot.{InSnapshot, values_on}
-use Rattle.sql_front.specs.Trees.{Statement}
-use Rattle.sql_front.specs.Trees as statement
+use Rattle.sql_statements.specs.Trees.{Statement}
+use Rattle.sql_statements.specs.Trees as statement
 use Rattle.catalog_core.specs.Judged.{Holds}
-use Rattle.catalog_core.specs.Resolution.{IsChange, ResolvesChange, change_conditions, empty_period, has_empty_row}
-use Rattle.catalog_core.specs.Effects.{Traced, effect, given_of, traced}
-use Rattle.catalog_core.specs.Histories.{Changed, Database, History, last_state, rows_in, with_event}
-use Rattle.catalog_core.proofs.HistoryLemmas.{catalog_of-changed, last_state-changed}
+use Rattle.catalog_core.specs.change.Resolution.{IsChange, ResolvesChange, change_conditions, empty_period, has_empty_row}
+use Rattle.history_model.specs.Effects.{Traced, effect, given_of, traced}
+use Rattle.history_model.specs.Histories.{Changed, Database, History, last_state, rows_in, with_event}
+use Rattle.history_model.proofs.HistoryLemmas.{catalog_of-changed, last_state-changed}
 use Rattle.catalog_core.specs.declared.table.TableDef.{TableDef}
 use Rattle.catalog_core.specs.declared.change.Action.{Action}
 use Rattle.catalog_core.specs.declared.change.Change.{Change}
-use Rattle.script_engine.specs.Rows.{plain_given, plain_row}
-use Rattle.script_engine.specs.Runs.{Represents, StepsTo, StatementApplies}
-use Rattle.script_engine.specs.declared.outcome.Outcome.TheVariants.{Done}
-use Rattle.script_engine.specs.declared.outcome.Word.TheVariants as word
+use Rattle.script_engine.specs.engine.Rows.{plain_given, plain_row}
+use Rattle.script_engine.specs.engine.Runs.{Represents, StepsTo, StatementApplies}
+use Rattle.script_engine.specs.declared.engine.outcome.Outcome.TheVariants.{Done}
+use Rattle.script_engine.specs.declared.engine.outcome.Word.TheVariants as word
 use Rattle.temporal_model.proofs.Snapshots.{values_on-append}
 use Rattle.script_engine.proofs.Given.{rows_of-inserted}
 use Rattle.script_engine.proofs.Refused.{days-action, holds_cases}

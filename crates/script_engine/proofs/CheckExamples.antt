@@ -2,8 +2,8 @@
 use Rattle.std.specs.Prelude.{◌≡◌, ◌∷◌, ◌++◌, [], refl, codes, Ok, Err}
 use Rattle.std.specs.Fmt.{digits}
 use Rattle.period_core.specs.declared.refusal.Refusal.TheVariants.{LimitReached, Syntax}
-use Rattle.script_engine.specs.CheckReport.{check_text}
-use Rattle.script_engine.specs.Report.{line_feed, more_fields, record_text}
+use Rattle.script_engine.specs.report.CheckReport.{check_text}
+use Rattle.script_engine.specs.report.Report.{line_feed, more_fields, record_text}
 
 -- of no statement none is refused
 no-statements : check_text [] ≡ codes "checked,0,0" ++ line_feed ∷ []

@@ -3,12 +3,12 @@ use Rattle.std.proofs.Common.{◌≡◌, ◌<◌, ◌+◌, ◌-◌, ◌++◌, �
 use Rattle.std.proofs.lemmas.List.{append-nil}
 use Rattle.std.specs.List.{AllZip}
 use Rattle.period_core.specs.declared.refusal.Refusal.{Refusal}
-use Rattle.sql_front.specs.Lexemes.{lexemes}
+use Rattle.sql_statements.specs.Lexemes.{lexemes}
 use Rattle.sql_front.specs.Pieces.{spanned}
 use Rattle.sql_front.specs.declared.pieces.Span.{Span}
-use Rattle.sql_front.specs.declared.token.Token.{Token}
-use Rattle.script_engine.specs.Check.{IsPieceCheck}
-use Rattle.script_engine.specs.CheckReport.{refusal_text, refusals_from}
+use Rattle.sql_statements.specs.declared.token.Token.{Token}
+use Rattle.script_engine.specs.script.Check.{IsPieceCheck}
+use Rattle.script_engine.specs.report.CheckReport.{refusal_text, refusals_from}
 use Rattle.script_engine.proofs.PieceFacts.{pieces_next}
 
 -- one more item of each list

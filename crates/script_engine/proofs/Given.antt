@@ -7,13 +7,13 @@ use Rattle.std.proofs.lemmas.Option.{slice_get_read}
 use Rattle.period_core.specs.declared.row.PeriodRow.{PeriodRow}
 use Rattle.period_core.specs.declared.value.Value.{Value}
 use Rattle.temporal_model.specs.Snapshot.{covers_day, values_on}
-use Rattle.catalog_core.specs.Answers.{IsProjection, read_items}
-use Rattle.catalog_core.specs.Effects.{Traced, given_covers, given_of, given_row, kept, traced}
+use Rattle.history_model.specs.Answers.{IsProjection, read_items}
+use Rattle.history_model.specs.Effects.{Traced, given_covers, given_of, given_row, kept, traced}
 use Rattle.catalog_core.specs.declared.change.Action.{Action}
 use Rattle.catalog_core.specs.declared.change.Action.TheVariants.{Insert}
 use Rattle.catalog_core.specs.declared.change.GivenRow.{GivenRow}
 use Rattle.catalog_core.specs.declared.query.Item.{Item}
-use Rattle.script_engine.specs.Rows.{PlainRow, ReadRow, plain_given, plain_row, read_row, whole_row}
+use Rattle.script_engine.specs.engine.Rows.{PlainRow, ReadRow, plain_given, plain_row, read_row, whole_row}
 
 -- the row, as a period row, a plain row or one that is read, holds on the day
 abbrev row_covers : ℤ → PeriodRow → Bool

@@ -3,14 +3,14 @@ use Rattle.std.proofs.Common.{◌≡◌, ◌⊎◌, true, List, Err, refl, sym, 
 use Rattle.period_core.specs.Leasts.{MayAnswer, NoneApplies}
 use Rattle.period_core.specs.declared.refusal.Refusal.{Refusal}
 use Rattle.period_core.specs.declared.refusal.Refusal.TheVariants.{EmptyPeriod, Memory}
-use Rattle.sql_front.specs.Trees.{Statement}
-use Rattle.sql_front.specs.Trees as statement
+use Rattle.sql_statements.specs.Trees.{Statement}
+use Rattle.sql_statements.specs.Trees as statement
 use Rattle.catalog_core.specs.Judged.{Holds}
-use Rattle.catalog_core.specs.Resolution.{IsChange, change_conditions, empty_period, has_empty_row}
-use Rattle.catalog_core.specs.Histories.{Database, History}
+use Rattle.catalog_core.specs.change.Resolution.{IsChange, change_conditions, empty_period, has_empty_row}
+use Rattle.history_model.specs.Histories.{Database, History}
 use Rattle.catalog_core.specs.declared.table.TableDef.{TableDef}
 use Rattle.catalog_core.specs.declared.change.Change.{Change}
-use Rattle.script_engine.specs.Runs.{Represents, StatementApplies, StepsTo}
+use Rattle.script_engine.specs.engine.Runs.{Represents, StatementApplies, StepsTo}
 use Rattle.script_engine.proofs.Refused.{are_at_most, may_answer-before, may_answer-empty}
 use Rattle.script_engine.proofs.Steps.{refused_step}
 

@@ -1,26 +1,26 @@
 -- Worked rows: the pieces of a CREATE TABLE, an INSERT and a query that are accepted, and the run of the three.
 use Rattle.std.proofs.Common.{◌≡◌, ◌∷◌, ◌++◌, [], ℕ, List, Some, Ok, codes, refl, inr, arith}
 use Rattle.period_core.specs.TextReading.{date_at, date_parts_of, day_of_text, is_date}
-use Rattle.sql_front.specs.ChangeReaders.{columns_read, insert_read, inserted_read, values_read}
-use Rattle.sql_front.specs.ConditionReaders.{column_read, where_read}
+use Rattle.sql_front.specs.reading.ChangeReaders.{columns_read, insert_read, inserted_read, values_read}
+use Rattle.sql_front.specs.reading.ConditionReaders.{column_read, where_read}
 use Rattle.sql_front.specs.Depth.{room}
-use Rattle.sql_front.specs.ElementReaders.{create_read, elements_read, element_read, column_element_read, not_null_read, key_element_read, key_names_read, reference_element_read, versioning_read, without_overlaps_read, all_and_last_read, type_read, length_read, generated_read, row_end_read, pair_read, some_period_read, period_element_read, system_element_read, created_table_read, timestamp_read, key_list_read}
-use Rattle.sql_front.specs.LeafValues.{day_of_token, day_value}
-use Rattle.sql_front.specs.Leaves.{date_read, literal_read, name_read, number_read, tuple_read, unsigned_read}
-use Rattle.sql_front.specs.Lexemes.{Lexeme}
-use Rattle.sql_front.specs.Names.{is_plain_word}
-use Rattle.sql_front.specs.QueryReaders.{chain_read, item_read, joins_read, new_name_read, primary_read, query_read, reference_read, select_read, sequenced_read, step_read, steps_read, selected_read, from_read}
-use Rattle.sql_front.specs.Reading.{bounded_read, whole_read}
-use Rattle.sql_front.specs.StatementReaders.{later_statement_read, query_statement_read, statement_read}
-use Rattle.sql_front.specs.Trees as statement
-use Rattle.sql_front.specs.WindowReaders.{for_window_read}
-use Rattle.sql_front.specs.Words.{is_reserved}
-use Rattle.sql_front.specs.declared.token.Kind.TheVariants.{Number, Symbol, Text, Word}
+use Rattle.sql_front.specs.reading.ElementReaders.{create_read, elements_read, element_read, column_element_read, not_null_read, key_element_read, key_names_read, reference_element_read, versioning_read, without_overlaps_read, all_and_last_read, type_read, length_read, generated_read, row_end_read, pair_read, some_period_read, period_element_read, system_element_read, created_table_read, timestamp_read, key_list_read}
+use Rattle.sql_front.specs.reading.LeafValues.{day_of_token, day_value}
+use Rattle.sql_front.specs.reading.Leaves.{date_read, literal_read, name_read, number_read, tuple_read, unsigned_read}
+use Rattle.sql_statements.specs.Lexemes.{Lexeme}
+use Rattle.sql_statements.specs.Names.{is_plain_word}
+use Rattle.sql_front.specs.reading.QueryReaders.{chain_read, item_read, joins_read, new_name_read, primary_read, query_read, reference_read, select_read, sequenced_read, step_read, steps_read, selected_read, from_read}
+use Rattle.sql_front.specs.reading.Reading.{bounded_read, whole_read}
+use Rattle.sql_front.specs.reading.StatementReaders.{later_statement_read, query_statement_read, statement_read}
+use Rattle.sql_statements.specs.Trees as statement
+use Rattle.sql_front.specs.reading.WindowReaders.{for_window_read}
+use Rattle.sql_statements.specs.Words.{is_reserved}
+use Rattle.sql_statements.specs.declared.token.Kind.TheVariants.{Number, Symbol, Text, Word}
 use Rattle.sql_front.proofs.Spelling.{spelled_if_read}
-use Rattle.catalog_core.specs.Histories.{Asked, with_event}
-use Rattle.script_engine.specs.Script.{PieceStep, RunPieces}
-use Rattle.script_engine.specs.declared.outcome.Outcome.TheVariants.{Done, Answer as Answered}
-use Rattle.script_engine.specs.declared.outcome.Word.TheVariants as word
+use Rattle.history_model.specs.Histories.{Asked, with_event}
+use Rattle.script_engine.specs.script.Script.{PieceStep, RunPieces}
+use Rattle.script_engine.specs.declared.engine.outcome.Outcome.TheVariants.{Done, Answer as Answered}
+use Rattle.script_engine.specs.declared.engine.outcome.Word.TheVariants as word
 use Rattle.script_engine.proofs.QueryExamples.{answer, asked, question}
 use Rattle.script_engine.proofs.ScriptExamples.{sound_if_read}
 use Rattle.script_engine.proofs.StepExamples.{at_first, created, creation, inserted, insertion, with_row, with_table}

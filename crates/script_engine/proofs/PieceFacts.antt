@@ -3,11 +3,11 @@ use Rattle.std.proofs.Common.{◌≡◌, ◌<◌, ◌+◌, ◌-◌, ◌++◌, �
 use Rattle.std.proofs.lemmas.List.{drop-map, map-append, take-map, take_more}
 use Rattle.period_core.specs.Leasts.{NoneApplies}
 use Rattle.sql_front.specs.PieceRefusals.{PieceApplies}
-use Rattle.sql_front.specs.Lexemes.{Lexeme, lexeme, lexemes}
+use Rattle.sql_statements.specs.Lexemes.{Lexeme, lexeme, lexemes}
 use Rattle.sql_front.specs.Pieces.{spanned}
 use Rattle.sql_front.specs.declared.pieces.Span.{Span}
-use Rattle.sql_front.specs.declared.token.Token.{Token}
-use Rattle.script_engine.specs.Script.{IsOverlong, TextApplies}
+use Rattle.sql_statements.specs.declared.token.Token.{Token}
+use Rattle.script_engine.specs.script.Script.{IsOverlong, TextApplies}
 
 -- no refusal applies to a piece that is not overlong, if none applies to its parse
 pub none_of_text : (piece : List Lexeme) → (IsOverlong piece → ⊥) → NoneApplies (PieceApplies piece) → NoneApplies (TextApplies piece)

@@ -3,15 +3,15 @@ use Rattle.std.proofs.Common.{◌≡◌, ◌<◌, ◌+◌, ◌-◌, ◌++◌, �
 use Rattle.period_core.specs.Leasts.{NoneApplies}
 use Rattle.period_core.specs.declared.refusal.Refusal.{Refusal}
 use Rattle.sql_front.specs.Grammar.{IsStatement}
-use Rattle.sql_front.specs.Lexemes.{Lexeme, lexemes}
+use Rattle.sql_statements.specs.Lexemes.{Lexeme, lexemes}
 use Rattle.sql_front.specs.Pieces.{spanned}
 use Rattle.sql_front.specs.declared.pieces.Span.{Span}
-use Rattle.sql_front.specs.declared.token.Token.{Token}
-use Rattle.sql_front.specs.Trees.{Statement}
-use Rattle.catalog_core.specs.Histories.{Database, History}
-use Rattle.script_engine.specs.Runs.{StepsTo}
-use Rattle.script_engine.specs.Script.{PieceStep, PieceStepsTo, RunPieces, TextApplies}
-use Rattle.script_engine.specs.declared.outcome.Outcome.{Outcome}
+use Rattle.sql_statements.specs.declared.token.Token.{Token}
+use Rattle.sql_statements.specs.Trees.{Statement}
+use Rattle.history_model.specs.Histories.{Database, History}
+use Rattle.script_engine.specs.engine.Runs.{StepsTo}
+use Rattle.script_engine.specs.script.Script.{PieceStep, PieceStepsTo, RunPieces, TextApplies}
+use Rattle.script_engine.specs.declared.engine.outcome.Outcome.{Outcome}
 use Rattle.script_engine.proofs.PieceFacts.{pieces_next}
 
 -- a piece that spells a statement steps as the statement does

@@ -10,20 +10,20 @@ use Rattle.period_core.specs.declared.value.Value.{Value}
 use Rattle.temporal_model.specs.Snapshot.{InSnapshot, covers_day, values_on}
 use Rattle.temporal_model.proofs.Members.{Contains-cons_cases, Contains-here, Contains-nil, Contains-one, Contains-there}
 use Rattle.temporal_model.proofs.Snapshots.{CoversDay, held, in_snapshot}
-use Rattle.sql_front.specs.Trees as statement
-use Rattle.sql_front.specs.Trees.{Query, combined, last, simple}
-use Rattle.catalog_core.specs.Answers.{InAnswerOn, IsProjection, read_items}
-use Rattle.catalog_core.specs.Histories.{Asked, Database, History, last_state, rows_in, with_event}
-use Rattle.catalog_core.specs.Matches.{is_matching}
-use Rattle.catalog_core.specs.Naming.{Name}
-use Rattle.catalog_core.specs.Selection.{ResolvesQuery, has_many_items, item_parts, lacks_source, names_no_value, query_conditions, selects_ambiguous, selects_no_value, selects_unknown, value_position, written_item}
-use Rattle.catalog_core.specs.TableWords.{def_matches, is_value_column, number_of, some_def_match, table_of, table_of_name}
+use Rattle.sql_statements.specs.Trees as statement
+use Rattle.sql_statements.specs.Trees.{Query, combined, last, simple}
+use Rattle.history_model.specs.Answers.{InAnswerOn, IsProjection, read_items}
+use Rattle.history_model.specs.Histories.{Asked, Database, History, last_state, rows_in, with_event}
+use Rattle.catalog_core.specs.table.Matches.{is_matching}
+use Rattle.catalog_core.specs.table.Naming.{Name}
+use Rattle.catalog_core.specs.query.Selection.{ResolvesQuery, has_many_items, item_parts, lacks_source, names_no_value, query_conditions, selects_ambiguous, selects_no_value, selects_unknown, value_position, written_item}
+use Rattle.catalog_core.specs.table.TableWords.{def_matches, is_value_column, number_of, some_def_match, table_of, table_of_name}
 use Rattle.catalog_core.specs.declared.query.Item.{Item}
 use Rattle.catalog_core.specs.declared.query.Select.{Select}
 use Rattle.catalog_core.specs.declared.table.TableDef.{TableDef}
 use Rattle.script_engine.specs.Headline.{IsSequencedAnswer}
-use Rattle.script_engine.specs.Runs.{Represents, StatementApplies, Step}
-use Rattle.script_engine.specs.declared.outcome.Outcome.TheVariants.{Answer as Answered}
+use Rattle.script_engine.specs.engine.Runs.{Represents, StatementApplies, Step}
+use Rattle.script_engine.specs.declared.engine.outcome.Outcome.TheVariants.{Answer as Answered}
 use Rattle.script_engine.proofs.Given.{same_values}
 use Rattle.script_engine.proofs.StepExamples.{colleague, emp, none_if_no_first, with_row, with_rows, worker}
 use Rattle.script_engine.proofs.RunExamples.{Sets, is_answer, one_row, seven, two_rows, whole}

@@ -8,12 +8,12 @@ use Rattle.period_core.specs.declared.refusal.Refusal.{Refusal}
 use Rattle.period_core.specs.declared.refusal.Refusal.TheVariants.{EmptyPeriod}
 use Rattle.period_core.specs.declared.row.PeriodRow.{PeriodRow}
 use Rattle.catalog_core.specs.Judged.{Holds, Judged}
-use Rattle.catalog_core.specs.Resolution.{has_empty_row, is_empty_row}
-use Rattle.catalog_core.specs.Effects.{given_of}
+use Rattle.catalog_core.specs.change.Resolution.{has_empty_row, is_empty_row}
+use Rattle.history_model.specs.Effects.{given_of}
 use Rattle.catalog_core.specs.declared.change.Action.{Action}
 use Rattle.catalog_core.specs.declared.change.Action.TheVariants.{Insert}
 use Rattle.catalog_core.specs.declared.change.GivenRow.{GivenRow}
-use Rattle.script_engine.specs.Rows.{PlainRow, plain_given, plain_row}
+use Rattle.script_engine.specs.engine.Rows.{PlainRow, plain_given, plain_row}
 
 -- a refusal among more conditions
 pub holds_before : (conditions more : List Judged) (refusal : Refusal) → Holds conditions refusal → Holds (conditions ++ more) refusal

@@ -4,9 +4,9 @@ use Rattle.std.specs.Fmt.{digits}
 use Rattle.period_core.specs.Calendar.{count_below}
 use Rattle.period_core.specs.declared.refusal.Refusal.TheVariants.{Syntax}
 use Rattle.period_core.specs.declared.value.Value.TheVariants.{Int}
-use Rattle.script_engine.specs.Report.{absent_text, doubled, field_text, line_feed, more_fields, printed_day, quote_mark, record_text, report, text_of, value_text}
-use Rattle.script_engine.specs.declared.outcome.Outcome.TheVariants as outcome
-use Rattle.script_engine.specs.declared.outcome.Word.TheVariants.{Create, Insert}
+use Rattle.script_engine.specs.report.Report.{absent_text, doubled, field_text, line_feed, more_fields, printed_day, quote_mark, record_text, report, text_of, value_text}
+use Rattle.script_engine.specs.declared.engine.outcome.Outcome.TheVariants as outcome
+use Rattle.script_engine.specs.declared.engine.outcome.Word.TheVariants.{Create, Insert}
 
 -- a plain field stays
 plain-field : field_text (codes "valid_from") ≡ codes "valid_from"

@@ -15,16 +15,16 @@ use Rattle.temporal_model.specs.Answer.{IsCertified}
 use Rattle.temporal_model.proofs.Certificate.{shortest}
 use Rattle.temporal_model.proofs.Members.{Contains-here, Contains-one}
 use Rattle.temporal_model.proofs.Snapshots.{held, in_snapshot}
-use Rattle.sql_front.specs.Lexemes.{Lexeme}
-use Rattle.sql_front.specs.Lexis as lexis
-use Rattle.sql_front.specs.Lexis.{first_lexeme}
-use Rattle.sql_front.specs.declared.token.Kind.TheVariants.{Word}
-use Rattle.sql_front.specs.Trees as statement
+use Rattle.sql_statements.specs.Lexemes.{Lexeme}
+use Rattle.sql_statements.specs.Lexis as lexis
+use Rattle.sql_statements.specs.Lexis.{first_lexeme}
+use Rattle.sql_statements.specs.declared.token.Kind.TheVariants.{Word}
+use Rattle.sql_statements.specs.Trees as statement
 use Rattle.catalog_core.specs.Judged.{Holds}
-use Rattle.catalog_core.specs.Histories.{History, new_database, opened}
+use Rattle.history_model.specs.Histories.{History, new_database, opened}
 use Rattle.script_engine.specs.Headline.{IsSequencedAnswer}
-use Rattle.script_engine.specs.Runs.{Step, StepsTo}
-use Rattle.script_engine.specs.Script.{RunPieces, ScriptApplies, most_bytes}
+use Rattle.script_engine.specs.engine.Runs.{Step, StepsTo}
+use Rattle.script_engine.specs.script.Script.{RunPieces, ScriptApplies, most_bytes}
 use Rattle.script_engine.proofs.ScriptFacts.{represents_opened}
 
 -- ---- whole scripts

@@ -7,31 +7,31 @@ use Rattle.period_core.specs.declared.refusal.Refusal.{Refusal}
 use Rattle.period_core.specs.declared.refusal.Refusal.TheVariants.{BadDate, BadMoment, LimitReached, NumberRange, Syntax}
 use Rattle.sql_front.specs.Depth.{room}
 use Rattle.sql_front.specs.Grammar.{IsStatement}
-use Rattle.sql_front.specs.Lexemes.{Lexeme}
-use Rattle.sql_front.specs.Lexis as lexis
-use Rattle.sql_front.specs.Lexis.{first_lexeme}
+use Rattle.sql_statements.specs.Lexemes.{Lexeme}
+use Rattle.sql_statements.specs.Lexis as lexis
+use Rattle.sql_statements.specs.Lexis.{first_lexeme}
 use Rattle.sql_front.specs.LiteralRefusals.{LiteralApplies}
 use Rattle.sql_front.specs.LiteralTests.{is_bad_date, is_bad_moment, number_above, somewhere}
-use Rattle.sql_front.specs.Names.{is_plain_word}
+use Rattle.sql_statements.specs.Names.{is_plain_word}
 use Rattle.sql_front.specs.PieceRefusals.{IsTooDeep, PieceApplies}
 use Rattle.sql_front.specs.Pieces as pieces
-use Rattle.sql_front.specs.ConditionReaders.{where_read}
-use Rattle.sql_front.specs.Leaves.{name_read}
-use Rattle.sql_front.specs.WindowReaders.{for_window_read}
-use Rattle.sql_front.specs.Reading.{whole_read}
-use Rattle.sql_front.specs.StatementReaders.{later_statement_read, query_statement_read, statement_read, stored_read, stored_table_read}
-use Rattle.sql_front.specs.Trees.{Statement, stored}
-use Rattle.sql_front.specs.Words.{is_reserved}
-use Rattle.sql_front.specs.declared.token.Kind.TheVariants.{Symbol, Word}
+use Rattle.sql_front.specs.reading.ConditionReaders.{where_read}
+use Rattle.sql_front.specs.reading.Leaves.{name_read}
+use Rattle.sql_front.specs.reading.WindowReaders.{for_window_read}
+use Rattle.sql_front.specs.reading.Reading.{whole_read}
+use Rattle.sql_front.specs.reading.StatementReaders.{later_statement_read, query_statement_read, statement_read, stored_read, stored_table_read}
+use Rattle.sql_statements.specs.Trees.{Statement, stored}
+use Rattle.sql_statements.specs.Words.{is_reserved}
+use Rattle.sql_statements.specs.declared.token.Kind.TheVariants.{Symbol, Word}
 use Rattle.sql_front.proofs.DepthFacts.{some_shallow}
 use Rattle.sql_front.proofs.LiteralFaultFacts.{bad_date_somewhere, bad_moment_somewhere, number_somewhere}
 use Rattle.sql_front.proofs.Parsing.{no_statement, spelled_some}
 use Rattle.sql_front.proofs.PieceFaults.{piece_none}
 use Rattle.sql_front.proofs.Spelling.{none_if_unread, spelled_if_read}
 use Rattle.sql_front.proofs.StatementsRead.{read_spelled}
-use Rattle.catalog_core.specs.Histories.{History, new_database, opened}
-use Rattle.script_engine.specs.Check.{IsCheckOf, IsPieceCheck}
-use Rattle.script_engine.specs.Script.{IsCutInto, IsOverlong, IsRunOf, PieceStep, TextApplies}
+use Rattle.history_model.specs.Histories.{History, new_database, opened}
+use Rattle.script_engine.specs.script.Check.{IsCheckOf, IsPieceCheck}
+use Rattle.script_engine.specs.script.Script.{IsCutInto, IsOverlong, IsRunOf, PieceStep, TextApplies}
 use Rattle.script_engine.proofs.PieceFacts.{none_of_text}
 use Rattle.script_engine.proofs.RunExamples.{syntax_alone}
 use Rattle.script_engine.proofs.ScriptFacts.{none_of_script}

@@ -3,15 +3,15 @@ use Rattle.std.proofs.Common.{◌≡◌, ◌≤◌, ℕ, List, length, map, appe
 use Rattle.std.specs.Str.{IsUtf8}
 use Rattle.period_core.specs.Leasts.{NoneApplies}
 use Rattle.period_core.specs.declared.refusal.Refusal.TheVariants.{BadToken, NotUtf8, ScriptTooLarge}
-use Rattle.sql_front.specs.Lexemes.{Lexeme, lexemes}
+use Rattle.sql_statements.specs.Lexemes.{Lexeme, lexemes}
 use Rattle.sql_front.specs.Pieces.{HasPieces, spanned}
 use Rattle.sql_front.specs.declared.pieces.Span.{Span}
-use Rattle.sql_front.specs.declared.token.Token.{Token}
-use Rattle.sql_front.specs.Lexis.{TokensOf}
+use Rattle.sql_statements.specs.declared.token.Token.{Token}
+use Rattle.sql_statements.specs.Lexis.{TokensOf}
 use Rattle.sql_front.proofs.TokenLists.{never_both_of}
-use Rattle.catalog_core.specs.Histories.{Database, opened}
-use Rattle.script_engine.specs.Runs.{Represents}
-use Rattle.script_engine.specs.Script.{IsCutInto, ScriptApplies, most_bytes}
+use Rattle.history_model.specs.Histories.{Database, opened}
+use Rattle.script_engine.specs.engine.Runs.{Represents}
+use Rattle.script_engine.specs.script.Script.{IsCutInto, ScriptApplies, most_bytes}
 
 pub none_of_script : (script : List ℕ) (tokens : List Lexeme) → length script ≤ most_bytes → IsUtf8 script → TokensOf script tokens → NoneApplies (ScriptApplies script)
 none_of_script script tokens small utf8 lexed NotUtf8 h = h.1 utf8

@@ -6,32 +6,32 @@ use Rattle.period_core.specs.Leasts.{NoneApplies}
 use Rattle.period_core.specs.declared.refusal.Refusal.TheVariants.{EmptyPeriod, TableExists}
 use Rattle.period_core.specs.declared.value.Value.{Value}
 use Rattle.period_core.specs.declared.value.Value.TheVariants.{Int, Date}
-use Rattle.sql_front.specs.Trees as statement
-use Rattle.sql_front.specs.declared.create.ColumnElement.{ColumnElement}
-use Rattle.sql_front.specs.declared.create.CreateTable.{CreateTable}
-use Rattle.sql_front.specs.declared.create.Generated.TheVariants as generated
-use Rattle.sql_front.specs.declared.create.TypeName.TheVariants as type_name
-use Rattle.sql_front.specs.declared.statement.InsertRows.{InsertRows}
-use Rattle.catalog_core.specs.Creation.{create_conditions, own_matches, period_matches, some_own_match, some_parent_match, some_match, has_sort, sort_count, exceeds_limits, is_there, lacks_parent, names_other_period, lacks_period, lacks_name, is_ambiguous, is_shared, repeats_name, is_no_value_column, some_no_value, keys_period_column, lacks_one_of_each, has_bad_period, has_bad_system_period, is_bad_type, has_bad_column, is_used_otherwise, has_other_period, is_at, is_key_name, is_named, are_key, names_no_key, references_no_key, is_bad_definition, has_unequal_lists, own_kind, have_other_kinds, names_other_kind, references_other_kind}
-use Rattle.catalog_core.specs.Definition.{declared_kind, declared_reference, own_place}
-use Rattle.catalog_core.specs.Effects.{given_of}
-use Rattle.catalog_core.specs.Histories.{Changed, Created, History, new_database, opened, with_event}
-use Rattle.catalog_core.specs.Insertion.{gives_empty_row, wanted_names, given_names, lacks_table, lists_unknown, lists_ambiguous, lists_twice, is_system_name, some_system_name, lists_system, lacks_some, some_other_length, has_other_count, is_of_other_kind, is_longer, is_too_long, is_wrong, gives_wrong, has_wrong, given_value, value_for, is_no_period, gives_no_period, has_no_period}
+use Rattle.sql_statements.specs.Trees as statement
+use Rattle.sql_statements.specs.declared.create.ColumnElement.{ColumnElement}
+use Rattle.sql_statements.specs.declared.create.CreateTable.{CreateTable}
+use Rattle.sql_statements.specs.declared.create.Generated.TheVariants as generated
+use Rattle.sql_statements.specs.declared.create.TypeName.TheVariants as type_name
+use Rattle.sql_statements.specs.declared.statement.InsertRows.{InsertRows}
+use Rattle.catalog_core.specs.create.Creation.{create_conditions, own_matches, period_matches, some_own_match, some_parent_match, some_match, has_sort, sort_count, exceeds_limits, is_there, lacks_parent, names_other_period, lacks_period, lacks_name, is_ambiguous, is_shared, repeats_name, is_no_value_column, some_no_value, keys_period_column, lacks_one_of_each, has_bad_period, has_bad_system_period, is_bad_type, has_bad_column, is_used_otherwise, has_other_period, is_at, is_key_name, is_named, are_key, names_no_key, references_no_key, is_bad_definition, has_unequal_lists, own_kind, have_other_kinds, names_other_kind, references_other_kind}
+use Rattle.catalog_core.specs.create.Definition.{declared_kind, declared_reference, own_place}
+use Rattle.history_model.specs.Effects.{given_of}
+use Rattle.history_model.specs.Histories.{Changed, Created, History, new_database, opened, with_event}
+use Rattle.catalog_core.specs.change.Insertion.{gives_empty_row, wanted_names, given_names, lacks_table, lists_unknown, lists_ambiguous, lists_twice, is_system_name, some_system_name, lists_system, lacks_some, some_other_length, has_other_count, is_of_other_kind, is_longer, is_too_long, is_wrong, gives_wrong, has_wrong, given_value, value_for, is_no_period, gives_no_period, has_no_period}
 use Rattle.catalog_core.specs.Judged.{Holds, Judged, first_holding}
-use Rattle.catalog_core.specs.Kinds.{kind_of_type, kind_of_column, same_kind, differ}
-use Rattle.catalog_core.specs.Matches.{is_matching, is_of_sort}
-use Rattle.catalog_core.specs.Naming.{Name, match_count, repeats}
-use Rattle.catalog_core.specs.Resolution.{ResolvesAction, change_conditions, empty_period}
-use Rattle.catalog_core.specs.TableWords.{def_kind, def_matches, def_place, is_value_column, number_of, some_def_match, table_of_name}
+use Rattle.catalog_core.specs.table.Kinds.{kind_of_type, kind_of_column, same_kind, differ}
+use Rattle.catalog_core.specs.table.Matches.{is_matching, is_of_sort}
+use Rattle.catalog_core.specs.table.Naming.{Name, match_count, repeats}
+use Rattle.catalog_core.specs.change.Resolution.{ResolvesAction, change_conditions, empty_period}
+use Rattle.catalog_core.specs.table.TableWords.{def_kind, def_matches, def_place, is_value_column, number_of, some_def_match, table_of_name}
 use Rattle.catalog_core.proofs.Least.{first_is_least}
 use Rattle.catalog_core.specs.declared.change.Action.{Action}
 use Rattle.catalog_core.specs.declared.change.Action.TheVariants.{Insert}
 use Rattle.catalog_core.specs.declared.change.Change.{Change}
 use Rattle.catalog_core.specs.declared.table.ColumnKind.TheVariants as kind
 use Rattle.catalog_core.specs.declared.table.TableDef.{TableDef}
-use Rattle.script_engine.specs.Runs.{StatementApplies, Step}
-use Rattle.script_engine.specs.declared.outcome.Outcome.TheVariants.{Done}
-use Rattle.script_engine.specs.declared.outcome.Word.TheVariants as word
+use Rattle.script_engine.specs.engine.Runs.{StatementApplies, Step}
+use Rattle.script_engine.specs.declared.engine.outcome.Outcome.TheVariants.{Done}
+use Rattle.script_engine.specs.declared.engine.outcome.Word.TheVariants as word
 use Rattle.script_engine.proofs.Refused.{may_answer-empty}
 
 -- where no condition is the first that holds, none does

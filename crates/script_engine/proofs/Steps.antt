@@ -6,18 +6,18 @@ use Rattle.period_core.specs.declared.refusal.Refusal.{Refusal}
 use Rattle.period_core.specs.declared.row.PeriodRow.{PeriodRow}
 use Rattle.period_core.specs.declared.value.Value.{Value}
 use Rattle.temporal_model.specs.Snapshot.{InSnapshot}
-use Rattle.sql_front.specs.declared.create.CreateTable.{CreateTable}
-use Rattle.sql_front.specs.Trees.{Statement}
-use Rattle.sql_front.specs.Trees as statement
-use Rattle.catalog_core.specs.Creation.{create_conditions}
-use Rattle.catalog_core.specs.Definition.{Defines}
+use Rattle.sql_statements.specs.declared.create.CreateTable.{CreateTable}
+use Rattle.sql_statements.specs.Trees.{Statement}
+use Rattle.sql_statements.specs.Trees as statement
+use Rattle.catalog_core.specs.create.Creation.{create_conditions}
+use Rattle.catalog_core.specs.create.Definition.{Defines}
 use Rattle.catalog_core.specs.Judged.{Holds}
-use Rattle.catalog_core.specs.Histories.{Created, Database, History, last_state, rows_in, with_event}
-use Rattle.catalog_core.proofs.HistoryLemmas.{catalog_of-created, last_state-created}
+use Rattle.history_model.specs.Histories.{Created, Database, History, last_state, rows_in, with_event}
+use Rattle.history_model.proofs.HistoryLemmas.{catalog_of-created, last_state-created}
 use Rattle.catalog_core.specs.declared.table.TableDef.{TableDef}
-use Rattle.script_engine.specs.Runs.{Represents, StepsTo, StatementApplies}
-use Rattle.script_engine.specs.declared.outcome.Outcome.TheVariants.{Done}
-use Rattle.script_engine.specs.declared.outcome.Word.TheVariants as word
+use Rattle.script_engine.specs.engine.Runs.{Represents, StepsTo, StatementApplies}
+use Rattle.script_engine.specs.declared.engine.outcome.Outcome.TheVariants.{Done}
+use Rattle.script_engine.specs.declared.engine.outcome.Word.TheVariants as word
 
 -- a refusal leaves the history and what is kept as they were
 pub refused_step : (history : History) (database : Database) (s : Statement) (refusal : Refusal) → Represents history database → MayAnswer (StatementApplies database.catalog s) refusal → StepsTo history s (Err refusal) database

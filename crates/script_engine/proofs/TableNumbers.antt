@@ -4,17 +4,17 @@ use Rattle.std.proofs.lemmas.Bool.Decides.{nat_tests}
 use Rattle.std.proofs.lemmas.Option.{slice_get_within}
 use Rattle.period_core.specs.Leasts.{NoneApplies}
 use Rattle.period_core.specs.declared.refusal.Refusal.TheVariants.{LimitReached}
-use Rattle.sql_front.specs.declared.create.CreateTable.{CreateTable}
-use Rattle.sql_front.specs.Trees.{Statement}
-use Rattle.sql_front.specs.Trees as statement
-use Rattle.catalog_core.specs.Creation.{create_conditions, exceeds_limits}
+use Rattle.sql_statements.specs.declared.create.CreateTable.{CreateTable}
+use Rattle.sql_statements.specs.Trees.{Statement}
+use Rattle.sql_statements.specs.Trees as statement
+use Rattle.catalog_core.specs.create.Creation.{create_conditions, exceeds_limits}
 use Rattle.catalog_core.specs.Judged.{Holds}
 use Rattle.catalog_core.specs.Limits.{most_tables}
-use Rattle.catalog_core.specs.Resolution.{ResolvesChange}
-use Rattle.catalog_core.specs.SimpleSelects.{simple_select}
-use Rattle.catalog_core.specs.declared.simple_select.SimpleSelect.{SimpleSelect}
-use Rattle.catalog_core.specs.Selection.{ResolvesSimple, ResolvesQuery}
-use Rattle.catalog_core.specs.TableWords.{table_of}
+use Rattle.catalog_core.specs.change.Resolution.{ResolvesChange}
+use Rattle.catalog_core.specs.query.SimpleSelects.{simple_select}
+use Rattle.catalog_core.specs.declared.query.simple_select.SimpleSelect.{SimpleSelect}
+use Rattle.catalog_core.specs.query.Selection.{ResolvesSimple, ResolvesQuery}
+use Rattle.catalog_core.specs.table.TableWords.{table_of}
 use Rattle.catalog_core.specs.declared.change.Change.{Change}
 use Rattle.catalog_core.specs.declared.query.Select.{Select}
 use Rattle.catalog_core.specs.declared.table.TableDef.{TableDef}

@@ -6,27 +6,27 @@ use Rattle.std.proofs.lemmas.List.{set-get_or}
 use Rattle.std.proofs.lemmas.Option.{none-some, same_Some}
 use Rattle.std.proofs.lemmas.Slice.Zip.{AllZip-long, all_zipped_more}
 use Rattle.period_core.specs.declared.row.PeriodRow.{PeriodRow}
-use Rattle.sql_front.specs.Trees.{Statement}
-use Rattle.sql_front.specs.Trees as statement
-use Rattle.catalog_core.specs.Effects.{given_of}
-use Rattle.catalog_core.specs.Histories.{Database, rows_in}
-use Rattle.catalog_core.specs.Resolution.{ResolvesAction, ResolvesChange}
-use Rattle.catalog_core.specs.Selection.{ResolvesQuery, ResolvesSimple}
-use Rattle.catalog_core.specs.SimpleSelects.{simple_select}
-use Rattle.catalog_core.specs.TableWords.{table_of, value_count}
+use Rattle.sql_statements.specs.Trees.{Statement}
+use Rattle.sql_statements.specs.Trees as statement
+use Rattle.history_model.specs.Effects.{given_of}
+use Rattle.history_model.specs.Histories.{Database, rows_in}
+use Rattle.catalog_core.specs.change.Resolution.{ResolvesAction, ResolvesChange}
+use Rattle.catalog_core.specs.query.Selection.{ResolvesQuery, ResolvesSimple}
+use Rattle.catalog_core.specs.query.SimpleSelects.{simple_select}
+use Rattle.catalog_core.specs.table.TableWords.{table_of, value_count}
 use Rattle.catalog_core.specs.declared.change.Action.{Action}
 use Rattle.catalog_core.specs.declared.change.Action.TheVariants.{Insert}
 use Rattle.catalog_core.specs.declared.change.Change.{Change}
 use Rattle.catalog_core.specs.declared.change.GivenRow.{GivenRow}
 use Rattle.catalog_core.specs.declared.query.Item.{Item}
 use Rattle.catalog_core.specs.declared.query.Select.{Select}
-use Rattle.catalog_core.specs.declared.simple_select.SimpleSelect.{SimpleSelect}
+use Rattle.catalog_core.specs.declared.query.simple_select.SimpleSelect.{SimpleSelect}
 use Rattle.catalog_core.specs.declared.table.TableDef.{TableDef}
 use Rattle.catalog_core.proofs.Positions.{positions_within}
 use Rattle.catalog_core.proofs.RowFacts.{row_widths}
-use Rattle.sql_front.specs.declared.statement.InsertRows.{InsertRows}
-use Rattle.script_engine.specs.Rows.{HasItems, PlainRow, plain_given, plain_row}
-use Rattle.script_engine.specs.Widths.{FitCatalog, HaveWidth}
+use Rattle.sql_statements.specs.declared.statement.InsertRows.{InsertRows}
+use Rattle.script_engine.specs.engine.Rows.{HasItems, PlainRow, plain_given, plain_row}
+use Rattle.script_engine.specs.engine.Widths.{FitCatalog, HaveWidth}
 
 pub fit_lengths : (catalog : List TableDef) (rows : List (List PeriodRow)) → FitCatalog catalog rows → length rows ≡ length catalog
 fit_lengths catalog rows fit = AllZip-long HaveWidth catalog rows fit

@@ -6,11 +6,11 @@ use Rattle.period_core.specs.declared.row.PeriodRow.{PeriodRow}
 use Rattle.temporal_model.specs.Answer.{IsUniqueUpToOrder}
 use Rattle.temporal_model.specs.Laws.{MapsOneToOne}
 use Rattle.temporal_model.specs.Snapshot.{Equivalent}
-use Rattle.catalog_core.specs.Answers.{InAnswerOn}
-use Rattle.catalog_core.specs.Histories.{Database, History, opened}
+use Rattle.history_model.specs.Answers.{InAnswerOn}
+use Rattle.history_model.specs.Histories.{Database, History, opened}
 use Rattle.catalog_core.specs.declared.query.Select.{Select}
 use Rattle.script_engine.specs.Headline.{IsSequencedAnswer}
-use Rattle.script_engine.specs.Runs.{Represents}
+use Rattle.script_engine.specs.engine.Runs.{Represents}
 
 -- what is kept represents the history that opens with it, in which nothing was done since
 abbrev pub OpeningsAreRepresented : Type 0

@@ -1,9 +1,5 @@
 pub mod Headline
-pub mod Runs
+pub mod engine
 pub mod Laws
-pub mod Rows
-pub mod Widths
-pub mod Script
-pub mod Check
-pub mod Report
-pub mod CheckReport
+pub mod script
+pub mod report

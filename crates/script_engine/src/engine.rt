@@ -1,24 +1,29 @@
 //! The engine: a catalog, the rows of its tables, and the statements that it runs.
 
-ghost use Rattle.std.specs.Prelude.{◌≡◌, ◌<◌, ◌≤◌, ◌+◌, ◌-◌, ◌++◌, ◌∷◌, [], ℕ, List, Some, true, length};
+ghost use Rattle.std.specs.Prelude.{◌≡◌, ◌<◌, ◌≤◌, ◌+◌, ◌-◌, ◌++◌, ◌∷◌, [], ℕ, List, Some, true};
+ghost use Rattle.std.specs.Prelude.{length};
 ghost use Rattle.std.specs.Prelude.{IfOk, IfErr, IsOkAnd, OnOk, OnErr, slice_set, slice_index_or};
-ghost use Rattle.catalog_core.specs.Histories.{History, Database, opened, new_database, rows_in};
+ghost use Rattle.history_model.specs.Histories.{History, Database, opened, new_database, rows_in};
 ghost use Rattle.catalog_core.specs.Limits.{most_tables};
-ghost use Rattle.catalog_core.specs.Resolution.{IsChange};
-ghost use Rattle.catalog_core.specs.Selection.{IsSequenced};
-ghost use Rattle.catalog_core.specs.TableWords.{has_date_period, has_distinct_names, table_of};
+ghost use Rattle.catalog_core.specs.change.Resolution.{IsChange};
+ghost use Rattle.catalog_core.specs.query.Selection.{IsSequenced};
+ghost use Rattle.catalog_core.specs.table.TableWords.{has_date_period, has_distinct_names};
+ghost use Rattle.catalog_core.specs.table.TableWords.{table_of};
 ghost use Rattle.catalog_core.specs.declared.table.TableDef.{TableDef};
-ghost use Rattle.script_engine.specs.Runs.{Represents, StepsTo};
-ghost use Rattle.script_engine.specs.Widths.{HaveWidth};
-ghost use Rattle.sql_front.specs.Plain.{plain};
-ghost use Rattle.sql_front.specs.Trees as statement;
+ghost use Rattle.script_engine.specs.engine.Runs.{Represents, StepsTo};
+ghost use Rattle.script_engine.specs.engine.Widths.{HaveWidth};
+ghost use Rattle.sql_statements.specs.Plain.{plain};
+ghost use Rattle.sql_statements.specs.Trees as statement;
 
-use crate::outcome::{Outcome, Word};
-use crate::rows::{column_names, given_rows, projected_rows};
+pub mod outcome;
+mod rows;
+
+use crate::engine::outcome::{Outcome, Word};
+use crate::engine::rows::{column_names, given_rows, projected_rows};
 use catalog_core::{Catalog, Change, TableDef, define, resolve_change, resolve_query};
 use coalesce_core::{coalesce, witnesses};
 use period_core::{Answer, Items, Memory, PeriodRow, Refusal};
-use sql_front::{CreateTable, Statement, StatementForm};
+use sql_statements::{CreateTable, Statement, StatementForm};
 use sqlite::Connection;
 use sqlite_trees::store::Alter;
 use std::alloc::Global;
@@ -34,8 +39,8 @@ pub struct Engine<S: Alter> {
 }
 
 impl<S: Alter> Model for Engine<S> {
-    ghost use Rattle.catalog_core.specs.Histories.{Database};
-    ghost use Rattle.script_engine.specs.Widths.{FitCatalog};
+    ghost use Rattle.history_model.specs.Histories.{Database};
+    ghost use Rattle.script_engine.specs.engine.Widths.{FitCatalog};
 
     ghost Value = { Database };
 

@@ -1,7 +1,8 @@
 //! What follows from the theorem of sequenced answers, and where it begins. Each function does
 //! nothing: its contract is a law.
 
-ghost use Rattle.script_engine.specs.Laws.{AnswersAreUnique, AnswersMapOneToOne, OpeningsAreRepresented, SameSnapshotsSameAnswers};
+ghost use Rattle.script_engine.specs.Laws.{AnswersAreUnique, AnswersMapOneToOne};
+ghost use Rattle.script_engine.specs.Laws.{OpeningsAreRepresented, SameSnapshotsSameAnswers};
 
 /// Whatever an engine keeps, it represents the history that opens with it. So what `execute` says of
 /// each history that the engine represents is said of one at the least.

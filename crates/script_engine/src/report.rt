@@ -2,15 +2,16 @@
 
 ghost use Rattle.std.specs.Prelude.{◌≡◌, IfErr, Ok, OnOk};
 ghost use Rattle.std.specs.Io.KnownBytes.{Appends, append_known};
-ghost use Rattle.script_engine.specs.Report.{MayFail, report, text_of, word_text};
-ghost use Rattle.script_engine.specs.Report.{answer_record, columns_record, done_record};
-ghost use Rattle.script_engine.specs.Report.{refused_record, row_record};
+ghost use Rattle.script_engine.specs.report.Report.{MayFail, report, text_of, word_text};
+ghost use Rattle.script_engine.specs.report.Report.{answer_record, columns_record, done_record};
+ghost use Rattle.script_engine.specs.report.Report.{refused_record, row_record};
 
 pub(crate) mod buffer;
+pub mod check;
 pub(crate) mod record;
 pub mod writer;
 
-use crate::outcome::{Outcome, Word};
+use crate::engine::outcome::{Outcome, Word};
 use buffer::{CAPACITY, ReportBuffer};
 use period_core::{Answer, PeriodRow, Refusal, Text, Witness};
 use record::Record;

@@ -8,7 +8,7 @@ use Rattle.std.proofs.lemmas.Bool.{cases_Bool}
 use Rattle.std.proofs.lemmas.Bool.Decides.{Decides-eqb}
 use Rattle.std.proofs.lemmas.Slice.Eq.{starts_is}
 use Rattle.std.proofs.lemmas.Str.{IsCharBoundary-past_char, IsCharBoundary-start}
-use Rattle.sql_front.specs.Lexis.{mark, mark_size}
+use Rattle.sql_statements.specs.Lexis.{mark, mark_size}
 
 -- the mark is U+FEFF
 mark_is : encode 65279 ≡ mark

@@ -4,8 +4,8 @@ use Rattle.sql_front.specs.Language.{keyword, symbol, Optional, Separated, Seque
 use Rattle.sql_front.specs.Builders.{assignment_of, delete_of, portion_of, rows_of, update_of}
 use Rattle.sql_front.specs.Grammar.{comma, IsWhere}
 use Rattle.sql_front.proofs.ReadGrammar.{IsAssignment, IsAt, IsClockMoment, IsCompare, IsDelete, IsInsert, IsNames, IsPortion, IsTuple, IsUpdate}
-use Rattle.sql_front.specs.ConditionReaders.{compare_read, where_read}
-use Rattle.sql_front.specs.ChangeReaders.{assignment_read, at_read, columns_read, delete_read, in_portion_read, insert_read, portion_read, update_read, named_portion_read, bounds_read, inserted_read, values_read, deleted_read, set_read}
+use Rattle.sql_front.specs.reading.ConditionReaders.{compare_read, where_read}
+use Rattle.sql_front.specs.reading.ChangeReaders.{assignment_read, at_read, columns_read, delete_read, in_portion_read, insert_read, portion_read, update_read, named_portion_read, bounds_read, inserted_read, values_read, deleted_read, set_read}
 use Rattle.sql_front.proofs.First.{Starts, starts_preceded}
 use Rattle.sql_front.proofs.Laws.{Any, Reads, reads_both, reads_built, reads_preceded}
 use Rattle.sql_front.proofs.NamesRead.{reads_name, reads_names}

@@ -1,13 +1,13 @@
 -- Columns of CREATE TABLE are read.
 use Rattle.std.proofs.Common.{List, [], ◌∷◌, refl, codes}
-use Rattle.sql_front.specs.declared.create.Generated.TheVariants.{Start, End}
-use Rattle.sql_front.specs.declared.create.TypeName.{TypeName}
-use Rattle.sql_front.specs.declared.create.TypeName.TheVariants.{Integer, Date, Varchar, Timestamp}
+use Rattle.sql_statements.specs.declared.create.Generated.TheVariants.{Start, End}
+use Rattle.sql_statements.specs.declared.create.TypeName.{TypeName}
+use Rattle.sql_statements.specs.declared.create.TypeName.TheVariants.{Integer, Date, Varchar, Timestamp}
 use Rattle.sql_front.specs.Language.{Language, keyword, symbol, Built, Choice, Fixed, Optional, Preceded, StandsFor}
 use Rattle.sql_front.specs.Builders.{column_of, column_element}
 use Rattle.sql_front.proofs.ReadGrammar.{IsLength, IsType, IsGenerated, IsNotNull, IsColumnElement}
-use Rattle.sql_front.specs.Reading.{Reader, built_read, preceded_read}
-use Rattle.sql_front.specs.ElementReaders.{length_read, type_read, row_end_read, generated_read, not_null_read, column_element_read, timestamp_read}
+use Rattle.sql_front.specs.reading.Reading.{Reader, built_read, preceded_read}
+use Rattle.sql_front.specs.reading.ElementReaders.{length_read, type_read, row_end_read, generated_read, not_null_read, column_element_read, timestamp_read}
 use Rattle.sql_front.proofs.First.{Starts, starts_built, starts_choice, starts_preceded, starts_sequence, starts_stands}
 use Rattle.sql_front.proofs.Laws.{Any, Reads, reads_both, reads_built, reads_fixed, reads_preceded, reads_stands}
 use Rattle.sql_front.proofs.Sorts.{Next, Sort, a_name, any_of, leads_optional, leads_sequence, reads_both_next, reads_choice_next, reads_enclosed_next, reads_next, reads_optional_next, sign, word}

@@ -2,23 +2,23 @@
 use Rattle.std.proofs.Common.{◌≡◌, pos, neg_ℤ, List, [], ◌∷◌, Some, None, codes, refl}
 use Rattle.period_core.specs.TextReading.{date_at, date_parts_of, day_of_text, is_date}
 use Rattle.period_core.specs.declared.value.Value.TheVariants as value
-use Rattle.sql_front.specs.declared.statement.Comparison.{Comparison}
-use Rattle.sql_front.specs.declared.statement.Comparison.TheVariants.{Greater, GreaterOrEqual, Less, LessOrEqual, NotEqual}
-use Rattle.sql_front.specs.declared.statement.Operand.{Operand}
-use Rattle.sql_front.specs.declared.statement.Operand.TheVariants.{Column, Literal}
-use Rattle.sql_front.specs.Lexemes.{Lexeme}
-use Rattle.sql_front.specs.Names.{is_plain_word}
-use Rattle.sql_front.specs.Words.{is_reserved}
-use Rattle.sql_front.specs.Trees.{Statement, delete}
+use Rattle.sql_statements.specs.declared.statement.Comparison.{Comparison}
+use Rattle.sql_statements.specs.declared.statement.Comparison.TheVariants.{Greater, GreaterOrEqual, Less, LessOrEqual, NotEqual}
+use Rattle.sql_statements.specs.declared.statement.Operand.{Operand}
+use Rattle.sql_statements.specs.declared.statement.Operand.TheVariants.{Column, Literal}
+use Rattle.sql_statements.specs.Lexemes.{Lexeme}
+use Rattle.sql_statements.specs.Names.{is_plain_word}
+use Rattle.sql_statements.specs.Words.{is_reserved}
+use Rattle.sql_statements.specs.Trees.{Statement, delete}
 use Rattle.sql_front.specs.Grammar.{IsStatement}
-use Rattle.sql_front.specs.LeafValues.{day_of_token, day_value}
-use Rattle.sql_front.specs.Leaves.{date_read, literal_read, name_read, number_read, unsigned_read}
-use Rattle.sql_front.specs.ConditionReaders.{column_read, compare_read, comparison_read, condition_read, conjunction_read, factor_read, operand_read, test_read, where_read}
-use Rattle.sql_front.specs.WindowReaders.{for_window_read}
-use Rattle.sql_front.specs.QueryReaders.{chain_read, item_read, joins_read, new_name_read, primary_read, query_read, reference_read, select_read, sequenced_read, step_read, steps_read, selected_read, from_read}
-use Rattle.sql_front.specs.ChangeReaders.{delete_read, portion_read, deleted_read}
-use Rattle.sql_front.specs.StatementReaders.{statement_read, later_statement_read, query_statement_read}
-use Rattle.sql_front.specs.Reading.{bounded_read, whole_read}
+use Rattle.sql_front.specs.reading.LeafValues.{day_of_token, day_value}
+use Rattle.sql_front.specs.reading.Leaves.{date_read, literal_read, name_read, number_read, unsigned_read}
+use Rattle.sql_front.specs.reading.ConditionReaders.{column_read, compare_read, comparison_read, condition_read, conjunction_read, factor_read, operand_read, test_read, where_read}
+use Rattle.sql_front.specs.reading.WindowReaders.{for_window_read}
+use Rattle.sql_front.specs.reading.QueryReaders.{chain_read, item_read, joins_read, new_name_read, primary_read, query_read, reference_read, select_read, sequenced_read, step_read, steps_read, selected_read, from_read}
+use Rattle.sql_front.specs.reading.ChangeReaders.{delete_read, portion_read, deleted_read}
+use Rattle.sql_front.specs.reading.StatementReaders.{statement_read, later_statement_read, query_statement_read}
+use Rattle.sql_front.specs.reading.Reading.{bounded_read, whole_read}
 use Rattle.sql_front.proofs.Spelling.{spelled_if_read}
 use Rattle.sql_front.proofs.StatementExamples.{digits, quoted_text, sign, word}
 use Rattle.sql_front.proofs.QueryExamples.{column, column_of, condition_of, select_from, selected_where, table}

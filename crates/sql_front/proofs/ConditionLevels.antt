@@ -1,14 +1,14 @@
 -- Conditions and their tests, where so much room is left for parentheses.
 use Rattle.std.proofs.Common.{◌≡◌, ℕ, zero, suc, false, List, refl, codes}
-use Rattle.sql_front.specs.declared.statement.Comparison.{Comparison}
-use Rattle.sql_front.specs.declared.statement.Comparison.TheVariants.{Equal, NotEqual, Less, LessOrEqual, Greater, GreaterOrEqual}
-use Rattle.sql_front.specs.declared.statement.Operand.TheVariants.{Column, Literal}
-use Rattle.sql_front.specs.declared.statement.PeriodOperand.TheVariants.{Named}
-use Rattle.sql_front.specs.declared.statement.PeriodPredicate.{PeriodPredicate}
-use Rattle.sql_front.specs.declared.statement.PeriodPredicate.TheVariants.{Overlaps, Equals, Contains, Precedes, Succeeds, ImmediatelyPrecedes, ImmediatelySucceeds}
-use Rattle.sql_front.specs.declared.statement.StoredTest.TheVariants.{Values}
+use Rattle.sql_statements.specs.declared.statement.Comparison.{Comparison}
+use Rattle.sql_statements.specs.declared.statement.Comparison.TheVariants.{Equal, NotEqual, Less, LessOrEqual, Greater, GreaterOrEqual}
+use Rattle.sql_statements.specs.declared.statement.Operand.TheVariants.{Column, Literal}
+use Rattle.sql_statements.specs.declared.statement.PeriodOperand.TheVariants.{Named}
+use Rattle.sql_statements.specs.declared.statement.PeriodPredicate.{PeriodPredicate}
+use Rattle.sql_statements.specs.declared.statement.PeriodPredicate.TheVariants.{Overlaps, Equals, Contains, Precedes, Succeeds, ImmediatelyPrecedes, ImmediatelySucceeds}
+use Rattle.sql_statements.specs.declared.statement.StoredTest.TheVariants.{Values}
 use Rattle.sql_front.specs.Language.{Language, keyword, symbol, Enclosed, StandsFor}
-use Rattle.sql_front.specs.Trees.{Condition, negated, test}
+use Rattle.sql_statements.specs.Trees.{Condition, negated, test}
 use Rattle.sql_front.specs.Builders.{all_of, any_of, column_reference_of, compare_of, contains_day_of, dates_of, periods_of}
 use Rattle.sql_front.specs.Grammar.{ConditionBelow, IsCondition, IsConjunction, IsFactor, IsTest, IsWhere}
 use Rattle.sql_front.proofs.ReadGrammar.{IsColumn, IsCompare, IsComparison, IsOperand, IsPeriodOperand, IsPredicate, IsRelation, IsStoredTest}

@@ -1,16 +1,16 @@
 -- What stands in parentheses, and how a condition of the program is seen.
 use Rattle.std.proofs.Common.{◌≡◌, ℕ, suc, ◌-◌, ◌<◌, List, ◌∷◌, map, None, refl, sym, ap, ◌∙◌, arith}
 use Rattle.std.specs.Global.{Box, Vec}
-use Rattle.sql_front.specs.declared.tree.Tree as code
-use Rattle.sql_front.specs.declared.tree.Tree.TheVariants as rolls
-use Rattle.sql_front.specs.declared.tree.Tree.TheOpen as layer
-use Rattle.sql_front.specs.declared.tree.Tree.TheFolds.{fold-roll-Tree}
-use Rattle.sql_front.specs.Lexemes.{Lexeme}
-use Rattle.sql_front.specs.Trees.{Condition, test}
+use Rattle.sql_statements.specs.declared.tree.Tree as code
+use Rattle.sql_statements.specs.declared.tree.Tree.TheVariants as rolls
+use Rattle.sql_statements.specs.declared.tree.Tree.TheOpen as layer
+use Rattle.sql_statements.specs.declared.tree.Tree.TheFolds.{fold-roll-Tree}
+use Rattle.sql_statements.specs.Lexemes.{Lexeme}
+use Rattle.sql_statements.specs.Trees.{Condition, test}
 use Rattle.sql_front.specs.Builders.{all_of, any_of}
-use Rattle.sql_front.specs.Plain.{condition_layer, plain_condition}
-use Rattle.sql_front.specs.Reading.{Reader}
-use Rattle.sql_front.specs.ConditionReaders.{inner_read, condition_read, conjunction_read, factor_read, test_read}
+use Rattle.sql_statements.specs.Plain.{condition_layer, plain_condition}
+use Rattle.sql_front.specs.reading.Reading.{Reader}
+use Rattle.sql_front.specs.reading.ConditionReaders.{inner_read, condition_read, conjunction_read, factor_read, test_read}
 
 module _ {T : Type 0} (p : Reader T) where
   pub inner_none : (n : ℕ) (ts : List Lexeme) → n ≡ 0 → inner_read p n ts ≡ None

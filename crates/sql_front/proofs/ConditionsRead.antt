@@ -1,17 +1,17 @@
 -- Columns, comparisons and conditions are read.
 use Rattle.std.proofs.Common.{◌≡◌, ℕ, zero, suc, Bool, true, List, [], ◌∷◌, ◌++◌, refl, codes}
-use Rattle.sql_front.specs.declared.statement.Comparison.{Comparison}
-use Rattle.sql_front.specs.declared.statement.Comparison.TheVariants.{Equal, NotEqual, Less, LessOrEqual, Greater, GreaterOrEqual}
-use Rattle.sql_front.specs.declared.statement.Operand.TheVariants.{Column, Literal}
-use Rattle.sql_front.specs.Lexemes.{Lexeme}
+use Rattle.sql_statements.specs.declared.statement.Comparison.{Comparison}
+use Rattle.sql_statements.specs.declared.statement.Comparison.TheVariants.{Equal, NotEqual, Less, LessOrEqual, Greater, GreaterOrEqual}
+use Rattle.sql_statements.specs.declared.statement.Operand.TheVariants.{Column, Literal}
+use Rattle.sql_statements.specs.Lexemes.{Lexeme}
 use Rattle.sql_front.specs.Language.{Language, keyword, symbol, Built, Choice, Enclosed, Fixed, Optional, Preceded, Sequence, StandsFor}
-use Rattle.sql_front.specs.Trees.{Condition, negated, test}
+use Rattle.sql_statements.specs.Trees.{Condition, negated, test}
 use Rattle.sql_front.specs.Builders.{all_of, column_reference_of, compare_of}
 use Rattle.sql_front.specs.Grammar.{ConditionBelow, IsCondition, IsConjunction, IsFactor, IsTest, IsWhere}
 use Rattle.sql_front.proofs.ReadGrammar.{IsColumn, IsCompare, IsComparison, IsName, IsOperand}
 use Rattle.sql_front.specs.Builders as builders
-use Rattle.sql_front.specs.Reading.{Reader, stands_read}
-use Rattle.sql_front.specs.ConditionReaders.{column_read, compare_read, comparison_read, condition_read, condition_with, conjunction_read, conjunction_with, factor_read, factor_with, inner_read, operand_read, test_read, test_with, where_read}
+use Rattle.sql_front.specs.reading.Reading.{Reader, stands_read}
+use Rattle.sql_front.specs.reading.ConditionReaders.{column_read, compare_read, comparison_read, condition_read, condition_with, conjunction_read, conjunction_with, factor_read, factor_with, inner_read, operand_read, test_read, test_with, where_read}
 use Rattle.sql_front.proofs.First.{Starts, begins_apart, or_apart, starts_built, starts_choice, starts_preceded, starts_sequence, starts_stands}
 use Rattle.period_core.proofs.OptionFacts.{none_some}
 use Rattle.sql_front.proofs.Laws.{Any, Not, Reads, reads_both, reads_built, reads_choice, reads_optional, reads_preceded, reads_sequence, reads_stands, reads_weaken}

@@ -3,8 +3,8 @@ use Rattle.std.proofs.Common.{◌≡◌, ℕ, zero, suc, ◌+◌, ◌≤◌, ◌
 use Rattle.std.proofs.lemmas.Bool.{cases_Bool}
 use Rattle.std.proofs.lemmas.List.{at_drop_more}
 use Rattle.std.specs.Prelude.{IsTrue, is_none}
-use Rattle.sql_front.specs.declared.token.Token.{Token}
-use Rattle.sql_front.specs.Lexemes.{Lexeme, lexeme, lexemes}
+use Rattle.sql_statements.specs.declared.token.Token.{Token}
+use Rattle.sql_statements.specs.Lexemes.{Lexeme, lexeme, lexemes}
 use Rattle.sql_front.specs.Depth.{opens, closes, counted, most_open, room, IsDeeper}
 use Rattle.period_core.proofs.OptionFacts.{none_some}
 use Rattle.sql_front.proofs.First.{Apart, symbols_apart}

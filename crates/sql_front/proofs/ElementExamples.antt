@@ -1,18 +1,18 @@
 -- Worked rows of CREATE TABLE's elements.
 use Rattle.std.proofs.Common.{◌≡◌, ℕ, List, [], ◌∷◌, ◌++◌, Some, None, codes, refl, arith}
-use Rattle.sql_front.specs.declared.create.Generated.TheVariants.{End}
-use Rattle.sql_front.specs.declared.create.TypeName.TheVariants.{Integer, Date, Varchar, Timestamp}
-use Rattle.sql_front.specs.declared.token.Kind.TheVariants.{Word, Number, Symbol}
-use Rattle.sql_front.specs.Lexemes.{Lexeme}
-use Rattle.sql_front.specs.Names.{is_plain_word}
-use Rattle.sql_front.specs.Words.{is_reserved}
-use Rattle.sql_front.specs.Elements.{HasElement}
-use Rattle.sql_front.specs.Leaves.{name_read, number_read}
-use Rattle.sql_front.specs.ElementReaders.{create_read, elements_read, element_read, column_element_read, not_null_read, key_element_read, key_names_read, reference_element_read, reference_list_read, versioning_read, without_overlaps_read, split_last, all_and_last_read, type_read, length_read, generated_read, row_end_read, one_more_name, leading_names_read, more_names_read, pair_read, some_period_read, period_element_read, system_element_read, created_table_read, key_list_read, last_period_read, parent_read, timestamp_read}
-use Rattle.sql_front.specs.Reading.{bounded_read, whole_read}
+use Rattle.sql_statements.specs.declared.create.Generated.TheVariants.{End}
+use Rattle.sql_statements.specs.declared.create.TypeName.TheVariants.{Integer, Date, Varchar, Timestamp}
+use Rattle.sql_statements.specs.declared.token.Kind.TheVariants.{Word, Number, Symbol}
+use Rattle.sql_statements.specs.Lexemes.{Lexeme}
+use Rattle.sql_statements.specs.Names.{is_plain_word}
+use Rattle.sql_statements.specs.Words.{is_reserved}
+use Rattle.sql_statements.specs.Elements.{HasElement}
+use Rattle.sql_front.specs.reading.Leaves.{name_read, number_read}
+use Rattle.sql_front.specs.reading.ElementReaders.{create_read, elements_read, element_read, column_element_read, not_null_read, key_element_read, key_names_read, reference_element_read, reference_list_read, versioning_read, without_overlaps_read, split_last, all_and_last_read, type_read, length_read, generated_read, row_end_read, one_more_name, leading_names_read, more_names_read, pair_read, some_period_read, period_element_read, system_element_read, created_table_read, key_list_read, last_period_read, parent_read, timestamp_read}
+use Rattle.sql_front.specs.reading.Reading.{bounded_read, whole_read}
 use Rattle.sql_front.specs.Builders.{system_element, period_element, table_of}
 use Rattle.sql_front.proofs.ReadGrammar.{IsCreate}
-use Rattle.sql_front.specs.declared.create.CreateTable.{CreateTable}
+use Rattle.sql_statements.specs.declared.create.CreateTable.{CreateTable}
 use Rattle.sql_front.proofs.ElementsRead.{reads_create}
 use Rattle.sql_front.proofs.Whole.{whole_found}
 

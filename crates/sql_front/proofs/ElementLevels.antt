@@ -1,7 +1,7 @@
 -- CREATE TABLE leaves as much room for parentheses as it found.
 use Rattle.std.proofs.Common.{ℕ, codes}
-use Rattle.sql_front.specs.declared.create.Generated.TheVariants.{Start, End}
-use Rattle.sql_front.specs.declared.create.TypeName.TheVariants.{Integer, Date, Varchar, Timestamp}
+use Rattle.sql_statements.specs.declared.create.Generated.TheVariants.{Start, End}
+use Rattle.sql_statements.specs.declared.create.TypeName.TheVariants.{Integer, Date, Varchar, Timestamp}
 use Rattle.sql_front.specs.Builders.{column_of, period_of, system_of, key_of, reference_of, table_of, column_element, period_element, system_element, key_element, reference_element}
 use Rattle.sql_front.proofs.ReadGrammar.{IsLength, IsType, IsGenerated, IsNotNull, IsColumnElement, IsPair, IsPeriodElement, IsSystemElement, IsWithoutOverlaps, IsKeyElement, IsReferenceList, IsReferenceElement, IsElement, IsVersioning, IsCreate}
 use Rattle.sql_front.proofs.Levels.{Level, level_built, level_choice, level_enclosed_same, level_fixed, level_optional, level_preceded, level_separated, level_sequence, level_stands, plain_keyword}

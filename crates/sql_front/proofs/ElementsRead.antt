@@ -1,13 +1,13 @@
 -- CREATE TABLE is read.
 use Rattle.std.proofs.Common.{◌≡◌, ℕ, true, false, List, [], ◌∷◌, ◌++◌, refl, codes, inl, inr}
 use Rattle.std.proofs.lemmas.Bool.{and_right}
-use Rattle.sql_front.specs.Lexemes.{Lexeme}
+use Rattle.sql_statements.specs.Lexemes.{Lexeme}
 use Rattle.sql_front.specs.Language.{Language, keyword, Built, Choice, Fixed, Preceded, Separated, Sequence}
 use Rattle.sql_front.specs.Builders.{Element, period_of, system_of, key_of, reference_of, table_of, column_element, period_element, system_element, key_element, reference_element}
 use Rattle.sql_front.specs.Grammar.{comma, name}
 use Rattle.sql_front.proofs.ReadGrammar.{IsName, IsColumnElement, IsPair, IsPeriodElement, IsSystemElement, IsWithoutOverlaps, IsKeyElement, IsReferenceList, IsReferenceElement, IsElement, IsVersioning, IsCreate}
-use Rattle.sql_front.specs.Reading.{Reader, begins, third_is}
-use Rattle.sql_front.specs.ElementReaders.{second_is, one_more_name, more_names_read, leading_names_read, pair_read, period_element_read, system_element_read, without_overlaps_read, key_names_read, key_element_read, reference_list_read, reference_element_read, some_period_read, element_read, versioning_read, elements_read, create_read, created_table_read, key_list_read, last_period_read, parent_read}
+use Rattle.sql_front.specs.reading.Reading.{Reader, begins, third_is}
+use Rattle.sql_front.specs.reading.ElementReaders.{second_is, one_more_name, more_names_read, leading_names_read, pair_read, period_element_read, system_element_read, without_overlaps_read, key_names_read, key_element_read, reference_list_read, reference_element_read, some_period_read, element_read, versioning_read, elements_read, create_read, created_table_read, key_list_read, last_period_read, parent_read}
 use Rattle.sql_front.proofs.First.{Starts, starts_built, starts_choice, starts_preceded, starts_sequence}
 use Rattle.sql_front.proofs.Laws.{Any, Reads, reads_both, reads_built, reads_decided, reads_fixed, reads_preceded, reads_repetition, reads_sequence, reads_weaken}
 use Rattle.sql_front.proofs.Sorts.{Next, Sort, a_name, any_of, apart_lists, leads_starts, next_not, reads_both_next, reads_choice_next, reads_enclosed_next, reads_next, reads_separated_next, sign, word}

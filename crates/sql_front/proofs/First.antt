@@ -1,14 +1,14 @@
 -- The token with which a language begins.
 use Rattle.std.proofs.Common.{◌≡◌, ℕ, Bool, true, false, List, [], ◌∷◌, ◌++◌, refl, sym, ap, ◌∙◌, inl, inr, ◌||◌, append_assoc}
 use Rattle.std.specs.Str.{bytes_eq}
-use Rattle.sql_front.specs.Words.{folded}
+use Rattle.sql_statements.specs.Words.{folded}
 use Rattle.std.proofs.lemmas.Bool.{and_parts, and_right, or_cases, cases_Bool}
 use Rattle.std.proofs.lemmas.Slice.Eq.{bytes_eq-Decides}
-use Rattle.sql_front.specs.declared.token.Kind.{Kind}
-use Rattle.sql_front.specs.declared.token.Kind.TheVariants.{Word, Number, Text, Symbol}
-use Rattle.sql_front.specs.Lexemes.{Lexeme}
+use Rattle.sql_statements.specs.declared.token.Kind.{Kind}
+use Rattle.sql_statements.specs.declared.token.Kind.TheVariants.{Word, Number, Text, Symbol}
+use Rattle.sql_statements.specs.Lexemes.{Lexeme}
 use Rattle.sql_front.specs.Language.{keyword, symbol, number, text, or_test, is_word, is_number, is_text, is_symbol, OneToken, Fixed, Sequence, Built, Choice, Preceded, PrecededOrNot, Related, StandsFor}
-use Rattle.sql_front.specs.Reading.{begins}
+use Rattle.sql_front.specs.reading.Reading.{begins}
 
 -- no token meets both
 pub record Apart (a b : Lexeme → Bool) : Type 0 where

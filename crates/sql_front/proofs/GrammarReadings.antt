@@ -1,21 +1,21 @@
 -- Each production, by what its literals stand for.
 use Rattle.std.proofs.Common.{◌≡◌, ℕ, zero, suc, true, false, List, refl, codes, ◌||◌, Bool}
 use Rattle.std.specs.Str.{bytes_eq}
-use Rattle.sql_front.specs.Lexemes.{Lexeme}
-use Rattle.sql_front.specs.declared.create.Generated.TheVariants.{Start, End}
-use Rattle.sql_front.specs.declared.create.TypeName.TheVariants.{Integer, Date, Varchar, Timestamp}
-use Rattle.sql_front.specs.declared.statement.Comparison.TheVariants.{Equal, NotEqual, Less, LessOrEqual, Greater, GreaterOrEqual}
-use Rattle.sql_front.specs.declared.statement.Operand.TheVariants.{Column, Literal}
-use Rattle.sql_front.specs.declared.statement.PeriodOperand.TheVariants.{Named}
-use Rattle.sql_front.specs.declared.statement.PeriodPredicate.TheVariants.{Overlaps, Equals, Contains, Precedes, Succeeds, ImmediatelyPrecedes, ImmediatelySucceeds}
-use Rattle.sql_front.specs.declared.statement.StoredTest.TheVariants.{Values}
-use Rattle.sql_front.specs.declared.statement.SystemTime.TheVariants.{AsOf}
-use Rattle.sql_front.specs.declared.tree.SetOperator.TheVariants.{Union, Except}
+use Rattle.sql_statements.specs.Lexemes.{Lexeme}
+use Rattle.sql_statements.specs.declared.create.Generated.TheVariants.{Start, End}
+use Rattle.sql_statements.specs.declared.create.TypeName.TheVariants.{Integer, Date, Varchar, Timestamp}
+use Rattle.sql_statements.specs.declared.statement.Comparison.TheVariants.{Equal, NotEqual, Less, LessOrEqual, Greater, GreaterOrEqual}
+use Rattle.sql_statements.specs.declared.statement.Operand.TheVariants.{Column, Literal}
+use Rattle.sql_statements.specs.declared.statement.PeriodOperand.TheVariants.{Named}
+use Rattle.sql_statements.specs.declared.statement.PeriodPredicate.TheVariants.{Overlaps, Equals, Contains, Precedes, Succeeds, ImmediatelyPrecedes, ImmediatelySucceeds}
+use Rattle.sql_statements.specs.declared.statement.StoredTest.TheVariants.{Values}
+use Rattle.sql_statements.specs.declared.statement.SystemTime.TheVariants.{AsOf}
+use Rattle.sql_statements.specs.declared.tree.SetOperator.TheVariants.{Union, Except}
 use Rattle.sql_front.specs.Language.{Language, keyword, symbol, or_test, Fixed, Preceded, PrecededOrNot, Separated, StandsFor}
-use Rattle.sql_front.specs.Trees.{Condition, Query, Statement, negated, simple, test, at, create, delete, insert, sequenced, stored, update}
+use Rattle.sql_statements.specs.Trees.{Condition, Query, Statement, negated, simple, test, at, create, delete, insert, sequenced, stored, update}
 use Rattle.sql_front.specs.Literals.{any_value, exact}
 use Rattle.sql_front.specs.StandIns.{stand_in}
-use Rattle.sql_front.specs.Names.{upper}
+use Rattle.sql_statements.specs.Names.{upper}
 use Rattle.sql_front.specs.Builders.{column_of, period_of, system_of, key_of, reference_of, table_of, column_reference_of, compare_of, all_of, any_of, from_to_of, between_of, table_reference_of, join_of, chain_of, item_of, select_of, combined_of, dates_of, periods_of, contains_day_of, stored_of, rows_of, portion_of, assignment_of, update_of, delete_of, column_element, period_element, system_element, key_element, reference_element}
 use Rattle.sql_front.specs.Grammar.{ConditionBelow, IsCondition, IsConjunction, IsFactor, IsTest, IsWhere, IsName, IsNames, IsLength, IsType, IsGenerated, IsNotNull, IsColumnElement, IsPair, IsPeriodElement, IsSystemElement, IsWithoutOverlaps, IsKeyElement, IsReferenceList, IsReferenceElement, IsElement, IsVersioning, IsCreate, IsColumn, IsOperand, IsComparison, IsCompare, IsWindow, IsForWindow, IsNewName, IsReference, IsJoin, IsChain, IsItem, IsSelect, IsPrimary, IsStep, QueryBelow, IsSequenced, IsPeriodOperand, IsRelation, IsPredicate, IsStoredTest, IsStored, IsInsert, IsPortion, IsAssignment, IsUpdate, IsDelete, IsAt, StatementBelow, comma, Spells}
 use Rattle.sql_front.proofs.LiteralReadings.{comma_no_minus, readings_clock_moment, readings_date, readings_literal, readings_moment, readings_number, readings_tuple}

@@ -2,9 +2,9 @@
 use Rattle.std.proofs.Common.{◌≡◌, Bool, List, Some, refl}
 use Rattle.sql_front.specs.declared.unread.Unread.{Unread}
 use Rattle.sql_front.specs.declared.unread.Unread.TheVariants as unread
-use Rattle.sql_front.specs.Lexemes.{Lexeme}
-use Rattle.sql_front.specs.Gives.{Fails}
-use Rattle.sql_front.specs.Reading.{Reader, sequence_read, built_read, repetition_read}
+use Rattle.sql_statements.specs.Lexemes.{Lexeme}
+use Rattle.sql_front.specs.reading.Gives.{Fails}
+use Rattle.sql_front.specs.reading.Reading.{Reader, sequence_read, built_read, repetition_read}
 
 module _ {A B C : Type 0} (f : A × List B → C) (p : Reader A) (d : List Lexeme → Bool) (q : Reader B) where
   pub headed_found : (ts middle rest : List Lexeme) (a : A) (bs : List B) → p ts ≡ Some (a, middle) → repetition_read d q middle ≡ Some (bs, rest) → built_read f (sequence_read p (repetition_read d q)) ts ≡ Some (f (a, bs), rest)

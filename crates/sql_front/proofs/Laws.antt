@@ -2,10 +2,10 @@
 use Rattle.std.proofs.Common.{◌≡◌, ℕ, zero, suc, ◌≤◌, ◌<◌, Bool, true, false, cond, List, [], ◌∷◌, ◌++◌, length, Option, Some, None, refl, sym, ap, subst, ◌∙◌, append_assoc, arith, codes, inl, inr, length-append}
 use Rattle.period_core.proofs.OptionFacts.{bind_some, if_some, none_some, some_is}
 use Rattle.sql_front.proofs.First.{Apart, Starts, starts_preceded, begins_apart}
-use Rattle.sql_front.specs.Lexemes.{Lexeme}
+use Rattle.sql_statements.specs.Lexemes.{Lexeme}
 use Rattle.sql_front.specs.Language.{OneToken, Fixed, Sequence, Built, Choice, Repetition, Optional, Preceded, PrecededOrNot, Related, StandsFor, Separated, Enclosed, symbol}
 use Rattle.period_core.specs.TextReading.{◌>>=◌}
-use Rattle.sql_front.specs.Reading.{Reader, one_read, fixed_read, sequence_read, built_read, begins, choice_read, bounded_read, repetition_read, optional_read, preceded_read, preceded_or_not_read, stands_read, separated_read, enclosed_read}
+use Rattle.sql_front.specs.reading.Reading.{Reader, one_read, fixed_read, sequence_read, built_read, begins, choice_read, bounded_read, repetition_read, optional_read, preceded_read, preceded_or_not_read, stands_read, separated_read, enclosed_read}
 
 -- what p reads is of the language, and what is of the language is read by p wherever it may be followed so
 pub record Reads {A : Type 0} (L : List Lexeme → A → Type 0) (Follow : List Lexeme → Type 0) (p : Reader A) : Type 0 where

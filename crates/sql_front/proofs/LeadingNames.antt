@@ -3,13 +3,13 @@ use Rattle.std.proofs.Common.{◌≡◌, ℕ, ◌<◌, true, List, [], ◌∷◌
 use Rattle.std.proofs.lemmas.Bool.{and_parts}
 use Rattle.sql_front.specs.declared.unread.Unread.{Unread}
 use Rattle.sql_front.specs.declared.unread.Unread.TheVariants as unread
-use Rattle.sql_front.specs.Lexemes.{Lexeme}
-use Rattle.sql_front.specs.Gives.{Fails}
+use Rattle.sql_statements.specs.Lexemes.{Lexeme}
+use Rattle.sql_front.specs.reading.Gives.{Fails}
 use Rattle.sql_front.specs.Grammar.{comma, name}
 use Rattle.period_core.specs.TextReading.{◌>>=◌}
-use Rattle.sql_front.specs.Reading.{Reader, begins, bounded_read, fixed_read, preceded_read}
-use Rattle.sql_front.specs.Leaves.{name_read}
-use Rattle.sql_front.specs.ElementReaders.{leading_names_read, more_names_read, one_more_name, second_is}
+use Rattle.sql_front.specs.reading.Reading.{Reader, begins, bounded_read, fixed_read, preceded_read}
+use Rattle.sql_front.specs.reading.Leaves.{name_read}
+use Rattle.sql_front.specs.reading.ElementReaders.{leading_names_read, more_names_read, one_more_name, second_is}
 use Rattle.sql_front.proofs.Loop.{Going, begins_some, going_fails, going_on, with_front}
 
 -- one of the names behind a comma

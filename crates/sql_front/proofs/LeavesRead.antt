@@ -2,13 +2,13 @@
 use Rattle.std.proofs.Common.{◌≡◌, ℕ, Bool, true, false, ◌||◌, [], ◌∷◌, ◌++◌, List, codes, refl, inl, inr}
 use Rattle.period_core.specs.declared.value.Value.{Value}
 use Rattle.period_core.specs.declared.value.Value.TheVariants as value
-use Rattle.sql_front.specs.Lexemes.{Lexeme}
-use Rattle.sql_front.specs.LeafValues.{clock_value, day_value, moment_value, negative_value}
+use Rattle.sql_statements.specs.Lexemes.{Lexeme}
+use Rattle.sql_front.specs.reading.LeafValues.{clock_value, day_value, moment_value, negative_value}
 use Rattle.sql_front.specs.Language.{keyword, symbol, number, text, or_test, Built, Choice, OneToken, Preceded, PrecededOrNot}
 use Rattle.sql_front.specs.Builders.{number_of, text_of}
 use Rattle.sql_front.proofs.ReadGrammar.{IsClockMoment, IsDate, IsLiteral, IsMoment, IsNumber, IsTuple}
-use Rattle.sql_front.specs.Reading.{Reader, begins}
-use Rattle.sql_front.specs.Leaves.{clock_moment_read, date_read, literal_read, moment_read, tuple_read, unsigned_read}
+use Rattle.sql_front.specs.reading.Reading.{Reader, begins}
+use Rattle.sql_front.specs.reading.Leaves.{clock_moment_read, date_read, literal_read, moment_read, tuple_read, unsigned_read}
 use Rattle.sql_front.proofs.First.{Starts, starts_built, starts_choice, starts_one, starts_preceded, starts_preceded_or_not}
 use Rattle.sql_front.proofs.Laws.{Any, Reads, reads_built, reads_one, reads_preceded, reads_preceded_or_not}
 use Rattle.sql_front.proofs.Levels.{Level, level_built, level_choice, level_enclosed_same, level_one, level_preceded, level_preceded_or_not, level_separated, plain_keyword, plain_number, plain_symbol, plain_text}

@@ -2,7 +2,7 @@
 use Rattle.std.proofs.Common.{◌≡◌, ℕ, zero, suc, Bool, true, false, List, [], ◌∷◌, ◌++◌, Option, Some, None, refl, sym, ap, ◌∙◌, inl, inr, codes}
 use Rattle.std.specs.Str.{bytes_eq}
 use Rattle.std.proofs.lemmas.Bool.{cases_Bool}
-use Rattle.sql_front.specs.Lexemes.{Lexeme}
+use Rattle.sql_statements.specs.Lexemes.{Lexeme}
 use Rattle.sql_front.specs.Language.{keyword, symbol, number, text, OneToken, Fixed, Sequence, Built, Related, StandsFor, Choice, Repetition, Optional, Preceded, PrecededOrNot, Separated, Enclosed}
 use Rattle.sql_front.specs.Grammar.{name}
 use Rattle.sql_front.specs.Depth.{opens, closes, room}

@@ -1,11 +1,11 @@
 -- One more white space, comment or token.
 use Rattle.std.proofs.Common.{◌≡◌, ℕ, ◌+◌, ◌<◌, List, [], ◌∷◌, ◌++◌, length, take, drop, subst, append_assoc, arith}
 use Rattle.std.proofs.lemmas.List.{append-nil, nil_from_length}
-use Rattle.sql_front.specs.declared.token.Kind.{Kind}
-use Rattle.sql_front.specs.declared.lexeme.Front.TheVariants as front
-use Rattle.sql_front.specs.Lexemes.{Lexeme}
-use Rattle.sql_front.specs.Lexis as lexis
-use Rattle.sql_front.specs.Lexis.{first_lexeme, TokensFrom, StopsFrom}
+use Rattle.sql_statements.specs.declared.token.Kind.{Kind}
+use Rattle.sql_statements.specs.declared.lexeme.Front.TheVariants as front
+use Rattle.sql_statements.specs.Lexemes.{Lexeme}
+use Rattle.sql_statements.specs.Lexis as lexis
+use Rattle.sql_statements.specs.Lexis.{first_lexeme, TokensFrom, StopsFrom}
 
 module _ (start : ℕ) (script : List ℕ) (at : ℕ) (rest after : List ℕ) (n : ℕ) (so_far : List Lexeme) where
   pub blank_tokens : first_lexeme rest ≡ front.Blank n → after ≡ drop n rest

@@ -1,14 +1,14 @@
 -- Worked rows of the lexis and of pieces.
 use Rattle.std.proofs.Common.{◌≡◌, [], ◌∷◌, true, false, refl}
 use Rattle.std.specs.Prelude.{codes}
-use Rattle.sql_front.specs.declared.token.Kind.TheVariants.{Word, Number, Text, Symbol}
-use Rattle.sql_front.specs.declared.lexeme.Front.TheVariants as front
-use Rattle.sql_front.specs.Lexemes.{Lexeme}
-use Rattle.sql_front.specs.Lexis as lexis
-use Rattle.sql_front.specs.Lexis.{first_lexeme, quoted_size, TokensOf, StopsAt, mark, mark_size}
+use Rattle.sql_statements.specs.declared.token.Kind.TheVariants.{Word, Number, Text, Symbol}
+use Rattle.sql_statements.specs.declared.lexeme.Front.TheVariants as front
+use Rattle.sql_statements.specs.Lexemes.{Lexeme}
+use Rattle.sql_statements.specs.Lexis as lexis
+use Rattle.sql_statements.specs.Lexis.{first_lexeme, quoted_size, TokensOf, StopsAt, mark, mark_size}
 use Rattle.sql_front.specs.Pieces as pieces
 use Rattle.sql_front.specs.Pieces.{HasPieces}
-use Rattle.sql_front.specs.Words.{is_reserved}
+use Rattle.sql_statements.specs.Words.{is_reserved}
 
 -- a number and a word
 number_and_word : TokensOf (codes "12a") (record { kind = Number; text = codes "12"; start = 0; end = 2 } ∷ record { kind = Word; text = codes "a"; start = 2; end = 3 } ∷ [])

@@ -6,7 +6,6 @@ pub mod ComparisonExamples
 pub mod ConditionLevels
 pub mod ConditionsRead
 pub mod ConditionViews
-pub mod Counting
 pub mod Decimals
 pub mod DepthExamples
 pub mod DepthFacts
@@ -14,7 +13,6 @@ pub mod ElementExamples
 pub mod ElementLevels
 pub mod ElementsRead
 pub mod First
-pub mod FrontEnds
 pub mod GrammarReadings
 pub mod Headed
 pub mod Laws
@@ -27,11 +25,9 @@ pub mod LexisExamples
 pub mod LiteralFaultFacts
 pub mod LiteralReadings
 pub mod Loop
-pub mod NameFacts
 pub mod NameSorts
 pub mod NamesRead
 pub mod NextTokens
-pub mod OnlySelects
 pub mod Parsing
 pub mod PeriodsRead
 pub mod PieceFaults
@@ -62,4 +58,3 @@ pub mod ValueExamples
 pub mod Whole
 pub mod WindowExamples
 pub mod WindowsRead
-pub mod WordsFacts

@@ -3,10 +3,10 @@ use Rattle.std.proofs.Common.{◌≡◌, ℕ, ℤ, ◌<◌, Bool, true, false, c
 use Rattle.std.specs.Prelude.{IsSome, is_none, ◌+◌}
 use Rattle.std.proofs.lemmas.Bool.{and_parts, or_cases}
 use Rattle.std.proofs.lemmas.Bool.Decides.{nat_tests}
-use Rattle.sql_front.specs.Lexemes.{Lexeme}
+use Rattle.sql_statements.specs.Lexemes.{Lexeme}
 use Rattle.sql_front.specs.Language.{keyword, symbol, number, text, or_test}
 use Rattle.sql_front.specs.Values.{IsClockToken, IsDateToken, IsMomentToken, decimal, greatest}
-use Rattle.sql_front.specs.LeafValues.{clock_of_token, day_of_token, moment_of_token}
+use Rattle.sql_front.specs.reading.LeafValues.{clock_of_token, day_of_token, moment_of_token}
 use Rattle.sql_front.specs.LiteralFaults.{HasBadDate, HasBadMoment, HasNoMoment, HasNumberOutside, HasOpenEnd, ends_in_minus, limit_behind}
 use Rattle.sql_front.specs.LiteralTests.{is_above, is_bad_date, is_bad_moment, is_no_moment, is_open_end, is_unread, names_none, number_above, somewhere}
 use Rattle.sql_front.proofs.TokenFacts.{clock_there, day_there, moment_there}

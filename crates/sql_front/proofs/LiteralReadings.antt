@@ -3,10 +3,10 @@ use Rattle.std.proofs.Common.{◌≡◌, ℕ, ℤ, pos, neg_ℤ, ◌<◌, ◌≤
 use Rattle.std.proofs.lemmas.Bool.{cases_Bool}
 use Rattle.std.proofs.lemmas.Bool.Decides.{nat_tests}
 use Rattle.period_core.specs.declared.value.Value.TheVariants as value
-use Rattle.sql_front.specs.Lexemes.{Lexeme}
+use Rattle.sql_statements.specs.Lexemes.{Lexeme}
 use Rattle.sql_front.specs.Language.{Language, keyword, symbol, number, or_test, text, OneToken, Built, Preceded, Related}
 use Rattle.sql_front.specs.Values.{NamesClockMoment, NamesDay, NamesMoment, NamesNegative, NamesNumber, decimal, greatest}
-use Rattle.sql_front.specs.LeafValues.{clock_value, day_value, moment_value, negative_value, number_value, up_to}
+use Rattle.sql_front.specs.reading.LeafValues.{clock_value, day_value, moment_value, negative_value, number_value, up_to}
 use Rattle.sql_front.specs.Literals.{Anything, any_value, exact}
 use Rattle.sql_front.specs.StandIns.{stand_in}
 use Rattle.sql_front.specs.Builders.{number_of, text_of}

@@ -3,10 +3,10 @@ use Rattle.std.proofs.Common.{◌≡◌, ℕ, zero, suc, ◌≤◌, ◌<◌, Boo
 use Rattle.std.proofs.lemmas.List.{append-nil}
 use Rattle.sql_front.specs.declared.unread.Unread.{Unread}
 use Rattle.sql_front.specs.declared.unread.Unread.TheVariants as unread
-use Rattle.sql_front.specs.Lexemes.{Lexeme}
-use Rattle.sql_front.specs.Gives.{Fails}
+use Rattle.sql_statements.specs.Lexemes.{Lexeme}
+use Rattle.sql_front.specs.reading.Gives.{Fails}
 use Rattle.period_core.specs.TextReading.{◌>>=◌}
-use Rattle.sql_front.specs.Reading.{Reader, fixed_read, begins, bounded_read, repetition_read, preceded_read, separated_read}
+use Rattle.sql_front.specs.reading.Reading.{Reader, fixed_read, begins, bounded_read, repetition_read, preceded_read, separated_read}
 use Rattle.period_core.proofs.OptionFacts.{if_some, none_some, some_is}
 
 module _ {A : Type 0} (sep : Lexeme → Bool) (q : Reader A) where

@@ -3,13 +3,13 @@ use Rattle.std.proofs.Common.{◌≡◌, ℕ, Bool, true, false, not, List, refl
 use Rattle.std.proofs.lemmas.Bool.{and_parts, cases_Bool, both_ways}
 use Rattle.std.proofs.lemmas.Slice.Eq.{bytes_eq-Decides}
 use Rattle.std.specs.Str.{bytes_eq}
-use Rattle.sql_front.specs.Words.{folded, is_among, reserved, is_reserved}
-use Rattle.sql_front.specs.Names.{is_plain_word, is_word_text}
-use Rattle.sql_front.specs.declared.token.Kind.TheVariants.{Word}
+use Rattle.sql_statements.specs.Words.{folded, is_among, reserved, is_reserved}
+use Rattle.sql_statements.specs.Names.{is_plain_word, is_word_text}
+use Rattle.sql_statements.specs.declared.token.Kind.TheVariants.{Word}
 use Rattle.sql_front.specs.Language.{keyword, is_word}
 use Rattle.sql_front.specs.Grammar.{name}
 use Rattle.sql_front.proofs.First.{Apart, OfKind, is_word-kind}
-use Rattle.sql_front.proofs.WordsFacts.{listed, reserved_same}
+use Rattle.sql_statements.proofs.WordsFacts.{listed, reserved_same}
 
 pub name_kind : OfKind name Word
 name_kind = record { is = λ t e. is_word-kind t.kind (and_parts (is_word t.kind) (is_plain_word t.text) e).0 }

@@ -1,11 +1,11 @@
 -- Names and numbers are read.
 use Rattle.std.proofs.Common.{ℕ, [], ◌∷◌, codes, refl}
-use Rattle.sql_front.specs.Names.{upper}
-use Rattle.sql_front.specs.LeafValues.{number_value}
+use Rattle.sql_statements.specs.Names.{upper}
+use Rattle.sql_front.specs.reading.LeafValues.{number_value}
 use Rattle.sql_front.specs.Language.{number}
 use Rattle.sql_front.specs.Grammar.{name, comma}
 use Rattle.sql_front.proofs.ReadGrammar.{IsName, IsNames, IsNumber}
-use Rattle.sql_front.specs.Leaves.{name_read, names_read, number_read}
+use Rattle.sql_front.specs.reading.Leaves.{name_read, names_read, number_read}
 use Rattle.sql_front.proofs.First.{Starts, starts_built, starts_one}
 use Rattle.sql_front.proofs.Laws.{Any, Reads, reads_built, reads_one}
 use Rattle.sql_front.proofs.Levels.{Level, Plain, level_built, level_enclosed_same, level_one, level_separated, plain_name, plain_number, plain_symbol}

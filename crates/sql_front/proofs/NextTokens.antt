@@ -1,9 +1,9 @@
 -- The second token of a language, and the third.
 use Rattle.std.proofs.Common.{◌≡◌, Bool, true, false, List, [], ◌∷◌, ◌++◌, ap, ◌∙◌}
-use Rattle.sql_front.specs.Lexemes.{Lexeme}
+use Rattle.sql_statements.specs.Lexemes.{Lexeme}
 use Rattle.sql_front.specs.Language.{Preceded}
-use Rattle.sql_front.specs.Reading.{third_is}
-use Rattle.sql_front.specs.ElementReaders.{second_is}
+use Rattle.sql_front.specs.reading.Reading.{third_is}
+use Rattle.sql_front.specs.reading.ElementReaders.{second_is}
 use Rattle.sql_front.proofs.First.{Apart, Starts, begins_apart}
 
 -- behind one token the language begins

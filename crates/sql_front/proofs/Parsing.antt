@@ -5,17 +5,17 @@ use Rattle.period_core.specs.Codes.{code_of}
 use Rattle.period_core.specs.Leasts.{MayAnswer}
 use Rattle.period_core.specs.declared.refusal.Refusal.{Refusal}
 use Rattle.period_core.specs.declared.refusal.Refusal.TheVariants.{Syntax, TooDeep, BadDate, BadMoment, NumberRange}
-use Rattle.sql_front.specs.declared.statement.Statement as statements
+use Rattle.sql_statements.specs.declared.statement.Statement as statements
 use Rattle.sql_front.specs.declared.unread.Unread.{Unread}
 use Rattle.sql_front.specs.declared.unread.Unread.TheVariants as unread
 use Rattle.sql_front.specs.Depth.{most_open}
-use Rattle.sql_front.specs.Lexemes.{Lexeme}
-use Rattle.sql_front.specs.Trees.{Statement}
-use Rattle.sql_front.specs.Plain.{plain}
-use Rattle.sql_front.specs.Gives.{Gives}
+use Rattle.sql_statements.specs.Lexemes.{Lexeme}
+use Rattle.sql_statements.specs.Trees.{Statement}
+use Rattle.sql_statements.specs.Plain.{plain}
+use Rattle.sql_front.specs.reading.Gives.{Gives}
 use Rattle.sql_front.proofs.ReadGrammar.{IsStatement}
-use Rattle.sql_front.specs.Reading.{whole_read}
-use Rattle.sql_front.specs.StatementReaders.{statement_read}
+use Rattle.sql_front.specs.reading.Reading.{whole_read}
+use Rattle.sql_front.specs.reading.StatementReaders.{statement_read}
 use Rattle.sql_front.specs.PieceRefusals.{IsTooDeep, SpellsNone, PieceApplies}
 use Rattle.sql_front.proofs.StatementsRead.{at_depth, read_spelled, reads_statement}
 use Rattle.sql_front.proofs.GrammarReadings.{loosely_spelled, some_read}

@@ -1,15 +1,15 @@
 -- Periods, and the words that relate two, are read.
 use Rattle.std.proofs.Common.{◌≡◌, ℕ, true, List, [], ◌∷◌, refl, codes}
-use Rattle.sql_front.specs.declared.statement.PeriodOperand.{PeriodOperand}
-use Rattle.sql_front.specs.declared.statement.PeriodOperand.TheVariants.{Named}
-use Rattle.sql_front.specs.declared.statement.PeriodPredicate.{PeriodPredicate}
-use Rattle.sql_front.specs.declared.statement.PeriodPredicate.TheVariants.{Overlaps, Equals, Contains, Precedes, Succeeds, ImmediatelyPrecedes, ImmediatelySucceeds}
+use Rattle.sql_statements.specs.declared.statement.PeriodOperand.{PeriodOperand}
+use Rattle.sql_statements.specs.declared.statement.PeriodOperand.TheVariants.{Named}
+use Rattle.sql_statements.specs.declared.statement.PeriodPredicate.{PeriodPredicate}
+use Rattle.sql_statements.specs.declared.statement.PeriodPredicate.TheVariants.{Overlaps, Equals, Contains, Precedes, Succeeds, ImmediatelyPrecedes, ImmediatelySucceeds}
 use Rattle.sql_front.specs.Language.{Language, keyword, Built, Choice, Enclosed, Preceded, Sequence, StandsFor}
 use Rattle.sql_front.specs.Builders.{dates_of}
 use Rattle.sql_front.specs.Grammar.{comma}
 use Rattle.sql_front.proofs.ReadGrammar.{IsColumn, IsDate, IsPeriodOperand, IsRelation}
-use Rattle.sql_front.specs.Reading.{begins, choice_read, stands_read}
-use Rattle.sql_front.specs.PredicateReaders.{period_operand_read, relation_read, dates_read}
+use Rattle.sql_front.specs.reading.Reading.{begins, choice_read, stands_read}
+use Rattle.sql_front.specs.reading.PredicateReaders.{period_operand_read, relation_read, dates_read}
 use Rattle.sql_front.proofs.First.{Starts, starts_built, starts_choice, starts_preceded, starts_stands}
 use Rattle.sql_front.proofs.Laws.{Any, Reads, reads_both, reads_built, reads_preceded, reads_stands}
 use Rattle.sql_front.proofs.LeavesRead.{reads_date}

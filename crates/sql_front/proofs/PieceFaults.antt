@@ -4,7 +4,7 @@ use Rattle.period_core.specs.Codes.{code_of}
 use Rattle.period_core.specs.Leasts.{IsLeast, NoneApplies}
 use Rattle.period_core.specs.declared.refusal.Refusal.{Refusal}
 use Rattle.period_core.specs.declared.refusal.Refusal.TheVariants.{Syntax, TooDeep, BadDate, BadMoment, NumberRange}
-use Rattle.sql_front.specs.Lexemes.{Lexeme}
+use Rattle.sql_statements.specs.Lexemes.{Lexeme}
 use Rattle.sql_front.specs.LiteralRefusals.{LiteralApplies}
 use Rattle.sql_front.specs.PieceRefusals.{IsTooDeep, PieceApplies, SpellsNone}
 

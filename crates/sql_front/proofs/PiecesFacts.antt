@@ -5,9 +5,9 @@ use Rattle.std.proofs.lemmas.List.{drop-map, drop_all, append-nil, map_push, len
 use Rattle.std.proofs.lemmas.List.Elements.{All-push, All-nil}
 use Rattle.std.proofs.lemmas.List.Folds.{list_any-append}
 use Rattle.std.proofs.Math.Seq.{take-append_seam}
-use Rattle.sql_front.specs.declared.token.Token.{Token}
+use Rattle.sql_statements.specs.declared.token.Token.{Token}
 use Rattle.sql_front.specs.declared.pieces.Span.{Span}
-use Rattle.sql_front.specs.Lexemes.{Lexeme, lexeme, lexemes}
+use Rattle.sql_statements.specs.Lexemes.{Lexeme, lexeme, lexemes}
 use Rattle.sql_front.specs.Pieces as pieces
 use Rattle.sql_front.specs.Pieces.{is_semicolon, is_nonempty, HasNoSemicolon, HasPieces, spanned, IsWithin}
 

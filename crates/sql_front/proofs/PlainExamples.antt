@@ -2,22 +2,22 @@
 use denote.RawPtr.{Ptr}
 use Rattle.std.proofs.Common.{◌≡◌, pos, [], ◌∷◌, Some, None, codes, refl, sym, ap, ap₂, ◌∙◌, lit≤}
 use Rattle.std.specs.Global.{Box, Global, Vec}
-use Rattle.sql_front.specs.declared.statement.Compare.{Compare}
-use Rattle.sql_front.specs.declared.statement.SelectDistinct.{SelectDistinct}
-use Rattle.sql_front.specs.declared.statement.Statement as statements
-use Rattle.sql_front.specs.declared.statement.StatementForm.TheVariants as variant
-use Rattle.sql_front.specs.declared.statement.StoredTest.{StoredTest}
-use Rattle.sql_front.specs.declared.statement.SystemTime.TheVariants.{AsOf}
-use Rattle.sql_front.specs.declared.tree.QueryTree as queries
-use Rattle.sql_front.specs.declared.tree.SetOperator.TheVariants.{Except, Union}
-use Rattle.sql_front.specs.declared.tree.Tree as trees
-use Rattle.sql_front.specs.declared.tree.Tree.TheFolds.{fold-roll-Tree}
-use Rattle.sql_front.specs.declared.tree.Tree.TheOpen as layer
-use Rattle.sql_front.specs.declared.tree.Tree.TheVariants as rolls
-use Rattle.sql_front.specs.Trees.{Condition, Query, Select, Statement, all, any, combined, conditions_of, delete, last, negated, sequenced, simple, step, stored, test}
-use Rattle.sql_front.specs.Plain.{condition_layer, plain, plain_condition, plain_query, plain_select}
+use Rattle.sql_statements.specs.declared.statement.Compare.{Compare}
+use Rattle.sql_statements.specs.declared.statement.SelectDistinct.{SelectDistinct}
+use Rattle.sql_statements.specs.declared.statement.Statement as statements
+use Rattle.sql_statements.specs.declared.statement.StatementForm.TheVariants as variant
+use Rattle.sql_statements.specs.declared.statement.StoredTest.{StoredTest}
+use Rattle.sql_statements.specs.declared.statement.SystemTime.TheVariants.{AsOf}
+use Rattle.sql_statements.specs.declared.tree.QueryTree as queries
+use Rattle.sql_statements.specs.declared.tree.SetOperator.TheVariants.{Except, Union}
+use Rattle.sql_statements.specs.declared.tree.Tree as trees
+use Rattle.sql_statements.specs.declared.tree.Tree.TheFolds.{fold-roll-Tree}
+use Rattle.sql_statements.specs.declared.tree.Tree.TheOpen as layer
+use Rattle.sql_statements.specs.declared.tree.Tree.TheVariants as rolls
+use Rattle.sql_statements.specs.Trees.{Condition, Query, Select, Statement, all, any, combined, conditions_of, delete, last, negated, sequenced, simple, step, stored, test}
+use Rattle.sql_statements.specs.Plain.{condition_layer, plain, plain_condition, plain_query, plain_select}
 use Rattle.sql_front.proofs.ConditionViews.{and_view, or_view, test_view}
-use Rattle.sql_front.proofs.QueryViews.{combined_view, simple_view}
+use Rattle.sql_statements.proofs.QueryViews.{combined_view, simple_view}
 use Rattle.sql_front.proofs.QueryExamples.{column, table}
 
 -- wherever in memory the parts lie

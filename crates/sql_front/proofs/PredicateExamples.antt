@@ -2,25 +2,25 @@
 use Rattle.std.proofs.Common.{◌≡◌, pos, List, [], ◌∷◌, ◌++◌, Some, None, codes, refl}
 use Rattle.period_core.specs.TextReading.{date_at, date_parts_of, day_of_text, is_date}
 use Rattle.period_core.specs.declared.value.Value.TheVariants as value
-use Rattle.sql_front.specs.declared.statement.Comparison.TheVariants.{Equal}
-use Rattle.sql_front.specs.declared.statement.Operand.TheVariants.{Column, Literal}
-use Rattle.sql_front.specs.declared.statement.PeriodOperand.{PeriodOperand}
-use Rattle.sql_front.specs.declared.statement.PeriodOperand.TheVariants.{Dates, Named}
-use Rattle.sql_front.specs.declared.statement.PeriodPredicate.TheVariants.{Contains, Equals, ImmediatelyPrecedes, ImmediatelySucceeds, Overlaps, Precedes, Succeeds}
-use Rattle.sql_front.specs.declared.statement.StoredTest.{StoredTest}
-use Rattle.sql_front.specs.declared.statement.StoredTest.TheVariants.{ContainsDay, Periods, Values}
-use Rattle.sql_front.specs.Lexemes.{Lexeme}
-use Rattle.sql_front.specs.Names.{is_plain_word}
-use Rattle.sql_front.specs.Words.{is_reserved}
-use Rattle.sql_front.specs.Trees.{Condition, Statement, all, any, conditions_of, negated, stored, test}
+use Rattle.sql_statements.specs.declared.statement.Comparison.TheVariants.{Equal}
+use Rattle.sql_statements.specs.declared.statement.Operand.TheVariants.{Column, Literal}
+use Rattle.sql_statements.specs.declared.statement.PeriodOperand.{PeriodOperand}
+use Rattle.sql_statements.specs.declared.statement.PeriodOperand.TheVariants.{Dates, Named}
+use Rattle.sql_statements.specs.declared.statement.PeriodPredicate.TheVariants.{Contains, Equals, ImmediatelyPrecedes, ImmediatelySucceeds, Overlaps, Precedes, Succeeds}
+use Rattle.sql_statements.specs.declared.statement.StoredTest.{StoredTest}
+use Rattle.sql_statements.specs.declared.statement.StoredTest.TheVariants.{ContainsDay, Periods, Values}
+use Rattle.sql_statements.specs.Lexemes.{Lexeme}
+use Rattle.sql_statements.specs.Names.{is_plain_word}
+use Rattle.sql_statements.specs.Words.{is_reserved}
+use Rattle.sql_statements.specs.Trees.{Condition, Statement, all, any, conditions_of, negated, stored, test}
 use Rattle.sql_front.specs.Grammar.{IsStatement}
-use Rattle.sql_front.specs.LeafValues.{day_of_token, day_value}
-use Rattle.sql_front.specs.Leaves.{date_read, literal_read, name_read, number_read, unsigned_read}
-use Rattle.sql_front.specs.ConditionReaders.{column_read, compare_read, comparison_read, condition_read, conjunction_read, factor_read, inner_read, operand_read, test_read, where_read}
-use Rattle.sql_front.specs.PredicateReaders.{begins_contains_date, period_operand_read, predicate_ahead, predicate_read, relation_behind_column, relation_read, relation_word, said_read, stored_test_read, dates_read}
-use Rattle.sql_front.specs.WindowReaders.{for_window_read}
-use Rattle.sql_front.specs.StatementReaders.{statement_read, stored_read, stored_table_read, later_statement_read, query_statement_read}
-use Rattle.sql_front.specs.Reading.{bounded_read, whole_read}
+use Rattle.sql_front.specs.reading.LeafValues.{day_of_token, day_value}
+use Rattle.sql_front.specs.reading.Leaves.{date_read, literal_read, name_read, number_read, unsigned_read}
+use Rattle.sql_front.specs.reading.ConditionReaders.{column_read, compare_read, comparison_read, condition_read, conjunction_read, factor_read, inner_read, operand_read, test_read, where_read}
+use Rattle.sql_front.specs.reading.PredicateReaders.{begins_contains_date, period_operand_read, predicate_ahead, predicate_read, relation_behind_column, relation_read, relation_word, said_read, stored_test_read, dates_read}
+use Rattle.sql_front.specs.reading.WindowReaders.{for_window_read}
+use Rattle.sql_front.specs.reading.StatementReaders.{statement_read, stored_read, stored_table_read, later_statement_read, query_statement_read}
+use Rattle.sql_front.specs.reading.Reading.{bounded_read, whole_read}
 use Rattle.sql_front.proofs.Spelling.{spelled_if_read}
 use Rattle.sql_front.proofs.StatementExamples.{digits, quoted_text, sign, word}
 use Rattle.sql_front.proofs.QueryExamples.{column, column_of, condition_of}

@@ -1,20 +1,20 @@
 -- The tests of stored queries are read.
 use Rattle.std.proofs.Common.{◌≡◌, ℕ, suc, Bool, true, false, List, [], ◌∷◌, ◌++◌, Option, Some, None, refl, ap, ◌∙◌, append_assoc, codes, inl, inr}
 use Rattle.std.proofs.lemmas.Bool.{and_right}
-use Rattle.sql_front.specs.declared.statement.ColumnReference.{ColumnReference}
-use Rattle.sql_front.specs.declared.statement.Operand.{Operand}
-use Rattle.sql_front.specs.declared.statement.PeriodOperand.{PeriodOperand}
-use Rattle.sql_front.specs.declared.statement.PeriodPredicate.{PeriodPredicate}
-use Rattle.sql_front.specs.declared.statement.PeriodPredicate.TheVariants.{Overlaps, Equals}
-use Rattle.sql_front.specs.declared.statement.StoredTest.{StoredTest}
-use Rattle.sql_front.specs.declared.statement.StoredTest.TheVariants.{Values}
-use Rattle.sql_front.specs.Lexemes.{Lexeme}
+use Rattle.sql_statements.specs.declared.statement.ColumnReference.{ColumnReference}
+use Rattle.sql_statements.specs.declared.statement.Operand.{Operand}
+use Rattle.sql_statements.specs.declared.statement.PeriodOperand.{PeriodOperand}
+use Rattle.sql_statements.specs.declared.statement.PeriodPredicate.{PeriodPredicate}
+use Rattle.sql_statements.specs.declared.statement.PeriodPredicate.TheVariants.{Overlaps, Equals}
+use Rattle.sql_statements.specs.declared.statement.StoredTest.{StoredTest}
+use Rattle.sql_statements.specs.declared.statement.StoredTest.TheVariants.{Values}
+use Rattle.sql_statements.specs.Lexemes.{Lexeme}
 use Rattle.sql_front.specs.Language.{Language, keyword, Built, Choice, Optional, Preceded, Sequence}
 use Rattle.sql_front.specs.Grammar.{name, ConditionBelow, IsWhere}
 use Rattle.sql_front.proofs.ReadGrammar.{IsColumn, IsCompare, IsDate, IsName, IsOperand, IsPeriodOperand, IsPredicate, IsRelation, IsStoredTest}
-use Rattle.sql_front.specs.Reading.{begins}
-use Rattle.sql_front.specs.ConditionReaders.{condition_read, where_read}
-use Rattle.sql_front.specs.PredicateReaders.{Said, begins_contains_date, contains_day, predicate_ahead, predicate_read, related, relation_behind_column, relation_word, said_of, said_read, stored_test_read}
+use Rattle.sql_front.specs.reading.Reading.{begins}
+use Rattle.sql_front.specs.reading.ConditionReaders.{condition_read, where_read}
+use Rattle.sql_front.specs.reading.PredicateReaders.{Said, begins_contains_date, contains_day, predicate_ahead, predicate_read, related, relation_behind_column, relation_word, said_of, said_read, stored_test_read}
 use Rattle.sql_front.proofs.First.{Starts, begins_apart, starts_built, starts_preceded, starts_sequence}
 use Rattle.sql_front.proofs.Laws.{Reads, reads_both, reads_built, reads_decided, reads_preceded, reads_weaken}
 use Rattle.sql_front.proofs.LeavesRead.{reads_date, starts_date, starts_literal}

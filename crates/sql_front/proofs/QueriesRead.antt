@@ -1,17 +1,17 @@
 -- Queries are read.
 use Rattle.std.proofs.Common.{◌≡◌, ℕ, zero, suc, true, List, [], ◌∷◌, refl, codes}
-use Rattle.sql_front.specs.declared.tree.SetOperator.{SetOperator}
-use Rattle.sql_front.specs.declared.tree.SetOperator.TheVariants.{Union, Except}
-use Rattle.sql_front.specs.Lexemes.{Lexeme}
+use Rattle.sql_statements.specs.declared.tree.SetOperator.{SetOperator}
+use Rattle.sql_statements.specs.declared.tree.SetOperator.TheVariants.{Union, Except}
+use Rattle.sql_statements.specs.Lexemes.{Lexeme}
 use Rattle.sql_front.specs.Language.{keyword, symbol, Choice, Enclosed, Fixed, Built, Optional, Preceded, PrecededOrNot, Repetition, Separated, Sequence, StandsFor}
-use Rattle.sql_front.specs.Trees.{Query, simple}
+use Rattle.sql_statements.specs.Trees.{Query, simple}
 use Rattle.sql_front.specs.Builders.{chain_of, combined_of, item_of, join_of, select_of, table_reference_of}
 use Rattle.sql_front.specs.Grammar.{comma, ConditionBelow, IsWhere}
 use Rattle.sql_front.specs.Grammar.{QueryBelow}
 use Rattle.sql_front.specs.StandIns.{stand_in}
 use Rattle.sql_front.proofs.ReadGrammar.{IsChain, IsCompare, IsItem, IsJoin, IsNewName, IsPrimary, IsQuery, IsReference, IsSelect, IsSequenced, IsStep}
-use Rattle.sql_front.specs.Reading.{Reader}
-use Rattle.sql_front.specs.QueryReaders.{chain_read, inner_query_read, item_read, join_read, joins_read, new_name_read, operator_read, primary_read, primary_with, query_read, query_with, reference_read, select_read, sequenced_read, step_read, step_with, steps_read, steps_with, selected_read, from_read, joined_read}
+use Rattle.sql_front.specs.reading.Reading.{Reader}
+use Rattle.sql_front.specs.reading.QueryReaders.{chain_read, inner_query_read, item_read, join_read, joins_read, new_name_read, operator_read, primary_read, primary_with, query_read, query_with, reference_read, select_read, sequenced_read, step_read, step_with, steps_read, steps_with, selected_read, from_read, joined_read}
 use Rattle.sql_front.proofs.First.{Starts, starts_built, starts_choice, starts_preceded, starts_preceded_or_not, starts_sequence, starts_stands}
 use Rattle.period_core.proofs.OptionFacts.{none_some}
 use Rattle.sql_front.proofs.Laws.{Any, Reads, reads_both, reads_built, reads_preceded, reads_preceded_or_not, reads_stands}

@@ -1,26 +1,26 @@
 -- Worked rows of AT and of sequenced queries: items, new names, joins and chains.
 use Rattle.std.proofs.Common.{◌≡◌, ℕ, pos, List, [], ◌∷◌, Option, Some, None, codes, refl}
 use Rattle.period_core.specs.TextReading.{date_at, date_parts_of, is_date, is_time, moment_of_text, time_at, time_parts_of}
-use Rattle.sql_front.specs.declared.statement.ColumnReference.{ColumnReference}
-use Rattle.sql_front.specs.declared.statement.Compare.{Compare}
-use Rattle.sql_front.specs.declared.statement.Comparison.{Comparison}
-use Rattle.sql_front.specs.declared.statement.Comparison.TheVariants.{Equal, NotEqual}
-use Rattle.sql_front.specs.declared.statement.Operand.TheVariants.{Column}
-use Rattle.sql_front.specs.declared.statement.SelectItem.{SelectItem}
-use Rattle.sql_front.specs.declared.statement.TableReference.{TableReference}
-use Rattle.sql_front.specs.Lexemes.{Lexeme}
-use Rattle.sql_front.specs.Names.{is_plain_word}
-use Rattle.sql_front.specs.Words.{is_reserved}
-use Rattle.sql_front.specs.Trees.{Condition, JoinChain, Statement, all, any, at, combined, conditions_of, last, sequenced, simple, test}
+use Rattle.sql_statements.specs.declared.statement.ColumnReference.{ColumnReference}
+use Rattle.sql_statements.specs.declared.statement.Compare.{Compare}
+use Rattle.sql_statements.specs.declared.statement.Comparison.{Comparison}
+use Rattle.sql_statements.specs.declared.statement.Comparison.TheVariants.{Equal, NotEqual}
+use Rattle.sql_statements.specs.declared.statement.Operand.TheVariants.{Column}
+use Rattle.sql_statements.specs.declared.statement.SelectItem.{SelectItem}
+use Rattle.sql_statements.specs.declared.statement.TableReference.{TableReference}
+use Rattle.sql_statements.specs.Lexemes.{Lexeme}
+use Rattle.sql_statements.specs.Names.{is_plain_word}
+use Rattle.sql_statements.specs.Words.{is_reserved}
+use Rattle.sql_statements.specs.Trees.{Condition, JoinChain, Statement, all, any, at, combined, conditions_of, last, sequenced, simple, test}
 use Rattle.sql_front.specs.Grammar.{IsStatement}
-use Rattle.sql_front.specs.LeafValues.{clock_of_token, clock_value, moment_of_token}
-use Rattle.sql_front.specs.Leaves.{clock_moment_read, name_read}
-use Rattle.sql_front.specs.ConditionReaders.{column_read, compare_read, comparison_read, condition_read, conjunction_read, factor_read, operand_read, test_read, where_read}
-use Rattle.sql_front.specs.WindowReaders.{for_window_read}
-use Rattle.sql_front.specs.QueryReaders.{chain_read, item_read, join_read, joins_read, new_name_read, primary_read, query_read, reference_read, select_read, sequenced_read, step_read, steps_read, selected_read, from_read, joined_read}
-use Rattle.sql_front.specs.ChangeReaders.{at_read}
-use Rattle.sql_front.specs.StatementReaders.{statement_read, later_statement_read, query_statement_read}
-use Rattle.sql_front.specs.Reading.{bounded_read, whole_read}
+use Rattle.sql_front.specs.reading.LeafValues.{clock_of_token, clock_value, moment_of_token}
+use Rattle.sql_front.specs.reading.Leaves.{clock_moment_read, name_read}
+use Rattle.sql_front.specs.reading.ConditionReaders.{column_read, compare_read, comparison_read, condition_read, conjunction_read, factor_read, operand_read, test_read, where_read}
+use Rattle.sql_front.specs.reading.WindowReaders.{for_window_read}
+use Rattle.sql_front.specs.reading.QueryReaders.{chain_read, item_read, join_read, joins_read, new_name_read, primary_read, query_read, reference_read, select_read, sequenced_read, step_read, steps_read, selected_read, from_read, joined_read}
+use Rattle.sql_front.specs.reading.ChangeReaders.{at_read}
+use Rattle.sql_front.specs.reading.StatementReaders.{statement_read, later_statement_read, query_statement_read}
+use Rattle.sql_front.specs.reading.Reading.{bounded_read, whole_read}
 use Rattle.sql_front.proofs.Spelling.{spelled_if_read}
 use Rattle.sql_front.proofs.StatementExamples.{quoted_text, sign, word}
 

@@ -1,9 +1,9 @@
 -- A query whose parentheses are not too deep is read at that depth.
 use Rattle.std.proofs.Common.{ℕ, zero, suc, List, codes}
-use Rattle.sql_front.specs.declared.tree.SetOperator.TheVariants.{Union, Except}
-use Rattle.sql_front.specs.Lexemes.{Lexeme}
+use Rattle.sql_statements.specs.declared.tree.SetOperator.TheVariants.{Union, Except}
+use Rattle.sql_statements.specs.Lexemes.{Lexeme}
 use Rattle.sql_front.specs.Language.{Enclosed}
-use Rattle.sql_front.specs.Trees.{Query, simple}
+use Rattle.sql_statements.specs.Trees.{Query, simple}
 use Rattle.sql_front.specs.Builders.{chain_of, combined_of, item_of, join_of, select_of, table_reference_of}
 use Rattle.sql_front.specs.Grammar.{QueryBelow}
 use Rattle.sql_front.specs.StandIns.{stand_in}

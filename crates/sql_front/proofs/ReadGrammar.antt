@@ -1,30 +1,30 @@
 -- The grammar as it is read, where a literal that names no value has a stand-in.
 use Rattle.std.specs.Prelude.{ℕ, ℤ, List}
 use Rattle.period_core.specs.declared.value.Value.{Value}
-use Rattle.sql_front.specs.declared.create.ColumnElement.{ColumnElement}
-use Rattle.sql_front.specs.declared.create.CreateTable.{CreateTable}
-use Rattle.sql_front.specs.declared.create.Generated.{Generated}
-use Rattle.sql_front.specs.declared.create.KeyElement.{KeyElement}
-use Rattle.sql_front.specs.declared.create.PeriodElement.{PeriodElement}
-use Rattle.sql_front.specs.declared.create.ReferenceElement.{ReferenceElement}
-use Rattle.sql_front.specs.declared.create.SystemElement.{SystemElement}
-use Rattle.sql_front.specs.declared.create.TypeName.{TypeName}
-use Rattle.sql_front.specs.declared.statement.Assignment.{Assignment}
-use Rattle.sql_front.specs.declared.statement.ColumnReference.{ColumnReference}
-use Rattle.sql_front.specs.declared.statement.Compare.{Compare}
-use Rattle.sql_front.specs.declared.statement.Comparison.{Comparison}
-use Rattle.sql_front.specs.declared.statement.InsertRows.{InsertRows}
-use Rattle.sql_front.specs.declared.statement.Operand.{Operand}
-use Rattle.sql_front.specs.declared.statement.PeriodOperand.{PeriodOperand}
-use Rattle.sql_front.specs.declared.statement.PeriodPredicate.{PeriodPredicate}
-use Rattle.sql_front.specs.declared.statement.Portion.{Portion}
-use Rattle.sql_front.specs.declared.statement.SelectItem.{SelectItem}
-use Rattle.sql_front.specs.declared.statement.StoredTest.{StoredTest}
-use Rattle.sql_front.specs.declared.statement.SystemTime.{SystemTime}
-use Rattle.sql_front.specs.declared.statement.TableReference.{TableReference}
-use Rattle.sql_front.specs.declared.tree.SetOperator.{SetOperator}
+use Rattle.sql_statements.specs.declared.create.ColumnElement.{ColumnElement}
+use Rattle.sql_statements.specs.declared.create.CreateTable.{CreateTable}
+use Rattle.sql_statements.specs.declared.create.Generated.{Generated}
+use Rattle.sql_statements.specs.declared.create.KeyElement.{KeyElement}
+use Rattle.sql_statements.specs.declared.create.PeriodElement.{PeriodElement}
+use Rattle.sql_statements.specs.declared.create.ReferenceElement.{ReferenceElement}
+use Rattle.sql_statements.specs.declared.create.SystemElement.{SystemElement}
+use Rattle.sql_statements.specs.declared.create.TypeName.{TypeName}
+use Rattle.sql_statements.specs.declared.statement.Assignment.{Assignment}
+use Rattle.sql_statements.specs.declared.statement.ColumnReference.{ColumnReference}
+use Rattle.sql_statements.specs.declared.statement.Compare.{Compare}
+use Rattle.sql_statements.specs.declared.statement.Comparison.{Comparison}
+use Rattle.sql_statements.specs.declared.statement.InsertRows.{InsertRows}
+use Rattle.sql_statements.specs.declared.statement.Operand.{Operand}
+use Rattle.sql_statements.specs.declared.statement.PeriodOperand.{PeriodOperand}
+use Rattle.sql_statements.specs.declared.statement.PeriodPredicate.{PeriodPredicate}
+use Rattle.sql_statements.specs.declared.statement.Portion.{Portion}
+use Rattle.sql_statements.specs.declared.statement.SelectItem.{SelectItem}
+use Rattle.sql_statements.specs.declared.statement.StoredTest.{StoredTest}
+use Rattle.sql_statements.specs.declared.statement.SystemTime.{SystemTime}
+use Rattle.sql_statements.specs.declared.statement.TableReference.{TableReference}
+use Rattle.sql_statements.specs.declared.tree.SetOperator.{SetOperator}
 use Rattle.sql_front.specs.Language.{Language}
-use Rattle.sql_front.specs.Trees.{Join, JoinChain, Select, Query, Update, Delete, Stored, Statement}
+use Rattle.sql_statements.specs.Trees.{Join, JoinChain, Select, Query, Update, Delete, Stored, Statement}
 use Rattle.sql_front.specs.Builders.{Element}
 use Rattle.sql_front.specs.StandIns.{stand_in}
 use Rattle.sql_front.specs.Grammar as grammar

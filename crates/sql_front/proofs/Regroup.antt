@@ -1,13 +1,13 @@
 -- x { sep x } sep x is read by reading all and splitting off the last.
 use Rattle.std.proofs.Common.{◌≡◌, Bool, true, List, [], ◌∷◌, ◌++◌, Some, refl, sym, ap, subst, ◌∙◌, append_assoc}
 use Rattle.std.proofs.lemmas.List.{append-nil}
-use Rattle.sql_front.specs.Lexemes.{Lexeme}
+use Rattle.sql_statements.specs.Lexemes.{Lexeme}
 use Rattle.sql_front.specs.Language.{Sequence, Repetition, Preceded, Separated}
 use Rattle.period_core.specs.TextReading.{◌>>=◌}
-use Rattle.sql_front.specs.Reading.{Reader, begins, separated_read}
+use Rattle.sql_front.specs.reading.Reading.{Reader, begins, separated_read}
 use Rattle.period_core.proofs.OptionFacts.{bind_some, none_some, some_is}
 use Rattle.sql_front.proofs.Laws.{Reads, Not, reads_separated}
-use Rattle.sql_front.specs.ElementReaders.{last_of, split_last, all_and_last_read}
+use Rattle.sql_front.specs.reading.ElementReaders.{last_of, split_last, all_and_last_read}
 
 -- ---- lists
 

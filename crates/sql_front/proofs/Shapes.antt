@@ -1,9 +1,9 @@
 -- What the text of a token looks like, by its kind.
 use Rattle.std.specs.Prelude.{◌≡◌, ℕ, ◌<◌, true, ◌==◌, if◌then◌else◌, List, [], ◌∷◌, ◌++◌, length, ◌⊎◌}
 use Rattle.std.specs.List.{list_all}
-use Rattle.sql_front.specs.declared.token.Kind.{Kind}
-use Rattle.sql_front.specs.declared.token.Kind.TheVariants.{Word, Number, Text, Symbol}
-use Rattle.sql_front.specs.Lexis.{quote, is_letter, is_digit, is_word_byte, is_symbol, begins_pair}
+use Rattle.sql_statements.specs.declared.token.Kind.{Kind}
+use Rattle.sql_statements.specs.declared.token.Kind.TheVariants.{Word, Number, Text, Symbol}
+use Rattle.sql_statements.specs.Lexis.{quote, is_letter, is_digit, is_word_byte, is_symbol, begins_pair}
 
 -- a value with each quote written twice
 abbrev pub doubled : List ℕ → List ℕ

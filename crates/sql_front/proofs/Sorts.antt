@@ -3,13 +3,13 @@ use Rattle.std.proofs.Common.{◌≡◌, ℕ, Bool, true, false, not, List, [], 
 use Rattle.std.specs.Str.{bytes_eq}
 use Rattle.std.proofs.lemmas.Bool.{and_parts}
 use Rattle.std.proofs.lemmas.Slice.Eq.{bytes_eq-Decides}
-use Rattle.sql_front.specs.Words.{folded, is_among, reserved}
-use Rattle.sql_front.specs.declared.token.Kind.{Kind}
-use Rattle.sql_front.specs.declared.token.Kind.TheVariants.{Word, Number, Text, Symbol}
-use Rattle.sql_front.specs.Lexemes.{Lexeme}
+use Rattle.sql_statements.specs.Words.{folded, is_among, reserved}
+use Rattle.sql_statements.specs.declared.token.Kind.{Kind}
+use Rattle.sql_statements.specs.declared.token.Kind.TheVariants.{Word, Number, Text, Symbol}
+use Rattle.sql_statements.specs.Lexemes.{Lexeme}
 use Rattle.sql_front.specs.Language.{keyword, symbol, number, text, Sequence, Choice, Optional, Repetition, Separated, Enclosed}
 use Rattle.sql_front.specs.Grammar.{name}
-use Rattle.sql_front.specs.Reading.{Reader, begins, sequence_read, optional_read, repetition_read, separated_read, enclosed_read, choice_read}
+use Rattle.sql_front.specs.reading.Reading.{Reader, begins, sequence_read, optional_read, repetition_read, separated_read, enclosed_read, choice_read}
 use Rattle.sql_front.proofs.First.{Apart, OfKind, Starts, apart_kinds, keyword_kind, symbol_kind, number_kind, text_kind, symbols_apart, keywords_apart, or_apart, begins_apart}
 use Rattle.sql_front.proofs.NameSorts.{name_kind, keyword_not_name, name_not_keyword}
 use Rattle.sql_front.proofs.Laws.{Reads, Any, reads_sequence, reads_weaken, reads_optional, reads_repetition, reads_separated, reads_enclosed, reads_choice}

@@ -2,15 +2,15 @@
 use Rattle.std.proofs.Common.{◌≡◌, ℕ, Bool, true, false, List, Some, None, length, ◌↔◌}
 use Rattle.period_core.specs.Leasts.{NoneApplies}
 use Rattle.period_core.specs.declared.refusal.Refusal.TheVariants.{BadDate, BadMoment, NumberRange}
-use Rattle.sql_front.specs.Lexemes.{Lexeme}
-use Rattle.sql_front.specs.Trees.{Statement}
+use Rattle.sql_statements.specs.Lexemes.{Lexeme}
+use Rattle.sql_statements.specs.Trees.{Statement}
 use Rattle.sql_front.specs.Grammar.{IsStatement}
 use Rattle.sql_front.specs.Laws.{SpellsOne}
 use Rattle.sql_front.specs.LiteralRefusals.{LiteralApplies}
 use Rattle.sql_front.specs.LiteralTests.{is_bad_date, is_bad_moment, number_above, somewhere}
 use Rattle.sql_front.specs.PieceRefusals.{SpellsNone}
-use Rattle.sql_front.specs.Reading.{whole_read}
-use Rattle.sql_front.specs.StatementReaders.{statement_read}
+use Rattle.sql_front.specs.reading.Reading.{whole_read}
+use Rattle.sql_front.specs.reading.StatementReaders.{statement_read}
 use Rattle.sql_front.proofs.GrammarReadings.{exactly_read, some_read, spelled_exactly}
 use Rattle.sql_front.proofs.LiteralFaultFacts.{bad_date_somewhere, bad_moment_somewhere, number_somewhere}
 use Rattle.sql_front.proofs.Readings.{NoFault}

@@ -1,6 +1,6 @@
 -- The last of a list of names, split off.
 use Rattle.std.proofs.Common.{◌≡◌, ℕ, ◌<◌, List, [], ◌∷◌, ◌++◌, length, Some, None, refl, ap, ◌∙◌, arith}
-use Rattle.sql_front.specs.ElementReaders.{split_last}
+use Rattle.sql_front.specs.reading.ElementReaders.{split_last}
 use Rattle.sql_front.proofs.Regroup.{split_pushed}
 
 pub split_none : (names : List (List ℕ)) → names ≡ [] → split_last names ≡ None

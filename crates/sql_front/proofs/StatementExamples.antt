@@ -1,26 +1,26 @@
 -- Worked rows of statements.
 use Rattle.std.proofs.Common.{◌≡◌, ℕ, pos, neg_ℤ, List, [], ◌∷◌, ◌++◌, Some, None, codes, refl}
 use Rattle.period_core.specs.declared.value.Value.TheVariants as value
-use Rattle.sql_front.specs.declared.statement.Compare.{Compare}
-use Rattle.sql_front.specs.declared.statement.Comparison.TheVariants.{Equal}
-use Rattle.sql_front.specs.declared.statement.Operand.TheVariants.{Column, Literal}
-use Rattle.sql_front.specs.declared.token.Kind.TheVariants.{Word, Number, Text, Symbol}
-use Rattle.sql_front.specs.declared.tree.SetOperator.TheVariants.{Except, Union}
-use Rattle.sql_front.specs.Lexemes.{Lexeme}
-use Rattle.sql_front.specs.Names.{is_plain_word}
-use Rattle.sql_front.specs.Words.{is_reserved}
-use Rattle.sql_front.specs.Trees.{Condition, Query, Select, Statement, all, any, combined, conditions_of, insert, last, negated, sequenced, simple, step, test, stored, update, delete}
+use Rattle.sql_statements.specs.declared.statement.Compare.{Compare}
+use Rattle.sql_statements.specs.declared.statement.Comparison.TheVariants.{Equal}
+use Rattle.sql_statements.specs.declared.statement.Operand.TheVariants.{Column, Literal}
+use Rattle.sql_statements.specs.declared.token.Kind.TheVariants.{Word, Number, Text, Symbol}
+use Rattle.sql_statements.specs.declared.tree.SetOperator.TheVariants.{Except, Union}
+use Rattle.sql_statements.specs.Lexemes.{Lexeme}
+use Rattle.sql_statements.specs.Names.{is_plain_word}
+use Rattle.sql_statements.specs.Words.{is_reserved}
+use Rattle.sql_statements.specs.Trees.{Condition, Query, Select, Statement, all, any, combined, conditions_of, insert, last, negated, sequenced, simple, step, test, stored, update, delete}
 use Rattle.sql_front.specs.Grammar.{IsStatement}
 use Rattle.sql_front.specs.PieceRefusals.{SpellsNone}
 use Rattle.period_core.specs.TextReading.{date_at, date_parts_of, day_of_text, is_date}
-use Rattle.sql_front.specs.LeafValues.{day_of_token, day_value}
-use Rattle.sql_front.specs.Leaves.{date_read, literal_read, name_read, number_read, tuple_read, unsigned_read}
-use Rattle.sql_front.specs.ConditionReaders.{column_read, compare_read, comparison_read, condition_read, conjunction_read, factor_read, operand_read, test_read, where_read}
-use Rattle.sql_front.specs.WindowReaders.{for_window_read}
-use Rattle.sql_front.specs.QueryReaders.{chain_read, inner_query_read, item_read, joins_read, new_name_read, operator_read, primary_read, query_read, reference_read, select_read, sequenced_read, step_read, steps_read, selected_read, from_read}
-use Rattle.sql_front.specs.ChangeReaders.{assignment_read, columns_read, delete_read, in_portion_read, insert_read, portion_read, update_read, named_portion_read, bounds_read, inserted_read, values_read, deleted_read, set_read}
-use Rattle.sql_front.specs.StatementReaders.{statement_read, stored_read, stored_table_read, later_statement_read, query_statement_read}
-use Rattle.sql_front.specs.Reading.{bounded_read, whole_read}
+use Rattle.sql_front.specs.reading.LeafValues.{day_of_token, day_value}
+use Rattle.sql_front.specs.reading.Leaves.{date_read, literal_read, name_read, number_read, tuple_read, unsigned_read}
+use Rattle.sql_front.specs.reading.ConditionReaders.{column_read, compare_read, comparison_read, condition_read, conjunction_read, factor_read, operand_read, test_read, where_read}
+use Rattle.sql_front.specs.reading.WindowReaders.{for_window_read}
+use Rattle.sql_front.specs.reading.QueryReaders.{chain_read, inner_query_read, item_read, joins_read, new_name_read, operator_read, primary_read, query_read, reference_read, select_read, sequenced_read, step_read, steps_read, selected_read, from_read}
+use Rattle.sql_front.specs.reading.ChangeReaders.{assignment_read, columns_read, delete_read, in_portion_read, insert_read, portion_read, update_read, named_portion_read, bounds_read, inserted_read, values_read, deleted_read, set_read}
+use Rattle.sql_front.specs.reading.StatementReaders.{statement_read, stored_read, stored_table_read, later_statement_read, query_statement_read}
+use Rattle.sql_front.specs.reading.Reading.{bounded_read, whole_read}
 use Rattle.sql_front.proofs.Spelling.{none_if_unread, spelled_if_read}
 
 -- ---- tokens

@@ -1,14 +1,14 @@
 -- Statements are read, and no tokens spell two.
 use Rattle.std.proofs.Common.{◌≡◌, ℕ, suc, ◌≤◌, Bool, List, [], ◌∷◌, length, Option, Some, None, codes, refl, sym, ap, ◌∙◌, arith, inl, inr, length-append}
 use Rattle.std.proofs.lemmas.Bool.{cases_Bool}
-use Rattle.sql_front.specs.Lexemes.{Lexeme}
+use Rattle.sql_statements.specs.Lexemes.{Lexeme}
 use Rattle.sql_front.specs.Language.{keyword, symbol}
 use Rattle.sql_front.specs.Depth.{opens, counted, room, IsDeeper}
-use Rattle.sql_front.specs.Trees.{Statement, at, create, delete, insert, sequenced, stored, update}
+use Rattle.sql_statements.specs.Trees.{Statement, at, create, delete, insert, sequenced, stored, update}
 use Rattle.sql_front.specs.Builders.{stored_of}
 use Rattle.sql_front.proofs.ReadGrammar.{IsStatement, IsStored, IsStoredTest, StatementBelow}
-use Rattle.sql_front.specs.Reading.{whole_read}
-use Rattle.sql_front.specs.StatementReaders.{statement_read, stored_read, stored_table_read, later_statement_read, query_statement_read}
+use Rattle.sql_front.specs.reading.Reading.{whole_read}
+use Rattle.sql_front.specs.reading.StatementReaders.{statement_read, stored_read, stored_table_read, later_statement_read, query_statement_read}
 use Rattle.sql_front.proofs.First.{Starts, starts_built, starts_choice, starts_preceded}
 use Rattle.period_core.proofs.OptionFacts.{none_some}
 use Rattle.sql_front.proofs.Laws.{Reads, reads_both, reads_built, reads_preceded}

@@ -5,7 +5,7 @@ use Rattle.std.proofs.lemmas.List.{append-nil, map_push}
 use Rattle.std.proofs.lemmas.List.Elements.{filter_map-append}
 use Rattle.sql_front.specs.declared.tables.TableElement as tables
 use Rattle.sql_front.specs.Builders.{Element, column_element, period_element, system_element, key_element, reference_element, table_of, a_column, a_period, a_system_period, a_key, a_reference}
-use Rattle.sql_front.specs.Elements.{HasElement}
+use Rattle.sql_statements.specs.Elements.{HasElement}
 use Rattle.sql_front.specs.PlainElements.{plain_element, with_element}
 
 -- one more of the kind

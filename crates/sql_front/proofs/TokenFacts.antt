@@ -5,7 +5,7 @@ use Rattle.period_core.specs.Calendar.{IsDayText}
 use Rattle.period_core.specs.Moments.{IsMomentText, forever}
 use Rattle.period_core.proofs.TextReadings.{chosen, there}
 use Rattle.sql_front.specs.Values.{IsClockToken, IsDateToken, IsMomentToken, between_quotes}
-use Rattle.sql_front.specs.LeafValues.{clock_of_token, day_of_token, moment_of_token}
+use Rattle.sql_front.specs.reading.LeafValues.{clock_of_token, day_of_token, moment_of_token}
 use Rattle.sql_front.proofs.LeafFacts.{before, clock_found, clock_shown, day_found, day_shown, is_before, moment_found, moment_shown}
 
 pub day_there : (t : List ℕ) → IsSome (day_of_token t) ↔ IsDateToken t

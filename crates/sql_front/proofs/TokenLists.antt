@@ -6,15 +6,15 @@ use Rattle.std.specs.Str.{IsUtf8, IsCharBoundary}
 use Rattle.std.proofs.lemmas.List.{drop-drop}
 use Rattle.std.proofs.lemmas.List.Elements.{All-nil, All-cons, All-take, All-drop}
 use Rattle.std.proofs.lemmas.Str.{IsUtf8-drop}
-use Rattle.sql_front.specs.declared.token.Kind.{Kind}
-use Rattle.sql_front.specs.declared.lexeme.Front.{Front}
-use Rattle.sql_front.specs.declared.lexeme.Front.TheVariants as front
-use Rattle.sql_front.specs.declared.token.Token.{Token}
+use Rattle.sql_statements.specs.declared.token.Kind.{Kind}
+use Rattle.sql_statements.specs.declared.lexeme.Front.{Front}
+use Rattle.sql_statements.specs.declared.lexeme.Front.TheVariants as front
+use Rattle.sql_statements.specs.declared.token.Token.{Token}
 use Rattle.sql_front.specs.declared.lexer.LexFault.{LexFault}
-use Rattle.sql_front.specs.Lexemes.{Lexeme, lexemes}
-use Rattle.sql_front.specs.Lexis as lexis
-use Rattle.sql_front.specs.Lexis.{first_lexeme, mark_size, TokensFrom, StopsFrom, TokensOf, StopsAt, EndsBetween, IsTokenAt}
-use Rattle.sql_front.proofs.FrontEnds.{front_ends}
+use Rattle.sql_statements.specs.Lexemes.{Lexeme, lexemes}
+use Rattle.sql_statements.specs.Lexis as lexis
+use Rattle.sql_statements.specs.Lexis.{first_lexeme, mark_size, TokensFrom, StopsFrom, TokensOf, StopsAt, EndsBetween, IsTokenAt}
+use Rattle.sql_statements.proofs.FrontEnds.{front_ends}
 use Rattle.sql_front.proofs.ByteOrderMark.{mark_boundary}
 
 -- ---- a script has one list of tokens, or a first bad offset

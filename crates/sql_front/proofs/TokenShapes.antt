@@ -2,14 +2,14 @@
 use Rattle.std.proofs.Common.{◌≡◌, ℕ, suc, ◌+◌, ◌-◌, Bool, true, false, cond, ◌==◌, ◌&&◌, List, [], ◌∷◌, ◌++◌, take, drop, Option, Some, None, refl, sym, ap, subst, ◌∙◌, arith, inl, inr}
 use Rattle.std.specs.List.{All, list_all, prefix_len, slice_index_or}
 use Rattle.std.proofs.lemmas.Bool.{cases_Bool, eqb-true}
-use Rattle.sql_front.specs.declared.token.Kind.{Kind}
-use Rattle.sql_front.specs.declared.token.Kind.TheVariants.{Word, Number, Text, Symbol}
-use Rattle.sql_front.specs.declared.lexeme.Front.{Front}
-use Rattle.sql_front.specs.declared.lexeme.Front.TheVariants as front
-use Rattle.sql_front.specs.Lexemes.{Lexeme}
-use Rattle.sql_front.specs.Lexis.{is_blank, is_letter, is_digit, is_word_byte, is_symbol, begins, begins_pair, quoted_size, longer, text_of_size, first_lexeme, IsTokenAt}
+use Rattle.sql_statements.specs.declared.token.Kind.{Kind}
+use Rattle.sql_statements.specs.declared.token.Kind.TheVariants.{Word, Number, Text, Symbol}
+use Rattle.sql_statements.specs.declared.lexeme.Front.{Front}
+use Rattle.sql_statements.specs.declared.lexeme.Front.TheVariants as front
+use Rattle.sql_statements.specs.Lexemes.{Lexeme}
+use Rattle.sql_statements.specs.Lexis.{is_blank, is_letter, is_digit, is_word_byte, is_symbol, begins, begins_pair, quoted_size, longer, text_of_size, first_lexeme, IsTokenAt}
 use Rattle.sql_front.proofs.Shapes.{doubled, HasShape, IsWordText, IsNumberText, IsSymbolText}
-use Rattle.sql_front.proofs.FrontEnds.{longer_some, none_some, pair_second, some_same}
+use Rattle.sql_statements.proofs.FrontEnds.{longer_some, none_some, pair_second, some_same}
 
 -- one byte more
 take_more : (b : ℕ) (rest : List ℕ) (n : ℕ) → take (1 + n) (b ∷ rest) ≡ b ∷ take n rest

@@ -2,17 +2,17 @@
 use Rattle.std.proofs.Common.{◌≡◌, ℕ, ℤ, ◌≤◌, pos, neg_ℤ, true, false, List, [], ◌∷◌, Some, None, codes, refl, sym, ◌∙◌, subst, arith, lit≤}
 use Rattle.period_core.specs.declared.value.Value.TheVariants as value
 use Rattle.period_core.specs.Moments.{first_moment, forever}
-use Rattle.sql_front.specs.declared.token.Kind.TheVariants.{Word, Number, Text, Symbol}
-use Rattle.sql_front.specs.Lexemes.{Lexeme}
-use Rattle.sql_front.specs.Names.{is_name, is_plain_word, upper}
-use Rattle.sql_front.specs.Words.{is_reserved}
+use Rattle.sql_statements.specs.declared.token.Kind.TheVariants.{Word, Number, Text, Symbol}
+use Rattle.sql_statements.specs.Lexemes.{Lexeme}
+use Rattle.sql_statements.specs.Names.{is_name, is_plain_word, upper}
+use Rattle.sql_statements.specs.Words.{is_reserved}
 use Rattle.sql_front.specs.Values.{IsDateToken, NamesClockMoment, NamesDay, NamesMoment, NamesNegative, NamesNumber, greatest, text_value}
 use Rattle.period_core.specs.TextReading.{date_at, date_parts_of, day_of_text, is_date, is_time, moment_of_text, time_at, time_parts_of}
-use Rattle.sql_front.specs.LeafValues.{clock_of_token, clock_value, day_of_token, day_value, moment_of_token, moment_value, negative_value, number_value}
+use Rattle.sql_front.specs.reading.LeafValues.{clock_of_token, clock_value, day_of_token, day_value, moment_of_token, moment_value, negative_value, number_value}
 use Rattle.sql_front.specs.LiteralFaults.{HasBadDate, HasBadMoment}
 use Rattle.sql_front.specs.LiteralTests.{is_bad_date, is_bad_moment, number_above, somewhere}
-use Rattle.sql_front.specs.Leaves.{date_read, literal_read, number_read, tuple_read, unsigned_read}
-use Rattle.sql_front.specs.Reading.{bounded_read, whole_read}
+use Rattle.sql_front.specs.reading.Leaves.{date_read, literal_read, number_read, tuple_read, unsigned_read}
+use Rattle.sql_front.specs.reading.Reading.{bounded_read, whole_read}
 use Rattle.sql_front.proofs.LeafFacts.{clock_found, clock_shown, day_found, day_shown, moment_shown}
 use Rattle.period_core.proofs.OptionFacts.{none_some}
 use Rattle.sql_front.proofs.LiteralFaultFacts.{bad_date_somewhere, bad_moment_somewhere}

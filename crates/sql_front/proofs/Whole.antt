@@ -4,9 +4,9 @@ use Rattle.std.specs.Prelude.{IfOk}
 use Rattle.std.proofs.lemmas.List.{append-nil}
 use Rattle.sql_front.specs.declared.unread.Unread.{Unread}
 use Rattle.sql_front.specs.declared.unread.Unread.TheVariants as unread
-use Rattle.sql_front.specs.Lexemes.{Lexeme}
-use Rattle.sql_front.specs.Gives.{Gives}
-use Rattle.sql_front.specs.Reading.{Reader, nothing_after, whole_read}
+use Rattle.sql_statements.specs.Lexemes.{Lexeme}
+use Rattle.sql_front.specs.reading.Gives.{Gives}
+use Rattle.sql_front.specs.reading.Reading.{Reader, nothing_after, whole_read}
 use Rattle.period_core.proofs.OptionFacts.{bind_some, none_some, some_is}
 use Rattle.sql_front.proofs.Laws.{Reads}
 

@@ -2,20 +2,20 @@
 use Rattle.std.proofs.Common.{◌≡◌, pos, List, [], ◌∷◌, ◌++◌, Some, None, codes, refl}
 use Rattle.period_core.specs.Moments.{forever}
 use Rattle.period_core.specs.TextReading.{date_at, date_parts_of, is_date, is_time, moment_of_text, time_at, time_parts_of}
-use Rattle.sql_front.specs.declared.statement.SystemTime.{SystemTime}
-use Rattle.sql_front.specs.declared.statement.SystemTime.TheVariants.{AsOf, Between, FromTo}
-use Rattle.sql_front.specs.Lexemes.{Lexeme}
-use Rattle.sql_front.specs.Names.{is_plain_word}
-use Rattle.sql_front.specs.Words.{is_reserved}
-use Rattle.sql_front.specs.Trees.{Statement, stored}
+use Rattle.sql_statements.specs.declared.statement.SystemTime.{SystemTime}
+use Rattle.sql_statements.specs.declared.statement.SystemTime.TheVariants.{AsOf, Between, FromTo}
+use Rattle.sql_statements.specs.Lexemes.{Lexeme}
+use Rattle.sql_statements.specs.Names.{is_plain_word}
+use Rattle.sql_statements.specs.Words.{is_reserved}
+use Rattle.sql_statements.specs.Trees.{Statement, stored}
 use Rattle.sql_front.specs.Grammar.{IsStatement}
-use Rattle.sql_front.specs.LeafValues.{clock_of_token, clock_value, moment_of_token, moment_value}
-use Rattle.sql_front.specs.Leaves.{clock_moment_read, moment_read, name_read}
-use Rattle.sql_front.specs.ConditionReaders.{column_read, where_read}
-use Rattle.sql_front.specs.WindowReaders.{for_window_read, window_read, two_moments_read}
-use Rattle.sql_front.specs.QueryReaders.{chain_read, item_read, joins_read, new_name_read, primary_read, query_read, reference_read, select_read, sequenced_read, step_read, steps_read, selected_read, from_read}
-use Rattle.sql_front.specs.StatementReaders.{statement_read, stored_read, stored_table_read, later_statement_read, query_statement_read}
-use Rattle.sql_front.specs.Reading.{bounded_read, whole_read}
+use Rattle.sql_front.specs.reading.LeafValues.{clock_of_token, clock_value, moment_of_token, moment_value}
+use Rattle.sql_front.specs.reading.Leaves.{clock_moment_read, moment_read, name_read}
+use Rattle.sql_front.specs.reading.ConditionReaders.{column_read, where_read}
+use Rattle.sql_front.specs.reading.WindowReaders.{for_window_read, window_read, two_moments_read}
+use Rattle.sql_front.specs.reading.QueryReaders.{chain_read, item_read, joins_read, new_name_read, primary_read, query_read, reference_read, select_read, sequenced_read, step_read, steps_read, selected_read, from_read}
+use Rattle.sql_front.specs.reading.StatementReaders.{statement_read, stored_read, stored_table_read, later_statement_read, query_statement_read}
+use Rattle.sql_front.specs.reading.Reading.{bounded_read, whole_read}
 use Rattle.sql_front.proofs.Spelling.{spelled_if_read}
 use Rattle.sql_front.proofs.StatementExamples.{quoted_text, sign, word}
 use Rattle.sql_front.proofs.QueryExamples.{select_from, selected_from}

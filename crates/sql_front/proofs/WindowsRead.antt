@@ -1,10 +1,10 @@
 -- System-time windows are read.
 use Rattle.std.proofs.Common.{◌≡◌, ℕ, true, List, [], ◌∷◌, refl, codes}
-use Rattle.sql_front.specs.declared.statement.SystemTime.TheVariants.{AsOf}
+use Rattle.sql_statements.specs.declared.statement.SystemTime.TheVariants.{AsOf}
 use Rattle.sql_front.specs.Language.{keyword, Optional, Preceded, Sequence}
 use Rattle.sql_front.specs.Builders.{between_of, from_to_of}
 use Rattle.sql_front.proofs.ReadGrammar.{IsClockMoment, IsForWindow, IsMoment, IsWindow}
-use Rattle.sql_front.specs.WindowReaders.{for_window_read, window_read, two_moments_read}
+use Rattle.sql_front.specs.reading.WindowReaders.{for_window_read, window_read, two_moments_read}
 use Rattle.sql_front.proofs.First.{Starts, starts_built, starts_choice, starts_preceded}
 use Rattle.sql_front.proofs.Laws.{Any, Reads, reads_both, reads_built, reads_preceded}
 use Rattle.sql_front.proofs.LeavesRead.{level_clock_moment, level_moment, reads_clock_moment, reads_moment}

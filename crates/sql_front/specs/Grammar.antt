@@ -3,42 +3,59 @@
 use Rattle.std.specs.Prelude.{ℕ, zero, suc, ℤ, List, codes, Option, Bool, ◌&&◌}
 use Rattle.period_core.specs.declared.value.Value.{Value}
 use Rattle.period_core.specs.declared.value.Value.TheVariants as value
-use Rattle.sql_front.specs.declared.create.ColumnElement.{ColumnElement}
-use Rattle.sql_front.specs.declared.create.CreateTable.{CreateTable}
-use Rattle.sql_front.specs.declared.create.Generated.{Generated}
-use Rattle.sql_front.specs.declared.create.Generated.TheVariants.{Start, End}
-use Rattle.sql_front.specs.declared.create.KeyElement.{KeyElement}
-use Rattle.sql_front.specs.declared.create.PeriodElement.{PeriodElement}
-use Rattle.sql_front.specs.declared.create.ReferenceElement.{ReferenceElement}
-use Rattle.sql_front.specs.declared.create.SystemElement.{SystemElement}
-use Rattle.sql_front.specs.declared.create.TypeName.{TypeName}
-use Rattle.sql_front.specs.declared.create.TypeName.TheVariants.{Integer, Date, Varchar, Timestamp}
-use Rattle.sql_front.specs.declared.statement.Assignment.{Assignment}
-use Rattle.sql_front.specs.declared.statement.ColumnReference.{ColumnReference}
-use Rattle.sql_front.specs.declared.statement.Compare.{Compare}
-use Rattle.sql_front.specs.declared.statement.Comparison.{Comparison}
-use Rattle.sql_front.specs.declared.statement.Comparison.TheVariants.{Equal, NotEqual, Less, LessOrEqual, Greater, GreaterOrEqual}
-use Rattle.sql_front.specs.declared.statement.InsertRows.{InsertRows}
-use Rattle.sql_front.specs.declared.statement.Operand.{Operand}
-use Rattle.sql_front.specs.declared.statement.Operand.TheVariants.{Column, Literal}
-use Rattle.sql_front.specs.declared.statement.PeriodOperand.{PeriodOperand}
-use Rattle.sql_front.specs.declared.statement.PeriodOperand.TheVariants.{Named}
-use Rattle.sql_front.specs.declared.statement.PeriodPredicate.{PeriodPredicate}
-use Rattle.sql_front.specs.declared.statement.PeriodPredicate.TheVariants.{Overlaps, Equals, Contains, Precedes, Succeeds, ImmediatelyPrecedes, ImmediatelySucceeds}
-use Rattle.sql_front.specs.declared.statement.Portion.{Portion}
-use Rattle.sql_front.specs.declared.statement.SelectItem.{SelectItem}
-use Rattle.sql_front.specs.declared.statement.StoredTest.{StoredTest}
-use Rattle.sql_front.specs.declared.statement.StoredTest.TheVariants.{Values}
-use Rattle.sql_front.specs.declared.statement.SystemTime.{SystemTime}
-use Rattle.sql_front.specs.declared.statement.SystemTime.TheVariants.{AsOf}
-use Rattle.sql_front.specs.declared.statement.TableReference.{TableReference}
-use Rattle.sql_front.specs.declared.tree.SetOperator.{SetOperator}
-use Rattle.sql_front.specs.declared.tree.SetOperator.TheVariants.{Union, Except}
-use Rattle.sql_front.specs.Lexemes.{Lexeme}
-use Rattle.sql_front.specs.Names.{is_plain_word, upper}
-use Rattle.sql_front.specs.Language.{Language, is_word, keyword, symbol, text, OneToken, Fixed, Sequence, Built, StandsFor, Choice, Repetition, Optional, Preceded, PrecededOrNot, Separated, Enclosed}
-use Rattle.sql_front.specs.Trees.{Condition, negated, test, Join, JoinChain, Select, Query, simple, Update, Delete, Stored, Statement, at, create, insert, update, delete, sequenced, stored}
-use Rattle.sql_front.specs.Builders.{number_of, text_of, column_of, period_of, system_of, key_of, reference_of, Element, column_element, period_element, system_element, key_element, reference_element, table_of, column_reference_of, compare_of, all_of, any_of, from_to_of, between_of, table_reference_of, join_of, chain_of, item_of, select_of, combined_of, dates_of, periods_of, contains_day_of, stored_of, rows_of, portion_of, assignment_of, update_of, delete_of}
+use Rattle.sql_statements.specs.declared.create.ColumnElement.{ColumnElement}
+use Rattle.sql_statements.specs.declared.create.CreateTable.{CreateTable}
+use Rattle.sql_statements.specs.declared.create.Generated.{Generated}
+use Rattle.sql_statements.specs.declared.create.Generated.TheVariants.{Start, End}
+use Rattle.sql_statements.specs.declared.create.KeyElement.{KeyElement}
+use Rattle.sql_statements.specs.declared.create.PeriodElement.{PeriodElement}
+use Rattle.sql_statements.specs.declared.create.ReferenceElement.{ReferenceElement}
+use Rattle.sql_statements.specs.declared.create.SystemElement.{SystemElement}
+use Rattle.sql_statements.specs.declared.create.TypeName.{TypeName}
+use Rattle.sql_statements.specs.declared.create.TypeName.TheVariants.{Integer, Date, Varchar, Timestamp}
+use Rattle.sql_statements.specs.declared.statement.Assignment.{Assignment}
+use Rattle.sql_statements.specs.declared.statement.ColumnReference.{ColumnReference}
+use Rattle.sql_statements.specs.declared.statement.Compare.{Compare}
+use Rattle.sql_statements.specs.declared.statement.Comparison.{Comparison}
+use Rattle.sql_statements.specs.declared.statement.Comparison.TheVariants.{Equal, NotEqual, Less}
+use Rattle.sql_statements.specs.declared.statement.Comparison.TheVariants.{LessOrEqual, Greater}
+use Rattle.sql_statements.specs.declared.statement.Comparison.TheVariants.{GreaterOrEqual}
+use Rattle.sql_statements.specs.declared.statement.InsertRows.{InsertRows}
+use Rattle.sql_statements.specs.declared.statement.Operand.{Operand}
+use Rattle.sql_statements.specs.declared.statement.Operand.TheVariants.{Column, Literal}
+use Rattle.sql_statements.specs.declared.statement.PeriodOperand.{PeriodOperand}
+use Rattle.sql_statements.specs.declared.statement.PeriodOperand.TheVariants.{Named}
+use Rattle.sql_statements.specs.declared.statement.PeriodPredicate.{PeriodPredicate}
+use Rattle.sql_statements.specs.declared.statement.PeriodPredicate.TheVariants.{Overlaps, Equals}
+use Rattle.sql_statements.specs.declared.statement.PeriodPredicate.TheVariants.{Contains, Precedes}
+use Rattle.sql_statements.specs.declared.statement.PeriodPredicate.TheVariants.{Succeeds}
+use Rattle.sql_statements.specs.declared.statement.PeriodPredicate.TheVariants.{ImmediatelyPrecedes}
+use Rattle.sql_statements.specs.declared.statement.PeriodPredicate.TheVariants.{ImmediatelySucceeds}
+use Rattle.sql_statements.specs.declared.statement.Portion.{Portion}
+use Rattle.sql_statements.specs.declared.statement.SelectItem.{SelectItem}
+use Rattle.sql_statements.specs.declared.statement.StoredTest.{StoredTest}
+use Rattle.sql_statements.specs.declared.statement.StoredTest.TheVariants.{Values}
+use Rattle.sql_statements.specs.declared.statement.SystemTime.{SystemTime}
+use Rattle.sql_statements.specs.declared.statement.SystemTime.TheVariants.{AsOf}
+use Rattle.sql_statements.specs.declared.statement.TableReference.{TableReference}
+use Rattle.sql_statements.specs.declared.tree.SetOperator.{SetOperator}
+use Rattle.sql_statements.specs.declared.tree.SetOperator.TheVariants.{Union, Except}
+use Rattle.sql_statements.specs.Lexemes.{Lexeme}
+use Rattle.sql_statements.specs.Names.{is_plain_word, upper}
+use Rattle.sql_front.specs.Language.{Language, is_word, keyword, symbol, text, OneToken, Fixed}
+use Rattle.sql_front.specs.Language.{Sequence, Built, StandsFor, Choice, Repetition, Optional}
+use Rattle.sql_front.specs.Language.{Preceded, PrecededOrNot, Separated, Enclosed}
+use Rattle.sql_statements.specs.Trees.{Condition, negated, test, Join, JoinChain, Select, Query, simple}
+use Rattle.sql_statements.specs.Trees.{Update, Delete, Stored, Statement, at, create, insert, update}
+use Rattle.sql_statements.specs.Trees.{delete, sequenced, stored}
+use Rattle.sql_front.specs.Builders.{number_of, text_of, column_of, period_of, system_of, key_of}
+use Rattle.sql_front.specs.Builders.{reference_of, Element, column_element, period_element}
+use Rattle.sql_front.specs.Builders.{system_element, key_element, reference_element, table_of}
+use Rattle.sql_front.specs.Builders.{column_reference_of, compare_of, all_of, any_of, from_to_of}
+use Rattle.sql_front.specs.Builders.{between_of, table_reference_of, join_of, chain_of, item_of}
+use Rattle.sql_front.specs.Builders.{select_of, combined_of, dates_of, periods_of, contains_day_of}
+use Rattle.sql_front.specs.Builders.{stored_of, rows_of, portion_of, assignment_of, update_of}
+use Rattle.sql_front.specs.Builders.{delete_of}
 use Rattle.sql_front.specs.Literals.{Literals, exact}
 
 -- a word that is not reserved

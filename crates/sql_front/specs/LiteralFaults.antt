@@ -1,7 +1,8 @@
 -- What is wrong with the literals of a piece. A date is a text behind the word DATE, a moment is one
 -- behind TIMESTAMP, and a number counts with the minus before it.
-use Rattle.std.specs.Prelude.{◌≡◌, ◌<◌, ◌⊎◌, ◌+◌, ℕ, Bool, true, false, cond, List, [], ◌∷◌, ◌++◌, codes}
-use Rattle.sql_front.specs.Lexemes.{Lexeme}
+use Rattle.std.specs.Prelude.{◌≡◌, ◌<◌, ◌⊎◌, ◌+◌, ℕ, Bool, true, false, cond, List, [], ◌∷◌, ◌++◌}
+use Rattle.std.specs.Prelude.{codes}
+use Rattle.sql_statements.specs.Lexemes.{Lexeme}
 use Rattle.sql_front.specs.Language.{keyword, symbol, number, text, or_test}
 use Rattle.sql_front.specs.Values.{IsClockToken, IsDateToken, IsMomentToken, decimal, greatest}
 

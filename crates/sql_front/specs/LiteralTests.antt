@@ -1,9 +1,10 @@
 -- The tests for what is wrong with literals, over the tokens from each place on.
-use Rattle.std.specs.Prelude.{◌||◌, ◌&&◌, ◌+◌, ℕ, ℤ, Bool, false, cond, nat_lt, is_none, List, [], ◌∷◌, Option, codes}
-use Rattle.sql_front.specs.Lexemes.{Lexeme}
+use Rattle.std.specs.Prelude.{◌||◌, ◌&&◌, ◌+◌, ℕ, ℤ, Bool, false, cond, nat_lt, is_none, List, []}
+use Rattle.std.specs.Prelude.{◌∷◌, Option, codes}
+use Rattle.sql_statements.specs.Lexemes.{Lexeme}
 use Rattle.sql_front.specs.Language.{keyword, symbol, number, text, or_test}
 use Rattle.sql_front.specs.Values.{decimal, greatest}
-use Rattle.sql_front.specs.LeafValues.{clock_of_token, day_of_token, moment_of_token}
+use Rattle.sql_front.specs.reading.LeafValues.{clock_of_token, day_of_token, moment_of_token}
 
 -- the test holds of some token and those behind it
 abbrev pub somewhere : (Lexeme → List Lexeme → Bool) → List Lexeme → Bool

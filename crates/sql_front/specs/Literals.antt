@@ -1,7 +1,8 @@
 -- What the literals of a statement stand for.
 use Rattle.std.specs.Prelude.{ℕ, ℤ}
 use Rattle.sql_front.specs.Language.{Language, OneToken, Related, number, text}
-use Rattle.sql_front.specs.Values.{NamesClockMoment, NamesDay, NamesMoment, NamesNegative, NamesNumber}
+use Rattle.sql_front.specs.Values.{NamesClockMoment, NamesDay, NamesMoment, NamesNegative}
+use Rattle.sql_front.specs.Values.{NamesNumber}
 
 -- which token stands for which number, day or moment
 pub record Literals : Type 1 where

@@ -2,7 +2,7 @@
 use Rattle.std.specs.Prelude.{Bool}
 use Rattle.sql_front.specs.declared.mark.Mark.{Mark}
 use Rattle.sql_front.specs.declared.mark.Mark.TheVariants as marks
-use Rattle.sql_front.specs.Lexemes.{Lexeme}
+use Rattle.sql_statements.specs.Lexemes.{Lexeme}
 use Rattle.sql_front.specs.Language.{keyword, symbol}
 
 abbrev pub mark : Mark → Lexeme → Bool

@@ -1,9 +1,10 @@
 -- When a piece of a script is refused for its spelling or for its literals.
 use Rattle.std.specs.Prelude.{List}
 use Rattle.period_core.specs.declared.refusal.Refusal.{Refusal}
-use Rattle.period_core.specs.declared.refusal.Refusal.TheVariants.{Syntax, TooDeep, BadDate, BadMoment, NumberRange}
-use Rattle.sql_front.specs.Lexemes.{Lexeme}
-use Rattle.sql_front.specs.Trees.{Statement}
+use Rattle.period_core.specs.declared.refusal.Refusal.TheVariants.{Syntax, TooDeep, BadDate}
+use Rattle.period_core.specs.declared.refusal.Refusal.TheVariants.{BadMoment, NumberRange}
+use Rattle.sql_statements.specs.Lexemes.{Lexeme}
+use Rattle.sql_statements.specs.Trees.{Statement}
 use Rattle.sql_front.specs.Literals.{any_value}
 use Rattle.sql_front.specs.Grammar.{Spells}
 use Rattle.sql_front.specs.Depth.{IsDeeper, most_open}

@@ -1,9 +1,10 @@
 -- Pieces: what stands between the semicolons of a script.
-use Rattle.std.specs.Prelude.{◌≡◌, ℕ, ◌<◌, ◌≤◌, Bool, true, false, List, [], ◌∷◌, ◌++◌, codes, filter}
+use Rattle.std.specs.Prelude.{◌≡◌, ℕ, ◌<◌, ◌≤◌, Bool, true, false, List, [], ◌∷◌, ◌++◌, codes}
+use Rattle.std.specs.Prelude.{filter}
 use Rattle.std.specs.List.{list_any, slice_range}
 use Rattle.std.specs.Str.{bytes_eq}
 use Rattle.sql_front.specs.declared.pieces.Span.{Span}
-use Rattle.sql_front.specs.Lexemes.{Lexeme}
+use Rattle.sql_statements.specs.Lexemes.{Lexeme}
 
 -- a semicolon: no other token has this text
 abbrev pub is_semicolon : Lexeme → Bool

@@ -1,9 +1,10 @@
 -- The program's elements of CREATE TABLE as plain ones.
 use Rattle.std.specs.Prelude.{[], ◌∷◌, ◌++◌}
-use Rattle.sql_front.specs.declared.create.CreateTable.{CreateTable}
+use Rattle.sql_statements.specs.declared.create.CreateTable.{CreateTable}
 use Rattle.sql_front.specs.declared.tables.TableElement as tables
 use Rattle.sql_front.specs.declared.tables.TableElement.TheVariants as variant
-use Rattle.sql_front.specs.Builders.{Element, column_element, period_element, system_element, key_element, reference_element}
+use Rattle.sql_front.specs.Builders.{Element, column_element, period_element, system_element}
+use Rattle.sql_front.specs.Builders.{key_element, reference_element}
 
 abbrev pub plain_element : tables.TableElement → Element
 plain_element (variant.Column c) = column_element c

@@ -1,5 +1,6 @@
 -- What literals stand for as they are read: one that names no value has a stand-in.
-use Rattle.sql_front.specs.LeafValues.{clock_value, day_value, moment_value, negative_value, number_value}
+use Rattle.sql_front.specs.reading.LeafValues.{clock_value, day_value, moment_value, negative_value}
+use Rattle.sql_front.specs.reading.LeafValues.{number_value}
 use Rattle.sql_front.specs.Language.{Built, OneToken, number, text}
 use Rattle.sql_front.specs.Literals.{Literals}
 

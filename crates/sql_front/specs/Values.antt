@@ -1,5 +1,6 @@
 -- The values that the texts of tokens name.
-use Rattle.std.specs.Prelude.{◌≡◌, ◌≤◌, ◌<ℤ◌, ℕ, ℤ, pos, neg_ℤ, ◌+◌, ◌-◌, ◌*◌, ◌==◌, Bool, cond, List, [], ◌∷◌, take, drop, length}
+use Rattle.std.specs.Prelude.{◌≡◌, ◌≤◌, ◌<ℤ◌, ℕ, ℤ, pos, neg_ℤ, ◌+◌, ◌-◌, ◌*◌, ◌==◌, Bool, cond}
+use Rattle.std.specs.Prelude.{List, [], ◌∷◌, take, drop, length}
 use Rattle.period_core.specs.Calendar.{IsDayText}
 use Rattle.period_core.specs.Moments.{IsMomentText, forever}
 

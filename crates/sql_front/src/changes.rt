@@ -1,32 +1,37 @@
 //! AT, INSERT, UPDATE and DELETE, read from the front.
 
 ghost use Rattle.std.specs.Prelude.{◌≡◌, ◌≤◌, length, IfOk};
-ghost use Rattle.sql_front.specs.ChangeReaders.{assignment_read, at_read, bounds_read, columns_read, delete_read, deleted_read, in_portion_read, insert_read, inserted_read, named_portion_read, portion_read, set_read, update_read, values_read};
-ghost use Rattle.sql_front.specs.Gives.{Gives};
+ghost use Rattle.sql_front.specs.reading.ChangeReaders.{assignment_read, at_read, bounds_read};
+ghost use Rattle.sql_front.specs.reading.ChangeReaders.{columns_read, delete_read, deleted_read};
+ghost use Rattle.sql_front.specs.reading.ChangeReaders.{in_portion_read, insert_read};
+ghost use Rattle.sql_front.specs.reading.ChangeReaders.{inserted_read, named_portion_read};
+ghost use Rattle.sql_front.specs.reading.ChangeReaders.{portion_read, set_read, update_read};
+ghost use Rattle.sql_front.specs.reading.ChangeReaders.{values_read};
+ghost use Rattle.sql_front.specs.reading.Gives.{Gives};
 ghost use Rattle.sql_front.specs.Grammar.{comma};
-ghost use Rattle.sql_front.specs.Leaves.{tuple_read};
-ghost use Rattle.sql_front.specs.Lexemes.{lexemes};
-ghost use Rattle.sql_front.specs.Plain.{plain_condition, plain_delete, plain_update};
+ghost use Rattle.sql_front.specs.reading.Leaves.{tuple_read};
+ghost use Rattle.sql_statements.specs.Lexemes.{lexemes};
+ghost use Rattle.sql_statements.specs.Plain.{plain_condition, plain_delete, plain_update};
 ghost use Rattle.std.specs.Option.{option_map};
-ghost use Rattle.sql_front.specs.Reading.{separated_read};
-ghost use Rattle.sql_front.specs.declared.statement.Assignment as assignments;
+ghost use Rattle.sql_front.specs.reading.Reading.{separated_read};
+ghost use Rattle.sql_statements.specs.declared.statement.Assignment as assignments;
 
-use crate::clock_moment::ClockMoment;
 use crate::conditions::read_where;
 use crate::leaves::{read_clock_moment, read_date, read_literal, read_name, read_names};
 use crate::list::{Item, separated};
 use crate::mark::{Mark, skip, starts};
-use crate::name::Name;
-use crate::nonempty::NonEmpty;
-use crate::statement::{Assignment, Compare, DeleteRows, InsertRows, Portion, UpdateRows};
-use crate::token::Token;
-use crate::tree::Tree;
 use crate::unread::Unread;
 use period_core::{Day, Value};
+use sql_statements::clock_moment::ClockMoment;
+use sql_statements::name::Name;
+use sql_statements::nonempty::NonEmpty;
+use sql_statements::statement::{Assignment, Compare, DeleteRows, InsertRows, Portion, UpdateRows};
+use sql_statements::token::Token;
+use sql_statements::tree::Tree;
 use std::alloc::Global;
 
 /// AT with a moment, and the tokens after it.
-#[tactic(auto, unfolding(crate::specs::ChangeReaders::at_read))]
+#[tactic(auto, unfolding(crate::specs::reading::ChangeReaders::at_read))]
 pub fn read_at<'a, 'b>(tokens: &'b [Token<'a>]) -> Result<(ClockMoment, &'b [Token<'a>]), Unread>
     ensures value { Gives (λ x. (x.0, lexemes x.1.now)) result (at_read (lexemes tokens.now)) }
     ensures rest { IfOk result (λ x. length x.1.now ≤ length tokens.now) }
@@ -35,7 +40,7 @@ pub fn read_at<'a, 'b>(tokens: &'b [Token<'a>]) -> Result<(ClockMoment, &'b [Tok
 }
 
 /// Names of columns in parentheses or nothing, and the tokens after them.
-#[tactic(auto, unfolding(crate::specs::ChangeReaders::columns_read))]
+#[tactic(auto, unfolding(crate::specs::reading::ChangeReaders::columns_read))]
 fn read_columns<'a, 'b>(
     alloc: Global,
     tokens: &'b [Token<'a>],
@@ -63,7 +68,7 @@ fn read_rows<'a, 'b>(
 }
 
 /// VALUES with rows, and the tokens after them.
-#[tactic(auto, unfolding(crate::specs::ChangeReaders::values_read))]
+#[tactic(auto, unfolding(crate::specs::reading::ChangeReaders::values_read))]
 fn read_values<'a, 'b>(
     alloc: Global,
     tokens: &'b [Token<'a>],
@@ -75,7 +80,7 @@ fn read_values<'a, 'b>(
 }
 
 /// A table with columns and rows, and the tokens after them.
-#[tactic(auto, unfolding(crate::specs::ChangeReaders::inserted_read))]
+#[tactic(auto, unfolding(crate::specs::reading::ChangeReaders::inserted_read))]
 fn read_inserted<'a, 'b>(
     alloc: Global,
     tokens: &'b [Token<'a>],
@@ -97,7 +102,7 @@ fn read_inserted<'a, 'b>(
 }
 
 /// INSERT, and the tokens after it.
-#[tactic(auto, unfolding(crate::specs::ChangeReaders::insert_read))]
+#[tactic(auto, unfolding(crate::specs::reading::ChangeReaders::insert_read))]
 pub fn read_insert<'a, 'b>(
     alloc: Global,
     tokens: &'b [Token<'a>],
@@ -110,7 +115,7 @@ pub fn read_insert<'a, 'b>(
 }
 
 /// FROM a day TO another, and the tokens after them.
-#[tactic(auto, unfolding(crate::specs::ChangeReaders::bounds_read))]
+#[tactic(auto, unfolding(crate::specs::reading::ChangeReaders::bounds_read))]
 fn read_bounds<'a, 'b>(tokens: &'b [Token<'a>]) -> Result<((Day, Day), &'b [Token<'a>]), Unread>
     ensures value { Gives (λ x. (x.0, lexemes x.1.now)) result (bounds_read (lexemes tokens.now)) }
     ensures rest { IfOk result (λ x. length x.1.now ≤ length tokens.now) }
@@ -126,7 +131,7 @@ fn read_bounds<'a, 'b>(tokens: &'b [Token<'a>]) -> Result<((Day, Day), &'b [Toke
 }
 
 /// A period with its bounds, and the tokens after them.
-#[tactic(auto, unfolding(crate::specs::ChangeReaders::named_portion_read))]
+#[tactic(auto, unfolding(crate::specs::reading::ChangeReaders::named_portion_read))]
 fn read_named_portion<'a, 'b>(
     alloc: Global,
     tokens: &'b [Token<'a>],
@@ -141,7 +146,7 @@ fn read_named_portion<'a, 'b>(
     }
 }
 
-#[tactic(auto, unfolding(crate::specs::ChangeReaders::in_portion_read))]
+#[tactic(auto, unfolding(crate::specs::reading::ChangeReaders::in_portion_read))]
 fn read_in_portion<'a, 'b>(
     alloc: Global,
     tokens: &'b [Token<'a>],
@@ -155,7 +160,7 @@ fn read_in_portion<'a, 'b>(
 }
 
 /// FOR PORTION OF a period with its bounds or nothing, and the tokens after them.
-#[tactic(auto, unfolding(crate::specs::ChangeReaders::portion_read))]
+#[tactic(auto, unfolding(crate::specs::reading::ChangeReaders::portion_read))]
 pub fn read_portion<'a, 'b>(
     alloc: Global,
     tokens: &'b [Token<'a>],
@@ -177,7 +182,7 @@ impl<'a> Item<'a> for Assignment {
 
     ghost reader = { λ depth. assignment_read };
 
-    #[tactic(auto, unfolding(crate::specs::ChangeReaders::assignment_read))]
+    #[tactic(auto, unfolding(crate::specs::reading::ChangeReaders::assignment_read))]
     fn read<'b>(
         alloc: Global,
         _depth: usize,
@@ -203,7 +208,7 @@ fn read_assignments<'a, 'b>(
 
 /// SET with assignments and a condition, and the tokens after them. At most `depth` parentheses
 /// open in it.
-#[tactic(auto, unfolding(crate::specs::ChangeReaders::set_read))]
+#[tactic(auto, unfolding(crate::specs::reading::ChangeReaders::set_read))]
 fn read_set<'a, 'b>(
     alloc: Global,
     depth: usize,
@@ -224,7 +229,7 @@ fn read_set<'a, 'b>(
 }
 
 /// UPDATE, and the tokens after it. At most `depth` parentheses open in it.
-#[tactic(auto, unfolding(crate::specs::ChangeReaders::update_read))]
+#[tactic(auto, unfolding(crate::specs::reading::ChangeReaders::update_read))]
 pub fn read_update<'a, 'b>(
     alloc: Global,
     depth: usize,
@@ -249,7 +254,7 @@ pub fn read_update<'a, 'b>(
 
 /// A table with a portion and a condition, and the tokens after them. At most `depth` parentheses
 /// open in it.
-#[tactic(auto, unfolding(crate::specs::ChangeReaders::deleted_read))]
+#[tactic(auto, unfolding(crate::specs::reading::ChangeReaders::deleted_read))]
 fn read_deleted<'a, 'b>(
     alloc: Global,
     depth: usize,
@@ -272,7 +277,7 @@ fn read_deleted<'a, 'b>(
 }
 
 /// DELETE, and the tokens after it. At most `depth` parentheses open in it.
-#[tactic(auto, unfolding(crate::specs::ChangeReaders::delete_read))]
+#[tactic(auto, unfolding(crate::specs::reading::ChangeReaders::delete_read))]
 pub fn read_delete<'a, 'b>(
     alloc: Global,
     depth: usize,

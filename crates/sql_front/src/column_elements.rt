@@ -1,21 +1,23 @@
 //! The columns of CREATE TABLE, read from the front.
 
 ghost use Rattle.std.specs.Prelude.{◌≡◌, ◌≤◌, length, IfOk, codes};
-ghost use Rattle.sql_front.specs.ElementReaders.{column_element_read, generated_read, length_read, not_null_read, row_end_read, timestamp_read, type_read};
-ghost use Rattle.sql_front.specs.Gives.{Gives};
+ghost use Rattle.sql_front.specs.reading.ElementReaders.{column_element_read, generated_read};
+ghost use Rattle.sql_front.specs.reading.ElementReaders.{length_read, not_null_read, row_end_read};
+ghost use Rattle.sql_front.specs.reading.ElementReaders.{timestamp_read, type_read};
+ghost use Rattle.sql_front.specs.reading.Gives.{Gives};
 ghost use Rattle.sql_front.specs.Language.{keyword};
-ghost use Rattle.sql_front.specs.Lexemes.{lexemes};
-ghost use Rattle.sql_front.specs.Reading.{optional_read};
+ghost use Rattle.sql_statements.specs.Lexemes.{lexemes};
+ghost use Rattle.sql_front.specs.reading.Reading.{optional_read};
 
-use crate::create::{ColumnElement, Generated, TypeName};
 use crate::leaves::{read_name, read_number};
 use crate::mark::{Mark, after, skip, starts};
-use crate::token::Token;
 use crate::unread::Unread;
+use sql_statements::create::{ColumnElement, Generated, TypeName};
+use sql_statements::token::Token;
 use std::alloc::Global;
 
 // A number in parentheses.
-#[tactic(auto, unfolding(crate::specs::ElementReaders::length_read))]
+#[tactic(auto, unfolding(crate::specs::reading::ElementReaders::length_read))]
 fn read_length<'a, 'b>(tokens: &'b [Token<'a>]) -> Result<(u64, &'b [Token<'a>]), Unread>
     ensures value { Gives (λ x. (x.0, lexemes x.1.now)) result (length_read (lexemes tokens.now)) }
     ensures rest { IfOk result (λ x. length x.1.now ≤ length tokens.now) }
@@ -25,7 +27,7 @@ fn read_length<'a, 'b>(tokens: &'b [Token<'a>]) -> Result<(u64, &'b [Token<'a>])
 }
 
 // TIMESTAMP with a precision or without.
-#[tactic(auto, unfolding(crate::specs::ElementReaders::timestamp_read))]
+#[tactic(auto, unfolding(crate::specs::reading::ElementReaders::timestamp_read))]
 fn read_timestamp<'a, 'b>(tokens: &'b [Token<'a>]) -> Result<(TypeName, &'b [Token<'a>]), Unread>
     ensures value { Gives (λ x. (x.0, lexemes x.1.now)) result (timestamp_read (lexemes tokens.now)) }
     ensures rest { IfOk result (λ x. length x.1.now ≤ length tokens.now) }
@@ -39,7 +41,7 @@ fn read_timestamp<'a, 'b>(tokens: &'b [Token<'a>]) -> Result<(TypeName, &'b [Tok
 }
 
 // A type by its keywords.
-#[tactic(auto, unfolding(crate::specs::ElementReaders::type_read))]
+#[tactic(auto, unfolding(crate::specs::reading::ElementReaders::type_read))]
 fn read_type<'a, 'b>(tokens: &'b [Token<'a>]) -> Result<(TypeName, &'b [Token<'a>]), Unread>
     ensures value { Gives (λ x. (x.0, lexemes x.1.now)) result (type_read (lexemes tokens.now)) }
     ensures rest { IfOk result (λ x. length x.1.now ≤ length tokens.now) }
@@ -62,7 +64,7 @@ fn read_type<'a, 'b>(tokens: &'b [Token<'a>]) -> Result<(TypeName, &'b [Token<'a
 }
 
 // START or END.
-#[tactic(auto, unfolding(crate::specs::ElementReaders::row_end_read))]
+#[tactic(auto, unfolding(crate::specs::reading::ElementReaders::row_end_read))]
 fn read_row_end<'a, 'b>(tokens: &'b [Token<'a>]) -> Result<(Generated, &'b [Token<'a>]), Unread>
     ensures value { Gives (λ x. (x.0, lexemes x.1.now)) result (row_end_read (lexemes tokens.now)) }
     ensures rest { IfOk result (λ x. length x.1.now ≤ length tokens.now) }
@@ -74,7 +76,7 @@ fn read_row_end<'a, 'b>(tokens: &'b [Token<'a>]) -> Result<(Generated, &'b [Toke
 }
 
 // GENERATED ALWAYS AS ROW with the end, or nothing.
-#[tactic(auto, unfolding(crate::specs::ElementReaders::generated_read))]
+#[tactic(auto, unfolding(crate::specs::reading::ElementReaders::generated_read))]
 fn read_generated<'a, 'b>(
     tokens: &'b [Token<'a>],
 ) -> Result<(Option<Generated>, &'b [Token<'a>]), Unread>
@@ -91,7 +93,7 @@ fn read_generated<'a, 'b>(
 }
 
 // NOT NULL or nothing.
-#[tactic(auto, unfolding(crate::specs::ElementReaders::not_null_read))]
+#[tactic(auto, unfolding(crate::specs::reading::ElementReaders::not_null_read))]
 fn read_not_null<'a, 'b>(tokens: &'b [Token<'a>]) -> Result<(Option<()>, &'b [Token<'a>]), Unread>
     ensures value { Gives (λ x. (x.0, lexemes x.1.now)) result (optional_read (keyword (codes "NOT")) not_null_read (lexemes tokens.now)) }
     ensures rest { IfOk result (λ x. length x.1.now ≤ length tokens.now) }
@@ -103,7 +105,7 @@ fn read_not_null<'a, 'b>(tokens: &'b [Token<'a>]) -> Result<(Option<()>, &'b [To
 }
 
 /// A column with its type, and the tokens after it. NOT NULL adds nothing: no column holds NULL.
-#[tactic(auto, unfolding(crate::specs::ElementReaders::column_element_read))]
+#[tactic(auto, unfolding(crate::specs::reading::ElementReaders::column_element_read))]
 pub fn read_column_element<'a, 'b>(
     alloc: Global,
     tokens: &'b [Token<'a>],

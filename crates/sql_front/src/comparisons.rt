@@ -1,20 +1,21 @@
 //! Columns and comparisons, read from the front.
 
 ghost use Rattle.std.specs.Prelude.{◌≡◌, ◌≤◌, length, IfOk};
-ghost use Rattle.sql_front.specs.ConditionReaders.{column_read, comparison_read, compare_read, operand_read};
-ghost use Rattle.sql_front.specs.Gives.{Gives};
-ghost use Rattle.sql_front.specs.Lexemes.{lexemes};
+ghost use Rattle.sql_front.specs.reading.ConditionReaders.{column_read, comparison_read};
+ghost use Rattle.sql_front.specs.reading.ConditionReaders.{compare_read, operand_read};
+ghost use Rattle.sql_front.specs.reading.Gives.{Gives};
+ghost use Rattle.sql_statements.specs.Lexemes.{lexemes};
 
 use crate::conditions::Test;
 use crate::leaves::{read_literal, read_name};
 use crate::mark::{Mark, after, skip, starts_name};
-use crate::statement::{ColumnReference, Compare, Comparison, Operand};
-use crate::token::Token;
 use crate::unread::Unread;
+use sql_statements::statement::{ColumnReference, Compare, Comparison, Operand};
+use sql_statements::token::Token;
 use std::alloc::Global;
 
 /// A column, and the tokens after it.
-#[tactic(auto, unfolding(crate::specs::ConditionReaders::column_read))]
+#[tactic(auto, unfolding(crate::specs::reading::ConditionReaders::column_read))]
 pub fn read_column<'a, 'b>(
     alloc: Global,
     tokens: &'b [Token<'a>],
@@ -38,7 +39,7 @@ pub fn read_column<'a, 'b>(
     Ok((column, rest))
 }
 
-#[tactic(auto, unfolding(crate::specs::ConditionReaders::operand_read))]
+#[tactic(auto, unfolding(crate::specs::reading::ConditionReaders::operand_read))]
 fn read_operand<'a, 'b>(
     alloc: Global,
     tokens: &'b [Token<'a>],
@@ -54,7 +55,7 @@ fn read_operand<'a, 'b>(
     Ok((Operand::Literal(literal), rest))
 }
 
-#[tactic(auto, unfolding(crate::specs::ConditionReaders::comparison_read))]
+#[tactic(auto, unfolding(crate::specs::reading::ConditionReaders::comparison_read))]
 fn read_comparison<'a, 'b>(tokens: &'b [Token<'a>]) -> Result<(Comparison, &'b [Token<'a>]), Unread>
     ensures value { Gives (λ x. (x.0, lexemes x.1.now)) result (comparison_read (lexemes tokens.now)) }
     ensures rest { IfOk result (λ x. length x.1.now ≤ length tokens.now) }
@@ -81,7 +82,7 @@ fn read_comparison<'a, 'b>(tokens: &'b [Token<'a>]) -> Result<(Comparison, &'b [
 }
 
 /// Two operands compared, and the tokens after them.
-#[tactic(auto, unfolding(crate::specs::ConditionReaders::compare_read))]
+#[tactic(auto, unfolding(crate::specs::reading::ConditionReaders::compare_read))]
 pub fn read_compare<'a, 'b>(
     alloc: Global,
     tokens: &'b [Token<'a>],

@@ -2,16 +2,18 @@
 
 ghost use Rattle.std.specs.Prelude.{◌≡◌, ◌≤◌, ◌∷◌, List, Option, Some, length, map, IfOk};
 ghost use Rattle.std.specs.Option.{option_map};
-ghost use Rattle.sql_front.specs.ConditionReaders.{condition_read, conjunction_read, factor_read, inner_read, test_read, where_read};
-ghost use Rattle.sql_front.specs.Gives.{Gives};
+ghost use Rattle.sql_front.specs.reading.ConditionReaders.{condition_read, conjunction_read};
+ghost use Rattle.sql_front.specs.reading.ConditionReaders.{factor_read, inner_read, test_read};
+ghost use Rattle.sql_front.specs.reading.ConditionReaders.{where_read};
+ghost use Rattle.sql_front.specs.reading.Gives.{Gives};
 ghost use Rattle.sql_front.specs.Builders.{all_of, any_of};
-ghost use Rattle.sql_front.specs.Lexemes.{Lexeme, lexemes};
-ghost use Rattle.sql_front.specs.Plain.{plain_condition};
+ghost use Rattle.sql_statements.specs.Lexemes.{Lexeme, lexemes};
+ghost use Rattle.sql_statements.specs.Plain.{plain_condition};
 
 use crate::mark::{Mark, after, skip, starts};
-use crate::token::Token;
-use crate::tree::Tree;
 use crate::unread::Unread;
+use sql_statements::token::Token;
+use sql_statements::tree::Tree;
 use std::alloc::Global;
 
 /// A test that stands in a condition.
@@ -49,7 +51,7 @@ fn and_chain<T: Drop>(
 
 /// A condition, and the tokens after it. At most `depth` parentheses open in it.
 #[cycle(conditions)]
-#[tactic(auto, unfolding(crate::specs::ConditionReaders::condition_read))]
+#[tactic(auto, unfolding(crate::specs::reading::ConditionReaders::condition_read))]
 pub fn read_condition<'a, 'b, T: Test>(
     alloc: Global,
     depth: usize,
@@ -69,7 +71,7 @@ pub fn read_condition<'a, 'b, T: Test>(
 }
 
 #[cycle(conditions)]
-#[tactic(auto, unfolding(crate::specs::ConditionReaders::conjunction_read))]
+#[tactic(auto, unfolding(crate::specs::reading::ConditionReaders::conjunction_read))]
 fn read_conjunction<'a, 'b, T: Test>(
     alloc: Global,
     depth: usize,
@@ -89,7 +91,7 @@ fn read_conjunction<'a, 'b, T: Test>(
 }
 
 #[cycle(conditions)]
-#[tactic(auto, unfolding(crate::specs::ConditionReaders::factor_read))]
+#[tactic(auto, unfolding(crate::specs::reading::ConditionReaders::factor_read))]
 fn read_factor<'a, 'b, T: Test>(
     alloc: Global,
     depth: usize,
@@ -106,7 +108,7 @@ fn read_factor<'a, 'b, T: Test>(
 }
 
 #[cycle(conditions)]
-#[tactic(auto, unfolding(crate::specs::ConditionReaders::test_read), using(crate::proofs::ConditionViews::test_view))]
+#[tactic(auto, unfolding(crate::specs::reading::ConditionReaders::test_read), using(crate::proofs::ConditionViews::test_view))]
 fn read_test<'a, 'b, T: Test>(
     alloc: Global,
     depth: usize,
@@ -148,7 +150,7 @@ fn read_nested<'a, 'b, T: Test>(
 }
 
 /// WHERE with a condition or nothing, and the tokens after it.
-#[tactic(auto, unfolding(crate::specs::ConditionReaders::where_read))]
+#[tactic(auto, unfolding(crate::specs::reading::ConditionReaders::where_read))]
 pub fn read_where<'a, 'b, T: Test>(
     alloc: Global,
     depth: usize,

@@ -1,13 +1,13 @@
 //! The days and moments that text tokens name.
 
 ghost use Rattle.std.specs.Prelude.{◌≡◌, ◌↔◌, IsSome};
-ghost use Rattle.sql_front.specs.LeafValues as leaves;
-ghost use Rattle.sql_front.specs.LeafValues.{clock_value, day_value, moment_value};
+ghost use Rattle.sql_front.specs.reading.LeafValues as leaves;
+ghost use Rattle.sql_front.specs.reading.LeafValues.{clock_value, day_value, moment_value};
 ghost use Rattle.sql_front.specs.Values as values;
 ghost use Rattle.sql_front.specs.Values.{IsClockToken, IsDateToken, IsMomentToken};
 
-use crate::clock_moment::ClockMoment;
 use period_core::{Day, Moment};
+use sql_statements::clock_moment::ClockMoment;
 
 /// The bytes of a token without its first and its last.
 fn between_quotes(token: &str) -> &[u8]
@@ -20,7 +20,7 @@ fn between_quotes(token: &str) -> &[u8]
     &bytes[1..bytes.len() - 1]
 }
 
-#[tactic(auto, unfolding(crate::specs::LeafValues::day_of_token))]
+#[tactic(auto, unfolding(crate::specs::reading::LeafValues::day_of_token))]
 fn day_between_quotes(token: &str) -> Option<Day>
     ensures { result ≡ leaves.day_of_token token.now }
 {
@@ -36,7 +36,7 @@ pub fn day_of_token(token: &str) -> Option<Day>
     day_between_quotes(token)
 }
 
-#[tactic(auto, unfolding(crate::specs::LeafValues::moment_of_token))]
+#[tactic(auto, unfolding(crate::specs::reading::LeafValues::moment_of_token))]
 fn moment_between_quotes(token: &str) -> Option<Moment>
     ensures { result ≡ leaves.moment_of_token token.now }
 {
@@ -52,7 +52,7 @@ pub fn moment_of_token(token: &str) -> Option<Moment>
     moment_between_quotes(token)
 }
 
-#[tactic(auto, unfolding(crate::specs::LeafValues::clock_of_token))]
+#[tactic(auto, unfolding(crate::specs::reading::LeafValues::clock_of_token))]
 fn clock_moment_at(token: &str) -> Option<ClockMoment>
     ensures { result ≡ leaves.clock_of_token token.now }
 {
@@ -69,7 +69,7 @@ pub fn clock_moment_of_token(token: &str) -> Option<ClockMoment>
 }
 
 /// The day that a text token names: the first day where it names none.
-#[tactic(auto, unfolding(crate::specs::LeafValues::day_value))]
+#[tactic(auto, unfolding(crate::specs::reading::LeafValues::day_value))]
 pub fn named_day(token: &str) -> Day
     ensures { result ≡ day_value token.now }
 {
@@ -80,7 +80,7 @@ pub fn named_day(token: &str) -> Day
 }
 
 /// The moment that a text token names: the first moment where it names none.
-#[tactic(auto, unfolding(crate::specs::LeafValues::moment_value))]
+#[tactic(auto, unfolding(crate::specs::reading::LeafValues::moment_value))]
 pub fn named_moment(token: &str) -> Moment
     ensures { result ≡ moment_value token.now }
 {
@@ -91,7 +91,7 @@ pub fn named_moment(token: &str) -> Moment
 }
 
 /// The moment before the open end that a text token names: the first moment where it names none.
-#[tactic(auto, unfolding(crate::specs::LeafValues::clock_value))]
+#[tactic(auto, unfolding(crate::specs::reading::LeafValues::clock_value))]
 pub fn named_clock_moment(token: &str) -> ClockMoment
     ensures { result ≡ clock_value token.now }
 {

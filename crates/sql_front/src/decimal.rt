@@ -1,7 +1,7 @@
 //! Numbers of digits.
 
 ghost use Rattle.std.specs.Prelude.{◌≡◌, ◌≤◌, nat_lt, cond, Some, None};
-ghost use Rattle.sql_front.specs.LeafValues as leaves;
+ghost use Rattle.sql_front.specs.reading.LeafValues as leaves;
 ghost use Rattle.sql_front.specs.Values.{decimal, greatest};
 
 /// The greatest number of 64 bits signed.

@@ -1,11 +1,11 @@
 //! How deep parentheses stand.
 
 ghost use Rattle.std.specs.Prelude.{◌≡◌, ◌↔◌, IsTrue, is_none};
-ghost use Rattle.sql_front.specs.Lexemes.{lexemes};
+ghost use Rattle.sql_statements.specs.Lexemes.{lexemes};
 ghost use Rattle.sql_front.specs.Depth.{IsDeeper, most_open, room};
 
 use crate::mark::{Mark, is_mark};
-use crate::token::Token;
+use sql_statements::token::Token;
 
 /// How many parentheses may be open.
 pub const MOST_OPEN: usize = 32;

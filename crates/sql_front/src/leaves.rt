@@ -2,28 +2,30 @@
 
 ghost use Rattle.std.specs.Prelude.{◌≡◌, ◌≤◌, ℕ, List, length, IfOk};
 ghost use Rattle.period_core.specs.declared.value.Value as values;
-ghost use Rattle.sql_front.specs.Gives.{Gives};
+ghost use Rattle.sql_front.specs.reading.Gives.{Gives};
 ghost use Rattle.sql_front.specs.Builders as builders;
 ghost use Rattle.sql_front.specs.Language as language;
-ghost use Rattle.sql_front.specs.Reading.{built_read, one_read};
-ghost use Rattle.sql_front.specs.Lexemes.{lexemes};
-ghost use Rattle.sql_front.specs.Leaves.{clock_moment_read, date_read, literal_read, moment_read, name_read, names_read, number_read, tuple_read, unsigned_read};
+ghost use Rattle.sql_front.specs.reading.Reading.{built_read, one_read};
+ghost use Rattle.sql_statements.specs.Lexemes.{lexemes};
+ghost use Rattle.sql_front.specs.reading.Leaves.{clock_moment_read, date_read, literal_read};
+ghost use Rattle.sql_front.specs.reading.Leaves.{moment_read, name_read, names_read, number_read};
+ghost use Rattle.sql_front.specs.reading.Leaves.{tuple_read, unsigned_read};
 
-use crate::clock_moment::ClockMoment;
 use crate::date_tokens::{named_clock_moment, named_day, named_moment};
 use crate::decimal::{negative_value, number_value};
 use crate::list::{Item, separated};
 use crate::mark::{Mark, name, number, skip, skip_optional, starts, starts_text, text};
-use crate::name::Name;
-use crate::nonempty::NonEmpty;
 use crate::texts::text_of;
-use crate::token::Token;
 use crate::unread::Unread;
 use period_core::{Day, Moment, Value};
+use sql_statements::clock_moment::ClockMoment;
+use sql_statements::name::Name;
+use sql_statements::nonempty::NonEmpty;
+use sql_statements::token::Token;
 use std::alloc::Global;
 
 /// A name, and the tokens after it.
-#[tactic(auto, unfolding(crate::specs::Leaves::name_read))]
+#[tactic(auto, unfolding(crate::specs::reading::Leaves::name_read))]
 pub fn read_name<'a, 'b>(
     alloc: Global,
     tokens: &'b [Token<'a>],
@@ -39,7 +41,7 @@ pub fn read_name<'a, 'b>(
 }
 
 /// A number, and the tokens after it.
-#[tactic(auto, unfolding(crate::specs::Leaves::number_read))]
+#[tactic(auto, unfolding(crate::specs::reading::Leaves::number_read))]
 pub fn read_number<'a, 'b>(tokens: &'b [Token<'a>]) -> Result<(u64, &'b [Token<'a>]), Unread>
     ensures value { Gives (λ x. (x.0, lexemes x.1.now)) result (number_read (lexemes tokens.now)) }
     ensures rest { IfOk result (λ x. length x.1.now ≤ length tokens.now) }
@@ -49,7 +51,7 @@ pub fn read_number<'a, 'b>(tokens: &'b [Token<'a>]) -> Result<(u64, &'b [Token<'
 }
 
 /// A moment, and the tokens after it.
-#[tactic(auto, unfolding(crate::specs::Leaves::moment_read))]
+#[tactic(auto, unfolding(crate::specs::reading::Leaves::moment_read))]
 pub fn read_moment<'a, 'b>(tokens: &'b [Token<'a>]) -> Result<(Moment, &'b [Token<'a>]), Unread>
     ensures value { Gives (λ x. (x.0, lexemes x.1.now)) result (moment_read (lexemes tokens.now)) }
     ensures rest { IfOk result (λ x. length x.1.now ≤ length tokens.now) }
@@ -59,7 +61,7 @@ pub fn read_moment<'a, 'b>(tokens: &'b [Token<'a>]) -> Result<(Moment, &'b [Toke
 }
 
 /// A moment before the open end, and the tokens after it.
-#[tactic(auto, unfolding(crate::specs::Leaves::clock_moment_read))]
+#[tactic(auto, unfolding(crate::specs::reading::Leaves::clock_moment_read))]
 pub fn read_clock_moment<'a, 'b>(
     tokens: &'b [Token<'a>],
 ) -> Result<(ClockMoment, &'b [Token<'a>]), Unread>
@@ -71,7 +73,7 @@ pub fn read_clock_moment<'a, 'b>(
 }
 
 /// A date, and the tokens after it.
-#[tactic(auto, unfolding(crate::specs::Leaves::date_read))]
+#[tactic(auto, unfolding(crate::specs::reading::Leaves::date_read))]
 pub fn read_date<'a, 'b>(tokens: &'b [Token<'a>]) -> Result<(Day, &'b [Token<'a>]), Unread>
     ensures value { Gives (λ x. (x.0, lexemes x.1.now)) result (date_read (lexemes tokens.now)) }
     ensures rest { IfOk result (λ x. length x.1.now ≤ length tokens.now) }
@@ -81,7 +83,7 @@ pub fn read_date<'a, 'b>(tokens: &'b [Token<'a>]) -> Result<(Day, &'b [Token<'a>
 }
 
 /// A number without a minus as a value, and the tokens after it.
-#[tactic(auto, unfolding(crate::specs::Leaves::unsigned_read, crate::specs::Leaves::number_read))]
+#[tactic(auto, unfolding(crate::specs::reading::Leaves::unsigned_read, crate::specs::reading::Leaves::number_read))]
 fn read_unsigned<'a, 'b>(tokens: &'b [Token<'a>]) -> Result<(Value, &'b [Token<'a>]), Unread>
     ensures value { Gives (λ x. (x.0, lexemes x.1.now)) result (unsigned_read (lexemes tokens.now)) }
     ensures rest { IfOk result (λ x. length x.1.now ≤ length tokens.now) }
@@ -106,7 +108,7 @@ fn read_text<'a, 'b>(
 }
 
 /// A literal, and the tokens after it.
-#[tactic(auto, unfolding(crate::specs::Leaves::literal_read))]
+#[tactic(auto, unfolding(crate::specs::reading::Leaves::literal_read))]
 pub fn read_literal<'a, 'b>(
     alloc: Global,
     tokens: &'b [Token<'a>],
@@ -163,7 +165,7 @@ impl<'a> Item<'a> for Value {
 }
 
 /// Names in parentheses with commas, and the tokens after them.
-#[tactic(auto, unfolding(crate::specs::Leaves::names_read))]
+#[tactic(auto, unfolding(crate::specs::reading::Leaves::names_read))]
 pub fn read_names<'a, 'b>(
     alloc: Global,
     tokens: &'b [Token<'a>],
@@ -177,7 +179,7 @@ pub fn read_names<'a, 'b>(
 }
 
 /// Literals in parentheses with commas, and the tokens after them.
-#[tactic(auto, unfolding(crate::specs::Leaves::tuple_read))]
+#[tactic(auto, unfolding(crate::specs::reading::Leaves::tuple_read))]
 pub fn read_tuple<'a, 'b>(
     alloc: Global,
     tokens: &'b [Token<'a>],

@@ -2,12 +2,12 @@
 
 ghost use Rattle.std.specs.Prelude.{◌≡◌, ℕ, ◌+◌, ◌<◌, ◌^◌, length, All, IfOk};
 ghost use Rattle.sql_front.specs.declared.lexer.LexFault.TheVariants.{BadToken, Memory};
-ghost use Rattle.sql_front.specs.Lexemes.{lexemes};
-ghost use Rattle.sql_front.specs.Lexis.{TokensFrom, StopsFrom, TokensOf, StopsAt, IsTokenAt};
+ghost use Rattle.sql_statements.specs.Lexemes.{lexemes};
+ghost use Rattle.sql_statements.specs.Lexis.{TokensFrom, StopsFrom, TokensOf, StopsAt, IsTokenAt};
 
-use crate::lexeme::{Front, first_lexeme};
-use crate::scan::mark_size;
-use crate::token::Token;
+use sql_statements::lexeme::{Front, first_lexeme};
+use sql_statements::scan::mark_size;
+use sql_statements::token::Token;
 use std::alloc::{AllocError, AllocFailed, Global};
 use thiserror::Error;
 

@@ -1,14 +1,14 @@
 //! Lists with commas.
 
 ghost use Rattle.std.specs.Prelude.{◌≡◌, ◌≤◌, ◌<◌, ℕ, List, length, map, Option, IfOk, codes};
-ghost use Rattle.sql_front.specs.Lexemes.{Lexeme, lexemes};
+ghost use Rattle.sql_statements.specs.Lexemes.{Lexeme, lexemes};
 ghost use Rattle.sql_front.specs.Language.{symbol};
-ghost use Rattle.sql_front.specs.Reading.{separated_read};
-ghost use Rattle.sql_front.specs.Gives.{Gives};
+ghost use Rattle.sql_front.specs.reading.Reading.{separated_read};
+ghost use Rattle.sql_front.specs.reading.Gives.{Gives};
 
 use crate::mark::{Mark, skip, starts};
-use crate::token::Token;
 use crate::unread::Unread;
+use sql_statements::token::Token;
 use std::alloc::Global;
 
 /// What stands in a list with commas.

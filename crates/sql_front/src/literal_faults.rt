@@ -2,8 +2,8 @@
 
 ghost use Rattle.std.specs.Prelude.{◌≡◌, ◌↔◌, false, IsTrue, IfSome, IfNone, codes};
 ghost use Rattle.period_core.specs.Leasts.{IsLeast, NoneApplies};
-ghost use Rattle.sql_front.specs.LeafValues.{clock_of_token};
-ghost use Rattle.sql_front.specs.Lexemes.{lexeme, lexemes};
+ghost use Rattle.sql_front.specs.reading.LeafValues.{clock_of_token};
+ghost use Rattle.sql_statements.specs.Lexemes.{lexeme, lexemes};
 ghost use Rattle.sql_front.specs.LiteralFaults.{HasBadDate, HasBadMoment, HasNumberOutside};
 ghost use Rattle.sql_front.specs.LiteralRefusals.{LiteralApplies};
 ghost use Rattle.sql_front.specs.LiteralTests as tests;
@@ -12,8 +12,8 @@ ghost use Rattle.sql_front.specs.LiteralTests.{number_above, somewhere};
 use crate::date_tokens::{clock_moment_of_token, day_of_token, moment_of_token};
 use crate::decimal::{GREATEST, decimal_up_to};
 use crate::mark::{Mark, is_mark};
-use crate::token::{Kind, Token};
 use period_core::Refusal;
+use sql_statements::token::{Kind, Token};
 
 fn is_bad_date(first: &Token<'_>, after: &[Token<'_>]) -> bool
     ensures { result ≡ tests.is_bad_date (lexeme first.now) (lexemes after.now) }

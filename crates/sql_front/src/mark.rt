@@ -1,18 +1,19 @@
 //! Single tokens, read from the front.
 
 ghost use Rattle.std.specs.Prelude.{◌≡◌, true, List, ◌≤◌, ◌<◌, length, is_some, Some, IfOk, IfSome};
-ghost use Rattle.sql_front.specs.Lexemes.{lexeme, lexemes};
+ghost use Rattle.sql_statements.specs.Lexemes.{lexeme, lexemes};
 ghost use Rattle.sql_front.specs.Language.{number, text};
 ghost use Rattle.sql_front.specs.Grammar.{name};
-ghost use Rattle.sql_front.specs.Names.{is_plain_word};
-ghost use Rattle.sql_front.specs.Reading.{begins, behind_optional, third_is, fixed_read, one_read};
+ghost use Rattle.sql_statements.specs.Names.{is_plain_word};
+ghost use Rattle.sql_front.specs.reading.Reading.{begins, behind_optional, third_is, fixed_read};
+ghost use Rattle.sql_front.specs.reading.Reading.{one_read};
 ghost use Rattle.sql_front.specs.Marks.{mark};
-ghost use Rattle.sql_front.specs.Gives.{Gives};
+ghost use Rattle.sql_front.specs.reading.Gives.{Gives};
 
-use crate::token::{Kind, Token};
 use crate::unread::Unread;
-use crate::word_text::is_plain_word;
-use crate::words::is_same_word;
+use sql_statements::token::{Kind, Token};
+use sql_statements::word_text::is_plain_word;
+use sql_statements::words::is_same_word;
 
 /// A token that stands for nothing but itself.
 #[derive(Clone, Copy)]

@@ -3,17 +3,17 @@
 ghost use Rattle.std.specs.Prelude.{IfOk, IfErr, OnOk};
 ghost use Rattle.period_core.specs.Leasts.{MayAnswer, NoneApplies};
 ghost use Rattle.sql_front.specs.Grammar.{IsStatement};
-ghost use Rattle.sql_front.specs.Lexemes.{lexemes};
+ghost use Rattle.sql_statements.specs.Lexemes.{lexemes};
 ghost use Rattle.sql_front.specs.PieceRefusals.{PieceApplies};
-ghost use Rattle.sql_front.specs.Plain.{plain};
+ghost use Rattle.sql_statements.specs.Plain.{plain};
 
 use crate::depth::is_too_deep;
 use crate::literal_faults::literal_fault;
-use crate::statement::Statement;
 use crate::statements::spelled;
-use crate::token::Token;
 use crate::unread::Unread;
 use period_core::Refusal;
+use sql_statements::statement::Statement;
+use sql_statements::token::Token;
 use std::alloc::Global;
 
 /// The statement that the tokens of a piece of the script spell, all of them; else the refusal of

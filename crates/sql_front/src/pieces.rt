@@ -1,12 +1,12 @@
 //! The pieces between the semicolons of a script.
 
 ghost use Rattle.std.specs.Prelude.{◌≡◌, All, IfOk, length, map};
-ghost use Rattle.sql_front.specs.Lexemes.{lexeme, lexemes};
+ghost use Rattle.sql_statements.specs.Lexemes.{lexeme, lexemes};
 ghost use Rattle.sql_front.specs.Pieces as pieces;
 ghost use Rattle.sql_front.specs.Pieces.{HasPieces, IsWithin, spanned};
 
-use crate::token::Token;
 use period_core::Memory;
+use sql_statements::token::Token;
 use std::alloc::Global;
 
 /// A run of tokens: from one index on and before another.

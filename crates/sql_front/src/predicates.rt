@@ -1,23 +1,27 @@
 //! The tests of stored queries: period predicates and comparisons, read from the front.
 
 ghost use Rattle.std.specs.Prelude.{◌≡◌, ◌≤◌, length, IfOk};
-ghost use Rattle.sql_front.specs.Gives.{Gives};
-ghost use Rattle.sql_front.specs.Lexemes.{lexemes};
-ghost use Rattle.sql_front.specs.PredicateReaders.{begins_contains_date, dates_read, period_operand_read, predicate_ahead, predicate_read, relation_behind_column, relation_read, relation_word, stored_test_read};
-ghost use Rattle.sql_front.specs.Reading.{begins};
+ghost use Rattle.sql_front.specs.reading.Gives.{Gives};
+ghost use Rattle.sql_statements.specs.Lexemes.{lexemes};
+ghost use Rattle.sql_front.specs.reading.PredicateReaders.{begins_contains_date, dates_read};
+ghost use Rattle.sql_front.specs.reading.PredicateReaders.{period_operand_read, predicate_ahead};
+ghost use Rattle.sql_front.specs.reading.PredicateReaders.{predicate_read, relation_behind_column};
+ghost use Rattle.sql_front.specs.reading.PredicateReaders.{relation_read, relation_word};
+ghost use Rattle.sql_front.specs.reading.PredicateReaders.{stored_test_read};
+ghost use Rattle.sql_front.specs.reading.Reading.{begins};
 
 use crate::comparisons::{read_column, read_compare};
 use crate::conditions::Test;
 use crate::leaves::read_date;
 use crate::mark::{Mark, after, is_mark, skip, starts, starts_name};
-use crate::statement::{PeriodOperand, PeriodPredicate, StoredTest};
-use crate::token::Token;
 use crate::unread::Unread;
 use period_core::Day;
+use sql_statements::statement::{PeriodOperand, PeriodPredicate, StoredTest};
+use sql_statements::token::Token;
 use std::alloc::Global;
 
 /// Two days in parentheses, and the tokens after them.
-#[tactic(auto, unfolding(crate::specs::PredicateReaders::dates_read))]
+#[tactic(auto, unfolding(crate::specs::reading::PredicateReaders::dates_read))]
 fn read_dates<'a, 'b>(tokens: &'b [Token<'a>]) -> Result<((Day, Day), &'b [Token<'a>]), Unread>
     ensures value { Gives (λ x. (x.0, lexemes x.1.now)) result (dates_read (lexemes tokens.now)) }
     ensures rest { IfOk result (λ x. length x.1.now ≤ length tokens.now) }
@@ -34,7 +38,7 @@ fn read_dates<'a, 'b>(tokens: &'b [Token<'a>]) -> Result<((Day, Day), &'b [Token
     Ok(((from, to), rest))
 }
 
-#[tactic(auto, unfolding(crate::specs::PredicateReaders::period_operand_read))]
+#[tactic(auto, unfolding(crate::specs::reading::PredicateReaders::period_operand_read))]
 fn read_period_operand<'a, 'b>(
     alloc: Global,
     tokens: &'b [Token<'a>],
@@ -52,7 +56,7 @@ fn read_period_operand<'a, 'b>(
     }
 }
 
-#[tactic(auto, unfolding(crate::specs::PredicateReaders::relation_read))]
+#[tactic(auto, unfolding(crate::specs::reading::PredicateReaders::relation_read))]
 fn read_relation<'a, 'b>(
     tokens: &'b [Token<'a>],
 ) -> Result<(PeriodPredicate, &'b [Token<'a>]), Unread>
@@ -83,7 +87,7 @@ fn read_relation<'a, 'b>(
 }
 
 /// Do the tokens begin with CONTAINS DATE?
-#[tactic(auto, unfolding(crate::specs::PredicateReaders::begins_contains_date))]
+#[tactic(auto, unfolding(crate::specs::reading::PredicateReaders::begins_contains_date))]
 fn starts_contains_date(tokens: &[Token<'_>]) -> bool
     ensures { result ≡ begins_contains_date (lexemes tokens.now) }
 {
@@ -96,7 +100,7 @@ fn starts_contains_date(tokens: &[Token<'_>]) -> bool
 }
 
 /// A period predicate, and the tokens after it.
-#[tactic(auto, unfolding(crate::specs::PredicateReaders::predicate_read, crate::specs::PredicateReaders::said_read))]
+#[tactic(auto, unfolding(crate::specs::reading::PredicateReaders::predicate_read, crate::specs::reading::PredicateReaders::said_read))]
 fn read_predicate<'a, 'b>(
     alloc: Global,
     tokens: &'b [Token<'a>],
@@ -117,7 +121,7 @@ fn read_predicate<'a, 'b>(
 }
 
 /// Do the tokens begin with a word of a period predicate?
-#[tactic(auto, unfolding(crate::specs::PredicateReaders::relation_word))]
+#[tactic(auto, unfolding(crate::specs::reading::PredicateReaders::relation_word))]
 fn starts_relation(tokens: &[Token<'_>]) -> bool
     ensures { result ≡ begins relation_word (lexemes tokens.now) }
 {
@@ -130,7 +134,7 @@ fn starts_relation(tokens: &[Token<'_>]) -> bool
 }
 
 /// Does such a word stand behind the column that the tokens begin with?
-#[tactic(auto, unfolding(crate::specs::PredicateReaders::relation_behind_column))]
+#[tactic(auto, unfolding(crate::specs::reading::PredicateReaders::relation_behind_column))]
 fn has_relation_behind_column(tokens: &[Token<'_>]) -> bool
     ensures { result ≡ relation_behind_column (lexemes tokens.now) }
 {
@@ -143,7 +147,7 @@ fn has_relation_behind_column(tokens: &[Token<'_>]) -> bool
 }
 
 /// Do the tokens begin as a predicate does, and not as a comparison?
-#[tactic(auto, unfolding(crate::specs::PredicateReaders::predicate_ahead))]
+#[tactic(auto, unfolding(crate::specs::reading::PredicateReaders::predicate_ahead))]
 fn is_predicate_ahead(tokens: &[Token<'_>]) -> bool
     ensures { result ≡ predicate_ahead (lexemes tokens.now) }
 {
@@ -152,7 +156,7 @@ fn is_predicate_ahead(tokens: &[Token<'_>]) -> bool
 }
 
 /// A period predicate or a comparison, and the tokens after it.
-#[tactic(auto, unfolding(crate::specs::PredicateReaders::stored_test_read))]
+#[tactic(auto, unfolding(crate::specs::reading::PredicateReaders::stored_test_read))]
 pub fn read_stored_test<'a, 'b>(
     alloc: Global,
     tokens: &'b [Token<'a>],

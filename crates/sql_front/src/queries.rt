@@ -1,19 +1,22 @@
 //! Queries, read from the front.
 
 ghost use Rattle.std.specs.Prelude.{◌≡◌, ◌≤◌, ◌<◌, List, [], ℕ, Some, length, map, IfOk};
-ghost use Rattle.sql_front.specs.Gives.{Gives};
-ghost use Rattle.sql_front.specs.Lexemes.{lexemes};
-ghost use Rattle.sql_front.specs.Plain.{plain_query, steps_of};
-ghost use Rattle.sql_front.specs.Reading.{begins};
-ghost use Rattle.sql_front.specs.Trees as trees;
-ghost use Rattle.sql_front.specs.QueryReaders.{begins_step, inner_query_read, operator_read, plain_step, primary_read, query_read, sequenced_read, step_read, steps_read};
+ghost use Rattle.sql_front.specs.reading.Gives.{Gives};
+ghost use Rattle.sql_statements.specs.Lexemes.{lexemes};
+ghost use Rattle.sql_statements.specs.Plain.{plain_query, plain_step, steps_of};
+ghost use Rattle.sql_front.specs.reading.Reading.{begins};
+ghost use Rattle.sql_statements.specs.Trees as trees;
+ghost use Rattle.sql_front.specs.reading.QueryReaders.{begins_step, inner_query_read};
+ghost use Rattle.sql_front.specs.reading.QueryReaders.{operator_read, primary_read};
+ghost use Rattle.sql_front.specs.reading.QueryReaders.{query_read, sequenced_read, step_read};
+ghost use Rattle.sql_front.specs.reading.QueryReaders.{steps_read};
 
 use crate::mark::{Mark, after, skip, skip_optional, starts};
 use crate::selects::read_select;
-use crate::statement::SelectDistinct;
-use crate::token::Token;
-use crate::tree::{QueryTree, SetOperator};
 use crate::unread::Unread;
+use sql_statements::statement::SelectDistinct;
+use sql_statements::token::Token;
+use sql_statements::tree::{QueryTree, SetOperator};
 use std::alloc::Global;
 
 /// Does a set operator come next?
@@ -24,7 +27,7 @@ fn starts_step(tokens: &[Token<'_>]) -> bool
 }
 
 /// A set operator, and the tokens after it.
-#[tactic(auto, unfolding(crate::specs::QueryReaders::operator_read))]
+#[tactic(auto, unfolding(crate::specs::reading::QueryReaders::operator_read))]
 fn read_operator<'a, 'b>(tokens: &'b [Token<'a>]) -> Result<(SetOperator, &'b [Token<'a>]), Unread>
     ensures value { Gives (λ x. (x.0, lexemes x.1.now)) result (operator_read (lexemes tokens.now)) }
     ensures rest { IfOk result (λ x. length x.1.now < length tokens.now) }
@@ -36,7 +39,7 @@ fn read_operator<'a, 'b>(tokens: &'b [Token<'a>]) -> Result<(SetOperator, &'b [T
 }
 
 /// The query of the first and of the set operators after it.
-#[tactic(auto, using(crate::proofs::QueryViews::combined_view))]
+#[tactic(auto, using(sql_statements::proofs::QueryViews::combined_view))]
 fn combined(
     alloc: Global,
     first: QueryTree<SelectDistinct>,
@@ -49,7 +52,7 @@ fn combined(
 
 /// A query, and the tokens after it. At most `depth` parentheses open in it.
 #[cycle(queries)]
-#[tactic(auto, unfolding(crate::specs::QueryReaders::query_read))]
+#[tactic(auto, unfolding(crate::specs::reading::QueryReaders::query_read))]
 pub fn read_query<'a, 'b>(
     alloc: Global,
     depth: usize,
@@ -110,7 +113,7 @@ fn read_steps<'a, 'b>(
 
 /// A set operator with the query behind it, and the tokens after them.
 #[cycle(queries)]
-#[tactic(auto, unfolding(crate::specs::QueryReaders::step_read))]
+#[tactic(auto, unfolding(crate::specs::reading::QueryReaders::step_read))]
 fn read_step<'a, 'b>(
     alloc: Global,
     depth: usize,
@@ -127,7 +130,7 @@ fn read_step<'a, 'b>(
 
 /// A select, or a query in parentheses, and the tokens after it.
 #[cycle(queries)]
-#[tactic(auto, unfolding(crate::specs::QueryReaders::primary_read), using(crate::proofs::QueryViews::simple_view))]
+#[tactic(auto, unfolding(crate::specs::reading::QueryReaders::primary_read), using(sql_statements::proofs::QueryViews::simple_view))]
 fn read_primary<'a, 'b>(
     alloc: Global,
     depth: usize,
@@ -169,7 +172,7 @@ fn read_inner_query<'a, 'b>(
 }
 
 /// VALIDTIME with a query, and the tokens after it. At most `depth` parentheses open in it.
-#[tactic(auto, unfolding(crate::specs::QueryReaders::sequenced_read))]
+#[tactic(auto, unfolding(crate::specs::reading::QueryReaders::sequenced_read))]
 pub fn read_sequenced<'a, 'b>(
     alloc: Global,
     depth: usize,

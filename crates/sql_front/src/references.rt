@@ -1,21 +1,22 @@
 //! Table references and the items of a select list, read from the front.
 
 ghost use Rattle.std.specs.Prelude.{◌≡◌, ◌≤◌, length, IfOk};
-ghost use Rattle.sql_front.specs.Gives.{Gives};
-ghost use Rattle.sql_front.specs.Lexemes.{lexemes};
-ghost use Rattle.sql_front.specs.Reading.{begins};
-ghost use Rattle.sql_front.specs.declared.statement.SelectItem as items;
-ghost use Rattle.sql_front.specs.QueryReaders.{begins_new_name, item_read, new_name_read, reference_read};
+ghost use Rattle.sql_front.specs.reading.Gives.{Gives};
+ghost use Rattle.sql_statements.specs.Lexemes.{lexemes};
+ghost use Rattle.sql_front.specs.reading.Reading.{begins};
+ghost use Rattle.sql_statements.specs.declared.statement.SelectItem as items;
+ghost use Rattle.sql_front.specs.reading.QueryReaders.{begins_new_name, item_read, new_name_read};
+ghost use Rattle.sql_front.specs.reading.QueryReaders.{reference_read};
 
 use crate::comparisons::read_column;
 use crate::leaves::read_name;
 use crate::list::Item;
 use crate::mark::{Mark, skip_optional, starts, starts_name};
-use crate::name::Name;
-use crate::statement::{SelectItem, TableReference};
-use crate::token::Token;
 use crate::unread::Unread;
 use crate::windows::read_for_window;
+use sql_statements::name::Name;
+use sql_statements::statement::{SelectItem, TableReference};
+use sql_statements::token::Token;
 use std::alloc::Global;
 
 /// Does a new name come next, with AS or without?
@@ -26,7 +27,7 @@ fn starts_new_name(tokens: &[Token<'_>]) -> bool
 }
 
 /// A new name with AS or without, or nothing, and the tokens after it.
-#[tactic(auto, unfolding(crate::specs::QueryReaders::new_name_read))]
+#[tactic(auto, unfolding(crate::specs::reading::QueryReaders::new_name_read))]
 fn read_new_name<'a, 'b>(
     alloc: Global,
     tokens: &'b [Token<'a>],
@@ -42,7 +43,7 @@ fn read_new_name<'a, 'b>(
 }
 
 /// A table with its window and its new name, and the tokens after it.
-#[tactic(auto, unfolding(crate::specs::QueryReaders::reference_read))]
+#[tactic(auto, unfolding(crate::specs::reading::QueryReaders::reference_read))]
 pub fn read_reference<'a, 'b>(
     alloc: Global,
     tokens: &'b [Token<'a>],
@@ -74,7 +75,7 @@ impl<'a> Item<'a> for SelectItem {
 
     ghost reader = { λ depth. item_read };
 
-    #[tactic(auto, unfolding(crate::specs::QueryReaders::item_read))]
+    #[tactic(auto, unfolding(crate::specs::reading::QueryReaders::item_read))]
     fn read<'b>(
         alloc: Global,
         _depth: usize,

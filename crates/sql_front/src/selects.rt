@@ -1,26 +1,30 @@
 //! SELECT DISTINCT, read from the front.
 
 ghost use Rattle.std.specs.Prelude.{◌≡◌, ◌≤◌, ◌<◌, List, length, map, IfOk};
-ghost use Rattle.sql_front.specs.Gives.{Gives};
-ghost use Rattle.sql_front.specs.Lexemes.{lexemes};
-ghost use Rattle.sql_front.specs.Plain.{plain_chain, plain_condition, plain_join, plain_select};
-ghost use Rattle.sql_front.specs.Reading.{begins};
-ghost use Rattle.sql_front.specs.Trees as trees;
-ghost use Rattle.sql_front.specs.QueryReaders.{begins_join, chain_read, from_read, item_read, join_read, joined_read, select_read, selected_read};
+ghost use Rattle.sql_front.specs.reading.Gives.{Gives};
+ghost use Rattle.sql_statements.specs.Lexemes.{lexemes};
+ghost use Rattle.sql_statements.specs.Plain.{plain_chain, plain_condition, plain_join, plain_select};
+ghost use Rattle.sql_front.specs.reading.Reading.{begins};
+ghost use Rattle.sql_statements.specs.Trees as trees;
+ghost use Rattle.sql_front.specs.reading.QueryReaders.{begins_join, chain_read, from_read};
+ghost use Rattle.sql_front.specs.reading.QueryReaders.{item_read, join_read, joined_read};
+ghost use Rattle.sql_front.specs.reading.QueryReaders.{select_read, selected_read};
 ghost use Rattle.sql_front.specs.Grammar.{comma};
-ghost use Rattle.sql_front.specs.Reading.{separated_read};
+ghost use Rattle.sql_front.specs.reading.Reading.{separated_read};
 ghost use Rattle.std.specs.Option.{option_map};
 
 use crate::conditions::{read_condition, read_where};
 use crate::list::{Item, separated};
 use crate::mark::{Mark, skip, skip_optional, starts};
-use crate::nonempty::NonEmpty;
 use crate::references::read_reference;
-use crate::statement::{Compare, Join, JoinChain, SelectDistinct, SelectItem, TableReference};
-use crate::token::Token;
-use crate::tree::Tree;
 use crate::unread::Unread;
 use period_core::Items;
+use sql_statements::nonempty::NonEmpty;
+use sql_statements::statement::{
+    Compare, Join, JoinChain, SelectDistinct, SelectItem, TableReference,
+};
+use sql_statements::token::Token;
+use sql_statements::tree::Tree;
 use std::alloc::Global;
 
 /// Does a join come next?
@@ -31,7 +35,7 @@ fn starts_join(tokens: &[Token<'_>]) -> bool
 }
 
 /// JOIN with a table and ON with a condition, and the tokens after them.
-#[tactic(auto, unfolding(crate::specs::QueryReaders::joined_read))]
+#[tactic(auto, unfolding(crate::specs::reading::QueryReaders::joined_read))]
 fn read_joined<'a, 'b>(
     alloc: Global,
     depth: usize,
@@ -47,7 +51,7 @@ fn read_joined<'a, 'b>(
 }
 
 /// JOIN of a table with its condition, and the tokens after it.
-#[tactic(auto, unfolding(crate::specs::QueryReaders::join_read))]
+#[tactic(auto, unfolding(crate::specs::reading::QueryReaders::join_read))]
 fn read_join<'a, 'b>(
     alloc: Global,
     depth: usize,
@@ -68,7 +72,7 @@ fn read_join<'a, 'b>(
 }
 
 /// Tables that are joined from left to right, and the tokens after them.
-#[tactic(auto, unfolding(crate::specs::QueryReaders::chain_read))]
+#[tactic(auto, unfolding(crate::specs::reading::QueryReaders::chain_read))]
 fn read_chain<'a, 'b>(
     alloc: Global,
     depth: usize,
@@ -136,7 +140,7 @@ fn read_chains<'a, 'b>(
 
 /// FROM with tables and a condition, and the tokens after them. At most `depth` parentheses open
 /// in it.
-#[tactic(auto, unfolding(crate::specs::QueryReaders::from_read))]
+#[tactic(auto, unfolding(crate::specs::reading::QueryReaders::from_read))]
 fn read_from<'a, 'b>(
     alloc: Global,
     depth: usize,
@@ -158,7 +162,7 @@ fn read_from<'a, 'b>(
 
 /// The items, the tables and the condition of a select, and the tokens after them. At most `depth`
 /// parentheses open in it.
-#[tactic(auto, unfolding(crate::specs::QueryReaders::selected_read))]
+#[tactic(auto, unfolding(crate::specs::reading::QueryReaders::selected_read))]
 fn read_selected<'a, 'b>(
     alloc: Global,
     depth: usize,
@@ -181,7 +185,7 @@ fn read_selected<'a, 'b>(
 
 /// SELECT DISTINCT with its items, its tables and its condition, and the tokens after it. At most
 /// `depth` parentheses open in it.
-#[tactic(auto, unfolding(crate::specs::QueryReaders::select_read))]
+#[tactic(auto, unfolding(crate::specs::reading::QueryReaders::select_read))]
 pub fn read_select<'a, 'b>(
     alloc: Global,
     depth: usize,

@@ -3,28 +3,29 @@
 ghost use Rattle.std.specs.Prelude.{◌≡◌, IfOk};
 ghost use Rattle.sql_front.specs.declared.unread.Unread.TheVariants.{Syntax};
 ghost use Rattle.sql_front.specs.Depth.{most_open};
-ghost use Rattle.sql_front.specs.Gives.{Gives};
+ghost use Rattle.sql_front.specs.reading.Gives.{Gives};
 ghost use Rattle.sql_front.specs.Grammar.{Spells};
-ghost use Rattle.sql_front.specs.Lexemes.{lexemes};
+ghost use Rattle.sql_statements.specs.Lexemes.{lexemes};
 ghost use Rattle.sql_front.specs.PieceRefusals.{IsTooDeep, SpellsNone};
-ghost use Rattle.sql_front.specs.Plain.{plain, plain_form};
-ghost use Rattle.sql_front.specs.Reading.{whole_read};
+ghost use Rattle.sql_statements.specs.Plain.{plain, plain_form};
+ghost use Rattle.sql_front.specs.reading.Reading.{whole_read};
 ghost use Rattle.sql_front.specs.StandIns.{stand_in};
-ghost use Rattle.sql_front.specs.StatementReaders.{later_statement_read, query_statement_read, statement_read};
+ghost use Rattle.sql_front.specs.reading.StatementReaders.{later_statement_read};
+ghost use Rattle.sql_front.specs.reading.StatementReaders.{query_statement_read, statement_read};
 
 use crate::changes::{read_at, read_delete, read_insert, read_update};
 use crate::depth::MOST_OPEN;
 use crate::mark::{Mark, starts};
 use crate::queries::read_sequenced;
-use crate::statement::{Statement, StatementForm};
 use crate::stored::read_stored;
 use crate::tables::read_create;
-use crate::token::Token;
 use crate::unread::Unread;
+use sql_statements::statement::{Statement, StatementForm};
+use sql_statements::token::Token;
 use std::alloc::Global;
 
 /// A query by its first keyword, and the tokens after it.
-#[tactic(auto, unfolding(crate::specs::StatementReaders::query_statement_read))]
+#[tactic(auto, unfolding(crate::specs::reading::StatementReaders::query_statement_read))]
 fn read_query_statement<'a, 'b>(
     alloc: Global,
     tokens: &'b [Token<'a>],
@@ -40,7 +41,7 @@ fn read_query_statement<'a, 'b>(
 }
 
 /// INSERT, UPDATE, DELETE or a query, and the tokens after it.
-#[tactic(auto, unfolding(crate::specs::StatementReaders::later_statement_read))]
+#[tactic(auto, unfolding(crate::specs::reading::StatementReaders::later_statement_read))]
 fn read_later_statement<'a, 'b>(
     alloc: Global,
     tokens: &'b [Token<'a>],
@@ -62,7 +63,7 @@ fn read_later_statement<'a, 'b>(
     read_query_statement(alloc, tokens)
 }
 
-#[tactic(auto, unfolding(crate::specs::StatementReaders::statement_read))]
+#[tactic(auto, unfolding(crate::specs::reading::StatementReaders::statement_read))]
 fn read_statement<'a, 'b>(
     alloc: Global,
     tokens: &'b [Token<'a>],

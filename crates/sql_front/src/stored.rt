@@ -1,23 +1,23 @@
 //! Stored queries, read from the front.
 
 ghost use Rattle.std.specs.Prelude.{◌≡◌, ◌≤◌, length, IfOk};
-ghost use Rattle.sql_front.specs.Gives.{Gives};
-ghost use Rattle.sql_front.specs.Lexemes.{lexemes};
-ghost use Rattle.sql_front.specs.Plain.{plain_stored};
-ghost use Rattle.sql_front.specs.StatementReaders.{stored_read, stored_table_read};
+ghost use Rattle.sql_front.specs.reading.Gives.{Gives};
+ghost use Rattle.sql_statements.specs.Lexemes.{lexemes};
+ghost use Rattle.sql_statements.specs.Plain.{plain_stored};
+ghost use Rattle.sql_front.specs.reading.StatementReaders.{stored_read, stored_table_read};
 
 use crate::conditions::read_where;
 use crate::leaves::read_name;
 use crate::mark::{Mark, skip};
-use crate::statement::{StoredQuery, StoredTest};
-use crate::token::Token;
 use crate::unread::Unread;
 use crate::windows::read_for_window;
+use sql_statements::statement::{StoredQuery, StoredTest};
+use sql_statements::token::Token;
 use std::alloc::Global;
 
 /// A table with a window and a condition, and the tokens after them. At most `depth` parentheses
 /// open in it.
-#[tactic(auto, unfolding(crate::specs::StatementReaders::stored_table_read))]
+#[tactic(auto, unfolding(crate::specs::reading::StatementReaders::stored_table_read))]
 fn read_stored_table<'a, 'b>(
     alloc: Global,
     depth: usize,
@@ -43,7 +43,7 @@ fn read_stored_table<'a, 'b>(
 }
 
 /// SELECT * of a table, and the tokens after it. At most `depth` parentheses open in it.
-#[tactic(auto, unfolding(crate::specs::StatementReaders::stored_read))]
+#[tactic(auto, unfolding(crate::specs::reading::StatementReaders::stored_read))]
 pub fn read_stored<'a, 'b>(
     alloc: Global,
     depth: usize,

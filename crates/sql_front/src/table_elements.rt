@@ -1,22 +1,30 @@
 //! The periods, keys and references of CREATE TABLE, read from the front.
 
 ghost use Rattle.std.specs.Prelude.{◌≡◌, ◌≤◌, ◌<◌, length, IfOk};
-ghost use Rattle.sql_front.specs.ElementReaders.{key_element_read, key_list_read, key_names_read, last_period_read, leading_names_read, one_more_name, pair_read, parent_read, period_element_read, reference_element_read, reference_list_read, split_last, system_element_read, without_overlaps_read};
-ghost use Rattle.sql_front.specs.Gives.{Gives};
-ghost use Rattle.sql_front.specs.Lexemes.{lexemes};
+ghost use Rattle.sql_front.specs.reading.ElementReaders.{key_element_read, key_list_read};
+ghost use Rattle.sql_front.specs.reading.ElementReaders.{key_names_read, last_period_read};
+ghost use Rattle.sql_front.specs.reading.ElementReaders.{leading_names_read, one_more_name};
+ghost use Rattle.sql_front.specs.reading.ElementReaders.{pair_read, parent_read};
+ghost use Rattle.sql_front.specs.reading.ElementReaders.{period_element_read};
+ghost use Rattle.sql_front.specs.reading.ElementReaders.{reference_element_read};
+ghost use Rattle.sql_front.specs.reading.ElementReaders.{reference_list_read, split_last};
+ghost use Rattle.sql_front.specs.reading.ElementReaders.{system_element_read};
+ghost use Rattle.sql_front.specs.reading.ElementReaders.{without_overlaps_read};
+ghost use Rattle.sql_front.specs.reading.Gives.{Gives};
+ghost use Rattle.sql_statements.specs.Lexemes.{lexemes};
 
-use crate::create::{KeyElement, PeriodElement, ReferenceElement, SystemElement};
 use crate::leaves::read_name;
 use crate::list::separated;
 use crate::mark::{Mark, skip, starts, starts_name};
-use crate::name::Name;
-use crate::nonempty::NonEmpty;
-use crate::token::Token;
 use crate::unread::Unread;
+use sql_statements::create::{KeyElement, PeriodElement, ReferenceElement, SystemElement};
+use sql_statements::name::Name;
+use sql_statements::nonempty::NonEmpty;
+use sql_statements::token::Token;
 use std::alloc::Global;
 
 // Two names in parentheses.
-#[tactic(auto, unfolding(crate::specs::ElementReaders::pair_read))]
+#[tactic(auto, unfolding(crate::specs::reading::ElementReaders::pair_read))]
 fn read_pair<'a, 'b>(
     alloc: Global,
     tokens: &'b [Token<'a>],
@@ -30,7 +38,7 @@ fn read_pair<'a, 'b>(
 }
 
 /// PERIOD FOR a name with its two columns, and the tokens after it.
-#[tactic(auto, unfolding(crate::specs::ElementReaders::period_element_read))]
+#[tactic(auto, unfolding(crate::specs::reading::ElementReaders::period_element_read))]
 pub fn read_period_element<'a, 'b>(
     alloc: Global,
     tokens: &'b [Token<'a>],
@@ -46,7 +54,7 @@ pub fn read_period_element<'a, 'b>(
 }
 
 /// PERIOD FOR SYSTEM_TIME with its two columns, and the tokens after it.
-#[tactic(auto, unfolding(crate::specs::ElementReaders::system_element_read))]
+#[tactic(auto, unfolding(crate::specs::reading::ElementReaders::system_element_read))]
 pub fn read_system_element<'a, 'b>(
     alloc: Global,
     tokens: &'b [Token<'a>],
@@ -77,7 +85,7 @@ fn split_off_last(names: Vec<Name>) -> Result<(NonEmpty<Name>, Name), Unread>
 }
 
 // The names of a key's columns and its period's, which is the last.
-#[tactic(auto, unfolding(crate::specs::ElementReaders::key_names_read, crate::specs::ElementReaders::all_and_last_read))]
+#[tactic(auto, unfolding(crate::specs::reading::ElementReaders::key_names_read, crate::specs::reading::ElementReaders::all_and_last_read))]
 fn read_key_names<'a, 'b>(
     alloc: Global,
     tokens: &'b [Token<'a>],
@@ -90,7 +98,7 @@ fn read_key_names<'a, 'b>(
 }
 
 // The tokens after WITHOUT OVERLAPS.
-#[tactic(auto, unfolding(crate::specs::ElementReaders::without_overlaps_read))]
+#[tactic(auto, unfolding(crate::specs::reading::ElementReaders::without_overlaps_read))]
 fn skip_without_overlaps<'a, 'b>(tokens: &'b [Token<'a>]) -> Result<&'b [Token<'a>], Unread>
     ensures value { Gives (λ x. (tt, lexemes x.now)) result (without_overlaps_read (lexemes tokens.now)) }
     ensures rest { IfOk result (λ x. length x.now ≤ length tokens.now) }
@@ -102,7 +110,7 @@ fn skip_without_overlaps<'a, 'b>(tokens: &'b [Token<'a>]) -> Result<&'b [Token<'
 }
 
 // A key's columns and period WITHOUT OVERLAPS, in parentheses.
-#[tactic(auto, unfolding(crate::specs::ElementReaders::key_list_read))]
+#[tactic(auto, unfolding(crate::specs::reading::ElementReaders::key_list_read))]
 fn read_key_list<'a, 'b>(
     alloc: Global,
     tokens: &'b [Token<'a>],
@@ -118,7 +126,7 @@ fn read_key_list<'a, 'b>(
 }
 
 /// PRIMARY KEY of columns and a period WITHOUT OVERLAPS, and the tokens after it.
-#[tactic(auto, unfolding(crate::specs::ElementReaders::key_element_read))]
+#[tactic(auto, unfolding(crate::specs::reading::ElementReaders::key_element_read))]
 pub fn read_key_element<'a, 'b>(
     alloc: Global,
     tokens: &'b [Token<'a>],
@@ -131,7 +139,7 @@ pub fn read_key_element<'a, 'b>(
 }
 
 // Does a name come after a comma? What else may come there is a keyword.
-#[tactic(auto, unfolding(crate::specs::ElementReaders::one_more_name))]
+#[tactic(auto, unfolding(crate::specs::reading::ElementReaders::one_more_name))]
 fn names_one_more(tokens: &[Token<'_>]) -> bool
     ensures { result ≡ one_more_name (lexemes tokens.now) }
 {
@@ -161,7 +169,7 @@ fn read_leading_names<'a, 'b>(
 }
 
 // PERIOD with a name, after a comma.
-#[tactic(auto, unfolding(crate::specs::ElementReaders::last_period_read))]
+#[tactic(auto, unfolding(crate::specs::reading::ElementReaders::last_period_read))]
 fn read_last_period<'a, 'b>(
     alloc: Global,
     tokens: &'b [Token<'a>],
@@ -174,7 +182,7 @@ fn read_last_period<'a, 'b>(
 }
 
 // Columns and PERIOD with a name, in parentheses.
-#[tactic(auto, unfolding(crate::specs::ElementReaders::reference_list_read))]
+#[tactic(auto, unfolding(crate::specs::reading::ElementReaders::reference_list_read))]
 fn read_reference_list<'a, 'b>(
     alloc: Global,
     tokens: &'b [Token<'a>],
@@ -188,7 +196,7 @@ fn read_reference_list<'a, 'b>(
 }
 
 // REFERENCES with the parent and its list.
-#[tactic(auto, unfolding(crate::specs::ElementReaders::parent_read))]
+#[tactic(auto, unfolding(crate::specs::reading::ElementReaders::parent_read))]
 fn read_parent<'a, 'b>(
     alloc: Global,
     tokens: &'b [Token<'a>],
@@ -202,7 +210,7 @@ fn read_parent<'a, 'b>(
 }
 
 /// FOREIGN KEY with the child's list, the parent and its list, and the tokens after it.
-#[tactic(auto, unfolding(crate::specs::ElementReaders::reference_element_read))]
+#[tactic(auto, unfolding(crate::specs::reading::ElementReaders::reference_element_read))]
 pub fn read_reference_element<'a, 'b>(
     alloc: Global,
     tokens: &'b [Token<'a>],

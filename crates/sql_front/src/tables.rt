@@ -1,27 +1,29 @@
 //! CREATE TABLE, read from the front.
 
 ghost use Rattle.std.specs.Prelude.{◌≡◌, ◌≤◌, ◌<◌, ℕ, List, Some, length, map, IfOk, OnOk};
-ghost use Rattle.sql_front.specs.ElementReaders.{create_read, element_read, elements_read, some_period_read, created_table_read, versioning_read};
-ghost use Rattle.sql_front.specs.Gives.{Gives};
+ghost use Rattle.sql_front.specs.reading.ElementReaders.{create_read, element_read, elements_read};
+ghost use Rattle.sql_front.specs.reading.ElementReaders.{some_period_read, created_table_read};
+ghost use Rattle.sql_front.specs.reading.ElementReaders.{versioning_read};
+ghost use Rattle.sql_front.specs.reading.Gives.{Gives};
 ghost use Rattle.sql_front.specs.Builders.{Element, table_of};
-ghost use Rattle.sql_front.specs.Lexemes.{lexemes};
+ghost use Rattle.sql_statements.specs.Lexemes.{lexemes};
 ghost use Rattle.sql_front.specs.PlainElements.{plain_element, with_element};
 
 use crate::column_elements::read_column_element;
-use crate::create::{
-    ColumnElement, CreateStatement, CreateTable, KeyElement, PeriodElement, ReferenceElement,
-    SystemElement,
-};
 use crate::leaves::read_name;
 use crate::list::{Item, separated};
 use crate::mark::{Mark, skip, starts, starts_name, third};
-use crate::name::Name;
 use crate::table_elements::{
     read_key_element, read_period_element, read_reference_element, read_system_element,
 };
-use crate::token::Token;
 use crate::unread::Unread;
 use period_core::{Items, Memory};
+use sql_statements::create::{
+    ColumnElement, CreateStatement, CreateTable, KeyElement, PeriodElement, ReferenceElement,
+    SystemElement,
+};
+use sql_statements::name::Name;
+use sql_statements::token::Token;
 use std::alloc::Global;
 
 /// An element of any kind.
@@ -35,7 +37,7 @@ enum TableElement {
 }
 
 // Both begin alike: the third token tells a system period from another.
-#[tactic(auto, unfolding(crate::specs::ElementReaders::some_period_read))]
+#[tactic(auto, unfolding(crate::specs::reading::ElementReaders::some_period_read))]
 fn read_some_period<'a, 'b>(
     alloc: Global,
     tokens: &'b [Token<'a>],
@@ -52,7 +54,7 @@ fn read_some_period<'a, 'b>(
 }
 
 // An element of any kind: the first token decides.
-#[tactic(auto, unfolding(crate::specs::ElementReaders::element_read))]
+#[tactic(auto, unfolding(crate::specs::reading::ElementReaders::element_read))]
 fn read_element<'a, 'b>(
     alloc: Global,
     tokens: &'b [Token<'a>],
@@ -92,7 +94,7 @@ impl<'a> Item<'a> for TableElement {
 }
 
 // The elements in their parentheses.
-#[tactic(auto, unfolding(crate::specs::ElementReaders::elements_read))]
+#[tactic(auto, unfolding(crate::specs::reading::ElementReaders::elements_read))]
 fn read_elements<'a, 'b>(
     alloc: Global,
     tokens: &'b [Token<'a>],
@@ -145,7 +147,7 @@ fn table_with(
 }
 
 // The tokens after WITH SYSTEM VERSIONING.
-#[tactic(auto, unfolding(crate::specs::ElementReaders::versioning_read))]
+#[tactic(auto, unfolding(crate::specs::reading::ElementReaders::versioning_read))]
 fn skip_versioning<'a, 'b>(tokens: &'b [Token<'a>]) -> Result<&'b [Token<'a>], Unread>
     ensures value { Gives (λ x. (tt, lexemes x.now)) result (versioning_read (lexemes tokens.now)) }
     ensures rest { IfOk result (λ x. length x.now ≤ length tokens.now) }
@@ -156,7 +158,7 @@ fn skip_versioning<'a, 'b>(tokens: &'b [Token<'a>]) -> Result<&'b [Token<'a>], U
 }
 
 // A table by its name, its elements and its versioning.
-#[tactic(auto, unfolding(crate::specs::ElementReaders::created_table_read))]
+#[tactic(auto, unfolding(crate::specs::reading::ElementReaders::created_table_read))]
 fn read_table<'a, 'b>(
     alloc: Global,
     tokens: &'b [Token<'a>],
@@ -171,7 +173,7 @@ fn read_table<'a, 'b>(
 }
 
 /// CREATE TABLE, and the tokens after it.
-#[tactic(auto, unfolding(crate::specs::ElementReaders::create_read))]
+#[tactic(auto, unfolding(crate::specs::reading::ElementReaders::create_read))]
 pub fn read_create<'a, 'b>(
     alloc: Global,
     tokens: &'b [Token<'a>],

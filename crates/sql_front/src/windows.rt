@@ -1,23 +1,24 @@
 //! System-time windows, read from the front.
 
 ghost use Rattle.std.specs.Prelude.{◌≡◌, ◌≤◌, length, IfOk};
-ghost use Rattle.sql_front.specs.Gives.{Gives};
-ghost use Rattle.sql_front.specs.Lexemes.{lexemes};
-ghost use Rattle.sql_front.specs.WindowReaders.{for_window_read, two_moments_read, window_read};
+ghost use Rattle.sql_front.specs.reading.Gives.{Gives};
+ghost use Rattle.sql_statements.specs.Lexemes.{lexemes};
+ghost use Rattle.sql_front.specs.reading.WindowReaders.{for_window_read, two_moments_read};
+ghost use Rattle.sql_front.specs.reading.WindowReaders.{window_read};
 ghost use Rattle.sql_front.specs.Marks.{mark};
 
 use crate::leaves::{read_clock_moment, read_moment};
 use crate::mark::{Mark, after, skip};
-use crate::statement::SystemTime;
-use crate::token::Token;
 use crate::unread::Unread;
 use period_core::Moment;
+use sql_statements::statement::SystemTime;
+use sql_statements::token::Token;
 
 // Moments beside borrowed tokens are passed on by `match`: for a `?` there the borrow checker has
 // no rule.
 
 /// Two moments with this mark between them, and the tokens after them.
-#[tactic(auto, unfolding(crate::specs::WindowReaders::two_moments_read))]
+#[tactic(auto, unfolding(crate::specs::reading::WindowReaders::two_moments_read))]
 fn read_two_moments<'a, 'b>(
     tokens: &'b [Token<'a>],
     between: Mark<'_>,
@@ -36,7 +37,7 @@ fn read_two_moments<'a, 'b>(
 }
 
 /// A window, and the tokens after it.
-#[tactic(auto, unfolding(crate::specs::WindowReaders::window_read))]
+#[tactic(auto, unfolding(crate::specs::reading::WindowReaders::window_read))]
 fn read_window<'a, 'b>(tokens: &'b [Token<'a>]) -> Result<(SystemTime, &'b [Token<'a>]), Unread>
     ensures value { Gives (λ x. (x.0, lexemes x.1.now)) result (window_read (lexemes tokens.now)) }
     ensures rest { IfOk result (λ x. length x.1.now ≤ length tokens.now) }
@@ -61,7 +62,7 @@ fn read_window<'a, 'b>(tokens: &'b [Token<'a>]) -> Result<(SystemTime, &'b [Toke
 }
 
 /// FOR SYSTEM_TIME with a window or nothing, and the tokens after it.
-#[tactic(auto, unfolding(crate::specs::WindowReaders::for_window_read))]
+#[tactic(auto, unfolding(crate::specs::reading::WindowReaders::for_window_read))]
 pub fn read_for_window<'a, 'b>(
     tokens: &'b [Token<'a>],
 ) -> Result<(Option<SystemTime>, &'b [Token<'a>]), Unread>

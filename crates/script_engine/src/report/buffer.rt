@@ -4,7 +4,7 @@ ghost use Rattle.std.specs.Prelude.{◌≡◌, ◌≤◌, ◌++◌, [], IfErr, O
 ghost use Rattle.std.specs.Io.KnownBytes.{Appends, append_known};
 ghost use Rattle.csv.specs.Writing.{default_writer, fields_written, has_written, with_flexible};
 ghost use Rattle.csv.specs.Writing.{writer_pending, writer_setup, writer_under};
-ghost use Rattle.script_engine.specs.Report.{MayFail, record_text};
+ghost use Rattle.script_engine.specs.report.Report.{MayFail, record_text};
 
 use crate::report::ReportFault;
 use crate::report::record::Record;

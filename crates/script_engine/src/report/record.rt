@@ -3,7 +3,7 @@
 ghost use Rattle.std.specs.Prelude.{◌≡◌, ◌++◌, ◌∷◌, [], IfErr, OnOk, map};
 ghost use Rattle.std.specs.Fmt.{decimal, signed_decimal};
 ghost use Rattle.csv.specs.Records.{fields_of};
-ghost use Rattle.script_engine.specs.Report.{absent_text, printed_day, value_text};
+ghost use Rattle.script_engine.specs.report.Report.{absent_text, printed_day, value_text};
 
 use crate::report::ReportFault;
 use csv::ByteRecord;

@@ -1,6 +1,6 @@
 use Rattle.std.proofs.Common.{◌∙◌, ℕ, List, subst}
 use Rattle.std.proofs.lemmas.Option.{IfSome_then}
-use Rattle.script_engine.specs.Script.{MayRefuseScript}
+use Rattle.script_engine.specs.script.Script.{MayRefuseScript}
 use Rattle.bitemporal_cli.proofs.tool.check_results.Goals as goal
 
 pub returns-clause-refused : goal.returns-clause-refused

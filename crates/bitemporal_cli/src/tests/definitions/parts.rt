@@ -2,7 +2,8 @@
 
 use catalog_core::{Catalog, TableDef, define};
 use period_core::{Items, Text, Value};
-use sql_front::{Statement, StatementForm, lex, parse};
+use sql_front::{lex, parse};
+use sql_statements::{Statement, StatementForm};
 use std::alloc::Global;
 use std::test::Fail;
 

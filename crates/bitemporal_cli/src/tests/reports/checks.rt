@@ -21,7 +21,7 @@ fn no_statements(rt: HostRuntime) {
 
 #[test]
 fn sound_and_unsound_statements(rt: HostRuntime) {
-    // the first names a table that is not there, and is spelled right
+    // the first names a table that is not there: its syntax is right
     let script = "\
 VALIDTIME SELECT DISTINCT A FROM T; SELECT 1;
 ;INSERT INTO T VALUES (1); INSERT INTO T VALUES (DATE '2023-02-29')";

@@ -49,6 +49,6 @@ fn refusals_of_changes_and_of_stores(rt: HostRuntime) -> Result<(), Fail> {
 }
 
 #[test]
-fn want_of_memory_is_a_refusal_too(rt: HostRuntime) {
+fn out_of_memory_is_a_refusal_too(rt: HostRuntime) {
     assert_eq!(rt; Refusal::from(Memory), Refusal::Memory);
 }

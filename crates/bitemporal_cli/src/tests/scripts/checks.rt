@@ -4,7 +4,7 @@ use super::helpers::{EMPLOYEES, expect_mode, expect_run, joined};
 use crate::command::Mode;
 
 #[test]
-fn spelled_right(rt: HostRuntime) {
+fn right_syntax(rt: HostRuntime) {
     // twice the same table, and one that is not there: only a run would refuse them
     let rest = "VALIDTIME SELECT DISTINCT A FROM T";
     let script = joined(&rt, &[EMPLOYEES, EMPLOYEES, rest]);
@@ -14,7 +14,7 @@ fn spelled_right(rt: HostRuntime) {
 }
 
 #[test]
-fn spelled_wrong(rt: HostRuntime) {
+fn wrong_syntax(rt: HostRuntime) {
     let script = joined(&rt, &["SELECT 1;", EMPLOYEES, "INSERT INTO EMP VALUES ()"]);
     let report = "refused,1,10,Syntax,\nrefused,3,10,Syntax,\nchecked,3,2\n";
     expect_mode(&rt, Mode::Check, script.as_str().as_bytes(), report, 1, "");
@@ -52,7 +52,7 @@ fn counts(rt: HostRuntime) {
 }
 
 #[test]
-fn not_carried_out(rt: HostRuntime) {
+fn not_run(rt: HostRuntime) {
     // a run refuses what a check takes, and a bad literal before that
     let script = "DELETE FROM T; AT TIMESTAMP '2024-01-01 00:00:00'; SELECT * FROM T;
 UPDATE T SET A = 1; VALIDTIME SELECT DISTINCT A FROM T WHERE A = 1; AT TIMESTAMP ''";

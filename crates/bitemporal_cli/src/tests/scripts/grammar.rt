@@ -70,7 +70,7 @@ fn each_production(rt: HostRuntime) {
     );
 }
 
-// The report of so many statements, none of which is spelled right.
+// The report of so many statements, none of which is of the grammar.
 fn all_refused(rt: &(impl Abort + AllocGlobal), count: u32) -> String {
     let mut report = String::new(rt.alloc());
     for at in 0..count {

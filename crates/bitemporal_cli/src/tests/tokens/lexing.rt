@@ -1,7 +1,8 @@
 //! What no clause says: tokens of texts from outside, and the places where a text has none.
 
-use sql_front::words::{is_reserved, is_same_word};
-use sql_front::{Kind, LexFault, Span, cut, lex};
+use sql_front::{LexFault, Span, cut, lex};
+use sql_statements::Kind;
+use sql_statements::words::{is_reserved, is_same_word};
 use std::test::Fail;
 
 /// The byte at which a script has no token.

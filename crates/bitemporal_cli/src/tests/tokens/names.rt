@@ -1,7 +1,7 @@
 //! The texts that are names: words in upper case that are not reserved.
 
 use period_core::Text;
-use sql_front::Name;
+use sql_statements::Name;
 use std::test::Fail;
 
 #[test]

@@ -1,6 +1,6 @@
 use Rattle.std.proofs.Common.{◌≡◌, ◌∷◌, ◌++◌, ℕ, List, [], codes, append_assoc}
 use Rattle.std.specs.Fmt.{decimal}
-use Rattle.script_engine.specs.Report.{columns_record}
+use Rattle.script_engine.specs.report.Report.{columns_record}
 use Rattle.script_engine.proofs.report.fill_columns.Goals as goal
 
 fields : (n : ℕ) (names start numbered named a b c : List (List ℕ)) → start ≡ codes "columns" ∷ [] → numbered ≡ start ++ decimal n ∷ [] → named ≡ numbered ++ names → a ≡ named ++ codes "valid_from" ∷ [] → b ≡ a ++ codes "valid_to" ∷ [] → c ≡ b ++ codes "held" ∷ [] → c ++ codes "absent" ∷ [] ≡ columns_record n names

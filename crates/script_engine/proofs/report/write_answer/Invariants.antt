@@ -1,7 +1,7 @@
 use Rattle.std.proofs.Common.{Ok}
 use Rattle.std.specs.Io.KnownBytes.{append_known}
-use Rattle.script_engine.specs.Report.{text_of}
-use Rattle.script_engine.specs.declared.outcome.Outcome.TheVariants as outcome
+use Rattle.script_engine.specs.report.Report.{text_of}
+use Rattle.script_engine.specs.declared.engine.outcome.Outcome.TheVariants as outcome
 use Rattle.script_engine.proofs.AppendFacts.{IsLeft, rows_text}
 use Rattle.script_engine.proofs.report.write_answer.Given as goal
 

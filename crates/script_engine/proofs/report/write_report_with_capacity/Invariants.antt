@@ -1,6 +1,6 @@
 use Rattle.std.proofs.Common.{take}
 use Rattle.std.specs.Io.KnownBytes.{Appends, append_known}
-use Rattle.script_engine.specs.Report.{report_from}
+use Rattle.script_engine.specs.report.Report.{report_from}
 use Rattle.script_engine.proofs.report.write_report_with_capacity.Given as goal
 
 abbrev pub invariant-loop-i : goal.invariant-loop-i

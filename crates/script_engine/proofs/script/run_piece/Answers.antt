@@ -1,5 +1,5 @@
-use Rattle.sql_front.specs.Lexemes.{lexemes}
-use Rattle.sql_front.specs.Plain.{plain}
+use Rattle.sql_statements.specs.Lexemes.{lexemes}
+use Rattle.sql_statements.specs.Plain.{plain}
 use Rattle.script_engine.proofs.PieceSteps.{stated_piece}
 use Rattle.script_engine.proofs.script.run_piece.Goals as goal
 

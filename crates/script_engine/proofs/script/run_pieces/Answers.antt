@@ -1,5 +1,5 @@
 use Rattle.std.proofs.Common.{◌<◌, length, arith}
-use Rattle.catalog_core.specs.Histories.{new_database, opened}
+use Rattle.history_model.specs.Histories.{new_database, opened}
 use Rattle.script_engine.proofs.PieceSteps.{run_next}
 use Rattle.script_engine.proofs.script.run_pieces.Goals as goal
 

@@ -1,9 +1,9 @@
 use Rattle.std.proofs.Common.{◌≡◌, ◌≤◌, length, map, take, vec_capacity, vec_len}
-use Rattle.sql_front.specs.Lexemes.{lexemes}
+use Rattle.sql_statements.specs.Lexemes.{lexemes}
 use Rattle.sql_front.specs.Pieces.{spanned}
-use Rattle.catalog_core.specs.Histories.{History, new_database, opened}
-use Rattle.script_engine.specs.Runs.{Represents}
-use Rattle.script_engine.specs.Script.{RunPieces}
+use Rattle.history_model.specs.Histories.{History, new_database, opened}
+use Rattle.script_engine.specs.engine.Runs.{Represents}
+use Rattle.script_engine.specs.script.Script.{RunPieces}
 use Rattle.script_engine.proofs.script.run_pieces.Given as goal
 
 abbrev pub invariant-loop-piece : goal.invariant-loop-piece

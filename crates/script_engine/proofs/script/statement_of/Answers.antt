@@ -1,8 +1,8 @@
 use Rattle.std.proofs.Common.{arith}
 use Rattle.std.proofs.lemmas.List.{length-map}
 use Rattle.std.proofs.lemmas.Result.{on_ok_weaker}
-use Rattle.sql_front.specs.Lexemes.{lexemes}
-use Rattle.script_engine.specs.Script.{IsOverlong}
+use Rattle.sql_statements.specs.Lexemes.{lexemes}
+use Rattle.script_engine.specs.script.Script.{IsOverlong}
 use Rattle.script_engine.proofs.PieceFacts.{none_of_text}
 use Rattle.script_engine.proofs.script.statement_of.Goals as goal
 

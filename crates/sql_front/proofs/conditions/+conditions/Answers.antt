@@ -2,11 +2,11 @@ use Rattle.std.proofs.Common.{◌≡◌, ◌≤◌, ◌++◌, ◌∷◌, [], map
 use Rattle.std.proofs.lemmas.Result.{err_from_is_err_and}
 use Rattle.std.proofs.lemmas.List.{map_push, length-map}
 use Rattle.sql_front.specs.Language.{keyword}
-use Rattle.sql_front.specs.Lexemes.{lexemes}
+use Rattle.sql_statements.specs.Lexemes.{lexemes}
 use Rattle.sql_front.specs.Builders.{all_of, any_of}
-use Rattle.sql_front.specs.Plain.{plain_condition}
-use Rattle.sql_front.specs.Reading.{separated_read}
-use Rattle.sql_front.specs.ConditionReaders.{factor_read, conjunction_read, condition_read}
+use Rattle.sql_statements.specs.Plain.{plain_condition}
+use Rattle.sql_front.specs.reading.Reading.{separated_read}
+use Rattle.sql_front.specs.reading.ConditionReaders.{factor_read, conjunction_read, condition_read}
 use Rattle.period_core.proofs.OptionFacts.{some_is}
 use Rattle.sql_front.proofs.Loop.{goes_first, goes_on, stops, fails, mapped_fails}
 use Rattle.sql_front.proofs.conditions.+conditions.Goals as goal

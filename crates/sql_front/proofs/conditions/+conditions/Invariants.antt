@@ -1,9 +1,9 @@
 use Rattle.std.proofs.Common.{◌≡◌, ◌+◌, ◌*◌, ◌≤◌, ◌∷◌, map, length, codes}
 use Rattle.sql_front.specs.Language.{keyword}
-use Rattle.sql_front.specs.Lexemes.{lexemes}
-use Rattle.sql_front.specs.Plain.{plain_condition}
-use Rattle.sql_front.specs.Reading.{separated_read}
-use Rattle.sql_front.specs.ConditionReaders.{factor_read, conjunction_read}
+use Rattle.sql_statements.specs.Lexemes.{lexemes}
+use Rattle.sql_statements.specs.Plain.{plain_condition}
+use Rattle.sql_front.specs.reading.Reading.{separated_read}
+use Rattle.sql_front.specs.reading.ConditionReaders.{factor_read, conjunction_read}
 use Rattle.sql_front.proofs.Loop.{Goes}
 use Rattle.sql_front.proofs.conditions.+conditions.Given as goal
 

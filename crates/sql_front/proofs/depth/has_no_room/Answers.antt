@@ -1,7 +1,7 @@
 use Rattle.std.proofs.Common.{ℕ, ◌+◌, ◌<◌, drop, ap, sym, ◌∙◌, arith}
 use Rattle.std.specs.Prelude.{is_none}
 use Rattle.std.proofs.lemmas.List.{drop_all}
-use Rattle.sql_front.specs.Lexemes.{lexemes}
+use Rattle.sql_statements.specs.Lexemes.{lexemes}
 use Rattle.sql_front.specs.Depth.{room}
 use Rattle.sql_front.proofs.DepthFacts.{from_place, room_opens, room_none, room_closes, room_passes, room_end}
 use Rattle.sql_front.proofs.depth.has_no_room.Goals as goal

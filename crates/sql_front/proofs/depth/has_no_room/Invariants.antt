@@ -1,5 +1,5 @@
 use Rattle.std.proofs.Common.{◌≡◌, ◌≤◌, ◌+◌, drop}
-use Rattle.sql_front.specs.Lexemes.{lexemes}
+use Rattle.sql_statements.specs.Lexemes.{lexemes}
 use Rattle.sql_front.specs.Depth.{most_open, room}
 use Rattle.sql_front.proofs.depth.has_no_room.Given as goal
 

@@ -1,4 +1,4 @@
-use Rattle.sql_front.specs.Lexemes.{lexemes}
+use Rattle.sql_statements.specs.Lexemes.{lexemes}
 use Rattle.sql_front.proofs.DepthFacts.{deep_if}
 use Rattle.sql_front.proofs.depth.is_too_deep.Goals as goal
 

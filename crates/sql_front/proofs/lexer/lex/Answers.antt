@@ -1,8 +1,8 @@
 use Rattle.std.proofs.Common.{◌≡◌, sym, ◌∙◌, ap, subst, rules}
 use Rattle.std.specs.Prelude.{IfOk}
 use Rattle.std.specs.Str.{IsCharBoundary}
-use Rattle.sql_front.specs.Lexemes.{lexemes}
-use Rattle.sql_front.specs.Lexis.{mark_size, TokensOf}
+use Rattle.sql_statements.specs.Lexemes.{lexemes}
+use Rattle.sql_statements.specs.Lexis.{mark_size, TokensOf}
 use Rattle.sql_front.proofs.ByteOrderMark.{mark_boundary}
 use Rattle.sql_front.proofs.TokenLists.{ok_tokens_at}
 use Rattle.sql_front.proofs.lexer.lex.Goals as goal

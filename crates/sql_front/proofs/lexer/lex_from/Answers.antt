@@ -1,7 +1,7 @@
 use Rattle.std.proofs.Common.{◌≡◌, ℕ, ◌+◌, ◌<◌, [], ◌∷◌, ◌++◌, length, sym, subst, arith, rules}
 use Rattle.std.proofs.lemmas.List.{map_push}
-use Rattle.sql_front.specs.Lexemes.{lexeme, lexemes}
-use Rattle.sql_front.specs.Lexis.{StopsFrom}
+use Rattle.sql_statements.specs.Lexemes.{lexeme, lexemes}
+use Rattle.sql_statements.specs.Lexis.{StopsFrom}
 use Rattle.sql_front.proofs.LexingSteps.{blank_tokens, blank_stops, token_tokens, token_stops, stops_here, all_done}
 use Rattle.sql_front.proofs.lexer.lex_from.Goals as goal
 

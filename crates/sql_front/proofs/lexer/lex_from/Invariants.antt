@@ -1,8 +1,8 @@
 use Rattle.std.proofs.Common.{ℕ, ◌+◌, ◌<◌, ◌^◌, List, ◌++◌, length}
 use denote.Shadow.{shadow}
 use denote.Text.{Utf8}
-use Rattle.sql_front.specs.Lexemes.{Lexeme, lexemes}
-use Rattle.sql_front.specs.Lexis.{TokensFrom, StopsFrom}
+use Rattle.sql_statements.specs.Lexemes.{Lexeme, lexemes}
+use Rattle.sql_statements.specs.Lexis.{TokensFrom, StopsFrom}
 use Rattle.sql_front.proofs.lexer.lex_from.Given as goal
 
 -- whatever the rest has completes the whole

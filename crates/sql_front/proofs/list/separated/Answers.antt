@@ -1,9 +1,9 @@
 use Rattle.std.proofs.Common.{◌≡◌, ◌≤◌, ◌++◌, ◌∷◌, [], map, length, sym, ap, arith, codes, length-append}
 use Rattle.std.proofs.lemmas.Result.{err_from_is_err_and}
 use Rattle.std.proofs.lemmas.List.{map_push, length-map}
-use Rattle.sql_front.specs.Lexemes.{lexemes}
+use Rattle.sql_statements.specs.Lexemes.{lexemes}
 use Rattle.sql_front.specs.Language.{symbol}
-use Rattle.sql_front.specs.Reading.{separated_read}
+use Rattle.sql_front.specs.reading.Reading.{separated_read}
 use Rattle.sql_front.proofs.Loop.{goes_on, stops, fails}
 use Rattle.sql_front.proofs.list.separated.Goals as goal
 

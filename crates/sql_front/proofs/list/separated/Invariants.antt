@@ -1,7 +1,7 @@
 use Rattle.std.proofs.Common.{◌≤◌, ◌<◌, map, length, codes}
-use Rattle.sql_front.specs.Lexemes.{lexemes}
+use Rattle.sql_statements.specs.Lexemes.{lexemes}
 use Rattle.sql_front.specs.Language.{symbol}
-use Rattle.sql_front.specs.Reading.{separated_read}
+use Rattle.sql_front.specs.reading.Reading.{separated_read}
 use Rattle.sql_front.proofs.Loop.{Goes}
 use Rattle.sql_front.proofs.list.separated.Given as goal
 

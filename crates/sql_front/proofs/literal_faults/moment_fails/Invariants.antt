@@ -1,5 +1,5 @@
 use Rattle.std.proofs.Common.{◌≡◌, length}
-use Rattle.sql_front.specs.Lexemes.{lexemes}
+use Rattle.sql_statements.specs.Lexemes.{lexemes}
 use Rattle.sql_front.specs.LiteralTests.{is_bad_moment, somewhere}
 use Rattle.sql_front.proofs.literal_faults.moment_fails.Given as goal
 

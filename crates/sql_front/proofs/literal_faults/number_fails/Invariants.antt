@@ -1,5 +1,5 @@
 use Rattle.std.proofs.Common.{◌≡◌, length, false}
-use Rattle.sql_front.specs.Lexemes.{lexemes}
+use Rattle.sql_statements.specs.Lexemes.{lexemes}
 use Rattle.sql_front.specs.LiteralTests.{number_above}
 use Rattle.sql_front.proofs.literal_faults.number_fails.Given as goal
 

@@ -1,6 +1,6 @@
 use Rattle.std.proofs.Common.{ap, inl, Err}
-use Rattle.sql_front.specs.Lexemes.{lexemes}
-use Rattle.sql_front.specs.Plain.{plain}
+use Rattle.sql_statements.specs.Lexemes.{lexemes}
+use Rattle.sql_statements.specs.Plain.{plain}
 use Rattle.sql_front.proofs.Parsing.{no_statement, spelled_some, untold}
 use Rattle.sql_front.proofs.PieceFaults.{piece_least, piece_none}
 use Rattle.sql_front.proofs.GrammarReadings.{spelled_exactly}

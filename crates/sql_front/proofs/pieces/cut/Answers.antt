@@ -1,6 +1,6 @@
 use Rattle.std.proofs.Common.{length, map, sym, ap, ◌∙◌}
 use Rattle.std.specs.List.{All}
-use Rattle.sql_front.specs.Lexemes.{lexemes}
+use Rattle.sql_statements.specs.Lexemes.{lexemes}
 use Rattle.sql_front.specs.Pieces.{HasPieces, IsWithin, spanned}
 use Rattle.sql_front.proofs.PiecesFacts.{cut_start, cut_token, cut_piece, cut_empty, cut_last, cut_all}
 use Rattle.sql_front.proofs.pieces.cut.Goals.{then-is_semicolon, then-start-i+in_ok-push, else-start-i, else-is_semicolon, then-start-tokens+in_ok-push-2, else-start-tokens}

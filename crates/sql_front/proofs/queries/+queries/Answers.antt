@@ -1,9 +1,10 @@
 use Rattle.std.proofs.Common.{◌≡◌, ◌<◌, ◌++◌, ◌∷◌, [], map, length, sym, arith}
 use Rattle.std.proofs.lemmas.Result.{err_from_is_err_and}
 use Rattle.std.proofs.lemmas.List.{map_push, length-map}
-use Rattle.sql_front.specs.Lexemes.{lexemes}
-use Rattle.sql_front.specs.Reading.{begins, repetition_read}
-use Rattle.sql_front.specs.QueryReaders.{begins_step, plain_step, step_read, steps_read}
+use Rattle.sql_statements.specs.Lexemes.{lexemes}
+use Rattle.sql_front.specs.reading.Reading.{begins, repetition_read}
+use Rattle.sql_statements.specs.Plain.{plain_step}
+use Rattle.sql_front.specs.reading.QueryReaders.{begins_step, step_read, steps_read}
 use Rattle.sql_front.proofs.Loop.{going_on, going_stops, going_fails, begins_some}
 use Rattle.sql_front.proofs.queries.+queries.Goals as goal
 

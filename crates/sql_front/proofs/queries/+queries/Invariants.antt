@@ -1,7 +1,8 @@
 use Rattle.std.proofs.Common.{◌+◌, ◌*◌, ◌≤◌, map, length}
-use Rattle.sql_front.specs.Lexemes.{lexemes}
-use Rattle.sql_front.specs.Reading.{begins, repetition_read}
-use Rattle.sql_front.specs.QueryReaders.{begins_step, plain_step, step_read}
+use Rattle.sql_statements.specs.Lexemes.{lexemes}
+use Rattle.sql_front.specs.reading.Reading.{begins, repetition_read}
+use Rattle.sql_statements.specs.Plain.{plain_step}
+use Rattle.sql_front.specs.reading.QueryReaders.{begins_step, step_read}
 use Rattle.sql_front.proofs.Loop.{Going}
 use Rattle.sql_front.proofs.queries.+queries.Given as goal
 

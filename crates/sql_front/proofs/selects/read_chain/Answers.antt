@@ -1,11 +1,11 @@
 use Rattle.std.proofs.Common.{◌≡◌, ◌<◌, ◌++◌, ◌∷◌, [], map, length, sym, arith}
 use Rattle.std.proofs.lemmas.Result.{err_from_is_err_and}
 use Rattle.std.proofs.lemmas.List.{map_push, length-map}
-use Rattle.sql_front.specs.Lexemes.{lexemes}
-use Rattle.sql_front.specs.Reading.{begins, repetition_read}
+use Rattle.sql_statements.specs.Lexemes.{lexemes}
+use Rattle.sql_front.specs.reading.Reading.{begins, repetition_read}
 use Rattle.sql_front.specs.Builders.{chain_of}
-use Rattle.sql_front.specs.Plain.{plain_join}
-use Rattle.sql_front.specs.QueryReaders.{reference_read, begins_join, join_read, joins_read, chain_read}
+use Rattle.sql_statements.specs.Plain.{plain_join}
+use Rattle.sql_front.specs.reading.QueryReaders.{reference_read, begins_join, join_read, joins_read, chain_read}
 use Rattle.sql_front.proofs.Loop.{going_on, going_stops, going_fails, begins_some}
 use Rattle.sql_front.proofs.Headed.{headed_found, headed_fails}
 use Rattle.sql_front.proofs.selects.read_chain.Goals as goal

@@ -1,4 +1,4 @@
-use Rattle.sql_front.specs.Lexemes.{lexemes}
+use Rattle.sql_statements.specs.Lexemes.{lexemes}
 use Rattle.sql_front.proofs.Parsing.{read_is_spelled, unread_is_none}
 use Rattle.sql_front.proofs.statements.spelled.Goals as goal
 

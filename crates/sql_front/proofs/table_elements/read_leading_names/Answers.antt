@@ -1,9 +1,9 @@
 use Rattle.std.proofs.Common.{◌≡◌, ◌<◌, [], ◌∷◌, ◌++◌, length, length-append, refl, sym, ap, arith}
 use Rattle.std.proofs.lemmas.Result.{err_from_is_err_and}
 use Rattle.std.proofs.lemmas.List.{length-map}
-use Rattle.sql_front.specs.Lexemes.{lexemes}
+use Rattle.sql_statements.specs.Lexemes.{lexemes}
 use Rattle.sql_front.specs.Grammar.{comma}
-use Rattle.sql_front.specs.ElementReaders.{leading_names_read, one_more_name}
+use Rattle.sql_front.specs.reading.ElementReaders.{leading_names_read, one_more_name}
 use Rattle.sql_front.proofs.Loop.{going_stops, no_fail}
 use Rattle.sql_front.proofs.LeadingNames.{comma_first, leading_first, leading_fails_first, leading_on, leading_fails, next_name}
 use Rattle.sql_front.proofs.table_elements.read_leading_names.Goals as goal

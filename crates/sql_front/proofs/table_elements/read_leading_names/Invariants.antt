@@ -1,6 +1,6 @@
 use Rattle.std.proofs.Common.{◌≤◌, ◌<◌, length}
-use Rattle.sql_front.specs.Lexemes.{lexemes}
-use Rattle.sql_front.specs.ElementReaders.{leading_names_read}
+use Rattle.sql_statements.specs.Lexemes.{lexemes}
+use Rattle.sql_front.specs.reading.ElementReaders.{leading_names_read}
 use Rattle.sql_front.proofs.LeadingNames.{Leading}
 use Rattle.sql_front.proofs.table_elements.read_leading_names.Given as goal
 

@@ -2,8 +2,8 @@ use Rattle.std.proofs.Common.{◌≡◌, ◌<◌, ap, sym, ◌∙◌, arith, len
 use Rattle.std.proofs.lemmas.Iterator.Adapters.{YieldsList-from_vec}
 use Rattle.std.proofs.lemmas.Iterator.Consumers.{YieldsList-end}
 use Rattle.std.proofs.lemmas.List.{length-map}
-use Rattle.sql_front.specs.declared.create.CreateTable.{CreateTable}
-use Rattle.sql_front.specs.Elements.{HasElement}
+use Rattle.sql_statements.specs.declared.create.CreateTable.{CreateTable}
+use Rattle.sql_statements.specs.Elements.{HasElement}
 use Rattle.sql_front.specs.PlainElements.{plain_element, with_element}
 use Rattle.sql_front.proofs.TableElements.{element_added, has_element}
 use Rattle.sql_front.proofs.tables.table_with.Goals as goal

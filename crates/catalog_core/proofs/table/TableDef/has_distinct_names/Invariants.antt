@@ -1,8 +1,8 @@
 use Rattle.std.specs.Prelude.{◌≡◌, false, take}
 use Rattle.std.specs.List.{list_any}
-use Rattle.catalog_core.specs.Matches.{is_matching}
-use Rattle.catalog_core.specs.TableWords.{def_matches}
-use Rattle.catalog_core.specs.declared.matching.Matching.TheVariants.{Several}
+use Rattle.catalog_core.specs.table.Matches.{is_matching}
+use Rattle.catalog_core.specs.table.TableWords.{def_matches}
+use Rattle.catalog_core.specs.declared.table.matching.Matching.TheVariants.{Several}
 use Rattle.catalog_core.specs.declared.table.Column.{Column}
 use Rattle.catalog_core.proofs.table.TableDef.has_distinct_names.Given as goal
 

@@ -2,8 +2,8 @@ use Rattle.std.proofs.Common.{◌≡◌, ◌<◌, ◌-◌, ◌++◌, ℕ, List, 
 use Rattle.std.specs.List.{slice_get}
 use Rattle.std.proofs.lemmas.List.{get_or_read_under}
 use Rattle.period_core.specs.declared.row.PeriodRow.{PeriodRow}
-use Rattle.catalog_core.specs.Histories.{Database}
-use Rattle.catalog_core.specs.TableWords.{table_of}
+use Rattle.history_model.specs.Histories.{Database}
+use Rattle.catalog_core.specs.table.TableWords.{table_of}
 use Rattle.catalog_core.specs.declared.table.TableDef.{TableDef}
 use Rattle.script_engine.proofs.Widths.{fit-appended, fit_lengths, table_of-place}
 use Rattle.script_engine.proofs.engine.Engine.add_rows.Goals as goal

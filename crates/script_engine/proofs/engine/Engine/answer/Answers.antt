@@ -4,14 +4,14 @@ use Rattle.period_core.specs.declared.row.PeriodRow.{PeriodRow}
 use Rattle.temporal_model.specs.Snapshot.{Equivalent}
 use Rattle.temporal_model.specs.Answer.{IsCertified, IsInAnswerOrder, IsShortest}
 use Rattle.temporal_model.specs.Witness.{witness_of}
-use Rattle.sql_front.specs.Plain.{plain}
-use Rattle.catalog_core.specs.Histories.{Database, rows_in}
+use Rattle.sql_statements.specs.Plain.{plain}
+use Rattle.history_model.specs.Histories.{Database, rows_in}
 use Rattle.catalog_core.specs.Judged.{Holds}
-use Rattle.catalog_core.specs.Selection.{ResolvesQuery, query_conditions}
+use Rattle.catalog_core.specs.query.Selection.{ResolvesQuery, query_conditions}
 use Rattle.catalog_core.specs.declared.query.Item.{Item}
 use Rattle.catalog_core.specs.declared.table.TableDef.{TableDef}
-use Rattle.script_engine.specs.Rows.{read_row, whole_row}
-use Rattle.script_engine.specs.Widths.{FitCatalog}
+use Rattle.script_engine.specs.engine.Rows.{read_row, whole_row}
+use Rattle.script_engine.specs.engine.Widths.{FitCatalog}
 use Rattle.script_engine.proofs.Widths.{items_of_query}
 use Rattle.script_engine.proofs.Answered.{answered_step}
 use Rattle.script_engine.proofs.engine.Engine.answer.Goals as goal

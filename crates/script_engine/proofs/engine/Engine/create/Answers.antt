@@ -1,8 +1,8 @@
 use Rattle.std.proofs.Common.{◌≡◌, ◌<◌, List, ap, length, subst}
 use Rattle.period_core.specs.Leasts.{NoneApplies}
-use Rattle.catalog_core.specs.Histories.{Database}
-use Rattle.catalog_core.specs.Creation.{create_conditions}
-use Rattle.catalog_core.specs.Definition.{Defines}
+use Rattle.history_model.specs.Histories.{Database}
+use Rattle.catalog_core.specs.create.Creation.{create_conditions}
+use Rattle.catalog_core.specs.create.Definition.{Defines}
 use Rattle.catalog_core.specs.Limits.{most_tables}
 use Rattle.catalog_core.specs.Judged.{Holds}
 use Rattle.catalog_core.specs.declared.table.TableDef.{TableDef}

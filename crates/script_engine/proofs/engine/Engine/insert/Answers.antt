@@ -1,10 +1,10 @@
 use Rattle.std.proofs.Common.{◌≡◌, List, ap, subst, length, arith}
 use Rattle.std.proofs.lemmas.Result.{err_from_is_err_and}
 use Rattle.period_core.specs.Leasts.{MayAnswer, NoneApplies}
-use Rattle.sql_front.specs.Plain.{plain}
-use Rattle.catalog_core.specs.Histories.{Database}
+use Rattle.sql_statements.specs.Plain.{plain}
+use Rattle.history_model.specs.Histories.{Database}
 use Rattle.catalog_core.specs.Judged.{Holds}
-use Rattle.catalog_core.specs.Resolution.{ResolvesChange, change_conditions, empty_period, has_empty_row}
+use Rattle.catalog_core.specs.change.Resolution.{ResolvesChange, change_conditions, empty_period, has_empty_row}
 use Rattle.catalog_core.specs.declared.table.TableDef.{TableDef}
 use Rattle.script_engine.proofs.Changed.{changed_step}
 use Rattle.script_engine.proofs.TableNumbers.{change_number}

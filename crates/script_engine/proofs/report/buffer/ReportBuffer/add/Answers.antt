@@ -2,7 +2,7 @@ use Rattle.std.proofs.Common.{◌≡◌, ◌≤◌, ◌≢◌, ◌∙◌, ap, le
 use Rattle.csv.specs.declared.writer.QuoteStyle.TheVariants as style
 use Rattle.csv.specs.Records.{fields_of}
 use Rattle.csv.specs.Writing.{row_text}
-use Rattle.script_engine.specs.Report.{record_text}
+use Rattle.script_engine.specs.report.Report.{record_text}
 use Rattle.script_engine.proofs.CsvFacts.{report_writer, row-same}
 use Rattle.script_engine.proofs.report.buffer.ReportBuffer.add.Goals as goal
 

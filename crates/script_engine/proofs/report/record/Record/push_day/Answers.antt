@@ -1,6 +1,6 @@
 use Rattle.std.proofs.Common.{◌≡◌, ℕ, ℤ, List}
 use Rattle.period_core.specs.Calendar.{day_text}
-use Rattle.script_engine.specs.Report.{printed_day}
+use Rattle.script_engine.specs.report.Report.{printed_day}
 use Rattle.script_engine.proofs.report.record.Record.push_day.Goals as goal
 
 printed : (text : List ℕ) (day : ℤ) → text ≡ day_text day → text ≡ printed_day day

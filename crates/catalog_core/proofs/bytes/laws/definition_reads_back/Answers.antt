@@ -1,0 +1,5 @@
+use Rattle.catalog_core.proofs.DefinitionSame.{reads_back}
+use Rattle.catalog_core.proofs.bytes.laws.definition_reads_back.Goals as goal
+
+pub returns : goal.returns
+returns c = reads_back

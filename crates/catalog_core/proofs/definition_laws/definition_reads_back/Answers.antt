@@ -1,5 +1,0 @@
-use Rattle.catalog_core.proofs.DefinitionSame.{reads_back}
-use Rattle.catalog_core.proofs.definition_laws.definition_reads_back.Goals as goal
-
-pub returns : goal.returns
-returns c = reads_back

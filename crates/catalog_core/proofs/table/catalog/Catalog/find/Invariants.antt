@@ -1,0 +1,7 @@
+use Rattle.std.specs.Prelude.{◌≡◌, bytes_eq, take}
+use Rattle.std.specs.List.{position_or_len}
+use Rattle.catalog_core.specs.declared.table.TableDef.{TableDef}
+use Rattle.catalog_core.proofs.table.catalog.Catalog.find.Given as goal
+
+abbrev pub invariant-loop-i : goal.invariant-loop-i
+invariant-loop-i l = position_or_len (λ (x : TableDef). bytes_eq l.name x.name) (take l.i l.tables) ≡ l.i

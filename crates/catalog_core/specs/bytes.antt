@@ -1,0 +1,4 @@
+pub mod DefinitionValues
+pub mod DefinitionEncoding
+pub mod DefinitionLaws
+pub mod DefinitionReading

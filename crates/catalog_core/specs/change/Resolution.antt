@@ -1,0 +1,76 @@
+-- A change with positions for names: its table by its number, and its rows by their value columns and their period.
+use Rattle.std.specs.Prelude.{◌≡◌, Bool, false, List, [], Option, Some, int_le, map}
+use Rattle.std.specs.List.{list_any}
+use Rattle.period_core.specs.declared.refusal.Refusal.TheVariants.{EmptyPeriod}
+use Rattle.period_core.specs.declared.value.Value.{Value}
+use Rattle.period_core.specs.declared.value.Value.TheVariants.{Date}
+use Rattle.sql_statements.specs.declared.statement.InsertRows.{InsertRows}
+use Rattle.sql_statements.specs.Trees.{Statement}
+use Rattle.sql_statements.specs.Trees as statement
+use Rattle.catalog_core.specs.change.Insertion.{given_value, gives_empty_row, insert_conditions}
+use Rattle.catalog_core.specs.change.Insertion.{value_for}
+use Rattle.catalog_core.specs.Judged.{Judged}
+use Rattle.catalog_core.specs.table.Naming.{Name}
+use Rattle.catalog_core.specs.table.TableWords.{number_of, table_of, value_names}
+use Rattle.catalog_core.specs.declared.change.Action.{Action}
+use Rattle.catalog_core.specs.declared.change.Action.TheVariants.{Insert}
+use Rattle.catalog_core.specs.declared.change.Change.{Change}
+use Rattle.catalog_core.specs.declared.change.GivenRow.{GivenRow}
+use Rattle.catalog_core.specs.declared.table.TableDef.{TableDef}
+
+-- the statement is an INSERT, the one change that runs so far
+abbrev pub IsChange : Statement → Type 0
+IsChange (statement.insert i) = Unit {0}
+IsChange _ = ⊥
+
+-- the refusals that a change may get by its statement and the catalog, each with its condition, but for an empty period; other statements have none
+abbrev pub change_conditions : List TableDef → Statement → List Judged
+change_conditions catalog (statement.insert i) = insert_conditions catalog i
+change_conditions catalog _ = []
+
+-- the one more: a period that does not end after its start
+abbrev pub empty_period : List TableDef → Statement → Judged
+empty_period catalog (statement.insert i) = (EmptyPeriod, gives_empty_row catalog i)
+empty_period catalog _ = (EmptyPeriod, false)
+
+-- what stands for a row: the values of the value columns in declared order, and its period's start and end
+pub record RowParts : Type 0 where
+  pub values : List (Option Value)
+  pub start : Option Value
+  pub end : Option Value
+
+-- of a row as it is written: what it gives for each of these columns
+abbrev pub written_row : TableDef → Option (List Name) → List Value → RowParts
+written_row t list row =
+    record {
+      values = map (given_value t list row) (value_names t);
+      start = value_for t list row t.period.start;
+      end = value_for t list row t.period.end;
+    }
+
+-- of a given row
+abbrev pub row_parts : GivenRow → RowParts
+row_parts given = record { values = map Some given.values; start = Some (Date given.start); end = Some (Date given.end) }
+
+-- the same rows
+abbrev pub ResolvesAction : TableDef → InsertRows → Action → Type 0
+ResolvesAction t i (Insert given) = map (written_row t i.columns) i.rows ≡ map row_parts given
+
+-- the same change of the table that it names
+pub record ResolvesInsert (catalog : List TableDef) (i : InsertRows) (change : Change) : Type 0 where
+  pub definition : TableDef
+  pub number : number_of catalog i.table ≡ Some change.table
+  pub table : table_of catalog change.table ≡ Some definition
+  pub action : ResolvesAction definition i change.action
+
+abbrev pub ResolvesChange : List TableDef → Statement → Change → Type 0
+ResolvesChange catalog (statement.insert i) change = ResolvesInsert catalog i change
+ResolvesChange catalog _ change = ⊥
+
+-- the given row ends at or before its start
+abbrev pub is_empty_row : GivenRow → Bool
+is_empty_row given = int_le given.end given.start
+
+-- the change gives such a row
+abbrev pub has_empty_row : Action → Bool
+has_empty_row (Insert given) = list_any is_empty_row given

@@ -1,0 +1,4 @@
+pub mod Creation
+pub mod PeriodCounts
+pub mod Keyed
+pub mod Definition

@@ -1,0 +1,2 @@
+pub mod SimpleSelects
+pub mod Selection

@@ -1,0 +1,5 @@
+pub mod Matches
+pub mod Naming
+pub mod Kinds
+pub mod IsDefinition
+pub mod TableWords

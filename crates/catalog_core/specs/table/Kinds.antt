@@ -1,0 +1,41 @@
+-- The kinds of columns and values.
+use Rattle.std.specs.Prelude.{Bool, true, false, not, Option, Some}
+use Rattle.period_core.specs.declared.value.Value.{Value}
+use Rattle.period_core.specs.declared.value.Value.TheVariants as value
+use Rattle.sql_statements.specs.declared.create.TypeName.{TypeName}
+use Rattle.sql_statements.specs.declared.create.TypeName.TheVariants as type_name
+use Rattle.catalog_core.specs.declared.table.ColumnKind.{ColumnKind}
+use Rattle.catalog_core.specs.declared.table.ColumnKind.TheVariants as kind
+use Rattle.catalog_core.specs.declared.table.Kind.{Kind}
+use Rattle.catalog_core.specs.declared.table.Kind.TheVariants.{Integer, Text, Date, Moment}
+
+-- the kind of a value, of a column, of a column's type as it is written
+abbrev pub kind_of_value : Value → Kind
+kind_of_value (value.Int n) = Integer
+kind_of_value (value.Text t) = Text
+kind_of_value (value.Date d) = Date
+
+unfoldable pub kind_of_column : ColumnKind → Kind
+kind_of_column kind.Integer = Integer
+kind_of_column (kind.Varchar n) = Text
+kind_of_column kind.Date = Date
+kind_of_column (kind.RowStart p) = Moment
+kind_of_column (kind.RowEnd p) = Moment
+
+unfoldable pub kind_of_type : TypeName → Kind
+kind_of_type type_name.Integer = Integer
+kind_of_type type_name.Date = Date
+kind_of_type (type_name.Varchar n) = Text
+kind_of_type (type_name.Timestamp p) = Moment
+
+unfoldable pub same_kind : Kind → Kind → Bool
+same_kind Integer Integer = true
+same_kind Text Text = true
+same_kind Date Date = true
+same_kind Moment Moment = true
+same_kind _ _ = false
+
+-- two kinds that are both there and differ
+unfoldable pub differ : Option Kind → Option Kind → Bool
+differ (Some x) (Some y) = not (same_kind x y)
+differ _ _ = false

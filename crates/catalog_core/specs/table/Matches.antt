@@ -1,0 +1,42 @@
+-- What the tests of a statement want of a number of matches and of a column.
+use Rattle.std.specs.Prelude.{◌==◌, ◌&&◌, ℕ, Bool, true, false, not, Option, Some, None, is_some}
+use Rattle.std.specs.Prelude.{nat_lt}
+use Rattle.sql_statements.specs.declared.create.ColumnElement.{ColumnElement}
+use Rattle.sql_statements.specs.declared.create.Generated.{Generated}
+use Rattle.sql_statements.specs.declared.create.Generated.TheVariants as generated
+use Rattle.sql_statements.specs.declared.create.TypeName.{TypeName}
+use Rattle.sql_statements.specs.declared.create.TypeName.TheVariants.{Integer, Date, Varchar, Timestamp}
+use Rattle.catalog_core.specs.declared.table.matching.ColumnSort.{ColumnSort}
+use Rattle.catalog_core.specs.declared.table.matching.ColumnSort.TheVariants.{System, RowStart}
+use Rattle.catalog_core.specs.declared.table.matching.ColumnSort.TheVariants.{RowEnd, PlainDate}
+use Rattle.catalog_core.specs.declared.table.matching.Matching.{Matching}
+use Rattle.catalog_core.specs.declared.table.matching.Matching.TheVariants.{Nothing, Several}
+
+-- the number of matches is the one that is wanted: none, or several
+unfoldable pub is_matching : Matching → ℕ → Bool
+is_matching Nothing count = count == 0
+is_matching Several count = nat_lt 1 count
+
+-- the type DATE
+abbrev pub is_date : TypeName → Bool
+is_date Date = true
+is_date Integer = false
+is_date (Varchar n) = false
+is_date (Timestamp p) = false
+
+-- a column of the sort: a system column, one generated as row start or as row end, a plain DATE column
+unfoldable pub is_of_sort : ColumnSort → ColumnElement → Bool
+is_of_sort System x = is_some x.generated
+is_of_sort RowStart x = starts x.generated
+  where
+    starts : Option Generated → Bool
+    starts None = false
+    starts (Some generated.Start) = true
+    starts (Some generated.End) = false
+is_of_sort RowEnd x = ends x.generated
+  where
+    ends : Option Generated → Bool
+    ends None = false
+    ends (Some generated.Start) = false
+    ends (Some generated.End) = true
+is_of_sort PlainDate x = is_date x.kind && not (is_some x.generated)

@@ -1,0 +1,94 @@
+-- Words on tables: numbers and definitions, what a name matches in one, and its value columns.
+use Rattle.std.specs.Prelude.{◌+◌, ◌==◌, ◌&&◌, ℕ, zero, suc, Bool, true, false, not, List, Option}
+use Rattle.std.specs.Prelude.{None, find, slice_get, map, filter, length, bytes_eq, count_by}
+use Rattle.std.specs.List.{enumerate_from, list_any, position}
+use Rattle.std.specs.Option.{option_and_then, option_map}
+use Rattle.catalog_core.specs.table.Kinds.{kind_of_column, same_kind}
+use Rattle.catalog_core.specs.table.Matches.{is_matching}
+use Rattle.catalog_core.specs.table.Naming.{Name, passes}
+use Rattle.catalog_core.specs.declared.table.matching.Matching.{Matching}
+use Rattle.catalog_core.specs.declared.table.matching.Matching.TheVariants.{Several}
+use Rattle.catalog_core.specs.declared.table.Column.{Column}
+use Rattle.catalog_core.specs.declared.table.ColumnKind.{ColumnKind}
+use Rattle.catalog_core.specs.declared.table.ColumnKind.TheVariants.{Integer, Varchar, Date}
+use Rattle.catalog_core.specs.declared.table.ColumnKind.TheVariants.{RowStart, RowEnd}
+use Rattle.catalog_core.specs.declared.table.Kind.{Kind}
+use Rattle.catalog_core.specs.declared.table.Kind.TheVariants as kind
+use Rattle.catalog_core.specs.declared.table.TableDef.{TableDef}
+
+-- the number of the table of this name, from 1 in the order of creation
+unfoldable pub number_of : List TableDef → Name → Option ℕ
+number_of catalog name =
+    option_map (λ n. n + 1) (position (λ (t : TableDef). bytes_eq name t.name) catalog)
+
+-- the table of this number
+abbrev pub table_of : {T : Type 0} → List T → ℕ → Option T
+table_of tables zero = None
+table_of tables (suc n) = slice_get tables n
+
+-- the table of this name
+unfoldable pub table_of_name : List TableDef → Name → Option TableDef
+table_of_name catalog name = option_and_then (table_of catalog) (number_of catalog name)
+
+-- how many of a table's columns a name matches
+unfoldable pub def_matches : TableDef → Name → ℕ
+def_matches t name = count_by (λ (x : Column). bytes_eq name x.name) t.columns
+
+-- some of the names matches so many
+unfoldable pub some_def_match : TableDef → Matching → List Name → Bool
+some_def_match t wanted names =
+    list_any (λ name. is_matching wanted (def_matches t name)) names
+
+-- no two columns share a name: none's matches several
+unfoldable pub has_distinct_names : TableDef → Bool
+has_distinct_names t =
+    not (list_any (λ (x : Column). is_matching Several (def_matches t x.name)) t.columns)
+
+-- the kind, and the place among the declared columns, of the column that a name stands for
+unfoldable pub def_kind : TableDef → Name → Option Kind
+def_kind t name =
+    option_map (λ (x : Column). kind_of_column x.kind)
+    (find (λ (x : Column). bytes_eq name x.name) t.columns)
+
+unfoldable pub def_place : TableDef → Name → Option ℕ
+def_place t name = position (λ (x : Column). bytes_eq name x.name) t.columns
+
+-- a system column's kind
+abbrev pub is_system : ColumnKind → Bool
+is_system Integer = false
+is_system (Varchar n) = false
+is_system Date = false
+is_system (RowStart p) = true
+is_system (RowEnd p) = true
+
+-- the column at a place is a DATE column, and its name stands for it
+unfoldable pub is_date_column : TableDef → ℕ → Bool
+is_date_column t place =
+    passes
+    (λ (x : Column).
+    same_kind (kind_of_column x.kind) kind.Date
+    && passes (λ named. named == place) (def_place t x.name))
+    (slice_get t.columns place)
+
+-- the application period is over two different DATE columns, each the first of its name
+unfoldable pub has_date_period : TableDef → Bool
+has_date_period t =
+    not (t.period.start == t.period.end)
+    && (is_date_column t t.period.start && is_date_column t t.period.end)
+
+-- a declared column, with its place, that is no period column and no system column
+unfoldable pub is_value_column : TableDef → ℕ × Column → Bool
+is_value_column t (place, column) =
+    not (place == t.period.start) && (not (place == t.period.end) && not (is_system column.kind))
+
+-- the value columns in declared order, each with its place: a row has a value for each of these
+abbrev pub value_columns : TableDef → List (ℕ × Column)
+value_columns t = filter (is_value_column t) (enumerate_from 0 t.columns)
+
+-- their names
+abbrev pub value_names : TableDef → List Name
+value_names t = map (λ (c : ℕ × Column). c.1.name) (value_columns t)
+
+-- how many values a row of the table has
+abbrev pub value_count : TableDef → ℕ
+value_count t = length (value_columns t)

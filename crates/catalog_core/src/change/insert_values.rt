@@ -1,0 +1,114 @@
+//! INSERT: what its values decide, and the value of a row for a column, by the places of the
+//! columns that the values are given for. No test takes memory.
+
+ghost use Rattle.std.specs.Prelude.{◌≡◌, option_copied, true};
+ghost use Rattle.catalog_core.specs.change.Insertion.{has_wrong, is_longer};
+ghost use Rattle.catalog_core.specs.change.InsertPlaces.{ArePlaces, gives_wrong_at, has_wrong_at};
+ghost use Rattle.catalog_core.specs.change.InsertPlaces.{is_wrong_at, is_wrong_for, value_at};
+ghost use Rattle.catalog_core.specs.table.TableWords.{has_distinct_names};
+
+use crate::table::kinds::{kind_of_column, kind_of_value, same_kind};
+use crate::table::{Column, ColumnKind, TableDef};
+use period_core::Value;
+use sql_statements::{InsertRows, NonEmpty};
+
+/// What may be wrong with a value.
+#[derive(Clone, Copy)]
+pub enum Wrong {
+    Kind,
+    Length,
+}
+
+impl Wrong {
+    /// Whether a value is wrong in this way for a column of the kind.
+    #[tactic(auto, unfolding(crate::specs::change::InsertPlaces::is_wrong_for))]
+    fn is_for(self, kind: ColumnKind, value: &Value) -> bool
+        ensures { result ≡ is_wrong_for self kind value.now }
+    {
+        match self {
+            Wrong::Kind => !same_kind(kind_of_column(kind), kind_of_value(value)),
+            Wrong::Length => is_longer(kind, value),
+        }
+    }
+
+    /// Whether a value is wrong in this way for the column at a place.
+    #[tactic(auto, unfolding(crate::specs::change::InsertPlaces::is_wrong_at))]
+    fn is_at(self, columns: &[Column], place: usize, value: &Value) -> bool
+        ensures { result ≡ is_wrong_at self columns.now (place, value.now) }
+    {
+        match columns.get(place) {
+            Some(column) => self.is_for(column.kind, value),
+            None => false,
+        }
+    }
+}
+
+/// Whether a value is a text that its column does not take.
+#[tactic(auto, unfolding(crate::specs::change::Insertion::is_longer))]
+fn is_longer(kind: ColumnKind, value: &Value) -> bool
+    ensures { result ≡ is_longer kind value.now }
+{
+    match (kind, value) {
+        (ColumnKind::Varchar(n), Value::Text(text)) => text.char_count() > usize::from(n),
+        _ => false,
+    }
+}
+
+/// Whether a row gives a value that is wrong in this way.
+fn gives_wrong_at(wrong: Wrong, columns: &[Column], places: &[usize], row: &[Value]) -> bool
+    ensures { result ≡ gives_wrong_at wrong columns.now places.now row.now }
+{
+    for i in 0..places.len().min(row.len()) {
+        let place = places[i];
+        let value = &row[i];
+        if wrong.is_at(columns, place, value) {
+            return true;
+        }
+    }
+    false
+}
+
+/// Whether one of the rows does.
+#[tactic(auto, unfolding(crate::specs::change::InsertPlaces::has_wrong_at))]
+fn has_wrong_at(
+    wrong: Wrong,
+    columns: &[Column],
+    places: &[usize],
+    rows: &[NonEmpty<Value>],
+) -> bool
+    ensures { result ≡ has_wrong_at wrong columns.now places.now rows.now }
+{
+    for x in rows {
+        if gives_wrong_at(wrong, columns, places, x.as_slice()) {
+            return true;
+        }
+    }
+    false
+}
+
+/// Whether a row of INSERT gives a value that is wrong in this way for its column.
+pub fn has_wrong(wrong: Wrong, table: &TableDef, insert: &InsertRows, places: &[usize]) -> bool
+    requires placed { ArePlaces table.now insert.now.columns places.now }
+    requires distinct { has_distinct_names table.now ≡ true }
+    ensures { result ≡ has_wrong wrong table.now insert.now }
+{
+    has_wrong_at(
+        wrong,
+        table.columns.as_slice(),
+        places,
+        insert.rows.as_slice(),
+    )
+}
+
+/// The value that a row gives for the column at a place.
+pub fn value_at<'a>(places: &[usize], row: &'a [Value], place: usize) -> Option<&'a Value>
+    ensures { option_copied result ≡ value_at places.now row.now place }
+{
+    for i in 0..places.len().min(row.len()) {
+        let value = &row[i];
+        if places[i] == place {
+            return Some(value);
+        }
+    }
+    None
+}

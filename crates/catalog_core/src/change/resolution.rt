@@ -1,0 +1,84 @@
+//! A change: its refusal, or the change with positions in place of names.
+
+ghost use Rattle.std.specs.Prelude.{◌≡◌, IfErr, IfOk, OnOk};
+ghost use Rattle.period_core.specs.Leasts.{MayAnswer, NoneApplies};
+ghost use Rattle.sql_statements.specs.Plain.{plain};
+ghost use Rattle.catalog_core.specs.change.Insertion.{gives_empty_row, insert_conditions};
+ghost use Rattle.catalog_core.specs.Judged.{Holds};
+ghost use Rattle.catalog_core.specs.change.Resolution.{IsChange, ResolvesChange, ResolvesInsert};
+ghost use Rattle.catalog_core.specs.change.Resolution.{change_conditions, empty_period};
+ghost use Rattle.catalog_core.specs.change.Resolution.{has_empty_row};
+
+use crate::change::given_rows::given_rows;
+use crate::change::insert_places::given_places;
+use crate::change::insertion::insert_fault;
+use crate::change::{Action, Change};
+use crate::table::catalog::Catalog;
+use period_core::{Items, Memory, Refusal};
+use sql_statements::{InsertRows, Statement, StatementForm};
+use std::alloc::Global;
+
+/// A sound INSERT by numbers.
+fn numbered(alloc: Global, catalog: &Catalog, insert: &InsertRows) -> Result<Change, Memory>
+    requires { NoneApplies (Holds (insert_conditions catalog.now.tables insert.now)) }
+    ensures { IfOk result (λ change. ResolvesInsert catalog.now.tables insert.now change) }
+{
+    let Some(number) = catalog.find(&insert.table) else {
+        unreachable!()
+    };
+    let Some(table) = catalog.def(number) else {
+        unreachable!()
+    };
+    let places = given_places(alloc, table, &insert.columns)?;
+    let rows = given_rows(alloc, table, insert, places.as_slice())?;
+    Ok(Change {
+        table: number,
+        action: Action::Insert(Items::from_vec(rows)),
+    })
+}
+
+/// The change that an INSERT makes. An `Err` is the lowest-numbered of the refusals 23 to 31 that
+/// apply, or out of memory. Whether a row's period ends after its start is not yet judged: `empty`
+/// says that the given rows decide it.
+pub fn resolve_insert(
+    alloc: Global,
+    catalog: &Catalog,
+    insert: &InsertRows,
+) -> Result<Change, Refusal>
+    ensures sound { OnOk result
+        (NoneApplies (Holds (insert_conditions catalog.now.tables insert.now))) }
+    ensures resolved { IfOk result
+        (λ change. ResolvesInsert catalog.now.tables insert.now change) }
+    ensures empty { IfOk result
+        (λ change. gives_empty_row catalog.now.tables insert.now ≡ has_empty_row change.action) }
+    ensures refused { IfErr result
+        (MayAnswer (Holds (insert_conditions catalog.now.tables insert.now))) }
+{
+    let fault = insert_fault(alloc, catalog, insert)?;
+    if let Some(fault) = fault {
+        return Err(fault);
+    }
+    Ok(numbered(alloc, catalog, insert)?)
+}
+
+/// The change that a statement makes, as `resolve_insert` gives it. The statement is an INSERT.
+pub fn resolve_change(
+    alloc: Global,
+    catalog: &Catalog,
+    statement: &Statement,
+) -> Result<Change, Refusal>
+    requires { IsChange (plain statement.now) }
+    ensures sound { OnOk result
+        (NoneApplies (Holds (change_conditions catalog.now.tables (plain statement.now)))) }
+    ensures resolved { IfOk result
+        (λ change. ResolvesChange catalog.now.tables (plain statement.now) change) }
+    ensures empty { IfOk result (λ change.
+        (empty_period catalog.now.tables (plain statement.now)).1 ≡ has_empty_row change.action) }
+    ensures refused { IfErr result
+        (MayAnswer (Holds (change_conditions catalog.now.tables (plain statement.now)))) }
+{
+    let StatementForm::Insert(insert) = statement.form() else {
+        unreachable!()
+    };
+    resolve_insert(alloc, catalog, insert)
+}

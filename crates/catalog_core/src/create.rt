@@ -1,0 +1,100 @@
+//! CREATE TABLE: its refusal, or the definition that it gives.
+
+ghost use Rattle.std.specs.Prelude.{◌≡◌, IfErr, IfOk, MatchOption, OnOk, true};
+ghost use Rattle.period_core.specs.Leasts.{IsLeast, MayAnswer, NoneApplies};
+ghost use Rattle.catalog_core.specs.create.Creation.{create_conditions};
+ghost use Rattle.catalog_core.specs.create.Definition.{Defines};
+ghost use Rattle.catalog_core.specs.Judged.{Holds, first_holding};
+ghost use Rattle.catalog_core.specs.table.TableWords.{has_date_period, has_distinct_names};
+
+pub mod building;
+pub mod names;
+pub mod period_counts;
+pub mod shape;
+
+use crate::create::building::build;
+use crate::create::names::{
+    exceeds_limits, is_ambiguous, is_there, keys_period_column, lacks_name, lacks_parent,
+    repeats_name,
+};
+use crate::create::period_counts::period_counts;
+use crate::create::shape::{has_unequal_lists, is_bad_definition, references_other_kind};
+use crate::table::TableDef;
+use crate::table::catalog::Catalog;
+use period_core::{Memory, Refusal};
+use sql_statements::CreateTable;
+use std::alloc::Global;
+
+/// The first refusal whose condition holds. The only error is out of memory.
+#[tactic(auto, unfolding(crate::specs::create::Creation::lacks_name))]
+fn first_fault(
+    alloc: Global,
+    catalog: &Catalog,
+    create: &CreateTable,
+) -> Result<Option<Refusal>, Memory>
+    ensures { IfOk result
+        (λ first. first ≡ first_holding (create_conditions catalog.now.tables create.now)) }
+{
+    if exceeds_limits(catalog, create) {
+        return Ok(Some(Refusal::LimitReached));
+    }
+    if is_there(catalog, create) {
+        return Ok(Some(Refusal::TableExists));
+    }
+    if lacks_parent(catalog, create) {
+        return Ok(Some(Refusal::UnknownTable));
+    }
+    let counts = period_counts(alloc, create)?;
+    if lacks_name(catalog, create, &counts) {
+        return Ok(Some(Refusal::UnknownColumn));
+    }
+    if is_ambiguous(catalog, create) {
+        return Ok(Some(Refusal::AmbiguousColumn));
+    }
+    if repeats_name(create, &counts) {
+        return Ok(Some(Refusal::DuplicateName));
+    }
+    if keys_period_column(catalog, create) {
+        return Ok(Some(Refusal::PeriodColumn));
+    }
+    if is_bad_definition(catalog, create) {
+        return Ok(Some(Refusal::BadDefinition));
+    }
+    if has_unequal_lists(create) {
+        return Ok(Some(Refusal::ColumnCount));
+    }
+    if references_other_kind(catalog, create) {
+        return Ok(Some(Refusal::TypeMismatch));
+    }
+    Ok(None)
+}
+
+/// The refusal of a CREATE, if it is refused. The only error is out of memory.
+fn create_fault(
+    alloc: Global,
+    catalog: &Catalog,
+    create: &CreateTable,
+) -> Result<Option<Refusal>, Memory>
+    ensures { let holds = Holds (create_conditions catalog.now.tables create.now)
+        in IfOk result (λ fault. MatchOption fault (NoneApplies holds) (IsLeast holds)) }
+{
+    first_fault(alloc, catalog, create)
+}
+
+/// The definition that a CREATE gives. An `Err` is the lowest-numbered of the refusals 21 to 30
+/// that apply, or out of memory.
+pub fn define(alloc: Global, catalog: &Catalog, create: &CreateTable) -> Result<TableDef, Refusal>
+    ensures sound { OnOk result
+        (NoneApplies (Holds (create_conditions catalog.now.tables create.now))) }
+    ensures defined { IfOk result (λ d. Defines catalog.now.tables create.now d) }
+    ensures dated { IfOk result (λ d. has_date_period d ≡ true) }
+    ensures distinct { IfOk result (λ d. has_distinct_names d ≡ true) }
+    ensures refused { IfErr result
+        (MayAnswer (Holds (create_conditions catalog.now.tables create.now))) }
+{
+    let fault = create_fault(alloc, catalog, create)?;
+    if let Some(fault) = fault {
+        return Err(fault);
+    }
+    Ok(build(alloc, catalog, create)?)
+}

@@ -1,0 +1,283 @@
+//! CREATE TABLE: what its limits and its names decide. No test takes memory. Its periods and keys
+//! may be thousands, so no test goes over the one for each of the other: the periods are counted by
+//! their names once, and what keys name is sought among the columns, which are few.
+
+ghost use Rattle.std.specs.Prelude.{◌≡◌, bytes_eq, false, option_copied};
+ghost use Rattle.std.specs.List.{list_any};
+ghost use Rattle.catalog_core.specs.create.Creation.{exceeds_limits, is_ambiguous};
+ghost use Rattle.catalog_core.specs.create.Creation.{is_no_value_column};
+ghost use Rattle.catalog_core.specs.create.Creation.{is_shared, is_there, keys_period_column};
+ghost use Rattle.catalog_core.specs.create.Creation.{lacks_name};
+ghost use Rattle.catalog_core.specs.create.Creation.{lacks_parent, lacks_period};
+ghost use Rattle.catalog_core.specs.create.Creation.{names_other_period};
+ghost use Rattle.catalog_core.specs.create.Creation.{parent_of, repeats_name, some_match};
+ghost use Rattle.catalog_core.specs.create.Creation.{some_parent_match};
+ghost use Rattle.catalog_core.specs.create.Keyed.{is_keyed, some_keyed_no_value};
+ghost use Rattle.catalog_core.specs.create.PeriodCounts.{AreCounts};
+ghost use Rattle.catalog_core.specs.declared.table.matching.Matching.TheVariants.{Nothing};
+
+use crate::create::period_counts::count_of;
+use crate::table::TableDef;
+use crate::table::catalog::{Catalog, MOST_TABLES};
+use crate::table::matching::{
+    ColumnSort, Matching, either_matches, has_sort, own_matches, repeats, some_def_match,
+    some_own_match,
+};
+use sql_statements::{CreateTable, Name, ReferenceElement};
+use std::collections::BTreeMap;
+
+/// How many columns a table may have.
+const MOST_COLUMNS: usize = 32;
+
+/// How many references a table may have.
+const MOST_REFERENCES: usize = 8;
+
+/// The table that a reference names.
+#[tactic(auto)]
+pub fn parent_of<'a>(catalog: &'a Catalog, reference: &ReferenceElement) -> Option<&'a TableDef>
+    ensures { option_copied result ≡ parent_of catalog.now.tables reference.now }
+{
+    catalog.table_named(&reference.parent)
+}
+
+/// Whether one of the columns that a reference names in its parent matches so many there.
+#[tactic(auto, unfolding(crate::specs::create::Creation::some_parent_match))]
+pub fn some_parent_match(catalog: &Catalog, wanted: Matching, reference: &ReferenceElement) -> bool
+    ensures { result ≡ some_parent_match catalog.now.tables wanted reference.now }
+{
+    match parent_of(catalog, reference) {
+        Some(table) => some_def_match(table, wanted, reference.parent_columns.as_slice()),
+        None => false,
+    }
+}
+
+/// Whether a column that CREATE names matches so many.
+#[tactic(auto, unfolding(crate::specs::create::Creation::some_match))]
+pub fn some_match(catalog: &Catalog, create: &CreateTable, wanted: Matching) -> bool
+    ensures { result ≡ some_match catalog.now.tables create.now wanted }
+{
+    for period in create.periods.as_slice() {
+        if either_matches(create, wanted, &period.start, &period.end) {
+            return true;
+        }
+    }
+    for system in create.system_periods.as_slice() {
+        if either_matches(create, wanted, &system.start, &system.end) {
+            return true;
+        }
+    }
+    for key in create.keys.as_slice() {
+        if some_own_match(create, wanted, key.columns.as_slice()) {
+            return true;
+        }
+    }
+    for reference in create.references.as_slice() {
+        if some_own_match(create, wanted, reference.columns.as_slice()) {
+            return true;
+        }
+    }
+    for other in create.references.as_slice() {
+        if some_parent_match(catalog, wanted, other) {
+            return true;
+        }
+    }
+    false
+}
+
+/// Whether a limit is exceeded: 64 tables with this one, 32 columns, 8 references.
+#[tactic(auto, unfolding(crate::specs::create::Creation::exceeds_limits))]
+pub fn exceeds_limits(catalog: &Catalog, create: &CreateTable) -> bool
+    ensures { result ≡ exceeds_limits catalog.now.tables create.now }
+{
+    catalog.tables.len() >= MOST_TABLES
+        || create.columns.len() > MOST_COLUMNS
+        || create.references.len() > MOST_REFERENCES
+}
+
+/// Whether a table of this name is there.
+#[tactic(auto, unfolding(crate::specs::create::Creation::is_there))]
+pub fn is_there(catalog: &Catalog, create: &CreateTable) -> bool
+    ensures { result ≡ is_there catalog.now.tables create.now }
+{
+    for table in catalog.tables.as_slice() {
+        if create.name.is(&table.name) {
+            return true;
+        }
+    }
+    false
+}
+
+/// Whether a reference names a table that is not there.
+#[tactic(auto, unfolding(crate::specs::create::Creation::lacks_parent))]
+pub fn lacks_parent(catalog: &Catalog, create: &CreateTable) -> bool
+    ensures { result ≡ lacks_parent catalog.now.tables create.now }
+{
+    for x in create.references.as_slice() {
+        if parent_of(catalog, x).is_none() {
+            return true;
+        }
+    }
+    false
+}
+
+/// Whether a reference names another period than its parent's.
+#[tactic(auto, unfolding(crate::specs::create::Creation::names_other_period))]
+pub fn names_other_period(catalog: &Catalog, reference: &ReferenceElement) -> bool
+    ensures { result ≡ names_other_period catalog.now.tables reference.now }
+{
+    match parent_of(catalog, reference) {
+        Some(table) => !reference.parent_period.is(&table.period.name),
+        None => false,
+    }
+}
+
+/// Whether a key or a reference names a period that is not there.
+#[tactic(auto, unfolding(crate::specs::create::Creation::lacks_period))]
+pub fn lacks_period(catalog: &Catalog, create: &CreateTable, counts: &BTreeMap<&str, usize>) -> bool
+    requires { AreCounts create.now counts.now }
+    ensures { result ≡ lacks_period catalog.now.tables create.now }
+{
+    for key in create.keys.as_slice() {
+        if Matching::Nothing.takes(count_of(counts, &key.period)) {
+            return true;
+        }
+    }
+    for reference in create.references.as_slice() {
+        if Matching::Nothing.takes(count_of(counts, &reference.period)) {
+            return true;
+        }
+    }
+    for other in create.references.as_slice() {
+        if names_other_period(catalog, other) {
+            return true;
+        }
+    }
+    false
+}
+
+/// Whether a column or a period is named that is not there.
+#[tactic(auto, unfolding(crate::specs::create::Creation::lacks_name))]
+pub fn lacks_name(catalog: &Catalog, create: &CreateTable, counts: &BTreeMap<&str, usize>) -> bool
+    requires { AreCounts create.now counts.now }
+    ensures { result ≡ lacks_name catalog.now.tables create.now }
+{
+    some_match(catalog, create, Matching::Nothing) || lacks_period(catalog, create, counts)
+}
+
+/// Whether a column that is named is there more than once.
+#[tactic(auto, unfolding(crate::specs::create::Creation::is_ambiguous))]
+pub fn is_ambiguous(catalog: &Catalog, create: &CreateTable) -> bool
+    ensures { result ≡ is_ambiguous catalog.now.tables create.now }
+{
+    some_match(catalog, create, Matching::Several)
+}
+
+/// Whether a name is that of several of the columns and periods.
+#[tactic(auto, unfolding(crate::specs::create::Creation::is_shared, crate::specs::table::Matches::is_matching))]
+pub fn is_shared(create: &CreateTable, counts: &BTreeMap<&str, usize>, name: &Name) -> bool
+    requires { AreCounts create.now counts.now }
+    ensures { result ≡ is_shared create.now name.now }
+{
+    let columns = own_matches(create, name);
+    let periods = count_of(counts, name);
+    columns > 1 || periods > 1 || (columns == 1 && periods == 1)
+}
+
+/// Whether two columns or periods share a name, or a list of a key or a reference repeats one.
+#[tactic(auto, unfolding(crate::specs::create::Creation::repeats_name))]
+pub fn repeats_name(create: &CreateTable, counts: &BTreeMap<&str, usize>) -> bool
+    requires { AreCounts create.now counts.now }
+    ensures { result ≡ repeats_name create.now }
+{
+    for column in create.columns.as_slice() {
+        if is_shared(create, counts, &column.name) {
+            return true;
+        }
+    }
+    for period in create.periods.as_slice() {
+        if is_shared(create, counts, &period.name) {
+            return true;
+        }
+    }
+    for key in create.keys.as_slice() {
+        if repeats(key.columns.as_slice()) {
+            return true;
+        }
+    }
+    for reference in create.references.as_slice() {
+        if repeats(reference.columns.as_slice()) || repeats(reference.parent_columns.as_slice()) {
+            return true;
+        }
+    }
+    false
+}
+
+/// Whether a name is a period or system column's.
+#[tactic(auto, unfolding(crate::specs::create::Creation::is_no_value_column))]
+pub fn is_no_value_column(create: &CreateTable, name: &Name) -> bool
+    ensures { result ≡ is_no_value_column create.now name.now }
+{
+    for period in create.periods.as_slice() {
+        if name.is(&period.start) || name.is(&period.end) {
+            return true;
+        }
+    }
+    for system in create.system_periods.as_slice() {
+        if name.is(&system.start) || name.is(&system.end) {
+            return true;
+        }
+    }
+    has_sort(create, ColumnSort::System, name)
+}
+
+/// Whether a name is among those of a list.
+fn is_among(names: &[Name], name: &Name) -> bool
+    ensures { result ≡ list_any (bytes_eq name.now) names.now }
+{
+    for x in names {
+        if name.is(x) {
+            return true;
+        }
+    }
+    false
+}
+
+/// Whether a name is among the columns of a key or the own columns of a reference.
+#[tactic(auto, unfolding(crate::specs::create::Keyed::is_keyed))]
+fn is_keyed(create: &CreateTable, name: &Name) -> bool
+    ensures { result ≡ is_keyed create.now name.now }
+{
+    for key in create.keys.as_slice() {
+        if is_among(key.columns.as_slice(), name) {
+            return true;
+        }
+    }
+    for reference in create.references.as_slice() {
+        if is_among(reference.columns.as_slice(), name) {
+            return true;
+        }
+    }
+    false
+}
+
+/// Whether one of the table's columns is keyed and no value column.
+#[tactic(auto, unfolding(crate::specs::create::Keyed::some_keyed_no_value))]
+fn some_keyed_no_value(create: &CreateTable) -> bool
+    ensures { result ≡ some_keyed_no_value create.now }
+{
+    for column in create.columns.as_slice() {
+        if is_keyed(create, &column.name) && is_no_value_column(create, &column.name) {
+            return true;
+        }
+    }
+    false
+}
+
+/// Whether a period or system column is in the key or in the columns of a reference. The columns
+/// that these name are there.
+pub fn keys_period_column(catalog: &Catalog, create: &CreateTable) -> bool
+    requires { some_match catalog.now.tables create.now Nothing ≡ false }
+    ensures { result ≡ keys_period_column create.now }
+{
+    some_keyed_no_value(create)
+}

@@ -1,0 +1,135 @@
+//! The catalog: the tables by their numbers.
+
+ghost use Rattle.std.specs.Prelude.{◌≡◌, ◌↔◌, ◌≤◌, ◌<◌, ◌++◌, ◌∷◌, [], IfOk, IfSome, IsSome, true};
+ghost use Rattle.std.specs.Prelude.{OnErr, length, option_copied};
+ghost use Rattle.std.specs.List.{list_all};
+ghost use Rattle.catalog_core.specs.Limits.{most_tables};
+ghost use Rattle.catalog_core.specs.table.TableWords.{has_date_period, has_distinct_names};
+ghost use Rattle.catalog_core.specs.table.TableWords.{number_of};
+ghost use Rattle.catalog_core.specs.table.TableWords.{table_of, table_of_name};
+
+use crate::table::TableDef;
+use period_core::{Items, Memory};
+use sql_statements::Name;
+use std::alloc::Global;
+
+/// The tables in the order of their creation, numbered from 1. The application period of each is
+/// over two different DATE columns, and no two columns of a table share a name.
+#[derive(Drop, Debug)]
+pub struct Catalog {
+    pub tables: Items<TableDef>,
+    pub ghost few: { length tables ≤ most_tables },
+    pub ghost dated: { list_all has_date_period tables ≡ true },
+    pub ghost distinct: { list_all has_distinct_names tables ≡ true },
+}
+
+/// How many tables a catalog may have.
+pub const MOST_TABLES: usize = 64;
+
+/// Whether the application period of each table is over two different DATE columns.
+fn have_date_periods(tables: &[TableDef]) -> bool
+    ensures { result ≡ list_all has_date_period tables.now }
+{
+    for table in tables {
+        if !table.has_date_period() {
+            return false;
+        }
+    }
+    true
+}
+
+/// Whether no two columns of a table share a name.
+fn have_distinct_names(tables: &[TableDef]) -> bool
+    ensures { result ≡ list_all has_distinct_names tables.now }
+{
+    for table in tables {
+        if !table.has_distinct_names() {
+            return false;
+        }
+    }
+    true
+}
+
+impl Catalog {
+    /// The catalog without a table.
+    pub fn new(alloc: Global) -> Catalog
+        ensures { result.tables ≡ [] }
+    {
+        Catalog {
+            tables: Items::from_vec(Vec::new(alloc)),
+        }
+    }
+
+    /// The catalog of these tables. `None` says that they are more than 64, that the application
+    /// period of one is not over two different DATE columns, or that two columns of one share a
+    /// name.
+    pub fn from_tables(tables: Items<TableDef>) -> Option<Catalog>
+        ensures there { IsSome result ↔ (length tables ≤ most_tables)
+            × (list_all has_date_period tables ≡ true)
+            × (list_all has_distinct_names tables ≡ true) }
+        ensures value { IfSome result (λ catalog. catalog.tables ≡ tables) }
+    {
+        if tables.len() > MOST_TABLES
+            || !have_date_periods(tables.as_slice())
+            || !have_distinct_names(tables.as_slice())
+        {
+            return None;
+        }
+        Some(Catalog { tables })
+    }
+
+    /// Adds a table to fewer than 64; its number is then the number of tables. Its application
+    /// period is over two different DATE columns, and no two of its columns share a name. An `Err`
+    /// says that memory was refused, and leaves the catalog as it was.
+    pub fn push(&mut self, definition: TableDef) -> Result<(), Memory>
+        requires room { length self.old.tables < most_tables }
+        requires dated { has_date_period definition ≡ true }
+        requires distinct { has_distinct_names definition ≡ true }
+        ensures pushed { IfOk result (λ _. self.new.tables ≡ self.old.tables ++ definition ∷ []) }
+        ensures kept { OnErr result (self.new ≡ self.old) }
+    {
+        self.tables.push(definition)
+    }
+
+    /// How many tables there are.
+    pub fn len(&self) -> usize
+        ensures { result ≡ length self.now.tables }
+    {
+        self.tables.len()
+    }
+
+    /// The number of the table of this name.
+    #[tactic(auto, unfolding(crate::specs::table::TableWords::number_of))]
+    pub fn find(&self, name: &Name) -> Option<u8>
+        ensures { result ≡ number_of self.now.tables name.now }
+    {
+        let tables = self.tables.as_slice();
+        for i in 0..tables.len() {
+            if name.is(&tables[i].name) {
+                return Some(i as u8 + 1);
+            }
+        }
+        None
+    }
+
+    /// The definition of the table of this number.
+    pub fn def(&self, number: u8) -> Option<&TableDef>
+        ensures { option_copied result ≡ table_of self.now.tables number }
+    {
+        if number == 0 {
+            return None;
+        }
+        self.tables.as_slice().get(usize::from(number) - 1)
+    }
+
+    /// The definition of the table of this name.
+    #[tactic(auto, unfolding(crate::specs::table::TableWords::table_of_name))]
+    pub fn table_named(&self, name: &Name) -> Option<&TableDef>
+        ensures { option_copied result ≡ table_of_name self.now.tables name.now }
+    {
+        match self.find(name) {
+            Some(number) => self.def(number),
+            None => None,
+        }
+    }
+}

@@ -1,0 +1,120 @@
+//! The places of a table's columns, and which are DATE columns or value columns: all but those of
+//! its application period and its system columns.
+
+ghost use Rattle.std.specs.Prelude.{◌≡◌, ◌&&◌, ◌<◌, IfSome, bytes_eq, not};
+ghost use Rattle.catalog_core.specs.Limits.{number_limit};
+ghost use Rattle.catalog_core.specs.query.Selection.{names_no_value, value_position};
+ghost use Rattle.catalog_core.specs.table.TableWords.{def_place, has_date_period};
+ghost use Rattle.catalog_core.specs.table.TableWords.{has_distinct_names};
+ghost use Rattle.catalog_core.specs.table.TableWords.{is_date_column, is_value_column};
+
+use crate::table::kinds::{is_system, kind_of_column, same_kind};
+use crate::table::matching::{Matching, def_matches};
+use crate::table::{Column, Kind, TableDef};
+use sql_statements::Name;
+
+/// The place of a table's column that a name stands for.
+#[tactic(auto, unfolding(crate::specs::table::TableWords::def_place))]
+pub fn def_place(table: &TableDef, name: &Name) -> Option<usize>
+    ensures value { result ≡ def_place table.now name.now }
+    ensures small { IfSome result (λ place. place < number_limit) }
+{
+    let columns = table.columns.as_slice();
+    for i in 0..columns.len() {
+        if name.is(&columns[i].name) {
+            return Some(i);
+        }
+    }
+    None
+}
+
+/// Whether the column at a place is a DATE column, and its name stands for it.
+#[tactic(auto, unfolding(crate::specs::table::TableWords::is_date_column))]
+pub fn is_date_column(table: &TableDef, place: usize) -> bool
+    ensures { result ≡ is_date_column table.now place }
+{
+    let Some(column) = table.columns.as_slice().get(place) else {
+        return false;
+    };
+    let Some(named) = def_place(table, &column.name) else {
+        return false;
+    };
+    same_kind(kind_of_column(column.kind), Kind::Date) && named == place
+}
+
+impl TableDef {
+    /// Whether its application period is over two different DATE columns, each the first of its
+    /// name, as that of each definition is that `define` gives. Of those that `decode_def` gives it
+    /// may be over others.
+    #[tactic(auto, unfolding(crate::specs::table::TableWords::has_date_period))]
+    pub fn has_date_period(&self) -> bool
+        ensures { result ≡ has_date_period self.now }
+    {
+        self.period.start != self.period.end
+            && is_date_column(self, self.period.start)
+            && is_date_column(self, self.period.end)
+    }
+
+    /// Whether no two of its columns share a name, as in each definition that `define` gives. In
+    /// those that `decode_def` gives two may.
+    #[tactic(auto, unfolding(crate::specs::table::TableWords::has_distinct_names))]
+    pub fn has_distinct_names(&self) -> bool
+        ensures { result ≡ has_distinct_names self.now }
+    {
+        for x in self.columns.as_slice() {
+            if Matching::Several.takes(def_matches(self, &x.name)) {
+                return false;
+            }
+        }
+        true
+    }
+}
+
+/// Whether the column that is declared at a place is a value column.
+#[tactic(auto, unfolding(crate::specs::table::TableWords::is_value_column))]
+pub fn is_value_column(table: &TableDef, place: usize, column: &Column) -> bool
+    ensures { result ≡ is_value_column table.now (place, column.now) }
+{
+    place != table.period.start && place != table.period.end && !is_system(column.kind)
+}
+
+/// Whether the column that is declared at a place has this name and is no value column.
+fn is_other_column(table: &TableDef, place: usize, column: &Column, name: &Name) -> bool
+    ensures { result
+        ≡ (bytes_eq name.now column.now.name && not (is_value_column table.now (place, column.now))) }
+{
+    name.is(&column.name) && !is_value_column(table, place, column)
+}
+
+/// Whether a column of this name is no value column.
+#[tactic(auto, unfolding(crate::specs::query::Selection::names_no_value))]
+pub fn names_no_value(table: &TableDef, name: &Name) -> bool
+    ensures { result ≡ names_no_value table.now name.now }
+{
+    let columns = table.columns.as_slice();
+    for i in 0..columns.len() {
+        if is_other_column(table, i, &columns[i], name) {
+            return true;
+        }
+    }
+    false
+}
+
+/// The position of the value column of this name among a row's values.
+#[tactic(auto, unfolding(crate::specs::query::Selection::value_position))]
+pub fn value_position(table: &TableDef, name: &Name) -> Option<usize>
+    ensures { result ≡ value_position table.now name.now }
+{
+    let columns = table.columns.as_slice();
+    let mut position = 0;
+    for i in 0..columns.len() {
+        let column = &columns[i];
+        if is_value_column(table, i, column) {
+            if name.is(&column.name) {
+                return Some(position);
+            }
+            position += 1;
+        }
+    }
+    None
+}

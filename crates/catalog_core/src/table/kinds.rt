@@ -1,0 +1,114 @@
+//! The kinds of columns and values, by which they are compared.
+
+ghost use Rattle.std.specs.Prelude.{◌≡◌};
+ghost use Rattle.catalog_core.specs.create.Creation.{own_kind};
+ghost use Rattle.catalog_core.specs.table.Kinds.{differ, kind_of_column, kind_of_type};
+ghost use Rattle.catalog_core.specs.table.Kinds.{kind_of_value, same_kind};
+ghost use Rattle.catalog_core.specs.table.TableWords.{def_kind, is_system};
+
+use crate::table::{ColumnKind, Kind, TableDef};
+use period_core::Value;
+use sql_statements::{CreateTable, Name, TypeName};
+
+/// Whether it is a system column's.
+pub fn is_system(kind: ColumnKind) -> bool
+    ensures { result ≡ is_system kind }
+{
+    match kind {
+        ColumnKind::Integer => false,
+        ColumnKind::Varchar(_) => false,
+        ColumnKind::Date => false,
+        ColumnKind::RowStart(_) => true,
+        ColumnKind::RowEnd(_) => true,
+    }
+}
+
+/// The kind of what a type holds.
+#[tactic(auto, unfolding(crate::specs::table::Kinds::kind_of_type))]
+pub fn kind_of_type(kind: TypeName) -> Kind
+    ensures { result ≡ kind_of_type kind }
+{
+    match kind {
+        TypeName::Integer => Kind::Integer,
+        TypeName::Date => Kind::Date,
+        TypeName::Varchar(_) => Kind::Text,
+        TypeName::Timestamp(_) => Kind::Moment,
+    }
+}
+
+/// The kind of what a column holds.
+#[tactic(auto, unfolding(crate::specs::table::Kinds::kind_of_column))]
+pub fn kind_of_column(kind: ColumnKind) -> Kind
+    ensures { result ≡ kind_of_column kind }
+{
+    match kind {
+        ColumnKind::Integer => Kind::Integer,
+        ColumnKind::Varchar(_) => Kind::Text,
+        ColumnKind::Date => Kind::Date,
+        ColumnKind::RowStart(_) => Kind::Moment,
+        ColumnKind::RowEnd(_) => Kind::Moment,
+    }
+}
+
+/// The kind of a value.
+#[tactic(auto, unfolding(crate::specs::table::Kinds::kind_of_value))]
+pub fn kind_of_value(value: &Value) -> Kind
+    ensures { result ≡ kind_of_value value.now }
+{
+    match value {
+        Value::Int(_) => Kind::Integer,
+        Value::Text(_) => Kind::Text,
+        Value::Date(_) => Kind::Date,
+    }
+}
+
+/// Whether two kinds are the same.
+#[tactic(auto, unfolding(crate::specs::table::Kinds::same_kind))]
+pub fn same_kind(left: Kind, right: Kind) -> bool
+    ensures { result ≡ same_kind left right }
+{
+    match (left, right) {
+        (Kind::Integer, Kind::Integer) => true,
+        (Kind::Text, Kind::Text) => true,
+        (Kind::Date, Kind::Date) => true,
+        (Kind::Moment, Kind::Moment) => true,
+        _ => false,
+    }
+}
+
+/// Whether two kinds are both there and differ.
+#[tactic(auto, unfolding(crate::specs::table::Kinds::differ))]
+pub fn differ(left: Option<Kind>, right: Option<Kind>) -> bool
+    ensures { result ≡ differ left right }
+{
+    match (left, right) {
+        (Some(x), Some(y)) => !same_kind(x, y),
+        _ => false,
+    }
+}
+
+/// The kind of the statement's column of this name.
+#[tactic(auto, unfolding(crate::specs::create::Creation::own_kind))]
+pub fn own_kind(create: &CreateTable, name: &Name) -> Option<Kind>
+    ensures { result ≡ own_kind create.now name.now }
+{
+    for x in create.columns.as_slice() {
+        if name.is(&x.name) {
+            return Some(kind_of_type(x.kind));
+        }
+    }
+    None
+}
+
+/// The kind of a table's column of this name.
+#[tactic(auto, unfolding(crate::specs::table::TableWords::def_kind))]
+pub fn def_kind(table: &TableDef, name: &Name) -> Option<Kind>
+    ensures { result ≡ def_kind table.now name.now }
+{
+    for x in table.columns.as_slice() {
+        if name.is(&x.name) {
+            return Some(kind_of_column(x.kind));
+        }
+    }
+    None
+}

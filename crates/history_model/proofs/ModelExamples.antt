@@ -1,0 +1,85 @@
+-- Worked rows of the model: what an INSERT makes of a day, the last state, the ordinary query on a day.
+use Rattle.std.proofs.Common.{◌≡◌, pos, neg_ℤ, List, [], ◌∷◌, codes, refl, arith}
+use Rattle.period_core.specs.declared.value.Value.{Value}
+use Rattle.period_core.specs.declared.value.Value.TheVariants.{Int}
+use Rattle.history_model.specs.Answers.{InAnswerOn, IsProjection}
+use Rattle.history_model.specs.Effects.{Given, Kept, effect, traced}
+use Rattle.history_model.specs.Histories.{Asked, Changed, History, catalog_of, last_state, new_database, opened, rows_in, with_event}
+use Rattle.catalog_core.specs.declared.change.Action.TheVariants.{Insert}
+use Rattle.catalog_core.specs.declared.change.Change.{Change}
+use Rattle.catalog_core.specs.declared.change.GivenRow.{GivenRow}
+use Rattle.catalog_core.specs.declared.query.Select.{Select}
+
+-- employee 1 of department 3
+abbrev worker : List Value
+worker = Int (pos 1) ∷ Int (pos 3) ∷ []
+
+abbrev other : List Value
+other = Int (pos 2) ∷ Int (pos 3) ∷ []
+
+-- from day 10 on and before day 20
+abbrev given : GivenRow
+given = record { values = worker; start = pos 10; end = pos 20 }
+
+abbrev inserted : Change
+inserted = record { table = 1; action = Insert (given ∷ []) }
+
+-- the row is there on its first day and on its last, and not on the day before or at its end
+first_day : effect inserted 1 (pos 10) [] ≡ worker ∷ []
+first_day = refl
+
+last_day : effect inserted 1 (pos 19) (other ∷ []) ≡ other ∷ worker ∷ []
+last_day = refl
+
+day_before : effect inserted 1 (pos 9) (other ∷ []) ≡ other ∷ []
+day_before = refl
+
+at_its_end : effect inserted 1 (pos 20) [] ≡ []
+at_its_end = refl
+
+-- another table keeps its rows
+other_table : effect inserted 2 (pos 10) (other ∷ []) ≡ other ∷ []
+other_table = refl
+
+-- each row has its origin
+origins : traced (Insert (given ∷ [])) (pos 10) (worker ∷ []) ≡ record { origin = Kept worker; row = worker } ∷ record { origin = Given 0; row = worker } ∷ []
+origins = refl
+
+abbrev history : History
+history = with_event (with_event (opened new_database) (Changed inserted)) Asked
+
+-- a query changes nothing, and a table that is not there has no rows
+state_on_a_day : last_state history 1 (pos 15) ≡ worker ∷ []
+state_on_a_day = refl
+
+state_on_another : last_state history 1 (neg_ℤ (pos 15)) ≡ []
+state_on_another = refl
+
+not_there : last_state history 2 (pos 15) ≡ []
+not_there = refl
+
+no_table : rows_in new_database 0 ≡ []
+no_table = refl
+
+nothing_created : catalog_of history ≡ []
+nothing_created = refl
+
+-- the department and then the employee
+abbrev query : Select
+query = record { table = 1; items = record { position = 1; name = codes "DEPT" } ∷ record { position = 0; name = codes "ENO" } ∷ [] }
+
+department_first : IsProjection query.items worker (Int (pos 3) ∷ Int (pos 1) ∷ [])
+department_first = refl
+
+-- a row that lacks a value for an item has no projection
+lacking : (row : List Value) → IsProjection query.items (Int (pos 1) ∷ []) row → ⊥
+lacking [] e = cc
+lacking (value ∷ row) e = cc
+
+-- the ordinary query gives the projection on a day on which the row holds
+answered : InAnswerOn history query (pos 15) (Int (pos 3) ∷ Int (pos 1) ∷ [])
+answered = (worker, (0, omega arith, refl), refl)
+
+-- and nothing on a day on which it does not
+unanswered : (values : List Value) → InAnswerOn history query (pos 20) values → ⊥
+unanswered values (row, (place, inside, same), projection) = omega arith

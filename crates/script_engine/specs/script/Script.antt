@@ -1,0 +1,79 @@
+-- The results of a script: those of its pieces, one after the other, from an engine without tables.
+use Rattle.std.specs.Prelude.{◌≡◌, ◌<◌, ◌≤◌, ◌⊎◌, ◌∷◌, ℕ, List, [], Result, Err, length}
+use Rattle.std.specs.Str.{IsUtf8}
+use Rattle.period_core.specs.Leasts.{MayAnswer, NoneApplies}
+use Rattle.period_core.specs.declared.refusal.Refusal.{Refusal}
+use Rattle.period_core.specs.declared.refusal.Refusal.TheVariants.{BadToken, LimitReached, NotUtf8}
+use Rattle.period_core.specs.declared.refusal.Refusal.TheVariants.{ScriptTooLarge}
+use Rattle.sql_front.specs.Grammar.{IsStatement}
+use Rattle.sql_front.specs.PieceRefusals.{PieceApplies}
+use Rattle.sql_statements.specs.Lexemes.{Lexeme}
+use Rattle.sql_statements.specs.Lexis.{StopsAt, TokensOf}
+use Rattle.sql_front.specs.Pieces.{HasPieces}
+use Rattle.sql_statements.specs.Trees.{Statement}
+use Rattle.history_model.specs.Histories.{Database, History, new_database, opened}
+use Rattle.script_engine.specs.engine.Runs.{Represents, Step}
+use Rattle.script_engine.specs.declared.engine.outcome.Outcome.{Outcome}
+
+-- a piece of more than 10,000 tokens
+abbrev pub IsOverlong : List Lexeme → Type 0
+IsOverlong piece = 10_000 < length piece
+
+-- the condition of each refusal over the tokens of a piece: of one that is overlong nothing else
+-- is judged
+abbrev pub TextApplies : List Lexeme → Refusal → Type 0
+TextApplies piece refusal =
+    (IsOverlong piece × (refusal ≡ LimitReached))
+    ⊎ ((IsOverlong piece → ⊥) × PieceApplies piece refusal)
+
+-- a piece that spells no sound statement is refused, and the history stays; the result of another
+-- is that of its statement
+abbrev pub PieceStep : History → List Lexeme → Result Outcome Refusal → History → Type 0
+PieceStep history piece result new =
+    ((refusal : Refusal) × (result ≡ Err refusal) × MayAnswer (TextApplies piece) refusal
+    × (new ≡ history))
+    ⊎ ((s : Statement) × NoneApplies (TextApplies piece) × IsStatement piece s
+    × Step history s result new)
+
+-- the results of the pieces, one after the other
+abbrev pub RunPieces : History → List (List Lexeme) → List (Result Outcome Refusal) → History → Type 0
+RunPieces history [] [] new = new ≡ history
+RunPieces history (piece ∷ pieces) (result ∷ results) new =
+    (middle : History) × PieceStep history piece result middle × RunPieces middle pieces results new
+RunPieces history [] (result ∷ results) new = ⊥
+RunPieces history (piece ∷ pieces) [] new = ⊥
+
+-- the most bytes that a script may have
+abbrev pub most_bytes : ℕ
+most_bytes = 4_194_304
+
+-- the condition of each refusal of a whole script: of one that is too large nothing else is judged,
+-- and of one that isn't UTF-8 no token
+abbrev pub ScriptApplies : List ℕ → Refusal → Type 0
+ScriptApplies script NotUtf8 = (length script ≤ most_bytes) × (IsUtf8 script → ⊥)
+ScriptApplies script ScriptTooLarge = most_bytes < length script
+ScriptApplies script (BadToken offset) = (length script ≤ most_bytes) × IsUtf8 script × StopsAt script offset
+ScriptApplies script other = ⊥
+
+-- which refusals a whole script may get
+abbrev pub MayRefuseScript : List ℕ → Refusal → Type 0
+MayRefuseScript script refusal = MayAnswer (ScriptApplies script) refusal
+
+-- the script has tokens, and these are its pieces
+pub record IsCutInto (script : List ℕ) (pieces : List (List Lexeme)) : Type 0 where
+  pub sound : NoneApplies (ScriptApplies script)
+  pub tokens : List Lexeme
+  pub lexed : TokensOf script tokens
+  pub parted : HasPieces tokens pieces
+
+-- the results are those of the script's pieces, from a new engine on
+pub record IsRunOf (script : List ℕ) (results : List (Result Outcome Refusal)) : Type 0 where
+  pub pieces : List (List Lexeme)
+  pub cut : IsCutInto script pieces
+  pub last : History
+  pub run : RunPieces (opened new_database) pieces results last
+
+-- a piece's result is a step of the history, and what is kept then is what the new history says
+abbrev pub PieceStepsTo : History → List Lexeme → Result Outcome Refusal → Database → Type 0
+PieceStepsTo history piece result database =
+    (new : History) × PieceStep history piece result new × Represents new database

@@ -1,0 +1,11 @@
+pub mod Gives
+pub mod Reading
+pub mod LeafValues
+pub mod Leaves
+pub mod ElementReaders
+pub mod ConditionReaders
+pub mod PredicateReaders
+pub mod WindowReaders
+pub mod QueryReaders
+pub mod ChangeReaders
+pub mod StatementReaders

@@ -1,0 +1,84 @@
+-- Reading the tests of stored queries from the front.
+use Rattle.std.specs.Prelude.{ℤ, Bool, false, cond, List, [], ◌∷◌, ◌&&◌, ◌||◌, codes}
+use Rattle.sql_statements.specs.declared.statement.PeriodOperand.{PeriodOperand}
+use Rattle.sql_statements.specs.declared.statement.PeriodOperand.TheVariants.{Named}
+use Rattle.sql_statements.specs.declared.statement.PeriodPredicate.{PeriodPredicate}
+use Rattle.sql_statements.specs.declared.statement.PeriodPredicate.TheVariants.{Overlaps, Equals}
+use Rattle.sql_statements.specs.declared.statement.PeriodPredicate.TheVariants.{Contains, Precedes}
+use Rattle.sql_statements.specs.declared.statement.PeriodPredicate.TheVariants.{Succeeds}
+use Rattle.sql_statements.specs.declared.statement.PeriodPredicate.TheVariants.{ImmediatelyPrecedes}
+use Rattle.sql_statements.specs.declared.statement.PeriodPredicate.TheVariants.{ImmediatelySucceeds}
+use Rattle.sql_statements.specs.declared.statement.StoredTest.{StoredTest}
+use Rattle.sql_statements.specs.declared.statement.StoredTest.TheVariants.{Values, Periods, ContainsDay}
+use Rattle.sql_statements.specs.Lexemes.{Lexeme}
+use Rattle.sql_front.specs.Language.{keyword, symbol, or_test}
+use Rattle.sql_front.specs.Builders.{dates_of}
+use Rattle.sql_front.specs.Grammar.{comma, name}
+use Rattle.sql_front.specs.reading.Reading.{Reader, begins, third_is, sequence_read, built_read}
+use Rattle.sql_front.specs.reading.Reading.{choice_read, preceded_read, enclosed_read, stands_read}
+use Rattle.sql_front.specs.reading.Leaves.{date_read}
+use Rattle.sql_front.specs.reading.ConditionReaders.{column_read, compare_read}
+
+-- '(' date ',' date ')'
+unfoldable pub dates_read : Reader (ℤ × ℤ)
+dates_read = enclosed_read (sequence_read date_read (preceded_read comma date_read))
+
+unfoldable pub period_operand_read : Reader PeriodOperand
+period_operand_read =
+    choice_read (begins (keyword (codes "PERIOD")))
+    (built_read dates_of (preceded_read (keyword (codes "PERIOD")) dates_read))
+    (built_read Named column_read)
+
+unfoldable pub relation_read : Reader PeriodPredicate
+relation_read =
+    choice_read (begins (keyword (codes "OVERLAPS"))) (stands_read Overlaps (keyword (codes "OVERLAPS")))
+    (choice_read (begins (keyword (codes "EQUALS"))) (stands_read Equals (keyword (codes "EQUALS")))
+    (choice_read (begins (keyword (codes "CONTAINS"))) (stands_read Contains (keyword (codes "CONTAINS")))
+    (choice_read (begins (keyword (codes "IMMEDIATELY")))
+    (preceded_read (keyword (codes "IMMEDIATELY"))
+    (choice_read (begins (keyword (codes "PRECEDES"))) (stands_read ImmediatelyPrecedes (keyword (codes "PRECEDES"))) (stands_read ImmediatelySucceeds (keyword (codes "SUCCEEDS")))))
+    (choice_read (begins (keyword (codes "PRECEDES"))) (stands_read Precedes (keyword (codes "PRECEDES"))) (stands_read Succeeds (keyword (codes "SUCCEEDS")))))))
+
+-- ---- a predicate: a period, and what is said of it
+
+-- CONTAINS DATE
+unfoldable pub begins_contains_date : List Lexeme → Bool
+begins_contains_date [] = false
+begins_contains_date (first ∷ rest) = keyword (codes "CONTAINS") first && begins (keyword (codes "DATE")) rest
+
+-- what is said of a period: a day that it contains, or how it stands to another
+pub data Said : Type 0 where
+  contains_day : ℤ → Said
+  related : PeriodPredicate × PeriodOperand → Said
+
+abbrev pub said_of : PeriodOperand × Said → StoredTest
+said_of (period, contains_day day) = ContainsDay period day
+said_of (period, related other) = Periods period other.0 other.1
+
+unfoldable pub said_read : Reader Said
+said_read =
+    choice_read begins_contains_date (built_read contains_day (preceded_read (keyword (codes "CONTAINS")) date_read))
+    (built_read related (sequence_read relation_read period_operand_read))
+
+unfoldable pub predicate_read : Reader StoredTest
+predicate_read = built_read said_of (sequence_read period_operand_read said_read)
+
+-- ---- a predicate or a comparison
+
+-- the words with which a relation begins
+unfoldable pub relation_word : Lexeme → Bool
+relation_word =
+    or_test (keyword (codes "OVERLAPS")) (or_test (keyword (codes "EQUALS")) (or_test (keyword (codes "CONTAINS"))
+    (or_test (keyword (codes "IMMEDIATELY")) (or_test (keyword (codes "PRECEDES")) (keyword (codes "SUCCEEDS"))))))
+
+-- such a word behind the column that these tokens begin with
+unfoldable pub relation_behind_column : List Lexeme → Bool
+relation_behind_column [] = false
+relation_behind_column (first ∷ rest) = cond (begins (symbol (codes ".")) rest) (third_is relation_word rest) (begins relation_word rest)
+
+-- the tokens begin as a predicate does, and not as a comparison
+unfoldable pub predicate_ahead : List Lexeme → Bool
+predicate_ahead tokens = begins (keyword (codes "PERIOD")) tokens || (begins name tokens && relation_behind_column tokens)
+
+unfoldable pub stored_test_read : Reader StoredTest
+stored_test_read = choice_read predicate_ahead predicate_read (built_read Values compare_read)

@@ -1,0 +1,113 @@
+-- Reading queries from the front.
+use Rattle.std.specs.Prelude.{ℕ, zero, suc, List, codes, Option, None, Bool}
+use Rattle.sql_statements.specs.declared.statement.SelectItem.{SelectItem}
+use Rattle.sql_statements.specs.declared.statement.TableReference.{TableReference}
+use Rattle.sql_statements.specs.declared.tree.SetOperator.{SetOperator}
+use Rattle.sql_statements.specs.declared.tree.SetOperator.TheVariants.{Union, Except}
+use Rattle.sql_statements.specs.declared.tree.QueryTree as queries
+use Rattle.sql_statements.specs.declared.statement.SelectDistinct as selects
+use Rattle.sql_statements.specs.Plain.{plain_query}
+use Rattle.sql_statements.specs.Lexemes.{Lexeme}
+use Rattle.sql_front.specs.Language.{keyword, symbol, or_test}
+use Rattle.sql_statements.specs.declared.statement.Compare.{Compare}
+use Rattle.sql_statements.specs.Trees.{Condition, Join, JoinChain, Select, Query, simple}
+use Rattle.sql_front.specs.Builders.{table_reference_of, join_of, chain_of, item_of, select_of}
+use Rattle.sql_front.specs.Builders.{combined_of}
+use Rattle.sql_front.specs.Grammar.{name, comma}
+use Rattle.sql_front.specs.reading.Reading.{Reader, begins, sequence_read, built_read, choice_read}
+use Rattle.sql_front.specs.reading.Reading.{optional_read, repetition_read, preceded_read}
+use Rattle.sql_front.specs.reading.Reading.{preceded_or_not_read, stands_read, separated_read}
+use Rattle.sql_front.specs.reading.Reading.{enclosed_read}
+use Rattle.sql_front.specs.reading.Leaves.{name_read}
+use Rattle.sql_front.specs.reading.ConditionReaders.{column_read, compare_read, condition_read}
+use Rattle.sql_front.specs.reading.ConditionReaders.{where_read}
+use Rattle.sql_front.specs.reading.WindowReaders.{for_window_read}
+
+-- ---- references
+
+abbrev pub begins_new_name : Lexeme → Bool
+begins_new_name = or_test (keyword (codes "AS")) name
+
+-- [ [ AS ] name ]
+unfoldable pub new_name_read : Reader (Option (List ℕ))
+new_name_read = optional_read begins_new_name (preceded_or_not_read (keyword (codes "AS")) name_read)
+
+unfoldable pub reference_read : Reader TableReference
+reference_read = built_read table_reference_of (sequence_read name_read (sequence_read for_window_read new_name_read))
+
+unfoldable pub item_read : Reader SelectItem
+item_read = built_read item_of (sequence_read column_read new_name_read)
+
+-- ---- selects, whose conditions' parentheses nest at most n deep
+
+-- JOIN reference ON cond
+unfoldable pub joined_read : ℕ → Reader (TableReference × Condition Compare)
+joined_read n =
+    preceded_read (keyword (codes "JOIN"))
+    (sequence_read reference_read (preceded_read (keyword (codes "ON")) (condition_read compare_read n)))
+
+unfoldable pub join_read : ℕ → Reader Join
+join_read n = built_read join_of (preceded_or_not_read (keyword (codes "INNER")) (joined_read n))
+
+abbrev pub begins_join : Lexeme → Bool
+begins_join = or_test (keyword (codes "INNER")) (keyword (codes "JOIN"))
+
+unfoldable pub joins_read : ℕ → Reader (List Join)
+joins_read n = repetition_read (begins begins_join) (join_read n)
+
+unfoldable pub chain_read : ℕ → Reader JoinChain
+chain_read n = built_read chain_of (sequence_read reference_read (joins_read n))
+
+-- FROM chain { ',' chain } [ WHERE cond ]
+unfoldable pub from_read : ℕ → Reader (List JoinChain × Option (Condition Compare))
+from_read n =
+    preceded_read (keyword (codes "FROM")) (sequence_read (separated_read comma (chain_read n)) (where_read compare_read n))
+
+-- what stands behind SELECT DISTINCT
+unfoldable pub selected_read : ℕ → Reader Select
+selected_read n = built_read select_of (sequence_read (separated_read comma item_read) (from_read n))
+
+unfoldable pub select_read : ℕ → Reader Select
+select_read n =
+    preceded_read (keyword (codes "SELECT")) (preceded_read (keyword (codes "DISTINCT")) (selected_read n))
+
+-- ---- queries
+
+unfoldable pub operator_read : Reader SetOperator
+operator_read = choice_read (begins (keyword (codes "UNION"))) (stands_read Union (keyword (codes "UNION"))) (stands_read Except (keyword (codes "EXCEPT")))
+
+abbrev pub begins_step : Lexeme → Bool
+begins_step = or_test (keyword (codes "UNION")) (keyword (codes "EXCEPT"))
+
+abbrev pub primary_with : Reader Select → Reader Query → Reader Query
+primary_with select inner = choice_read (begins (symbol (codes "("))) (enclosed_read inner) (built_read simple select)
+
+abbrev pub step_with : Reader Query → Reader (SetOperator × Query)
+step_with primary = sequence_read operator_read (preceded_or_not_read (keyword (codes "DISTINCT")) primary)
+
+abbrev pub steps_with : Reader (SetOperator × Query) → Reader (List (SetOperator × Query))
+steps_with step = repetition_read (begins begins_step) step
+
+abbrev pub query_with : Reader Query → Reader (List (SetOperator × Query)) → Reader Query
+query_with primary steps = built_read combined_of (sequence_read primary steps)
+
+-- a query whose parentheses nest less than n deep
+unfoldable pub inner_query_read : ℕ → Reader Query
+inner_query_read zero ts = None
+inner_query_read (suc n) ts =
+    query_with (primary_with (select_read n) (inner_query_read n)) (steps_with (step_with (primary_with (select_read n) (inner_query_read n)))) ts
+
+unfoldable pub primary_read : ℕ → Reader Query
+primary_read n = primary_with (select_read n) (inner_query_read n)
+
+unfoldable pub step_read : ℕ → Reader (SetOperator × Query)
+step_read n = step_with (primary_read n)
+
+unfoldable pub steps_read : ℕ → Reader (List (SetOperator × Query))
+steps_read n = steps_with (step_read n)
+
+unfoldable pub query_read : ℕ → Reader Query
+query_read n = query_with (primary_read n) (steps_read n)
+
+unfoldable pub sequenced_read : ℕ → Reader Query
+sequenced_read n = preceded_read (keyword (codes "VALIDTIME")) (query_read n)

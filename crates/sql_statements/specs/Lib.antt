@@ -1,0 +1,9 @@
+pub mod Lexemes
+pub mod Lexis
+pub mod Words
+pub mod WordGroups
+pub mod Names
+pub mod Trees
+pub mod Elements
+pub mod Plain
+pub mod OnlySelect
