@@ -15,7 +15,7 @@ use Rattle.sql_front.specs.reading.StatementReaders.{later_statement_read, query
 use Rattle.sql_statements.specs.Trees as statement
 use Rattle.sql_front.specs.reading.WindowReaders.{for_window_read}
 use Rattle.sql_statements.specs.Words.{is_reserved}
-use Rattle.sql_statements.specs.declared.token.Kind.TheVariants.{Number, Symbol, Text, Word}
+use Rattle.sql_statements.specs.declared.token.TokenKind.TheVariants.{Number, Symbol, Text, Word}
 use Rattle.sql_front.proofs.Spelling.{spelled_if_read}
 use Rattle.history_model.specs.Histories.{Asked, with_event}
 use Rattle.script_engine.specs.script.Script.{PieceStep, RunPieces}

@@ -16,7 +16,7 @@ use sql_statements::token::Token;
 use sql_statements::tree::Tree;
 use std::alloc::Global;
 
-/// A test that stands in a condition.
+/// A test in a condition.
 pub trait Test: Sized + Drop {
     ghost reader: { List Lexeme → Option (Self × List Lexeme) };
 
@@ -32,7 +32,8 @@ pub trait Test: Sized + Drop {
 /// The chain of OR of the first part and of the others after it.
 #[tactic(auto, using(crate::proofs::ConditionViews::or_view))]
 fn or_chain<T: Drop>(alloc: Global, first: Tree<T>, others: Vec<Tree<T>>) -> Result<Tree<T>, Unread>
-    ensures { Gives plain_condition result (Some (any_of (plain_condition first ∷ map plain_condition others.items))) }
+    ensures { Gives plain_condition result
+        (Some (any_of (plain_condition first ∷ map plain_condition others.items))) }
 {
     Ok(Tree::Or(Box::new(alloc, first)?, others))
 }
@@ -44,7 +45,8 @@ fn and_chain<T: Drop>(
     first: Tree<T>,
     others: Vec<Tree<T>>,
 ) -> Result<Tree<T>, Unread>
-    ensures { Gives plain_condition result (Some (all_of (plain_condition first ∷ map plain_condition others.items))) }
+    ensures { Gives plain_condition result
+        (Some (all_of (plain_condition first ∷ map plain_condition others.items))) }
 {
     Ok(Tree::And(Box::new(alloc, first)?, others))
 }
@@ -57,7 +59,8 @@ pub fn read_condition<'a, 'b, T: Test>(
     depth: usize,
     tokens: &'b [Token<'a>],
 ) -> Result<(Tree<T>, &'b [Token<'a>]), Unread>
-    ensures value { Gives (λ x. (plain_condition x.0, lexemes x.1.now)) result (condition_read T.reader depth (lexemes tokens.now)) }
+    ensures value { Gives (λ x. (plain_condition x.0, lexemes x.1.now)) result
+        (condition_read T.reader depth (lexemes tokens.now)) }
     ensures rest { IfOk result (λ x. length x.1.now ≤ length tokens.now) }
 {
     let mut others = Vec::new(alloc);
@@ -77,7 +80,8 @@ fn read_conjunction<'a, 'b, T: Test>(
     depth: usize,
     tokens: &'b [Token<'a>],
 ) -> Result<(Tree<T>, &'b [Token<'a>]), Unread>
-    ensures value { Gives (λ x. (plain_condition x.0, lexemes x.1.now)) result (conjunction_read T.reader depth (lexemes tokens.now)) }
+    ensures value { Gives (λ x. (plain_condition x.0, lexemes x.1.now)) result
+        (conjunction_read T.reader depth (lexemes tokens.now)) }
     ensures rest { IfOk result (λ x. length x.1.now ≤ length tokens.now) }
 {
     let mut others = Vec::new(alloc);
@@ -97,7 +101,8 @@ fn read_factor<'a, 'b, T: Test>(
     depth: usize,
     tokens: &'b [Token<'a>],
 ) -> Result<(Tree<T>, &'b [Token<'a>]), Unread>
-    ensures value { Gives (λ x. (plain_condition x.0, lexemes x.1.now)) result (factor_read T.reader depth (lexemes tokens.now)) }
+    ensures value { Gives (λ x. (plain_condition x.0, lexemes x.1.now)) result
+        (factor_read T.reader depth (lexemes tokens.now)) }
     ensures rest { IfOk result (λ x. length x.1.now ≤ length tokens.now) }
 {
     let Some(negated) = after(tokens, Mark::Keyword("NOT")) else {
@@ -114,7 +119,8 @@ fn read_test<'a, 'b, T: Test>(
     depth: usize,
     tokens: &'b [Token<'a>],
 ) -> Result<(Tree<T>, &'b [Token<'a>]), Unread>
-    ensures value { Gives (λ x. (plain_condition x.0, lexemes x.1.now)) result (test_read T.reader depth (lexemes tokens.now)) }
+    ensures value { Gives (λ x. (plain_condition x.0, lexemes x.1.now)) result
+        (test_read T.reader depth (lexemes tokens.now)) }
     ensures rest { IfOk result (λ x. length x.1.now ≤ length tokens.now) }
 {
     let Some(inside) = after(tokens, Mark::Symbol("(")) else {
@@ -132,15 +138,16 @@ fn read_test<'a, 'b, T: Test>(
     }
 }
 
-/// What stands in parentheses.
+/// A condition in parentheses.
 #[cycle(conditions)]
-#[tactic(auto, using(crate::proofs::ConditionViews::inner_none, crate::proofs::ConditionViews::inner_below))]
+#[tactic(auto, using(crate::proofs::ConditionViews::inner_views))]
 fn read_nested<'a, 'b, T: Test>(
     alloc: Global,
     depth: usize,
     tokens: &'b [Token<'a>],
 ) -> Result<(Tree<T>, &'b [Token<'a>]), Unread>
-    ensures value { Gives (λ x. (plain_condition x.0, lexemes x.1.now)) result (inner_read T.reader depth (lexemes tokens.now)) }
+    ensures value { Gives (λ x. (plain_condition x.0, lexemes x.1.now)) result
+        (inner_read T.reader depth (lexemes tokens.now)) }
     ensures rest { IfOk result (λ x. length x.1.now ≤ length tokens.now) }
 {
     if depth == 0 {
@@ -156,7 +163,8 @@ pub fn read_where<'a, 'b, T: Test>(
     depth: usize,
     tokens: &'b [Token<'a>],
 ) -> Result<(Option<Tree<T>>, &'b [Token<'a>]), Unread>
-    ensures value { Gives (λ x. (option_map plain_condition x.0, lexemes x.1.now)) result (where_read T.reader depth (lexemes tokens.now)) }
+    ensures value { Gives (λ x. (option_map plain_condition x.0, lexemes x.1.now)) result
+        (where_read T.reader depth (lexemes tokens.now)) }
     ensures rest { IfOk result (λ x. length x.1.now ≤ length tokens.now) }
 {
     let Some(rest) = after(tokens, Mark::Keyword("WHERE")) else {

@@ -12,7 +12,7 @@ ghost use Rattle.sql_front.specs.reading.Leaves.{moment_read, name_read, names_r
 ghost use Rattle.sql_front.specs.reading.Leaves.{tuple_read, unsigned_read};
 
 use crate::date_tokens::{named_clock_moment, named_day, named_moment};
-use crate::decimal::{negative_value, number_value};
+use crate::digits::{negative_value, number_value};
 use crate::list::{Item, separated};
 use crate::mark::{Mark, name, number, skip, skip_optional, starts, starts_text, text};
 use crate::texts::text_of;
@@ -65,7 +65,8 @@ pub fn read_moment<'a, 'b>(tokens: &'b [Token<'a>]) -> Result<(Moment, &'b [Toke
 pub fn read_clock_moment<'a, 'b>(
     tokens: &'b [Token<'a>],
 ) -> Result<(ClockMoment, &'b [Token<'a>]), Unread>
-    ensures value { Gives (λ x. (x.0, lexemes x.1.now)) result (clock_moment_read (lexemes tokens.now)) }
+    ensures value { Gives (λ x. (x.0, lexemes x.1.now)) result
+        (clock_moment_read (lexemes tokens.now)) }
     ensures rest { IfOk result (λ x. length x.1.now ≤ length tokens.now) }
 {
     let (token, rest) = text(skip(tokens, Mark::Keyword("TIMESTAMP"))?)?;
@@ -85,7 +86,8 @@ pub fn read_date<'a, 'b>(tokens: &'b [Token<'a>]) -> Result<(Day, &'b [Token<'a>
 /// A number without a minus as a value, and the tokens after it.
 #[tactic(auto, unfolding(crate::specs::reading::Leaves::unsigned_read, crate::specs::reading::Leaves::number_read))]
 fn read_unsigned<'a, 'b>(tokens: &'b [Token<'a>]) -> Result<(Value, &'b [Token<'a>]), Unread>
-    ensures value { Gives (λ x. (x.0, lexemes x.1.now)) result (unsigned_read (lexemes tokens.now)) }
+    ensures value { Gives (λ x. (x.0, lexemes x.1.now)) result
+        (unsigned_read (lexemes tokens.now)) }
     ensures rest { IfOk result (λ x. length x.1.now ≤ length tokens.now) }
 {
     let (digits, rest) = number(skip_optional(tokens, Mark::Symbol("+")))?;
@@ -97,7 +99,8 @@ fn read_text<'a, 'b>(
     alloc: Global,
     tokens: &'b [Token<'a>],
 ) -> Result<(Value, &'b [Token<'a>]), Unread>
-    ensures value { Gives (λ x. (x.0, lexemes x.1.now)) result (built_read builders.text_of (one_read language.text) (lexemes tokens.now)) }
+    ensures value { Gives (λ x. (x.0, lexemes x.1.now)) result
+        (built_read builders.text_of (one_read language.text) (lexemes tokens.now)) }
     ensures rest { IfOk result (λ x. length x.1.now ≤ length tokens.now) }
 {
     let (token, rest) = text(tokens)?;

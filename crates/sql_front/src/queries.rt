@@ -29,7 +29,8 @@ fn starts_step(tokens: &[Token<'_>]) -> bool
 /// A set operator, and the tokens after it.
 #[tactic(auto, unfolding(crate::specs::reading::QueryReaders::operator_read))]
 fn read_operator<'a, 'b>(tokens: &'b [Token<'a>]) -> Result<(SetOperator, &'b [Token<'a>]), Unread>
-    ensures value { Gives (λ x. (x.0, lexemes x.1.now)) result (operator_read (lexemes tokens.now)) }
+    ensures value { Gives (λ x. (x.0, lexemes x.1.now)) result
+        (operator_read (lexemes tokens.now)) }
     ensures rest { IfOk result (λ x. length x.1.now < length tokens.now) }
 {
     if let Some(rest) = after(tokens, Mark::Keyword("UNION")) {
@@ -45,7 +46,8 @@ fn combined(
     first: QueryTree<SelectDistinct>,
     steps: Vec<(SetOperator, QueryTree<SelectDistinct>)>,
 ) -> Result<QueryTree<SelectDistinct>, Unread>
-    ensures { Gives plain_query result (Some (trees.combined (plain_query first) (steps_of (map plain_step steps.items)))) }
+    ensures { Gives plain_query result
+        (Some (trees.combined (plain_query first) (steps_of (map plain_step steps.items)))) }
 {
     Ok(QueryTree::Combined(Box::new(alloc, first)?, steps))
 }
@@ -58,7 +60,8 @@ pub fn read_query<'a, 'b>(
     depth: usize,
     tokens: &'b [Token<'a>],
 ) -> Result<(QueryTree<SelectDistinct>, &'b [Token<'a>]), Unread>
-    ensures value { Gives (λ x. (plain_query x.0, lexemes x.1.now)) result (query_read depth (lexemes tokens.now)) }
+    ensures value { Gives (λ x. (plain_query x.0, lexemes x.1.now)) result
+        (query_read depth (lexemes tokens.now)) }
     ensures rest { IfOk result (λ x. length x.1.now ≤ length tokens.now) }
 {
     let (first, rest) = read_primary(alloc, depth, tokens)?;
@@ -99,7 +102,8 @@ fn read_steps<'a, 'b>(
     ),
     Unread,
 >
-    ensures value { Gives (λ x. (map plain_step x.0.items, lexemes x.1.now)) result (steps_read depth (lexemes tokens.now)) }
+    ensures value { Gives (λ x. (map plain_step x.0.items, lexemes x.1.now)) result
+        (steps_read depth (lexemes tokens.now)) }
     ensures rest { IfOk result (λ x. length x.1.now ≤ length tokens.now) }
 {
     let (mut items, mut rest) = no_steps(alloc, tokens);
@@ -119,7 +123,8 @@ fn read_step<'a, 'b>(
     depth: usize,
     tokens: &'b [Token<'a>],
 ) -> Result<((SetOperator, QueryTree<SelectDistinct>), &'b [Token<'a>]), Unread>
-    ensures value { Gives (λ x. (plain_step x.0, lexemes x.1.now)) result (step_read depth (lexemes tokens.now)) }
+    ensures value { Gives (λ x. (plain_step x.0, lexemes x.1.now)) result
+        (step_read depth (lexemes tokens.now)) }
     ensures rest { IfOk result (λ x. length x.1.now < length tokens.now) }
 {
     let (operator, rest) = read_operator(tokens)?;
@@ -136,7 +141,8 @@ fn read_primary<'a, 'b>(
     depth: usize,
     tokens: &'b [Token<'a>],
 ) -> Result<(QueryTree<SelectDistinct>, &'b [Token<'a>]), Unread>
-    ensures value { Gives (λ x. (plain_query x.0, lexemes x.1.now)) result (primary_read depth (lexemes tokens.now)) }
+    ensures value { Gives (λ x. (plain_query x.0, lexemes x.1.now)) result
+        (primary_read depth (lexemes tokens.now)) }
     ensures rest { IfOk result (λ x. length x.1.now ≤ length tokens.now) }
 {
     let Some(inside) = after(tokens, Mark::Symbol("(")) else {
@@ -156,13 +162,14 @@ fn read_primary<'a, 'b>(
 
 /// A query in parentheses, where `depth` may open, and the tokens after it.
 #[cycle(queries)]
-#[tactic(auto, using(crate::proofs::QueryViews::inner_none, crate::proofs::QueryViews::inner_below))]
+#[tactic(auto, using(crate::proofs::QueryViews::inner_views))]
 fn read_inner_query<'a, 'b>(
     alloc: Global,
     depth: usize,
     tokens: &'b [Token<'a>],
 ) -> Result<(QueryTree<SelectDistinct>, &'b [Token<'a>]), Unread>
-    ensures value { Gives (λ x. (plain_query x.0, lexemes x.1.now)) result (inner_query_read depth (lexemes tokens.now)) }
+    ensures value { Gives (λ x. (plain_query x.0, lexemes x.1.now)) result
+        (inner_query_read depth (lexemes tokens.now)) }
     ensures rest { IfOk result (λ x. length x.1.now ≤ length tokens.now) }
 {
     if depth == 0 {
@@ -178,7 +185,8 @@ pub fn read_sequenced<'a, 'b>(
     depth: usize,
     tokens: &'b [Token<'a>],
 ) -> Result<(QueryTree<SelectDistinct>, &'b [Token<'a>]), Unread>
-    ensures value { Gives (λ x. (plain_query x.0, lexemes x.1.now)) result (sequenced_read depth (lexemes tokens.now)) }
+    ensures value { Gives (λ x. (plain_query x.0, lexemes x.1.now)) result
+        (sequenced_read depth (lexemes tokens.now)) }
     ensures rest { IfOk result (λ x. length x.1.now ≤ length tokens.now) }
 {
     read_query(alloc, depth, skip(tokens, Mark::Keyword("VALIDTIME"))?)
