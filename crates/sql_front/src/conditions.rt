@@ -9,6 +9,7 @@ ghost use Rattle.sql_front.specs.reading.Gives.{Gives};
 ghost use Rattle.sql_front.specs.Builders.{all_of, any_of};
 ghost use Rattle.sql_statements.specs.Lexemes.{Lexeme, lexemes};
 ghost use Rattle.sql_statements.specs.Plain.{plain_condition};
+ghost use Rattle.sql_statements.specs.Trees.{test};
 
 use crate::mark::{Mark, after, skip, starts};
 use crate::unread::Unread;
@@ -49,6 +50,14 @@ fn and_chain<T: Drop>(
         (Some (all_of (plain_condition first ∷ map plain_condition others.items))) }
 {
     Ok(Tree::And(Box::new(alloc, first)?, others))
+}
+
+/// The condition that is one test.
+#[tactic(auto, using(crate::proofs::ConditionViews::test_view))]
+fn one_test<T: Drop>(leaf: T) -> Tree<T>
+    ensures { plain_condition result ≡ test leaf }
+{
+    Tree::Test(leaf)
 }
 
 /// A condition, and the tokens after it. At most `depth` parentheses open in it.
@@ -113,7 +122,7 @@ fn read_factor<'a, 'b, T: Test>(
 }
 
 #[cycle(conditions)]
-#[tactic(auto, unfolding(crate::specs::reading::ConditionReaders::test_read), using(crate::proofs::ConditionViews::test_view))]
+#[tactic(auto, unfolding(crate::specs::reading::ConditionReaders::test_read))]
 fn read_test<'a, 'b, T: Test>(
     alloc: Global,
     depth: usize,
@@ -125,7 +134,7 @@ fn read_test<'a, 'b, T: Test>(
 {
     let Some(inside) = after(tokens, Mark::Symbol("(")) else {
         let (test, rest) = T::read(alloc, tokens)?;
-        return Ok((Tree::Test(test), rest));
+        return Ok((one_test(test), rest));
     };
     let (inner, rest) = read_nested::<T>(alloc, depth, inside)?;
     match skip(rest, Mark::Symbol(")")) {

@@ -1,6 +1,7 @@
 //! Names and literals, read from the front.
 
 ghost use Rattle.std.specs.Prelude.{◌≡◌, ◌≤◌, ℕ, List, length, IfOk};
+ghost use Rattle.period_core.specs.Encoding.{greatest_number};
 ghost use Rattle.period_core.specs.declared.value.Value as values;
 ghost use Rattle.sql_front.specs.reading.Gives.{Gives};
 ghost use Rattle.sql_front.specs.Builders as builders;
@@ -44,6 +45,7 @@ pub fn read_name<'a, 'b>(
 #[tactic(auto, unfolding(crate::specs::reading::Leaves::number_read))]
 pub fn read_number<'a, 'b>(tokens: &'b [Token<'a>]) -> Result<(u64, &'b [Token<'a>]), Unread>
     ensures value { Gives (λ x. (x.0, lexemes x.1.now)) result (number_read (lexemes tokens.now)) }
+    ensures fits { IfOk result (λ x. x.0 ≤ greatest_number) }
     ensures rest { IfOk result (λ x. length x.1.now ≤ length tokens.now) }
 {
     let (digits, rest) = number(tokens)?;
@@ -84,14 +86,14 @@ pub fn read_date<'a, 'b>(tokens: &'b [Token<'a>]) -> Result<(Day, &'b [Token<'a>
 }
 
 /// A number without a minus as a value, and the tokens after it.
-#[tactic(auto, unfolding(crate::specs::reading::Leaves::unsigned_read, crate::specs::reading::Leaves::number_read))]
+#[tactic(auto, unfolding(crate::specs::reading::Leaves::unsigned_read))]
 fn read_unsigned<'a, 'b>(tokens: &'b [Token<'a>]) -> Result<(Value, &'b [Token<'a>]), Unread>
     ensures value { Gives (λ x. (x.0, lexemes x.1.now)) result
         (unsigned_read (lexemes tokens.now)) }
     ensures rest { IfOk result (λ x. length x.1.now ≤ length tokens.now) }
 {
-    let (digits, rest) = number(skip_optional(tokens, Mark::Symbol("+")))?;
-    Ok((Value::Int(number_value(digits) as i64), rest))
+    let (value, rest) = read_number(skip_optional(tokens, Mark::Symbol("+")))?;
+    Ok((Value::Int(value as i64), rest))
 }
 
 /// A text as a value, and the tokens after it.

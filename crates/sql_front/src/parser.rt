@@ -16,9 +16,9 @@ use sql_statements::statement::Statement;
 use sql_statements::token::Token;
 use std::alloc::Global;
 
-/// The statement that the tokens of a piece of the script spell, all of them. If they spell none,
-/// the answer is the lowest-numbered refusal that applies, of 10 to 14, or out of memory. Each token
-/// has its slice of the script, and nothing else of it is read.
+/// The statement that the tokens of a piece of the script spell, all of them. Else the result is
+/// the lowest-numbered refusal that applies, of 10 to 14, or out of memory. Each token has its own
+/// slice of the script, and nothing else of it is read.
 pub fn parse(alloc: Global, _script: &str, tokens: &[Token<'_>]) -> Result<Statement, Refusal>
     // A statement is returned only if the tokens spell it.
     ensures found { IfOk result (λ s. IsStatement (lexemes tokens.now) (plain s)) }

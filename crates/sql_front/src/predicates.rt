@@ -102,7 +102,7 @@ fn starts_contains_date(tokens: &[Token<'_>]) -> bool
 }
 
 /// A period predicate, and the tokens after it.
-#[tactic(auto, unfolding(crate::specs::reading::PredicateReaders::predicate_read, crate::specs::reading::PredicateReaders::said_read))]
+#[tactic(auto, unfolding(crate::specs::reading::PredicateReaders::predicate_read))]
 fn read_predicate<'a, 'b>(
     alloc: Global,
     tokens: &'b [Token<'a>],

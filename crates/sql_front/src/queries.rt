@@ -3,7 +3,7 @@
 ghost use Rattle.std.specs.Prelude.{◌≡◌, ◌≤◌, ◌<◌, List, [], ℕ, Some, length, map, IfOk};
 ghost use Rattle.sql_front.specs.reading.Gives.{Gives};
 ghost use Rattle.sql_statements.specs.Lexemes.{lexemes};
-ghost use Rattle.sql_statements.specs.Plain.{plain_query, plain_step, steps_of};
+ghost use Rattle.sql_statements.specs.Plain.{plain_query, plain_select, plain_step, steps_of};
 ghost use Rattle.sql_front.specs.reading.Reading.{begins};
 ghost use Rattle.sql_statements.specs.Trees as trees;
 ghost use Rattle.sql_front.specs.reading.QueryReaders.{begins_step, inner_query_read};
@@ -37,6 +37,14 @@ fn read_operator<'a, 'b>(tokens: &'b [Token<'a>]) -> Result<(SetOperator, &'b [T
         return Ok((SetOperator::Union, rest));
     }
     Ok((SetOperator::Except, skip(tokens, Mark::Keyword("EXCEPT"))?))
+}
+
+/// The query that is one select.
+#[tactic(auto, using(sql_statements::proofs::QueryViews::simple_view))]
+fn one_select(select: SelectDistinct) -> QueryTree<SelectDistinct>
+    ensures { plain_query result ≡ trees.simple (plain_select select) }
+{
+    QueryTree::Select(select)
 }
 
 /// The query of the first and of the set operators after it.
@@ -135,7 +143,7 @@ fn read_step<'a, 'b>(
 
 /// A select, or a query in parentheses, and the tokens after it.
 #[cycle(queries)]
-#[tactic(auto, unfolding(crate::specs::reading::QueryReaders::primary_read), using(sql_statements::proofs::QueryViews::simple_view))]
+#[tactic(auto, unfolding(crate::specs::reading::QueryReaders::primary_read))]
 fn read_primary<'a, 'b>(
     alloc: Global,
     depth: usize,
@@ -147,7 +155,7 @@ fn read_primary<'a, 'b>(
 {
     let Some(inside) = after(tokens, Mark::Symbol("(")) else {
         let (select, rest) = read_select(alloc, depth, tokens)?;
-        return Ok((QueryTree::Select(select), rest));
+        return Ok((one_select(select), rest));
     };
     let (inner, rest) = read_inner_query(alloc, depth, inside)?;
     match skip(rest, Mark::Symbol(")")) {

@@ -87,7 +87,7 @@ fn split_off_last(names: Vec<Name>) -> Result<(NonEmpty<Name>, Name), Unread>
 }
 
 // The names of a key's columns and its period's, which is the last.
-#[tactic(auto, unfolding(crate::specs::reading::ElementReaders::key_names_read, crate::specs::reading::ElementReaders::all_and_last_read))]
+#[tactic(auto, unfolding(crate::specs::reading::ElementReaders::all_and_last_read))]
 fn read_key_names<'a, 'b>(
     alloc: Global,
     tokens: &'b [Token<'a>],

@@ -3,9 +3,13 @@
 /// What a token is.
 #[derive(Clone, Copy, Debug, PartialEq, Eq)]
 pub enum TokenKind {
+    /// A keyword or a name.
     Word,
+    /// Digits.
     Number,
+    /// A text with its quotes.
     Text,
+    /// A sign, as `,` or `<=`.
     Symbol,
 }
 

@@ -133,7 +133,7 @@ without_overlaps_read =
     preceded_read (keyword (codes "WITHOUT")) (fixed_read (keyword (codes "OVERLAPS")))
 
 -- name { ',' name } ',' name
-unfoldable pub key_names_read : Reader (List (List ℕ) × List ℕ)
+abbrev pub key_names_read : Reader (List (List ℕ) × List ℕ)
 key_names_read = all_and_last_read comma name_read
 
 -- '(' names WITHOUT OVERLAPS ')'

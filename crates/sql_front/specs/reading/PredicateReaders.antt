@@ -63,7 +63,7 @@ abbrev pub said_of : PeriodOperand × Said → StoredTest
 said_of (period, contains_day day) = ContainsDay period day
 said_of (period, related other) = Periods period other.0 other.1
 
-unfoldable pub said_read : Reader Said
+abbrev pub said_read : Reader Said
 said_read =
     choice_read begins_contains_date
     (built_read contains_day (preceded_read (keyword (codes "CONTAINS")) date_read))
