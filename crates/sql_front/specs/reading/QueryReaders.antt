@@ -4,9 +4,6 @@ use Rattle.sql_statements.specs.declared.statement.SelectItem.{SelectItem}
 use Rattle.sql_statements.specs.declared.statement.TableReference.{TableReference}
 use Rattle.sql_statements.specs.declared.tree.SetOperator.{SetOperator}
 use Rattle.sql_statements.specs.declared.tree.SetOperator.TheVariants.{Union, Except}
-use Rattle.sql_statements.specs.declared.tree.QueryTree as queries
-use Rattle.sql_statements.specs.declared.statement.SelectDistinct as selects
-use Rattle.sql_statements.specs.Plain.{plain_query}
 use Rattle.sql_statements.specs.Lexemes.{Lexeme}
 use Rattle.sql_front.specs.Language.{keyword, symbol, or_test}
 use Rattle.sql_statements.specs.declared.statement.Compare.{Compare}
