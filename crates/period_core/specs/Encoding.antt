@@ -17,9 +17,13 @@ places_above least n = unsigned_abs (n -ℤ least)
 abbrev pub least_integer : ℤ
 least_integer = neg_ℤ (pos 9_223_372_036_854_775_808)
 
--- the greatest
+-- the greatest number of 64 bits signed
+abbrev pub greatest_number : ℕ
+greatest_number = 9_223_372_036_854_775_807
+
+-- the same as an integer
 abbrev pub greatest_integer : ℤ
-greatest_integer = pos 9_223_372_036_854_775_807
+greatest_integer = pos greatest_number
 
 -- a byte of a text: 00 is written 00 ff
 abbrev pub escaped_byte : ℕ → List ℕ

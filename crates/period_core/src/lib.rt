@@ -31,6 +31,6 @@ pub use period::Period;
 pub use refusal::Refusal;
 pub use row::PeriodRow;
 pub use text::Text;
-pub use value::{Value, Values};
+pub use value::{GREATEST_NUMBER, Value, Values};
 pub use version::VersionRow;
 pub use window::Window;

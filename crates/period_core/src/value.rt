@@ -9,6 +9,9 @@ use std::alloc::Global;
 use std::cmp::Ordering;
 use std::marker::Model;
 
+/// The greatest number of 64 bits signed: no INTEGER is above it.
+pub const GREATEST_NUMBER: u64 = 9_223_372_036_854_775_807;
+
 /// A value of a column, of one of three kinds. Integers come before texts, and texts before dates.
 #[derive(Drop, Debug, PartialEq, Eq, PartialOrd, Ord)]
 pub enum Value {

@@ -4,7 +4,7 @@ use Rattle.period_core.specs.TextReading.{date_at, date_parts_of, day_of_text, i
 use Rattle.sql_front.specs.reading.ChangeReaders.{columns_read, insert_read, inserted_read, values_read}
 use Rattle.sql_front.specs.reading.ConditionReaders.{column_read, where_read}
 use Rattle.sql_front.specs.Depth.{room}
-use Rattle.sql_front.specs.reading.ElementReaders.{create_read, elements_read, element_read, column_element_read, not_null_read, key_element_read, key_names_read, reference_element_read, versioning_read, without_overlaps_read, all_and_last_read, type_read, length_read, generated_read, row_end_read, pair_read, some_period_read, period_element_read, system_element_read, created_table_read, timestamp_read, key_list_read}
+use Rattle.sql_front.specs.reading.ElementReaders.{create_read, elements_read, element_read, column_element_read, not_null_read, key_element_read, reference_element_read, versioning_read, without_overlaps_read, all_and_last_read, type_read, length_read, generated_read, row_end_read, pair_read, some_period_read, period_element_read, system_element_read, created_table_read, timestamp_read, key_list_read}
 use Rattle.sql_front.specs.reading.LeafValues.{day_of_token, day_value}
 use Rattle.sql_front.specs.reading.Leaves.{date_read, literal_read, name_read, number_read, tuple_read, unsigned_read}
 use Rattle.sql_statements.specs.Lexemes.{Lexeme}
@@ -15,7 +15,7 @@ use Rattle.sql_front.specs.reading.StatementReaders.{later_statement_read, query
 use Rattle.sql_statements.specs.Trees as statement
 use Rattle.sql_front.specs.reading.WindowReaders.{for_window_read}
 use Rattle.sql_statements.specs.Words.{is_reserved}
-use Rattle.sql_statements.specs.declared.token.Kind.TheVariants.{Number, Symbol, Text, Word}
+use Rattle.sql_statements.specs.declared.token.TokenKind.TheVariants.{Number, Symbol, Text, Word}
 use Rattle.sql_front.proofs.Spelling.{spelled_if_read}
 use Rattle.history_model.specs.Histories.{Asked, with_event}
 use Rattle.script_engine.specs.script.Script.{PieceStep, RunPieces}
@@ -118,7 +118,7 @@ creation_tokens =
     ∷ written (codes "WITH") ∷ written (codes "SYSTEM") ∷ written (codes "VERSIONING") ∷ []
 
 creation_is_read : whole_read (statement_read 0) creation_tokens ≡ Some (statement.create creation)
-unfolding statement_read create_read created_table_read timestamp_read key_list_read elements_read element_read column_element_read not_null_read key_element_read key_names_read reference_element_read versioning_read without_overlaps_read all_and_last_read type_read length_read generated_read row_end_read pair_read some_period_read period_element_read system_element_read number_read name_read bounded_read is_plain_word is_reserved
+unfolding statement_read create_read created_table_read timestamp_read key_list_read elements_read element_read column_element_read not_null_read key_element_read reference_element_read versioning_read without_overlaps_read all_and_last_read type_read length_read generated_read row_end_read pair_read some_period_read period_element_read system_element_read number_read name_read bounded_read is_plain_word is_reserved
 creation_is_read = refl
 
 -- its piece makes the table

@@ -18,7 +18,7 @@ use Rattle.temporal_model.proofs.Snapshots.{held, in_snapshot}
 use Rattle.sql_statements.specs.Lexemes.{Lexeme}
 use Rattle.sql_statements.specs.Lexis as lexis
 use Rattle.sql_statements.specs.Lexis.{first_lexeme}
-use Rattle.sql_statements.specs.declared.token.Kind.TheVariants.{Word}
+use Rattle.sql_statements.specs.declared.token.TokenKind.TheVariants.{Word}
 use Rattle.sql_statements.specs.Trees as statement
 use Rattle.catalog_core.specs.Judged.{Holds}
 use Rattle.history_model.specs.Histories.{History, new_database, opened}

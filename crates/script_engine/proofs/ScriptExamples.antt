@@ -22,7 +22,7 @@ use Rattle.sql_front.specs.reading.Reading.{whole_read}
 use Rattle.sql_front.specs.reading.StatementReaders.{later_statement_read, query_statement_read, statement_read, stored_read, stored_table_read}
 use Rattle.sql_statements.specs.Trees.{Statement, stored}
 use Rattle.sql_statements.specs.Words.{is_reserved}
-use Rattle.sql_statements.specs.declared.token.Kind.TheVariants.{Symbol, Word}
+use Rattle.sql_statements.specs.declared.token.TokenKind.TheVariants.{Symbol, Word}
 use Rattle.sql_front.proofs.DepthFacts.{some_shallow}
 use Rattle.sql_front.proofs.LiteralFaultFacts.{bad_date_somewhere, bad_moment_somewhere, number_somewhere}
 use Rattle.sql_front.proofs.Parsing.{no_statement, spelled_some}

@@ -41,3 +41,5 @@ module _ {T : Type 0} where
 
   pub test_view : (leaf : T) → plain_condition (code.Test leaf) ≡ test leaf
   test_view leaf = ap plain_condition (sym (rolls.rolls-Test leaf)) ∙ fold-roll-Tree T (Condition T) condition_layer (layer.Test leaf)
+
+pub ruleset inner_views = (inner_none, inner_below)

@@ -1,7 +1,7 @@
 -- Worked rows of the depth of parentheses.
 use Rattle.std.proofs.Common.{ℕ, [], ◌∷◌, ◌++◌, codes, refl, arith}
 use Rattle.std.proofs.Math.ListN.{replicate}
-use Rattle.sql_statements.specs.declared.token.Kind.TheVariants.{Word, Text, Symbol}
+use Rattle.sql_statements.specs.declared.token.TokenKind.TheVariants.{Word, Text, Symbol}
 use Rattle.sql_statements.specs.Lexemes.{Lexeme}
 use Rattle.sql_front.specs.Depth.{IsDeeper, room}
 use Rattle.sql_front.specs.PieceRefusals.{IsTooDeep}

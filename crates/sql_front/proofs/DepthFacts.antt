@@ -5,7 +5,7 @@ use Rattle.std.proofs.lemmas.List.{at_drop_more}
 use Rattle.std.specs.Prelude.{IsTrue, is_none}
 use Rattle.sql_statements.specs.declared.token.Token.{Token}
 use Rattle.sql_statements.specs.Lexemes.{Lexeme, lexeme, lexemes}
-use Rattle.sql_front.specs.Depth.{opens, closes, counted, most_open, room, IsDeeper}
+use Rattle.sql_front.specs.Depth.{opens, closes, passing_count, most_open, room, IsDeeper}
 use Rattle.period_core.proofs.OptionFacts.{none_some}
 use Rattle.sql_front.proofs.First.{Apart, symbols_apart}
 
@@ -72,7 +72,7 @@ none_deeper (suc k) (t ∷ ts) e =
     ]
 
 abbrev Fits : ℕ → List Lexeme → Type 0
-Fits k front = counted opens front ≤ k + counted closes front
+Fits k front = passing_count opens front ≤ k + passing_count closes front
 
 fits_open : (k : ℕ) (t : Lexeme) (front : List Lexeme) → opens t ≡ true → Fits k front → Fits (suc k) (t ∷ front)
 fits_open k t front o h = rw (o, open_not_close.apart t o) (omega (arith, h))

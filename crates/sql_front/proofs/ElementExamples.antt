@@ -2,13 +2,13 @@
 use Rattle.std.proofs.Common.{◌≡◌, ℕ, List, [], ◌∷◌, ◌++◌, Some, None, codes, refl, arith}
 use Rattle.sql_statements.specs.declared.create.Generated.TheVariants.{End}
 use Rattle.sql_statements.specs.declared.create.TypeName.TheVariants.{Integer, Date, Varchar, Timestamp}
-use Rattle.sql_statements.specs.declared.token.Kind.TheVariants.{Word, Number, Symbol}
+use Rattle.sql_statements.specs.declared.token.TokenKind.TheVariants.{Word, Number, Symbol}
 use Rattle.sql_statements.specs.Lexemes.{Lexeme}
 use Rattle.sql_statements.specs.Names.{is_plain_word}
 use Rattle.sql_statements.specs.Words.{is_reserved}
 use Rattle.sql_statements.specs.Elements.{HasElement}
 use Rattle.sql_front.specs.reading.Leaves.{name_read, number_read}
-use Rattle.sql_front.specs.reading.ElementReaders.{create_read, elements_read, element_read, column_element_read, not_null_read, key_element_read, key_names_read, reference_element_read, reference_list_read, versioning_read, without_overlaps_read, split_last, all_and_last_read, type_read, length_read, generated_read, row_end_read, one_more_name, leading_names_read, more_names_read, pair_read, some_period_read, period_element_read, system_element_read, created_table_read, key_list_read, last_period_read, parent_read, timestamp_read}
+use Rattle.sql_front.specs.reading.ElementReaders.{create_read, elements_read, element_read, column_element_read, not_null_read, key_element_read, reference_element_read, reference_list_read, versioning_read, without_overlaps_read, split_last, all_and_last_read, type_read, length_read, generated_read, row_end_read, one_more_name, leading_names_read, more_names_read, pair_read, some_period_read, period_element_read, system_element_read, created_table_read, key_list_read, last_period_read, parent_read, timestamp_read}
 use Rattle.sql_front.specs.reading.Reading.{bounded_read, whole_read}
 use Rattle.sql_front.specs.Builders.{system_element, period_element, table_of}
 use Rattle.sql_front.proofs.ReadGrammar.{IsCreate}
@@ -119,7 +119,7 @@ a_table = record {
 }
 
 table_read : whole_read create_read (first_elements ++ last_element) ≡ Some a_table
-unfolding create_read created_table_read elements_read element_read column_element_read type_read timestamp_read length_read not_null_read generated_read row_end_read key_element_read key_list_read key_names_read all_and_last_read without_overlaps_read reference_element_read parent_read reference_list_read last_period_read leading_names_read more_names_read one_more_name versioning_read some_period_read period_element_read system_element_read pair_read bounded_read name_read number_read is_plain_word is_reserved
+unfolding create_read created_table_read elements_read element_read column_element_read type_read timestamp_read length_read not_null_read generated_read row_end_read key_element_read key_list_read all_and_last_read without_overlaps_read reference_element_read parent_read reference_list_read last_period_read leading_names_read more_names_read one_more_name versioning_read some_period_read period_element_read system_element_read pair_read bounded_read name_read number_read is_plain_word is_reserved
 table_read = refl
 
 -- the grammar has this statement, each kind of element in its list

@@ -72,7 +72,6 @@ abbrev after_key_names : List Sort
 after_key_names = word (codes "WITHOUT") ∷ []
 
 reads_key_names : Reads (Sequence (Separated comma IsName) (Preceded comma IsName)) (Next after_key_names) key_names_read
-unfolding key_names_read
 reads_key_names =
     reads_weaken (Next after_key_names) (λ rest h. (tt, next_not after_key_names (sign (codes ",") ∷ []) refl rest h))
     (reads_all_and_last comma IsName reads_name (λ z h. tt))

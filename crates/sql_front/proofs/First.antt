@@ -4,8 +4,8 @@ use Rattle.std.specs.Str.{bytes_eq}
 use Rattle.sql_statements.specs.Words.{folded}
 use Rattle.std.proofs.lemmas.Bool.{and_parts, and_right, or_cases, cases_Bool}
 use Rattle.std.proofs.lemmas.Slice.Eq.{bytes_eq-Decides}
-use Rattle.sql_statements.specs.declared.token.Kind.{Kind}
-use Rattle.sql_statements.specs.declared.token.Kind.TheVariants.{Word, Number, Text, Symbol}
+use Rattle.sql_statements.specs.declared.token.TokenKind.{TokenKind}
+use Rattle.sql_statements.specs.declared.token.TokenKind.TheVariants.{Word, Number, Text, Symbol}
 use Rattle.sql_statements.specs.Lexemes.{Lexeme}
 use Rattle.sql_front.specs.Language.{keyword, symbol, number, text, or_test, is_word, is_number, is_text, is_symbol, OneToken, Fixed, Sequence, Built, Choice, Preceded, PrecededOrNot, Related, StandsFor}
 use Rattle.sql_front.specs.reading.Reading.{begins}
@@ -14,28 +14,28 @@ use Rattle.sql_front.specs.reading.Reading.{begins}
 pub record Apart (a b : Lexeme → Bool) : Type 0 where
   pub apart : (t : Lexeme) → a t ≡ true → b t ≡ false
 
-pub record OfKind (a : Lexeme → Bool) (k : Kind) : Type 0 where
+pub record OfKind (a : Lexeme → Bool) (k : TokenKind) : Type 0 where
   pub is : (t : Lexeme) → a t ≡ true → t.kind ≡ k
 
-pub is_word-kind : (k : Kind) → is_word k ≡ true → k ≡ Word
+pub is_word-kind : (k : TokenKind) → is_word k ≡ true → k ≡ Word
 is_word-kind Word e = refl
 is_word-kind Number e = absurd cc
 is_word-kind Text e = absurd cc
 is_word-kind Symbol e = absurd cc
 
-is_number-kind : (k : Kind) → is_number k ≡ true → k ≡ Number
+is_number-kind : (k : TokenKind) → is_number k ≡ true → k ≡ Number
 is_number-kind Word e = absurd cc
 is_number-kind Number e = refl
 is_number-kind Text e = absurd cc
 is_number-kind Symbol e = absurd cc
 
-is_text-kind : (k : Kind) → is_text k ≡ true → k ≡ Text
+is_text-kind : (k : TokenKind) → is_text k ≡ true → k ≡ Text
 is_text-kind Word e = absurd cc
 is_text-kind Number e = absurd cc
 is_text-kind Text e = refl
 is_text-kind Symbol e = absurd cc
 
-is_symbol-kind : (k : Kind) → is_symbol k ≡ true → k ≡ Symbol
+is_symbol-kind : (k : TokenKind) → is_symbol k ≡ true → k ≡ Symbol
 is_symbol-kind Word e = absurd cc
 is_symbol-kind Number e = absurd cc
 is_symbol-kind Text e = absurd cc
@@ -53,7 +53,7 @@ number_kind = record { is = λ t e. is_number-kind t.kind e }
 pub text_kind : OfKind text Text
 text_kind = record { is = λ t e. is_text-kind t.kind e }
 
-pub apart_kinds : {a b : Lexeme → Bool} {k l : Kind} → OfKind a k → OfKind b l → (k ≡ l → ⊥) → Apart a b
+pub apart_kinds : {a b : Lexeme → Bool} {k l : TokenKind} → OfKind a k → OfKind b l → (k ≡ l → ⊥) → Apart a b
 apart_kinds {a} {b} f g differ = record {
   apart = λ t e. elim (cases_Bool (b t)) [
     | inl h ↦ absurd (differ (sym (f.is t e) ∙ g.is t h))

@@ -7,7 +7,7 @@ use Rattle.period_core.specs.Calendar.{IsDayText, first_day}
 use Rattle.period_core.specs.Moments.{IsMomentText, first_moment, forever}
 use Rattle.period_core.proofs.OptionFacts.{bind_some, if_some, none_some, some_is}
 use Rattle.period_core.proofs.TextReadings.{day_read_is_text, day_text_is_read, moment_read_is_text, moment_text_is_read}
-use Rattle.sql_front.specs.Values.{IsClockToken, IsDateToken, IsMomentToken, NamesClockMoment, NamesDay, NamesMoment, between_quotes}
+use Rattle.sql_front.specs.LiteralValues.{IsClockToken, IsDateToken, IsMomentToken, NamesClockMoment, NamesDay, NamesMoment, between_quotes}
 use Rattle.sql_front.specs.reading.LeafValues.{clock_of_token, clock_value, day_of_token, day_value, moment_of_token, moment_value, or_else}
 
 -- ---- days and moments

@@ -1,7 +1,7 @@
 -- One more white space, comment or token.
 use Rattle.std.proofs.Common.{◌≡◌, ℕ, ◌+◌, ◌<◌, List, [], ◌∷◌, ◌++◌, length, take, drop, subst, append_assoc, arith}
 use Rattle.std.proofs.lemmas.List.{append-nil, nil_from_length}
-use Rattle.sql_statements.specs.declared.token.Kind.{Kind}
+use Rattle.sql_statements.specs.declared.token.TokenKind.{TokenKind}
 use Rattle.sql_statements.specs.declared.lexeme.Front.TheVariants as front
 use Rattle.sql_statements.specs.Lexemes.{Lexeme}
 use Rattle.sql_statements.specs.Lexis as lexis
@@ -17,7 +17,7 @@ module _ (start : ℕ) (script : List ℕ) (at : ℕ) (rest after : List ℕ) (n
       → ((bad : ℕ) → StopsFrom at rest bad → StopsFrom start script bad) → (bad : ℕ) → StopsFrom (at + n) after bad → StopsFrom start script bad
   blank_stops e f before bad t = before bad (lexis.StopsFrom.blank n e (subst (λ (w : List ℕ). StopsFrom (at + n) w bad) f t))
 
-  pub token_tokens : (k : Kind) (text : List ℕ) → first_lexeme rest ≡ front.Lexeme k n → after ≡ drop n rest → text ≡ take n rest
+  pub token_tokens : (k : TokenKind) (text : List ℕ) → first_lexeme rest ≡ front.Lexeme k n → after ≡ drop n rest → text ≡ take n rest
       → ((more : List Lexeme) → TokensFrom at rest more → TokensFrom start script (so_far ++ more))
       → (more : List Lexeme) → TokensFrom (at + n) after more
       → TokensFrom start script ((so_far ++ record { kind = k; text = text; start = at; end = at + n } ∷ []) ++ more)
@@ -27,7 +27,7 @@ module _ (start : ℕ) (script : List ℕ) (at : ℕ) (rest after : List ℕ) (n
       rw (append_assoc so_far (record { kind = k; text = text; start = at; end = at + n } ∷ []) more, g)
       (before (record { kind = k; text = take n rest; start = at; end = at + n } ∷ more) one)
 
-  pub token_stops : (k : Kind) → first_lexeme rest ≡ front.Lexeme k n → after ≡ drop n rest
+  pub token_stops : (k : TokenKind) → first_lexeme rest ≡ front.Lexeme k n → after ≡ drop n rest
       → ((bad : ℕ) → StopsFrom at rest bad → StopsFrom start script bad) → (bad : ℕ) → StopsFrom (at + n) after bad → StopsFrom start script bad
   token_stops k e f before bad t = before bad (lexis.StopsFrom.token k n e (subst (λ (w : List ℕ). StopsFrom (at + n) w bad) f t))
 

@@ -1,11 +1,11 @@
 -- Worked rows of the lexis and of pieces.
 use Rattle.std.proofs.Common.{◌≡◌, [], ◌∷◌, true, false, refl}
 use Rattle.std.specs.Prelude.{codes}
-use Rattle.sql_statements.specs.declared.token.Kind.TheVariants.{Word, Number, Text, Symbol}
+use Rattle.sql_statements.specs.declared.token.TokenKind.TheVariants.{Word, Number, Text, Symbol}
 use Rattle.sql_statements.specs.declared.lexeme.Front.TheVariants as front
 use Rattle.sql_statements.specs.Lexemes.{Lexeme}
 use Rattle.sql_statements.specs.Lexis as lexis
-use Rattle.sql_statements.specs.Lexis.{first_lexeme, quoted_size, TokensOf, StopsAt, mark, mark_size}
+use Rattle.sql_statements.specs.Lexis.{first_lexeme, quoted_size, TokensOf, StopsAt, byte_order_mark, byte_order_mark_size}
 use Rattle.sql_front.specs.Pieces as pieces
 use Rattle.sql_front.specs.Pieces.{HasPieces}
 use Rattle.sql_statements.specs.Words.{is_reserved}
@@ -36,10 +36,10 @@ unfolding first_lexeme
 longer_symbol = refl
 
 -- a mark is passed over at the start alone
-mark_at_start : mark_size (239 ∷ 187 ∷ 191 ∷ 65 ∷ []) ≡ 3
+mark_at_start : byte_order_mark_size (239 ∷ 187 ∷ 191 ∷ 65 ∷ []) ≡ 3
 mark_at_start = refl
 
-later_mark : first_lexeme mark ≡ front.Bad
+later_mark : first_lexeme byte_order_mark ≡ front.Bad
 unfolding first_lexeme
 later_mark = refl
 

@@ -6,7 +6,7 @@ pub mod ComparisonExamples
 pub mod ConditionLevels
 pub mod ConditionsRead
 pub mod ConditionViews
-pub mod Decimals
+pub mod DigitFacts
 pub mod DepthExamples
 pub mod DepthFacts
 pub mod ElementExamples

@@ -5,7 +5,8 @@ use Rattle.std.proofs.lemmas.Bool.{and_parts, or_cases}
 use Rattle.std.proofs.lemmas.Bool.Decides.{nat_tests}
 use Rattle.sql_statements.specs.Lexemes.{Lexeme}
 use Rattle.sql_front.specs.Language.{keyword, symbol, number, text, or_test}
-use Rattle.sql_front.specs.Values.{IsClockToken, IsDateToken, IsMomentToken, decimal, greatest}
+use Rattle.sql_front.specs.LiteralValues.{IsClockToken, IsDateToken, IsMomentToken, number_of_digits}
+use Rattle.period_core.specs.Encoding.{greatest_number}
 use Rattle.sql_front.specs.reading.LeafValues.{clock_of_token, day_of_token, moment_of_token}
 use Rattle.sql_front.specs.LiteralFaults.{HasBadDate, HasBadMoment, HasNoMoment, HasNumberOutside, HasOpenEnd, ends_in_minus, limit_behind}
 use Rattle.sql_front.specs.LiteralTests.{is_above, is_bad_date, is_bad_moment, is_no_moment, is_open_end, is_unread, names_none, number_above, somewhere}
@@ -151,18 +152,18 @@ lt_is a b e = grind (arith, nat_tests, e)
 is_lt : (a b : ℕ) → a < b → nat_lt a b ≡ true
 is_lt a b h = grind (arith, nat_tests, h)
 
-limit_is : (front : List Lexeme) → cond (ends_with false front) (greatest + 1) greatest ≡ limit_behind front
-limit_is front = ap (λ (b : Bool). cond b (greatest + 1) greatest) (ends_with_is front)
+limit_is : (front : List Lexeme) → cond (ends_with false front) (greatest_number + 1) greatest_number ≡ limit_behind front
+limit_is front = ap (λ (b : Bool). cond b (greatest_number + 1) greatest_number) (ends_with_is front)
 
 pub number_somewhere : (ts : List Lexeme) → number_above false ts ≡ true ↔ HasNumberOutside ts
 number_somewhere ts = (
   λ e.
       let h = number_found false ts e in
-      let p = and_parts (number h.1) (nat_lt (cond (ends_with false h.0) (greatest + 1) greatest) (decimal h.1.text)) h.4 in
-      (h.0, h.1, h.2, h.3, p.0, subst (λ (n : ℕ). n < decimal h.1.text) (limit_is h.0) (lt_is _ _ p.1)),
+      let p = and_parts (number h.1) (nat_lt (cond (ends_with false h.0) (greatest_number + 1) greatest_number) (number_of_digits h.1.text)) h.4 in
+      (h.0, h.1, h.2, h.3, p.0, subst (λ (n : ℕ). n < number_of_digits h.1.text) (limit_is h.0) (lt_is _ _ p.1)),
   λ h.
       ap (number_above false) h.3
       ∙ number_here false h.0 h.1 h.2
-      (both (number h.1) (nat_lt (cond (ends_with false h.0) (greatest + 1) greatest) (decimal h.1.text)) h.4
-      (is_lt _ _ (subst (λ (n : ℕ). n < decimal h.1.text) (sym (limit_is h.0)) h.5))),
+      (both (number h.1) (nat_lt (cond (ends_with false h.0) (greatest_number + 1) greatest_number) (number_of_digits h.1.text)) h.4
+      (is_lt _ _ (subst (λ (n : ℕ). n < number_of_digits h.1.text) (sym (limit_is h.0)) h.5))),
 )

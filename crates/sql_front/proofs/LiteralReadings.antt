@@ -5,7 +5,8 @@ use Rattle.std.proofs.lemmas.Bool.Decides.{nat_tests}
 use Rattle.period_core.specs.declared.value.Value.TheVariants as value
 use Rattle.sql_statements.specs.Lexemes.{Lexeme}
 use Rattle.sql_front.specs.Language.{Language, keyword, symbol, number, or_test, text, OneToken, Built, Preceded, Related}
-use Rattle.sql_front.specs.Values.{NamesClockMoment, NamesDay, NamesMoment, NamesNegative, NamesNumber, decimal, greatest}
+use Rattle.sql_front.specs.LiteralValues.{NamesClockMoment, NamesDay, NamesMoment, NamesNegative, NamesNumber, number_of_digits}
+use Rattle.period_core.specs.Encoding.{greatest_number}
 use Rattle.sql_front.specs.reading.LeafValues.{clock_value, day_value, moment_value, negative_value, number_value, up_to}
 use Rattle.sql_front.specs.Literals.{Anything, any_value, exact}
 use Rattle.sql_front.specs.StandIns.{stand_in}
@@ -137,32 +138,32 @@ up_to_within limit d h = elim (cases_Bool (nat_lt limit d)) [
   | inr e ↦ rw e refl
 ]
 
-number_named : (digits : List ℕ) → decimal digits ≤ greatest → NamesNumber digits (number_value digits)
+number_named : (digits : List ℕ) → number_of_digits digits ≤ greatest_number → NamesNumber digits (number_value digits)
 number_named digits h =
-    let e = up_to_within greatest (decimal digits) h in
-    (e, subst (λ (n : ℕ). n ≤ greatest) (sym e) h)
+    let e = up_to_within greatest_number (number_of_digits digits) h in
+    (e, subst (λ (n : ℕ). n ≤ greatest_number) (sym e) h)
 
 number_only : (digits : List ℕ) (n : ℕ) → NamesNumber digits n → n ≡ number_value digits
-number_only digits n h = h.0 ∙ sym (up_to_within greatest (decimal digits) (subst (λ (m : ℕ). m ≤ greatest) h.0 h.1))
+number_only digits n h = h.0 ∙ sym (up_to_within greatest_number (number_of_digits digits) (subst (λ (m : ℕ). m ≤ greatest_number) h.0 h.1))
 
-negative_named : (digits : List ℕ) → decimal digits ≤ greatest + 1 → NamesNegative digits (negative_value digits)
-negative_named digits h = (ap (λ (n : ℕ). neg_ℤ (pos n)) (up_to_within (greatest + 1) (decimal digits) h), h)
+negative_named : (digits : List ℕ) → number_of_digits digits ≤ greatest_number + 1 → NamesNegative digits (negative_value digits)
+negative_named digits h = (ap (λ (n : ℕ). neg_ℤ (pos n)) (up_to_within (greatest_number + 1) (number_of_digits digits) h), h)
 
 negative_only : (digits : List ℕ) (n : ℤ) → NamesNegative digits n → n ≡ negative_value digits
-negative_only digits n h = h.0 ∙ sym (ap (λ (m : ℕ). neg_ℤ (pos m)) (up_to_within (greatest + 1) (decimal digits) h.1))
+negative_only digits n h = h.0 ∙ sym (ap (λ (m : ℕ). neg_ℤ (pos m)) (up_to_within (greatest_number + 1) (number_of_digits digits) h.1))
 
 -- what a number may be where nothing stands before it
-number_within : (x : List Lexeme) (t : Lexeme) → x ≡ t ∷ [] → number t ≡ true → NoFault x → decimal t.text ≤ greatest
-number_within x t at is f = within greatest (decimal t.text) (λ above. f.numbers ([], t, [], at, is, above))
+number_within : (x : List Lexeme) (t : Lexeme) → x ≡ t ∷ [] → number t ≡ true → NoFault x → number_of_digits t.text ≤ greatest_number
+number_within x t at is f = within greatest_number (number_of_digits t.text) (λ above. f.numbers ([], t, [], at, is, above))
 
-behind_minus : (t : Lexeme) → symbol (codes "-") t ≡ true → limit_behind (t ∷ []) ≡ greatest + 1
+behind_minus : (t : Lexeme) → symbol (codes "-") t ≡ true → limit_behind (t ∷ []) ≡ greatest_number + 1
 behind_minus t e = rw e refl
 
 pub readings_number : Readings (IsNumber exact) (IsNumber stand_in) (IsNumber any_value)
 readings_number = record {
   sharp = λ x n f h.
       let t = h.2.0 in
-      let low : decimal h.0 ≤ greatest = subst (λ (w : List ℕ). decimal w ≤ greatest) (sym h.2.3) (number_within x t h.2.2 h.2.1 f) in
+      let low : number_of_digits h.0 ≤ greatest_number = subst (λ (w : List ℕ). number_of_digits w ≤ greatest_number) (sym h.2.3) (number_within x t h.2.2 h.2.1 f) in
       ((h.0, subst (λ (m : ℕ). NamesNumber h.0 m) (sym h.1) (number_named h.0 low), h.2), ap ends_in_minus h.2.2 ∙ number_no_minus.minus.apart t h.2.1);
   known = λ x n h. (h.0, number_only h.0 n h.1, h.2);
   loose = λ x n h. (h.0, tt, h.2);
@@ -172,7 +173,7 @@ readings_number = record {
 readings_negative : Readings (Preceded (symbol (codes "-")) exact.minus_number) (Preceded (symbol (codes "-")) stand_in.minus_number) (Preceded (symbol (codes "-")) any_value.minus_number)
 readings_negative =
     readings_two NamesNegative negative_value negative_only number_no_minus
-    (λ x t f. negative_named t.other.text (within (greatest + 1) (decimal t.other.text)
+    (λ x t f. negative_named t.other.text (within (greatest_number + 1) (number_of_digits t.other.text)
     (λ above. f.numbers (t.one ∷ [], t.other, [], t.at, t.ends, rw (behind_minus t.one t.begins) above))))
 
 -- ---- literals

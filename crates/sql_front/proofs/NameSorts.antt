@@ -5,7 +5,7 @@ use Rattle.std.proofs.lemmas.Slice.Eq.{bytes_eq-Decides}
 use Rattle.std.specs.Str.{bytes_eq}
 use Rattle.sql_statements.specs.Words.{folded, is_among, reserved, is_reserved}
 use Rattle.sql_statements.specs.Names.{is_plain_word, is_word_text}
-use Rattle.sql_statements.specs.declared.token.Kind.TheVariants.{Word}
+use Rattle.sql_statements.specs.declared.token.TokenKind.TheVariants.{Word}
 use Rattle.sql_front.specs.Language.{keyword, is_word}
 use Rattle.sql_front.specs.Grammar.{name}
 use Rattle.sql_front.proofs.First.{Apart, OfKind, is_word-kind}

@@ -17,7 +17,7 @@ use Rattle.sql_front.specs.Grammar.{IsStatement}
 use Rattle.sql_front.specs.reading.LeafValues.{day_of_token, day_value}
 use Rattle.sql_front.specs.reading.Leaves.{date_read, literal_read, name_read, number_read, unsigned_read}
 use Rattle.sql_front.specs.reading.ConditionReaders.{column_read, compare_read, comparison_read, condition_read, conjunction_read, factor_read, inner_read, operand_read, test_read, where_read}
-use Rattle.sql_front.specs.reading.PredicateReaders.{begins_contains_date, period_operand_read, predicate_ahead, predicate_read, relation_behind_column, relation_read, relation_word, said_read, stored_test_read, dates_read}
+use Rattle.sql_front.specs.reading.PredicateReaders.{begins_contains_date, period_operand_read, predicate_ahead, predicate_read, relation_behind_column, relation_read, relation_word, stored_test_read, dates_read}
 use Rattle.sql_front.specs.reading.WindowReaders.{for_window_read}
 use Rattle.sql_front.specs.reading.StatementReaders.{statement_read, stored_read, stored_table_read, later_statement_read, query_statement_read}
 use Rattle.sql_front.specs.reading.Reading.{bounded_read, whole_read}
@@ -62,7 +62,7 @@ abbrev overlapping_tree : Statement
 overlapping_tree = asked (condition_of (Periods p Overlaps year_tree))
 
 overlapping_is_read : whole_read (statement_read 0) overlapping ≡ Some overlapping_tree
-unfolding statement_read later_statement_read query_statement_read stored_read stored_table_read for_window_read where_read condition_read conjunction_read factor_read test_read stored_test_read predicate_ahead relation_behind_column relation_word predicate_read period_operand_read dates_read said_read begins_contains_date relation_read column_read date_read day_value day_of_token day_of_text date_at date_parts_of is_date name_read bounded_read is_plain_word is_reserved
+unfolding statement_read later_statement_read query_statement_read stored_read stored_table_read for_window_read where_read condition_read conjunction_read factor_read test_read stored_test_read predicate_ahead relation_behind_column relation_word predicate_read period_operand_read dates_read begins_contains_date relation_read column_read date_read day_value day_of_token day_of_text date_at date_parts_of is_date name_read bounded_read is_plain_word is_reserved
 overlapping_is_read = refl
 
 pub overlapping_spelled : IsStatement overlapping overlapping_tree
@@ -77,7 +77,7 @@ abbrev equal_tree : Statement
 equal_tree = asked (condition_of (Periods t_p Equals q))
 
 equal_is_read : whole_read (statement_read 0) equal ≡ Some equal_tree
-unfolding statement_read later_statement_read query_statement_read stored_read stored_table_read for_window_read where_read condition_read conjunction_read factor_read test_read stored_test_read predicate_ahead relation_behind_column relation_word predicate_read period_operand_read dates_read said_read begins_contains_date relation_read column_read name_read bounded_read is_plain_word is_reserved
+unfolding statement_read later_statement_read query_statement_read stored_read stored_table_read for_window_read where_read condition_read conjunction_read factor_read test_read stored_test_read predicate_ahead relation_behind_column relation_word predicate_read period_operand_read dates_read begins_contains_date relation_read column_read name_read bounded_read is_plain_word is_reserved
 equal_is_read = refl
 
 pub equal_spelled : IsStatement equal equal_tree
@@ -91,7 +91,7 @@ abbrev containing_tree : Statement
 containing_tree = asked (condition_of (Periods p Contains q))
 
 containing_is_read : whole_read (statement_read 0) containing ≡ Some containing_tree
-unfolding statement_read later_statement_read query_statement_read stored_read stored_table_read for_window_read where_read condition_read conjunction_read factor_read test_read stored_test_read predicate_ahead relation_behind_column relation_word predicate_read period_operand_read dates_read said_read begins_contains_date relation_read column_read name_read bounded_read is_plain_word is_reserved
+unfolding statement_read later_statement_read query_statement_read stored_read stored_table_read for_window_read where_read condition_read conjunction_read factor_read test_read stored_test_read predicate_ahead relation_behind_column relation_word predicate_read period_operand_read dates_read begins_contains_date relation_read column_read name_read bounded_read is_plain_word is_reserved
 containing_is_read = refl
 
 pub containing_spelled : IsStatement containing containing_tree
@@ -105,7 +105,7 @@ abbrev preceding_tree : Statement
 preceding_tree = asked (condition_of (Periods year_tree Precedes p))
 
 preceding_is_read : whole_read (statement_read 0) preceding ≡ Some preceding_tree
-unfolding statement_read later_statement_read query_statement_read stored_read stored_table_read for_window_read where_read condition_read conjunction_read factor_read test_read stored_test_read predicate_ahead relation_behind_column relation_word predicate_read period_operand_read dates_read said_read begins_contains_date relation_read column_read date_read day_value day_of_token day_of_text date_at date_parts_of is_date name_read bounded_read is_plain_word is_reserved
+unfolding statement_read later_statement_read query_statement_read stored_read stored_table_read for_window_read where_read condition_read conjunction_read factor_read test_read stored_test_read predicate_ahead relation_behind_column relation_word predicate_read period_operand_read dates_read begins_contains_date relation_read column_read date_read day_value day_of_token day_of_text date_at date_parts_of is_date name_read bounded_read is_plain_word is_reserved
 preceding_is_read = refl
 
 pub preceding_spelled : IsStatement preceding preceding_tree
@@ -120,7 +120,7 @@ abbrev succeeding_tree : Statement
 succeeding_tree = asked (condition_of (Periods p Succeeds t_p))
 
 succeeding_is_read : whole_read (statement_read 0) succeeding ≡ Some succeeding_tree
-unfolding statement_read later_statement_read query_statement_read stored_read stored_table_read for_window_read where_read condition_read conjunction_read factor_read test_read stored_test_read predicate_ahead relation_behind_column relation_word predicate_read period_operand_read dates_read said_read begins_contains_date relation_read column_read name_read bounded_read is_plain_word is_reserved
+unfolding statement_read later_statement_read query_statement_read stored_read stored_table_read for_window_read where_read condition_read conjunction_read factor_read test_read stored_test_read predicate_ahead relation_behind_column relation_word predicate_read period_operand_read dates_read begins_contains_date relation_read column_read name_read bounded_read is_plain_word is_reserved
 succeeding_is_read = refl
 
 pub succeeding_spelled : IsStatement succeeding succeeding_tree
@@ -134,7 +134,7 @@ abbrev meeting_tree : Statement
 meeting_tree = asked (condition_of (Periods p ImmediatelyPrecedes q))
 
 meeting_is_read : whole_read (statement_read 0) meeting ≡ Some meeting_tree
-unfolding statement_read later_statement_read query_statement_read stored_read stored_table_read for_window_read where_read condition_read conjunction_read factor_read test_read stored_test_read predicate_ahead relation_behind_column relation_word predicate_read period_operand_read dates_read said_read begins_contains_date relation_read column_read name_read bounded_read is_plain_word is_reserved
+unfolding statement_read later_statement_read query_statement_read stored_read stored_table_read for_window_read where_read condition_read conjunction_read factor_read test_read stored_test_read predicate_ahead relation_behind_column relation_word predicate_read period_operand_read dates_read begins_contains_date relation_read column_read name_read bounded_read is_plain_word is_reserved
 meeting_is_read = refl
 
 pub meeting_spelled : IsStatement meeting meeting_tree
@@ -148,7 +148,7 @@ abbrev met_tree : Statement
 met_tree = asked (condition_of (Periods p ImmediatelySucceeds q))
 
 met_is_read : whole_read (statement_read 0) met ≡ Some met_tree
-unfolding statement_read later_statement_read query_statement_read stored_read stored_table_read for_window_read where_read condition_read conjunction_read factor_read test_read stored_test_read predicate_ahead relation_behind_column relation_word predicate_read period_operand_read dates_read said_read begins_contains_date relation_read column_read name_read bounded_read is_plain_word is_reserved
+unfolding statement_read later_statement_read query_statement_read stored_read stored_table_read for_window_read where_read condition_read conjunction_read factor_read test_read stored_test_read predicate_ahead relation_behind_column relation_word predicate_read period_operand_read dates_read begins_contains_date relation_read column_read name_read bounded_read is_plain_word is_reserved
 met_is_read = refl
 
 pub met_spelled : IsStatement met met_tree
@@ -164,7 +164,7 @@ abbrev holding_tree : Statement
 holding_tree = asked (condition_of (ContainsDay t_p (pos 15_008)))
 
 holding_is_read : whole_read (statement_read 0) holding ≡ Some holding_tree
-unfolding statement_read later_statement_read query_statement_read stored_read stored_table_read for_window_read where_read condition_read conjunction_read factor_read test_read stored_test_read predicate_ahead relation_behind_column relation_word predicate_read period_operand_read dates_read said_read begins_contains_date column_read date_read day_value day_of_token day_of_text date_at date_parts_of is_date name_read bounded_read is_plain_word is_reserved
+unfolding statement_read later_statement_read query_statement_read stored_read stored_table_read for_window_read where_read condition_read conjunction_read factor_read test_read stored_test_read predicate_ahead relation_behind_column relation_word predicate_read period_operand_read dates_read begins_contains_date column_read date_read day_value day_of_token day_of_text date_at date_parts_of is_date name_read bounded_read is_plain_word is_reserved
 holding_is_read = refl
 
 pub holding_spelled : IsStatement holding holding_tree
@@ -191,7 +191,7 @@ abbrev mixed_tree : Statement
 mixed_tree = asked (any (conditions_of (all (conditions_of (negated (test (Periods p Overlaps q)) ∷ grouped ∷ [])) ∷ [])))
 
 mixed_is_read : whole_read (statement_read 1) mixed ≡ Some mixed_tree
-unfolding statement_read later_statement_read query_statement_read stored_read stored_table_read for_window_read where_read condition_read conjunction_read factor_read test_read inner_read stored_test_read predicate_ahead relation_behind_column relation_word predicate_read period_operand_read dates_read said_read begins_contains_date relation_read compare_read operand_read comparison_read column_read literal_read unsigned_read number_read name_read bounded_read is_plain_word is_reserved
+unfolding statement_read later_statement_read query_statement_read stored_read stored_table_read for_window_read where_read condition_read conjunction_read factor_read test_read inner_read stored_test_read predicate_ahead relation_behind_column relation_word predicate_read period_operand_read dates_read begins_contains_date relation_read compare_read operand_read comparison_read column_read literal_read unsigned_read number_read name_read bounded_read is_plain_word is_reserved
 mixed_is_read = refl
 
 pub mixed_spelled : IsStatement mixed mixed_tree

@@ -72,7 +72,6 @@ related_decides x s rest h =
     ap begins_contains_date split ∙ related_by p.0 h.0.0 (p.1 ++ rest) p.3 no_date
 
 reads_said : Reads IsSaid (Next test_ends) said_read
-unfolding said_read
 reads_said =
     reads_weaken (Next test_ends) (λ rest n. (n, n))
     (reads_decided begins_contains_date (reads_next test_ends (reads_built contains_day (reads_preceded (keyword (codes "CONTAINS")) reads_date)))

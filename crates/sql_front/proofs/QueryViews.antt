@@ -15,3 +15,5 @@ pub inner_below : (n : ℕ) (ts : List Lexeme) → 0 < n → inner_query_read n 
 inner_below n ts h =
     let e : n ≡ suc (n - 1) = omega arith in
     ap (λ (k : ℕ). inner_query_read k ts) e ∙ below (n - 1) ts
+
+pub ruleset inner_views = (inner_none, inner_below)

@@ -5,7 +5,7 @@ use Rattle.std.specs.Borrow.{Bor}
 use Rattle.std.proofs.lemmas.Bool.Decides.{nat_tests}
 use Rattle.std.proofs.lemmas.List.{append-nil}
 use Rattle.std.proofs.lemmas.Str.Pattern.{IsSplitOnceResult, split_parts}
-use Rattle.sql_front.specs.Values.{is_quote, behind_quote, unquoted, after_quote}
+use Rattle.sql_front.specs.LiteralValues.{is_quote, behind_quote, unquoted, after_quote}
 use Rattle.sql_front.specs.Quoting.{continued}
 
 -- no byte is a quote

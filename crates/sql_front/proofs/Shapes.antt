@@ -1,9 +1,9 @@
 -- What the text of a token looks like, by its kind.
 use Rattle.std.specs.Prelude.{◌≡◌, ℕ, ◌<◌, true, ◌==◌, if◌then◌else◌, List, [], ◌∷◌, ◌++◌, length, ◌⊎◌}
 use Rattle.std.specs.List.{list_all}
-use Rattle.sql_statements.specs.declared.token.Kind.{Kind}
-use Rattle.sql_statements.specs.declared.token.Kind.TheVariants.{Word, Number, Text, Symbol}
-use Rattle.sql_statements.specs.Lexis.{quote, is_letter, is_digit, is_word_byte, is_symbol, begins_pair}
+use Rattle.sql_statements.specs.declared.token.TokenKind.{TokenKind}
+use Rattle.sql_statements.specs.declared.token.TokenKind.TheVariants.{Word, Number, Text, Symbol}
+use Rattle.sql_statements.specs.Lexis.{quote, is_letter, is_digit, is_word_byte, is_symbol_byte, begins_pair}
 
 -- a value with each quote written twice
 abbrev pub doubled : List ℕ → List ℕ
@@ -27,10 +27,10 @@ Quotes value text = text ≡ quote ∷ (doubled value ++ quote ∷ [])
 -- a symbol of one byte, or of two
 abbrev pub IsSymbolText : List ℕ → Type 0
 IsSymbolText text =
-    ((b : ℕ) × (text ≡ b ∷ []) × (is_symbol b ≡ true)) ⊎ ((length text ≡ 2) × (begins_pair text ≡ true))
+    ((b : ℕ) × (text ≡ b ∷ []) × (is_symbol_byte b ≡ true)) ⊎ ((length text ≡ 2) × (begins_pair text ≡ true))
 
 -- the text of a token of this kind
-abbrev pub HasShape : Kind → List ℕ → Type 0
+abbrev pub HasShape : TokenKind → List ℕ → Type 0
 HasShape Word text = IsWordText text
 HasShape Number text = IsNumberText text
 HasShape Text text = (value : List ℕ) × Quotes value text

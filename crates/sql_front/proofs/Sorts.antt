@@ -4,8 +4,8 @@ use Rattle.std.specs.Str.{bytes_eq}
 use Rattle.std.proofs.lemmas.Bool.{and_parts}
 use Rattle.std.proofs.lemmas.Slice.Eq.{bytes_eq-Decides}
 use Rattle.sql_statements.specs.Words.{folded, is_among, reserved}
-use Rattle.sql_statements.specs.declared.token.Kind.{Kind}
-use Rattle.sql_statements.specs.declared.token.Kind.TheVariants.{Word, Number, Text, Symbol}
+use Rattle.sql_statements.specs.declared.token.TokenKind.{TokenKind}
+use Rattle.sql_statements.specs.declared.token.TokenKind.TheVariants.{Word, Number, Text, Symbol}
 use Rattle.sql_statements.specs.Lexemes.{Lexeme}
 use Rattle.sql_front.specs.Language.{keyword, symbol, number, text, Sequence, Choice, Optional, Repetition, Separated, Enclosed}
 use Rattle.sql_front.specs.Grammar.{name}
@@ -35,7 +35,7 @@ any_of (s ∷ r ∷ more) t = is s t || any_of (r ∷ more) t
 
 -- ---- apart
 
-abbrev pub kind_of : Sort → Kind
+abbrev pub kind_of : Sort → TokenKind
 kind_of (word w) = Word
 kind_of (sign s) = Symbol
 kind_of a_name = Word

@@ -15,3 +15,5 @@ pub split_more : (names rest : List (List ℕ)) (last : List ℕ)
     → names ≡ rest ++ last ∷ [] → 0 < length rest → split_last names ≡ Some (rest, last)
 split_more names [] last e h = absurd (omega arith)
 split_more names (n ∷ rest) last e h = ap split_last e ∙ split_pushed n rest last
+
+pub ruleset split_views = (split_none, split_one, split_more)

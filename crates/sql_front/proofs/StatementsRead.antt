@@ -3,7 +3,7 @@ use Rattle.std.proofs.Common.{◌≡◌, ℕ, suc, ◌≤◌, Bool, List, [], �
 use Rattle.std.proofs.lemmas.Bool.{cases_Bool}
 use Rattle.sql_statements.specs.Lexemes.{Lexeme}
 use Rattle.sql_front.specs.Language.{keyword, symbol}
-use Rattle.sql_front.specs.Depth.{opens, counted, room, IsDeeper}
+use Rattle.sql_front.specs.Depth.{opens, passing_count, room, IsDeeper}
 use Rattle.sql_statements.specs.Trees.{Statement, at, create, delete, insert, sequenced, stored, update}
 use Rattle.sql_front.specs.Builders.{stored_of}
 use Rattle.sql_front.proofs.ReadGrammar.{IsStatement, IsStored, IsStoredTest, StatementBelow}
@@ -102,7 +102,7 @@ at_depth k ts s shallow h = by_room k ts s shallow h (room k ts) refl
 
 -- ---- no tokens spell two
 
-counted_within : (test : Lexeme → Bool) (ts : List Lexeme) → counted test ts ≤ length ts
+counted_within : (test : Lexeme → Bool) (ts : List Lexeme) → passing_count test ts ≤ length ts
 counted_within test [] = omega arith
 counted_within test (t ∷ ts) =
     elim (cases_Bool (test t)) [

@@ -4,7 +4,7 @@ use Rattle.std.specs.Prelude.{◌<ℤ◌, IsSome, IfSome, int_lt}
 use Rattle.period_core.specs.Calendar.{IsDayText}
 use Rattle.period_core.specs.Moments.{IsMomentText, forever}
 use Rattle.period_core.proofs.TextReadings.{chosen, there}
-use Rattle.sql_front.specs.Values.{IsClockToken, IsDateToken, IsMomentToken, between_quotes}
+use Rattle.sql_front.specs.LiteralValues.{IsClockToken, IsDateToken, IsMomentToken, between_quotes}
 use Rattle.sql_front.specs.reading.LeafValues.{clock_of_token, day_of_token, moment_of_token}
 use Rattle.sql_front.proofs.LeafFacts.{before, clock_found, clock_shown, day_found, day_shown, is_before, moment_found, moment_shown}
 

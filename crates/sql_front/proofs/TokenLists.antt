@@ -6,14 +6,14 @@ use Rattle.std.specs.Str.{IsUtf8, IsCharBoundary}
 use Rattle.std.proofs.lemmas.List.{drop-drop}
 use Rattle.std.proofs.lemmas.List.Elements.{All-nil, All-cons, All-take, All-drop}
 use Rattle.std.proofs.lemmas.Str.{IsUtf8-drop}
-use Rattle.sql_statements.specs.declared.token.Kind.{Kind}
+use Rattle.sql_statements.specs.declared.token.TokenKind.{TokenKind}
 use Rattle.sql_statements.specs.declared.lexeme.Front.{Front}
 use Rattle.sql_statements.specs.declared.lexeme.Front.TheVariants as front
 use Rattle.sql_statements.specs.declared.token.Token.{Token}
 use Rattle.sql_front.specs.declared.lexer.LexFault.{LexFault}
 use Rattle.sql_statements.specs.Lexemes.{Lexeme, lexemes}
 use Rattle.sql_statements.specs.Lexis as lexis
-use Rattle.sql_statements.specs.Lexis.{first_lexeme, mark_size, TokensFrom, StopsFrom, TokensOf, StopsAt, EndsBetween, IsTokenAt}
+use Rattle.sql_statements.specs.Lexis.{first_lexeme, byte_order_mark_size, TokensFrom, StopsFrom, TokensOf, StopsAt, EndsBetween, IsTokenAt}
 use Rattle.sql_statements.proofs.FrontEnds.{front_ends}
 use Rattle.sql_front.proofs.ByteOrderMark.{mark_boundary}
 
@@ -27,7 +27,7 @@ behind_blank at bytes ts n e (lexis.TokensFrom.blank m f rest) =
     subst (λ (k : ℕ). TokensFrom (at + k) (drop k bytes) ts) same rest
 behind_blank at bytes ts n e (lexis.TokensFrom.token k m f rest) = absurd cc
 
-behind_token : (at : ℕ) (bytes : List ℕ) (ts : List Lexeme) (k : Kind) (n : ℕ) → first_lexeme bytes ≡ front.Lexeme k n → TokensFrom at bytes ts
+behind_token : (at : ℕ) (bytes : List ℕ) (ts : List Lexeme) (k : TokenKind) (n : ℕ) → first_lexeme bytes ≡ front.Lexeme k n → TokensFrom at bytes ts
     → (more : List Lexeme) × (ts ≡ record { kind = k; text = take n bytes; start = at; end = at + n } ∷ more) × TokensFrom (at + n) (drop n bytes) more
 unfolding first_lexeme
 behind_token at bytes ts k n e lexis.TokensFrom.ended = absurd cc
@@ -49,7 +49,7 @@ one_list at bytes a b (lexis.TokensFrom.token {more = more} k n e rest) other =
 
 -- the tokens of a script are one list
 pub one_list_of : (script : List ℕ) (a b : List Lexeme) → TokensOf script a → TokensOf script b → a ≡ b
-one_list_of script a b = one_list (mark_size script) (drop (mark_size script) script) a b
+one_list_of script a b = one_list (byte_order_mark_size script) (drop (byte_order_mark_size script) script) a b
 
 none_fits : (at b : ℕ) (rest bytes : List ℕ) (ts : List Lexeme) → bytes ≡ b ∷ rest → first_lexeme bytes ≡ front.Bad → TokensFrom at bytes ts → ⊥
 none_fits at b rest bytes ts is e lexis.TokensFrom.ended = cc
@@ -65,7 +65,7 @@ never_both at bytes ts bad tokens (lexis.StopsFrom.token k n e rest) =
 
 -- a script with tokens has no bad offset
 pub never_both_of : (script : List ℕ) (ts : List Lexeme) (bad : ℕ) → TokensOf script ts → StopsAt script bad → ⊥
-never_both_of script ts bad = never_both (mark_size script) (drop (mark_size script) script) ts bad
+never_both_of script ts bad = never_both (byte_order_mark_size script) (drop (byte_order_mark_size script) script) ts bad
 
 -- ---- each token of a script
 
@@ -97,8 +97,8 @@ tokens_from script at bytes ts utf8 le e (lexis.TokensFrom.token {more = more} k
 
 pub tokens_at : (script : List ℕ) (ts : List Lexeme) → IsUtf8 script → TokensOf script ts → All (IsTokenAt script) ts
 tokens_at script ts utf8 tokens =
-    let boundary : IsCharBoundary script (mark_size script) = mark_boundary script utf8 in
-    tokens_from script (mark_size script) (drop (mark_size script) script) ts (IsUtf8-drop script (mark_size script) utf8 boundary) boundary.0 refl tokens
+    let boundary : IsCharBoundary script (byte_order_mark_size script) = mark_boundary script utf8 in
+    tokens_from script (byte_order_mark_size script) (drop (byte_order_mark_size script) script) ts (IsUtf8-drop script (byte_order_mark_size script) utf8 boundary) boundary.0 refl tokens
 
 -- what holds of each token holds of each of a run
 pub run_at : (script : List ℕ) (ts : List Lexeme) (from to : ℕ) → All (IsTokenAt script) ts → All (IsTokenAt script) (slice_range ts from to)

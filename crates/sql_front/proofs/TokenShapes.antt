@@ -2,12 +2,12 @@
 use Rattle.std.proofs.Common.{◌≡◌, ℕ, suc, ◌+◌, ◌-◌, Bool, true, false, cond, ◌==◌, ◌&&◌, List, [], ◌∷◌, ◌++◌, take, drop, Option, Some, None, refl, sym, ap, subst, ◌∙◌, arith, inl, inr}
 use Rattle.std.specs.List.{All, list_all, prefix_len, slice_index_or}
 use Rattle.std.proofs.lemmas.Bool.{cases_Bool, eqb-true}
-use Rattle.sql_statements.specs.declared.token.Kind.{Kind}
-use Rattle.sql_statements.specs.declared.token.Kind.TheVariants.{Word, Number, Text, Symbol}
+use Rattle.sql_statements.specs.declared.token.TokenKind.{TokenKind}
+use Rattle.sql_statements.specs.declared.token.TokenKind.TheVariants.{Word, Number, Text, Symbol}
 use Rattle.sql_statements.specs.declared.lexeme.Front.{Front}
 use Rattle.sql_statements.specs.declared.lexeme.Front.TheVariants as front
 use Rattle.sql_statements.specs.Lexemes.{Lexeme}
-use Rattle.sql_statements.specs.Lexis.{is_blank, is_letter, is_digit, is_word_byte, is_symbol, begins, begins_pair, quoted_size, longer, text_of_size, first_lexeme, IsTokenAt}
+use Rattle.sql_statements.specs.Lexis.{is_blank, is_letter, is_digit, is_word_byte, is_symbol_byte, begins_with, begins_pair, quoted_size, longer, text_of_size, first_lexeme, IsTokenAt}
 use Rattle.sql_front.proofs.Shapes.{doubled, HasShape, IsWordText, IsNumberText, IsSymbolText}
 use Rattle.sql_statements.proofs.FrontEnds.{longer_some, none_some, pair_second, some_same}
 
@@ -86,13 +86,13 @@ pair_text b [] e = absurd (let some = pair_second b [] e in omega (arith, some.0
 pair_text b (c ∷ rest) e = inr (refl, e)
 
 -- a token's shape, at another name of its kind and size
-leaf : (bytes : List ℕ) (j k : Kind) (m n : ℕ) → HasShape j (take m bytes) → front.Lexeme j m ≡ front.Lexeme k n → HasShape k (take n bytes)
+leaf : (bytes : List ℕ) (j k : TokenKind) (m n : ℕ) → HasShape j (take m bytes) → front.Lexeme j m ≡ front.Lexeme k n → HasShape k (take n bytes)
 leaf bytes j k m n h e =
     let kinds : j ≡ k = cc in
     let sizes : m ≡ n = cc in
-    subst (λ (x : Kind). HasShape x (take n bytes)) kinds (subst (λ (i : ℕ). HasShape j (take i bytes)) sizes h)
+    subst (λ (x : TokenKind). HasShape x (take n bytes)) kinds (subst (λ (i : ℕ). HasShape j (take i bytes)) sizes h)
 
-text_text : (b : ℕ) (rest : List ℕ) (k : Kind) (n : ℕ) → b ≡ 39 → (o : Option ℕ) → quoted_size rest ≡ o → text_of_size (longer 1 o) ≡ front.Lexeme k n
+text_text : (b : ℕ) (rest : List ℕ) (k : TokenKind) (n : ℕ) → b ≡ 39 → (o : Option ℕ) → quoted_size rest ≡ o → text_of_size (longer 1 o) ≡ front.Lexeme k n
     → HasShape k (take n (b ∷ rest))
 text_text b rest k n h None e f = absurd cc
 text_text b rest k n h (Some m) e f =
@@ -104,23 +104,23 @@ if_shape : (test : Bool) (p q f : Front) (G : Type 0) → (test ≡ true → p �
 if_shape true p q f G h k e = h refl e
 if_shape false p q f G h k e = k refl e
 
-no_blank : (m n : ℕ) (k : Kind) (G : Type 0) → front.Blank m ≡ front.Lexeme k n → G
+no_blank : (m n : ℕ) (k : TokenKind) (G : Type 0) → front.Blank m ≡ front.Lexeme k n → G
 no_blank m n k G e = absurd cc
 
-no_bad : (n : ℕ) (k : Kind) (G : Type 0) → front.Bad ≡ front.Lexeme k n → G
+no_bad : (n : ℕ) (k : TokenKind) (G : Type 0) → front.Bad ≡ front.Lexeme k n → G
 no_bad n k G e = absurd cc
 
-pub shape_of : (bytes : List ℕ) (k : Kind) (n : ℕ) → first_lexeme bytes ≡ front.Lexeme k n → HasShape k (take n bytes)
+pub shape_of : (bytes : List ℕ) (k : TokenKind) (n : ℕ) → first_lexeme bytes ≡ front.Lexeme k n → HasShape k (take n bytes)
 unfolding first_lexeme
 shape_of [] k n e = absurd cc
 shape_of (b ∷ rest) k n e =
     if_shape (is_blank b) _ _ _ (HasShape k (take n (b ∷ rest))) (λ h. no_blank 1 n k _) (λ h1.
-    if_shape (begins "--" (b ∷ rest)) _ _ _ (HasShape k (take n (b ∷ rest))) (λ h. no_blank _ n k _) (λ h2.
+    if_shape (begins_with "--" (b ∷ rest)) _ _ _ (HasShape k (take n (b ∷ rest))) (λ h. no_blank _ n k _) (λ h2.
     if_shape (is_letter b) _ _ _ (HasShape k (take n (b ∷ rest))) (λ h. leaf (b ∷ rest) Word k (1 + prefix_len is_word_byte rest) n (word_text b rest h)) (λ h3.
     if_shape (is_digit b) _ _ _ (HasShape k (take n (b ∷ rest))) (λ h. leaf (b ∷ rest) Number k (1 + prefix_len is_digit rest) n (number_text b rest h)) (λ h4.
     if_shape (b == 39) _ _ _ (HasShape k (take n (b ∷ rest))) (λ h. text_text b rest k n (eqb-true b 39 h) (quoted_size rest) refl) (λ h5.
     if_shape (begins_pair (b ∷ rest)) _ _ _ (HasShape k (take n (b ∷ rest))) (λ h. leaf (b ∷ rest) Symbol k 2 n (pair_text b rest h)) (λ h6.
-    if_shape (is_symbol b) _ _ _ (HasShape k (take n (b ∷ rest))) (λ h. leaf (b ∷ rest) Symbol k 1 n (inl (b, refl, h))) (λ h7. no_bad n k _))))))) e
+    if_shape (is_symbol_byte b) _ _ _ (HasShape k (take n (b ∷ rest))) (λ h. leaf (b ∷ rest) Symbol k 1 n (inl (b, refl, h))) (λ h7. no_bad n k _))))))) e
 
 -- ---- of the tokens of a script
 

@@ -2,11 +2,12 @@
 use Rattle.std.proofs.Common.{◌≡◌, ℕ, ℤ, ◌≤◌, pos, neg_ℤ, true, false, List, [], ◌∷◌, Some, None, codes, refl, sym, ◌∙◌, subst, arith, lit≤}
 use Rattle.period_core.specs.declared.value.Value.TheVariants as value
 use Rattle.period_core.specs.Moments.{first_moment, forever}
-use Rattle.sql_statements.specs.declared.token.Kind.TheVariants.{Word, Number, Text, Symbol}
+use Rattle.sql_statements.specs.declared.token.TokenKind.TheVariants.{Word, Number, Text, Symbol}
 use Rattle.sql_statements.specs.Lexemes.{Lexeme}
 use Rattle.sql_statements.specs.Names.{is_name, is_plain_word, upper}
 use Rattle.sql_statements.specs.Words.{is_reserved}
-use Rattle.sql_front.specs.Values.{IsDateToken, NamesClockMoment, NamesDay, NamesMoment, NamesNegative, NamesNumber, greatest, text_value}
+use Rattle.sql_front.specs.LiteralValues.{IsDateToken, NamesClockMoment, NamesDay, NamesMoment, NamesNegative, NamesNumber, text_value}
+use Rattle.period_core.specs.Encoding.{greatest_number}
 use Rattle.period_core.specs.TextReading.{date_at, date_parts_of, day_of_text, is_date, is_time, moment_of_text, time_at, time_parts_of}
 use Rattle.sql_front.specs.reading.LeafValues.{clock_of_token, clock_value, day_of_token, day_value, moment_of_token, moment_value, negative_value, number_value}
 use Rattle.sql_front.specs.LiteralFaults.{HasBadDate, HasBadMoment}
@@ -41,7 +42,7 @@ the_greatest : NamesNumber (codes "9223372036854775807") 9_223_372_036_854_775_8
 the_greatest = (refl, lit≤ tt)
 
 above_the_greatest_is_none : (n : ℕ) → NamesNumber (codes "9223372036854775808") n → ⊥
-above_the_greatest_is_none n h = let low : 9_223_372_036_854_775_808 ≤ greatest = subst (λ (m : ℕ). m ≤ greatest) h.0 h.1 in absurd (omega (arith, low))
+above_the_greatest_is_none n h = let low : 9_223_372_036_854_775_808 ≤ greatest_number = subst (λ (m : ℕ). m ≤ greatest_number) h.0 h.1 in absurd (omega (arith, low))
 
 the_least : NamesNegative (codes "9223372036854775808") (neg_ℤ (pos 9_223_372_036_854_775_808))
 the_least = (refl, lit≤ tt)

@@ -1,4 +1,4 @@
--- How deep parentheses stand.
+-- How deep parentheses nest.
 use Rattle.std.specs.Prelude.{◌≡◌, ℕ, zero, suc, ◌+◌, ◌<◌, Bool, cond, List, [], ◌∷◌, ◌++◌, Option}
 use Rattle.std.specs.Prelude.{Some, None, codes}
 use Rattle.sql_statements.specs.Lexemes.{Lexeme}
@@ -13,9 +13,9 @@ abbrev pub closes : Lexeme → Bool
 closes = symbol (codes ")")
 
 -- how many tokens pass a test
-abbrev pub counted : (Lexeme → Bool) → List Lexeme → ℕ
-counted test [] = 0
-counted test (t ∷ ts) = cond (test t) (suc (counted test ts)) (counted test ts)
+abbrev pub passing_count : (Lexeme → Bool) → List Lexeme → ℕ
+passing_count test [] = 0
+passing_count test (t ∷ ts) = cond (test t) (suc (passing_count test ts)) (passing_count test ts)
 
 -- how many parentheses may be open
 abbrev pub most_open : ℕ
@@ -25,10 +25,11 @@ most_open = 32
 abbrev pub IsDeeper : ℕ → List Lexeme → Type 0
 IsDeeper n lexemes =
     (front : List Lexeme) × (rest : List Lexeme) × (lexemes ≡ front ++ rest)
-    × (n + counted closes front < counted opens front)
+    × (n + passing_count closes front < passing_count opens front)
 
 -- how many more may still open after these tokens, where so many may open before them
 unfoldable pub room : ℕ → List Lexeme → Option ℕ
 room k [] = Some k
 room zero (t ∷ ts) = cond (opens t) None (cond (closes t) (room 1 ts) (room zero ts))
-room (suc k) (t ∷ ts) = cond (opens t) (room k ts) (cond (closes t) (room (suc (suc k)) ts) (room (suc k) ts))
+room (suc k) (t ∷ ts) =
+    cond (opens t) (room k ts) (cond (closes t) (room (suc (suc k)) ts) (room (suc k) ts))

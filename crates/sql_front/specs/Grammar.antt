@@ -1,5 +1,6 @@
 -- The grammar, production by production.
--- Braces repeat any number of times, brackets are optional, a bar chooses, what is in quotes is a token.
+-- Braces repeat any number of times, brackets are optional, a bar chooses. What is in quotes is a
+-- token.
 use Rattle.std.specs.Prelude.{ℕ, zero, suc, ℤ, List, codes, Option, Bool, ◌&&◌}
 use Rattle.period_core.specs.declared.value.Value.{Value}
 use Rattle.period_core.specs.declared.value.Value.TheVariants as value
@@ -12,7 +13,8 @@ use Rattle.sql_statements.specs.declared.create.PeriodElement.{PeriodElement}
 use Rattle.sql_statements.specs.declared.create.ReferenceElement.{ReferenceElement}
 use Rattle.sql_statements.specs.declared.create.SystemElement.{SystemElement}
 use Rattle.sql_statements.specs.declared.create.TypeName.{TypeName}
-use Rattle.sql_statements.specs.declared.create.TypeName.TheVariants.{Integer, Date, Varchar, Timestamp}
+use Rattle.sql_statements.specs.declared.create.TypeName.TheVariants.{Integer, Date, Varchar}
+use Rattle.sql_statements.specs.declared.create.TypeName.TheVariants.{Timestamp}
 use Rattle.sql_statements.specs.declared.statement.Assignment.{Assignment}
 use Rattle.sql_statements.specs.declared.statement.ColumnReference.{ColumnReference}
 use Rattle.sql_statements.specs.declared.statement.Compare.{Compare}
@@ -45,9 +47,9 @@ use Rattle.sql_statements.specs.Names.{is_plain_word, upper}
 use Rattle.sql_front.specs.Language.{Language, is_word, keyword, symbol, text, OneToken, Fixed}
 use Rattle.sql_front.specs.Language.{Sequence, Built, StandsFor, Choice, Repetition, Optional}
 use Rattle.sql_front.specs.Language.{Preceded, PrecededOrNot, Separated, Enclosed}
-use Rattle.sql_statements.specs.Trees.{Condition, negated, test, Join, JoinChain, Select, Query, simple}
-use Rattle.sql_statements.specs.Trees.{Update, Delete, Stored, Statement, at, create, insert, update}
-use Rattle.sql_statements.specs.Trees.{delete, sequenced, stored}
+use Rattle.sql_statements.specs.Trees.{Condition, negated, test, Join, JoinChain, Select, Query}
+use Rattle.sql_statements.specs.Trees.{simple, Update, Delete, Stored, Statement, at, create}
+use Rattle.sql_statements.specs.Trees.{insert, update, delete, sequenced, stored}
 use Rattle.sql_front.specs.Builders.{number_of, text_of, column_of, period_of, system_of, key_of}
 use Rattle.sql_front.specs.Builders.{reference_of, Element, column_element, period_element}
 use Rattle.sql_front.specs.Builders.{system_element, key_element, reference_element, table_of}
@@ -62,7 +64,7 @@ use Rattle.sql_front.specs.Literals.{Literals, exact}
 abbrev pub name : Lexeme → Bool
 name lexeme = is_word lexeme.kind && is_plain_word lexeme.text
 
--- what stands between the items of a list
+-- what separates the items of a list
 abbrev pub comma : Lexeme → Bool
 comma = symbol (codes ",")
 
@@ -74,13 +76,16 @@ IsTest Test Inner = Choice (Enclosed Inner) (Built test Test)
 
 -- factor = [ NOT ] test
 abbrev pub IsFactor : {T : Type 0} → Language T → Language (Condition T) → Language (Condition T)
-IsFactor Test Inner = Choice (Built negated (Preceded (keyword (codes "NOT")) (IsTest Test Inner))) (IsTest Test Inner)
+IsFactor Test Inner =
+    Choice (Built negated (Preceded (keyword (codes "NOT")) (IsTest Test Inner)))
+    (IsTest Test Inner)
 
 -- conj = factor { AND factor }
-abbrev pub IsConjunction : {T : Type 0} → Language T → Language (Condition T) → Language (Condition T)
+abbrev pub IsConjunction :
+    {T : Type 0} → Language T → Language (Condition T) → Language (Condition T)
 IsConjunction Test Inner = Built all_of (Separated (keyword (codes "AND")) (IsFactor Test Inner))
 
--- cond = conj { OR conj }, over what stands in parentheses
+-- cond = conj { OR conj }, over what is in parentheses
 abbrev pub IsCondition : {T : Type 0} → Language T → Language (Condition T) → Language (Condition T)
 IsCondition Test Inner = Built any_of (Separated (keyword (codes "OR")) (IsConjunction Test Inner))
 
@@ -93,7 +98,7 @@ ConditionBelow Test (suc n) lexemes c = IsCondition Test (ConditionBelow Test n)
 abbrev pub IsWhere : {T : Type 0} → Language T → ℕ → Language (Option (Condition T))
 IsWhere Test n = Optional (Preceded (keyword (codes "WHERE")) (ConditionBelow Test n))
 
--- the productions, by what literals stand for
+-- the productions, by what literals mean
 module _ (literals : Literals) where
   -- ==== names and literals
 
@@ -146,7 +151,8 @@ module _ (literals : Literals) where
       Choice (StandsFor Integer (keyword (codes "INTEGER")))
       (Choice (StandsFor Date (keyword (codes "DATE")))
       (Choice (Built Varchar (Preceded (keyword (codes "VARCHAR")) IsLength))
-      (Choice (Built Varchar (Preceded (keyword (codes "CHARACTER")) (Preceded (keyword (codes "VARYING")) IsLength)))
+      (Choice (Built Varchar (Preceded (keyword (codes "CHARACTER"))
+      (Preceded (keyword (codes "VARYING")) IsLength)))
       (Built Timestamp (Preceded (keyword (codes "TIMESTAMP")) (Optional IsLength))))))
 
   -- GENERATED ALWAYS AS ROW ( START | END )
@@ -154,7 +160,8 @@ module _ (literals : Literals) where
   IsGenerated =
       Preceded (keyword (codes "GENERATED")) (Preceded (keyword (codes "ALWAYS"))
       (Preceded (keyword (codes "AS")) (Preceded (keyword (codes "ROW"))
-      (Choice (StandsFor Start (keyword (codes "START"))) (StandsFor End (keyword (codes "END")))))))
+      (Choice (StandsFor Start (keyword (codes "START")))
+      (StandsFor End (keyword (codes "END")))))))
 
   -- NOT NULL: no column holds NULL, so it adds nothing
   abbrev pub IsNotNull : Language (Unit {0})
@@ -226,13 +233,15 @@ module _ (literals : Literals) where
   abbrev pub IsCreate : Language CreateTable
   IsCreate =
       Preceded (keyword (codes "CREATE")) (Preceded (keyword (codes "TABLE"))
-      (Built table_of (Sequence IsName (Sequence (Enclosed (Separated comma IsElement)) IsVersioning))))
+      (Built table_of (Sequence IsName
+      (Sequence (Enclosed (Separated comma IsElement)) IsVersioning))))
 
   -- ==== comparisons
 
   -- column = name [ '.' name ]
   abbrev pub IsColumn : Language ColumnReference
-  IsColumn = Built column_reference_of (Sequence IsName (Optional (Preceded (symbol (codes ".")) IsName)))
+  IsColumn =
+      Built column_reference_of (Sequence IsName (Optional (Preceded (symbol (codes ".")) IsName)))
 
   -- operand = column | literal
   abbrev pub IsOperand : Language Operand
@@ -257,11 +266,14 @@ module _ (literals : Literals) where
   -- window = AS OF moment | FROM moment TO moment | BETWEEN moment AND moment
   abbrev pub IsWindow : Language SystemTime
   IsWindow =
-      Choice (Built AsOf (Preceded (keyword (codes "AS")) (Preceded (keyword (codes "OF")) IsClockMoment)))
+      Choice (Built AsOf
+      (Preceded (keyword (codes "AS")) (Preceded (keyword (codes "OF")) IsClockMoment)))
       (Choice (Built from_to_of
-      (Preceded (keyword (codes "FROM")) (Sequence IsMoment (Preceded (keyword (codes "TO")) IsMoment))))
+      (Preceded (keyword (codes "FROM"))
+      (Sequence IsMoment (Preceded (keyword (codes "TO")) IsMoment))))
       (Built between_of
-      (Preceded (keyword (codes "BETWEEN")) (Sequence IsMoment (Preceded (keyword (codes "AND")) IsMoment)))))
+      (Preceded (keyword (codes "BETWEEN"))
+      (Sequence IsMoment (Preceded (keyword (codes "AND")) IsMoment)))))
 
   -- FOR SYSTEM_TIME window
   abbrev pub IsForWindow : Language SystemTime
@@ -273,7 +285,9 @@ module _ (literals : Literals) where
 
   -- ref = name [ FOR SYSTEM_TIME window ] [ [ AS ] name ]
   abbrev pub IsReference : Language TableReference
-  IsReference = Built table_reference_of (Sequence IsName (Sequence (Optional IsForWindow) (Optional IsNewName)))
+  IsReference =
+      Built table_reference_of (Sequence IsName
+      (Sequence (Optional IsForWindow) (Optional IsNewName)))
 
   -- [ INNER ] JOIN ref ON cond
   abbrev pub IsJoin : ℕ → Language Join
@@ -294,7 +308,8 @@ module _ (literals : Literals) where
   IsSelect n =
       Preceded (keyword (codes "SELECT")) (Preceded (keyword (codes "DISTINCT"))
       (Built select_of (Sequence (Separated comma IsItem)
-      (Preceded (keyword (codes "FROM")) (Sequence (Separated comma (IsChain n)) (IsWhere IsCompare n))))))
+      (Preceded (keyword (codes "FROM"))
+      (Sequence (Separated comma (IsChain n)) (IsWhere IsCompare n))))))
 
   -- primary = select | '(' query ')'
   abbrev pub IsPrimary : ℕ → Language Query → Language Query
@@ -303,10 +318,11 @@ module _ (literals : Literals) where
   -- ( UNION | EXCEPT ) [ DISTINCT ] primary
   abbrev pub IsStep : ℕ → Language Query → Language (SetOperator × Query)
   IsStep n Inner =
-      Sequence (Choice (StandsFor Union (keyword (codes "UNION"))) (StandsFor Except (keyword (codes "EXCEPT"))))
+      Sequence (Choice (StandsFor Union (keyword (codes "UNION")))
+      (StandsFor Except (keyword (codes "EXCEPT"))))
       (PrecededOrNot (keyword (codes "DISTINCT")) (IsPrimary n Inner))
 
-  -- query = primary { ( UNION | EXCEPT ) [ DISTINCT ] primary }, over what stands in parentheses
+  -- query = primary { ( UNION | EXCEPT ) [ DISTINCT ] primary }, over what is in parentheses
   abbrev pub IsQuery : ℕ → Language Query → Language Query
   IsQuery n Inner = Built combined_of (Sequence (IsPrimary n Inner) (Repetition (IsStep n Inner)))
 
@@ -324,7 +340,8 @@ module _ (literals : Literals) where
   -- span = column | PERIOD '(' date ',' date ')'
   abbrev pub IsPeriodOperand : Language PeriodOperand
   IsPeriodOperand =
-      Choice (Built dates_of (Preceded (keyword (codes "PERIOD")) (Enclosed (Sequence IsDate (Preceded comma IsDate)))))
+      Choice (Built dates_of (Preceded (keyword (codes "PERIOD"))
+      (Enclosed (Sequence IsDate (Preceded comma IsDate)))))
       (Built Named IsColumn)
 
   -- OVERLAPS | EQUALS | CONTAINS | [ IMMEDIATELY ] ( PRECEDES | SUCCEEDS )
@@ -336,7 +353,8 @@ module _ (literals : Literals) where
       (Choice (Preceded (keyword (codes "IMMEDIATELY"))
       (Choice (StandsFor ImmediatelyPrecedes (keyword (codes "PRECEDES")))
       (StandsFor ImmediatelySucceeds (keyword (codes "SUCCEEDS")))))
-      (Choice (StandsFor Precedes (keyword (codes "PRECEDES"))) (StandsFor Succeeds (keyword (codes "SUCCEEDS")))))))
+      (Choice (StandsFor Precedes (keyword (codes "PRECEDES")))
+      (StandsFor Succeeds (keyword (codes "SUCCEEDS")))))))
 
   -- pred = span ( OVERLAPS | EQUALS ) span
   --      | span CONTAINS ( span | date )
@@ -345,7 +363,8 @@ module _ (literals : Literals) where
   abbrev pub IsPredicate : Language StoredTest
   IsPredicate =
       Choice (Built periods_of (Sequence IsPeriodOperand (Sequence IsRelation IsPeriodOperand)))
-      (Built contains_day_of (Sequence IsPeriodOperand (Preceded (keyword (codes "CONTAINS")) IsDate)))
+      (Built contains_day_of (Sequence IsPeriodOperand
+      (Preceded (keyword (codes "CONTAINS")) IsDate)))
 
   -- pcond = cond, in which a test may also be pred
   -- (here what a test may be beside parentheses: pred | operand cmp operand)
@@ -355,8 +374,9 @@ module _ (literals : Literals) where
   -- stored = SELECT '*' FROM name [ FOR SYSTEM_TIME window ] [ WHERE pcond ]
   abbrev pub IsStored : ℕ → Language Stored
   IsStored n =
-      Preceded (keyword (codes "SELECT")) (Preceded (symbol (codes "*")) (Preceded (keyword (codes "FROM"))
-      (Built stored_of (Sequence IsName (Sequence (Optional IsForWindow) (IsWhere IsStoredTest n))))))
+      Preceded (keyword (codes "SELECT")) (Preceded (symbol (codes "*"))
+      (Preceded (keyword (codes "FROM")) (Built stored_of (Sequence IsName
+      (Sequence (Optional IsForWindow) (IsWhere IsStoredTest n))))))
 
   -- ==== changes
 
@@ -370,7 +390,8 @@ module _ (literals : Literals) where
   -- portion = FOR PORTION OF name FROM date TO date
   abbrev pub IsPortion : Language Portion
   IsPortion =
-      Preceded (keyword (codes "FOR")) (Preceded (keyword (codes "PORTION")) (Preceded (keyword (codes "OF"))
+      Preceded (keyword (codes "FOR")) (Preceded (keyword (codes "PORTION"))
+      (Preceded (keyword (codes "OF"))
       (Built portion_of (Sequence IsName (Preceded (keyword (codes "FROM"))
       (Sequence IsDate (Preceded (keyword (codes "TO")) IsDate)))))))
 
@@ -383,7 +404,8 @@ module _ (literals : Literals) where
   IsUpdate n =
       Preceded (keyword (codes "UPDATE"))
       (Built update_of (Sequence IsName (Sequence (Optional IsPortion)
-      (Preceded (keyword (codes "SET")) (Sequence (Separated comma IsAssignment) (IsWhere IsCompare n))))))
+      (Preceded (keyword (codes "SET"))
+      (Sequence (Separated comma IsAssignment) (IsWhere IsCompare n))))))
 
   -- delete = DELETE FROM name [ portion ] [ WHERE cond ]
   abbrev pub IsDelete : ℕ → Language Delete
@@ -408,10 +430,11 @@ module _ (literals : Literals) where
       (Choice (Built sequenced (IsSequenced n))
       (Built stored (IsStored n)))))))
 
-  -- statement = at | create | insert | update | delete | sequenced | stored: the tokens spell this one
+  -- statement = at | create | insert | update | delete | sequenced | stored:
+  -- the tokens spell this one
   abbrev pub Spells : Language Statement
   Spells lexemes statement = (n : ℕ) × StatementBelow n lexemes statement
 
--- the tokens spell this statement, and each literal stands for the value that it names
+-- the tokens spell this statement, and each literal is the value that it names
 abbrev pub IsStatement : Language Statement
 IsStatement = Spells exact

@@ -4,28 +4,32 @@ use Rattle.std.specs.Prelude.{codes, Option, Some, None}
 use Rattle.std.specs.Str.{bytes_eq}
 use Rattle.sql_statements.specs.Lexemes.{Lexeme}
 use Rattle.sql_statements.specs.Words.{folded}
-use Rattle.sql_statements.specs.declared.token.Kind.{Kind}
-use Rattle.sql_statements.specs.declared.token.Kind.TheVariants.{Word, Number, Text, Symbol}
+use Rattle.sql_statements.specs.declared.token.TokenKind.{TokenKind}
+use Rattle.sql_statements.specs.declared.token.TokenKind.TheVariants.{Word, Number, Text, Symbol}
 
-abbrev pub is_word : Kind → Bool
+-- a word
+abbrev pub is_word : TokenKind → Bool
 is_word Word = true
 is_word Number = false
 is_word Text = false
 is_word Symbol = false
 
-abbrev pub is_number : Kind → Bool
+-- a number
+abbrev pub is_number : TokenKind → Bool
 is_number Word = false
 is_number Number = true
 is_number Text = false
 is_number Symbol = false
 
-abbrev pub is_text : Kind → Bool
+-- a text
+abbrev pub is_text : TokenKind → Bool
 is_text Word = false
 is_text Number = false
 is_text Text = true
 is_text Symbol = false
 
-abbrev pub is_symbol : Kind → Bool
+-- a symbol
+abbrev pub is_symbol : TokenKind → Bool
 is_symbol Word = false
 is_symbol Number = false
 is_symbol Text = false
@@ -39,9 +43,11 @@ keyword word lexeme = is_word lexeme.kind && bytes_eq (folded lexeme.text) (fold
 abbrev pub symbol : List ℕ → Lexeme → Bool
 symbol sign lexeme = is_symbol lexeme.kind && bytes_eq lexeme.text sign
 
+-- any number
 abbrev pub number : Lexeme → Bool
 number lexeme = is_number lexeme.kind
 
+-- any text
 abbrev pub text : Lexeme → Bool
 text lexeme = is_text lexeme.kind
 
@@ -58,7 +64,7 @@ abbrev pub OneToken : (Lexeme → Bool) → Language (List ℕ)
 OneToken test lexemes written =
     (one : Lexeme) × (test one ≡ true) × (lexemes ≡ one ∷ []) × (written ≡ one.text)
 
--- one token that meets a test, and stands for nothing
+-- one token that meets a test, and means nothing
 abbrev pub Fixed : (Lexeme → Bool) → Language (Unit {0})
 Fixed test lexemes nothing = (one : Lexeme) × (test one ≡ true) × (lexemes ≡ one ∷ [])
 
@@ -71,11 +77,11 @@ Sequence L M lexemes pair =
 abbrev pub Built : {A B : Type 0} → (A → B) → Language A → Language B
 Built {A} build L lexemes b = (a : A) × (b ≡ build a) × L lexemes a
 
--- what stands in this relation to a value
+-- what is in this relation to a value
 abbrev pub Related : {A B : Type 0} → (A → B → Type 0) → Language A → Language B
 Related {A} R L lexemes b = (a : A) × R a b × L lexemes a
 
--- a token that stands for this value
+-- a token that means this value
 abbrev pub StandsFor : {A : Type 0} → A → (Lexeme → Bool) → Language A
 StandsFor a test = Built (λ (nothing : Unit {0}). a) (Fixed test)
 
@@ -94,11 +100,11 @@ abbrev pub Optional : {A : Type 0} → Language A → Language (Option A)
 Optional L lexemes None = lexemes ≡ []
 Optional L lexemes (Some a) = L lexemes a
 
--- a token that stands for nothing, then the language
+-- a token that means nothing, then the language
 abbrev pub Preceded : {A : Type 0} → (Lexeme → Bool) → Language A → Language A
 Preceded {A} test L = Built (λ (pair : Unit {0} × A). pair.1) (Sequence (Fixed test) L)
 
--- a token that stands for nothing, or none, then the language
+-- a token that means nothing, or none, then the language
 abbrev pub PrecededOrNot : {A : Type 0} → (Lexeme → Bool) → Language A → Language A
 PrecededOrNot test L = Choice (Preceded test L) L
 

@@ -1,5 +1,5 @@
 pub mod Pieces
-pub mod Values
+pub mod LiteralValues
 pub mod Language
 pub mod Literals
 pub mod Builders

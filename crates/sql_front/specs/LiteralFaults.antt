@@ -1,10 +1,12 @@
--- What is wrong with the literals of a piece. A date is a text behind the word DATE, a moment is one
--- behind TIMESTAMP, and a number counts with the minus before it.
+-- What is wrong with the literals of a piece. A date is a text behind the word DATE, a moment is
+-- one behind TIMESTAMP, and a number counts with the minus before it.
 use Rattle.std.specs.Prelude.{◌≡◌, ◌<◌, ◌⊎◌, ◌+◌, ℕ, Bool, true, false, cond, List, [], ◌∷◌, ◌++◌}
 use Rattle.std.specs.Prelude.{codes}
 use Rattle.sql_statements.specs.Lexemes.{Lexeme}
 use Rattle.sql_front.specs.Language.{keyword, symbol, number, text, or_test}
-use Rattle.sql_front.specs.Values.{IsClockToken, IsDateToken, IsMomentToken, decimal, greatest}
+use Rattle.sql_front.specs.LiteralValues.{IsClockToken, IsDateToken, IsMomentToken}
+use Rattle.sql_front.specs.LiteralValues.{number_of_digits}
+use Rattle.period_core.specs.Encoding.{greatest_number}
 
 -- two tokens, the one right behind the other
 abbrev pub Neighbours : (Lexeme → Lexeme → Type 0) → List Lexeme → Type 0
@@ -20,7 +22,8 @@ HasBadDate = Neighbours (λ word token.
 -- some TIMESTAMP names no moment from the first to the open end
 abbrev pub HasNoMoment : List Lexeme → Type 0
 HasNoMoment = Neighbours (λ word token.
-    (keyword (codes "TIMESTAMP") word ≡ true) × (text token ≡ true) × (IsMomentToken token.text → ⊥))
+    (keyword (codes "TIMESTAMP") word ≡ true) × (text token ≡ true)
+    × (IsMomentToken token.text → ⊥))
 
 -- some TIMESTAMP behind AT or OF names no moment before the open end
 abbrev pub HasOpenEnd : List Lexeme → Type 0
@@ -29,7 +32,8 @@ HasOpenEnd lexemes =
     × (rest : List Lexeme)
     × (lexemes ≡ front ++ before ∷ word ∷ token ∷ rest)
     × (or_test (keyword (codes "AT")) (keyword (codes "OF")) before ≡ true)
-    × (keyword (codes "TIMESTAMP") word ≡ true) × (text token ≡ true) × (IsClockToken token.text → ⊥)
+    × (keyword (codes "TIMESTAMP") word ≡ true) × (text token ≡ true)
+    × (IsClockToken token.text → ⊥)
 
 -- some moment is bad
 abbrev pub HasBadMoment : List Lexeme → Type 0
@@ -43,11 +47,11 @@ ends_in_minus (t ∷ u ∷ more) = ends_in_minus (u ∷ more)
 
 -- how great digits may be behind these tokens, for a number of 64 bits signed
 abbrev pub limit_behind : List Lexeme → ℕ
-limit_behind front = cond (ends_in_minus front) (greatest + 1) greatest
+limit_behind front = cond (ends_in_minus front) (greatest_number + 1) greatest_number
 
 -- some number, with its sign, is outside 64 bits signed
 abbrev pub HasNumberOutside : List Lexeme → Type 0
 HasNumberOutside lexemes =
     (front : List Lexeme) × (token : Lexeme) × (rest : List Lexeme)
     × (lexemes ≡ front ++ token ∷ rest)
-    × (number token ≡ true) × (limit_behind front < decimal token.text)
+    × (number token ≡ true) × (limit_behind front < number_of_digits token.text)

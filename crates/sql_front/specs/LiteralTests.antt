@@ -3,7 +3,8 @@ use Rattle.std.specs.Prelude.{◌||◌, ◌&&◌, ◌+◌, ℕ, ℤ, Bool, false
 use Rattle.std.specs.Prelude.{◌∷◌, Option, codes}
 use Rattle.sql_statements.specs.Lexemes.{Lexeme}
 use Rattle.sql_front.specs.Language.{keyword, symbol, number, text, or_test}
-use Rattle.sql_front.specs.Values.{decimal, greatest}
+use Rattle.sql_front.specs.LiteralValues.{number_of_digits}
+use Rattle.period_core.specs.Encoding.{greatest_number}
 use Rattle.sql_front.specs.reading.LeafValues.{clock_of_token, day_of_token, moment_of_token}
 
 -- the test holds of some token and those behind it
@@ -31,16 +32,21 @@ is_no_moment = is_unread (codes "TIMESTAMP") moment_of_token
 -- AT or OF, then TIMESTAMP, then a text that names no moment before the open end
 abbrev pub is_open_end : Lexeme → List Lexeme → Bool
 is_open_end t [] = false
-is_open_end t (u ∷ rest) = or_test (keyword (codes "AT")) (keyword (codes "OF")) t && is_unread (codes "TIMESTAMP") clock_of_token u rest
+is_open_end t (u ∷ rest) =
+    or_test (keyword (codes "AT")) (keyword (codes "OF")) t
+    && is_unread (codes "TIMESTAMP") clock_of_token u rest
 
+-- either of the two
 abbrev pub is_bad_moment : Lexeme → List Lexeme → Bool
 is_bad_moment t rest = is_no_moment t rest || is_open_end t rest
 
 -- a number above the limit that a minus before it or none sets
 abbrev pub is_above : Bool → Lexeme → Bool
-is_above minus t = number t && nat_lt (cond minus (greatest + 1) greatest) (decimal t.text)
+is_above minus t =
+    number t
+    && nat_lt (cond minus (greatest_number + 1) greatest_number) (number_of_digits t.text)
 
--- some number is, where a minus or none stands before the tokens
+-- some number is, where a minus or none comes before the tokens
 abbrev pub number_above : Bool → List Lexeme → Bool
 number_above minus [] = false
 number_above minus (t ∷ rest) = is_above minus t || number_above (symbol (codes "-") t) rest

@@ -1,10 +1,10 @@
--- What the literals of a statement stand for.
+-- What the literals of a statement mean.
 use Rattle.std.specs.Prelude.{ℕ, ℤ}
 use Rattle.sql_front.specs.Language.{Language, OneToken, Related, number, text}
-use Rattle.sql_front.specs.Values.{NamesClockMoment, NamesDay, NamesMoment, NamesNegative}
-use Rattle.sql_front.specs.Values.{NamesNumber}
+use Rattle.sql_front.specs.LiteralValues.{NamesClockMoment, NamesDay, NamesMoment, NamesNegative}
+use Rattle.sql_front.specs.LiteralValues.{NamesNumber}
 
--- which token stands for which number, day or moment
+-- which token is which number, day or moment
 pub record Literals : Type 1 where
   -- a number without a sign, or with a plus
   pub plain_number : Language ℕ
@@ -17,7 +17,7 @@ pub record Literals : Type 1 where
   -- a text behind TIMESTAMP, where the open end is none
   pub clock_moment : Language ℤ
 
--- each token stands for the value that it names
+-- each token is the value that it names
 abbrev pub exact : Literals
 exact = record {
   plain_number = Related NamesNumber (OneToken number);
@@ -31,7 +31,7 @@ exact = record {
 abbrev pub Anything : {A B : Type 0} → A → B → Type 0
 Anything token value = Unit {0}
 
--- each token may stand for any value
+-- each token may be any value
 abbrev pub any_value : Literals
 any_value = record {
   plain_number = Related Anything (OneToken number);

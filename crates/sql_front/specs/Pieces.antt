@@ -1,4 +1,4 @@
--- Pieces: what stands between the semicolons of a script.
+-- Pieces: what is between the semicolons of a script.
 use Rattle.std.specs.Prelude.{◌≡◌, ℕ, ◌<◌, ◌≤◌, Bool, true, false, List, [], ◌∷◌, ◌++◌, codes}
 use Rattle.std.specs.Prelude.{filter}
 use Rattle.std.specs.List.{list_any, slice_range}

@@ -6,6 +6,7 @@ use Rattle.sql_front.specs.declared.tables.TableElement.TheVariants as variant
 use Rattle.sql_front.specs.Builders.{Element, column_element, period_element, system_element}
 use Rattle.sql_front.specs.Builders.{key_element, reference_element}
 
+-- an element of the program, as a plain one
 abbrev pub plain_element : tables.TableElement → Element
 plain_element (variant.Column c) = column_element c
 plain_element (variant.Period p) = period_element p

@@ -1,9 +1,9 @@
 -- What is left of a text token as its value is made.
 use Rattle.std.specs.Prelude.{ℕ, suc, length, List, [], ◌∷◌, Option, Some, None}
 use Rattle.std.specs.Borrow.{Bor}
-use Rattle.sql_front.specs.Values.{unquoted}
+use Rattle.sql_front.specs.LiteralValues.{unquoted}
 
--- what the rest of a text adds to its value: nothing, or a quote and what stands behind it
+-- what the rest of a text adds to its value: nothing, or a quote and what comes after it
 abbrev pub continued : Option (Bor (List ℕ)) → List ℕ
 continued None = []
 continued (Some more) = 39 ∷ unquoted more.now

@@ -60,7 +60,8 @@ fn read_rows<'a, 'b>(
     alloc: Global,
     tokens: &'b [Token<'a>],
 ) -> Result<(NonEmpty<NonEmpty<Value>>, &'b [Token<'a>]), Unread>
-    ensures value { Gives (λ x. (x.0, lexemes x.1.now)) result (separated_read comma tuple_read (lexemes tokens.now)) }
+    ensures value { Gives (λ x. (x.0, lexemes x.1.now)) result
+        (separated_read comma tuple_read (lexemes tokens.now)) }
     ensures rest { IfOk result (λ x. length x.1.now ≤ length tokens.now) }
 {
     let (rows, rest) = separated::<NonEmpty<Value>>(alloc, 0, tokens)?;
@@ -85,7 +86,8 @@ fn read_inserted<'a, 'b>(
     alloc: Global,
     tokens: &'b [Token<'a>],
 ) -> Result<(InsertRows, &'b [Token<'a>]), Unread>
-    ensures value { Gives (λ x. (x.0, lexemes x.1.now)) result (inserted_read (lexemes tokens.now)) }
+    ensures value { Gives (λ x. (x.0, lexemes x.1.now)) result
+        (inserted_read (lexemes tokens.now)) }
     ensures rest { IfOk result (λ x. length x.1.now ≤ length tokens.now) }
 {
     let (table, rest) = read_name(alloc, tokens)?;
@@ -136,7 +138,8 @@ fn read_named_portion<'a, 'b>(
     alloc: Global,
     tokens: &'b [Token<'a>],
 ) -> Result<(Portion, &'b [Token<'a>]), Unread>
-    ensures value { Gives (λ x. (x.0, lexemes x.1.now)) result (named_portion_read (lexemes tokens.now)) }
+    ensures value { Gives (λ x. (x.0, lexemes x.1.now)) result
+        (named_portion_read (lexemes tokens.now)) }
     ensures rest { IfOk result (λ x. length x.1.now ≤ length tokens.now) }
 {
     let (period, rest) = read_name(alloc, tokens)?;
@@ -151,7 +154,8 @@ fn read_in_portion<'a, 'b>(
     alloc: Global,
     tokens: &'b [Token<'a>],
 ) -> Result<(Portion, &'b [Token<'a>]), Unread>
-    ensures value { Gives (λ x. (x.0, lexemes x.1.now)) result (in_portion_read (lexemes tokens.now)) }
+    ensures value { Gives (λ x. (x.0, lexemes x.1.now)) result
+        (in_portion_read (lexemes tokens.now)) }
     ensures rest { IfOk result (λ x. length x.1.now ≤ length tokens.now) }
 {
     let rest = skip(tokens, Mark::Keyword("FOR"))?;
@@ -199,7 +203,8 @@ fn read_assignments<'a, 'b>(
     alloc: Global,
     tokens: &'b [Token<'a>],
 ) -> Result<(NonEmpty<Assignment>, &'b [Token<'a>]), Unread>
-    ensures value { Gives (λ x. (x.0, lexemes x.1.now)) result (separated_read comma assignment_read (lexemes tokens.now)) }
+    ensures value { Gives (λ x. (x.0, lexemes x.1.now)) result
+        (separated_read comma assignment_read (lexemes tokens.now)) }
     ensures rest { IfOk result (λ x. length x.1.now ≤ length tokens.now) }
 {
     let (assignments, rest) = separated::<Assignment>(alloc, 0, tokens)?;
@@ -220,7 +225,8 @@ fn read_set<'a, 'b>(
     ),
     Unread,
 >
-    ensures value { Gives (λ x. ((x.0.0, option_map plain_condition x.0.1), lexemes x.1.now)) result (set_read depth (lexemes tokens.now)) }
+    ensures value { Gives (λ x. ((x.0.0, option_map plain_condition x.0.1), lexemes x.1.now)) result
+        (set_read depth (lexemes tokens.now)) }
     ensures rest { IfOk result (λ x. length x.1.now ≤ length tokens.now) }
 {
     let (assignments, rest) = read_assignments(alloc, skip(tokens, Mark::Keyword("SET"))?)?;
@@ -235,7 +241,8 @@ pub fn read_update<'a, 'b>(
     depth: usize,
     tokens: &'b [Token<'a>],
 ) -> Result<(UpdateRows, &'b [Token<'a>]), Unread>
-    ensures value { Gives (λ x. (plain_update x.0, lexemes x.1.now)) result (update_read depth (lexemes tokens.now)) }
+    ensures value { Gives (λ x. (plain_update x.0, lexemes x.1.now)) result
+        (update_read depth (lexemes tokens.now)) }
     ensures rest { IfOk result (λ x. length x.1.now ≤ length tokens.now) }
 {
     let (table, rest) = read_name(alloc, skip(tokens, Mark::Keyword("UPDATE"))?)?;
@@ -260,7 +267,8 @@ fn read_deleted<'a, 'b>(
     depth: usize,
     tokens: &'b [Token<'a>],
 ) -> Result<(DeleteRows, &'b [Token<'a>]), Unread>
-    ensures value { Gives (λ x. (plain_delete x.0, lexemes x.1.now)) result (deleted_read depth (lexemes tokens.now)) }
+    ensures value { Gives (λ x. (plain_delete x.0, lexemes x.1.now)) result
+        (deleted_read depth (lexemes tokens.now)) }
     ensures rest { IfOk result (λ x. length x.1.now ≤ length tokens.now) }
 {
     let (table, rest) = read_name(alloc, tokens)?;
@@ -283,7 +291,8 @@ pub fn read_delete<'a, 'b>(
     depth: usize,
     tokens: &'b [Token<'a>],
 ) -> Result<(DeleteRows, &'b [Token<'a>]), Unread>
-    ensures value { Gives (λ x. (plain_delete x.0, lexemes x.1.now)) result (delete_read depth (lexemes tokens.now)) }
+    ensures value { Gives (λ x. (plain_delete x.0, lexemes x.1.now)) result
+        (delete_read depth (lexemes tokens.now)) }
     ensures rest { IfOk result (λ x. length x.1.now ≤ length tokens.now) }
 {
     let rest = skip(tokens, Mark::Keyword("DELETE"))?;

@@ -29,7 +29,8 @@ fn read_length<'a, 'b>(tokens: &'b [Token<'a>]) -> Result<(u64, &'b [Token<'a>])
 // TIMESTAMP with a precision or without.
 #[tactic(auto, unfolding(crate::specs::reading::ElementReaders::timestamp_read))]
 fn read_timestamp<'a, 'b>(tokens: &'b [Token<'a>]) -> Result<(TypeName, &'b [Token<'a>]), Unread>
-    ensures value { Gives (λ x. (x.0, lexemes x.1.now)) result (timestamp_read (lexemes tokens.now)) }
+    ensures value { Gives (λ x. (x.0, lexemes x.1.now)) result
+        (timestamp_read (lexemes tokens.now)) }
     ensures rest { IfOk result (λ x. length x.1.now ≤ length tokens.now) }
 {
     let rest = skip(tokens, Mark::Keyword("TIMESTAMP"))?;
@@ -80,7 +81,8 @@ fn read_row_end<'a, 'b>(tokens: &'b [Token<'a>]) -> Result<(Generated, &'b [Toke
 fn read_generated<'a, 'b>(
     tokens: &'b [Token<'a>],
 ) -> Result<(Option<Generated>, &'b [Token<'a>]), Unread>
-    ensures value { Gives (λ x. (x.0, lexemes x.1.now)) result (optional_read (keyword (codes "GENERATED")) generated_read (lexemes tokens.now)) }
+    ensures value { Gives (λ x. (x.0, lexemes x.1.now)) result
+        (optional_read (keyword (codes "GENERATED")) generated_read (lexemes tokens.now)) }
     ensures rest { IfOk result (λ x. length x.1.now ≤ length tokens.now) }
 {
     let Some(rest) = after(tokens, Mark::Keyword("GENERATED")) else {
@@ -95,7 +97,8 @@ fn read_generated<'a, 'b>(
 // NOT NULL or nothing.
 #[tactic(auto, unfolding(crate::specs::reading::ElementReaders::not_null_read))]
 fn read_not_null<'a, 'b>(tokens: &'b [Token<'a>]) -> Result<(Option<()>, &'b [Token<'a>]), Unread>
-    ensures value { Gives (λ x. (x.0, lexemes x.1.now)) result (optional_read (keyword (codes "NOT")) not_null_read (lexemes tokens.now)) }
+    ensures value { Gives (λ x. (x.0, lexemes x.1.now)) result
+        (optional_read (keyword (codes "NOT")) not_null_read (lexemes tokens.now)) }
     ensures rest { IfOk result (λ x. length x.1.now ≤ length tokens.now) }
 {
     let Some(rest) = after(tokens, Mark::Keyword("NOT")) else {
@@ -110,7 +113,8 @@ pub fn read_column_element<'a, 'b>(
     alloc: Global,
     tokens: &'b [Token<'a>],
 ) -> Result<(ColumnElement, &'b [Token<'a>]), Unread>
-    ensures value { Gives (λ x. (x.0, lexemes x.1.now)) result (column_element_read (lexemes tokens.now)) }
+    ensures value { Gives (λ x. (x.0, lexemes x.1.now)) result
+        (column_element_read (lexemes tokens.now)) }
     ensures rest { IfOk result (λ x. length x.1.now ≤ length tokens.now) }
 {
     let (name, rest) = read_name(alloc, tokens)?;

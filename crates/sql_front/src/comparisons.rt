@@ -57,7 +57,8 @@ fn read_operand<'a, 'b>(
 
 #[tactic(auto, unfolding(crate::specs::reading::ConditionReaders::comparison_read))]
 fn read_comparison<'a, 'b>(tokens: &'b [Token<'a>]) -> Result<(Comparison, &'b [Token<'a>]), Unread>
-    ensures value { Gives (λ x. (x.0, lexemes x.1.now)) result (comparison_read (lexemes tokens.now)) }
+    ensures value { Gives (λ x. (x.0, lexemes x.1.now)) result
+        (comparison_read (lexemes tokens.now)) }
     ensures rest { IfOk result (λ x. length x.1.now ≤ length tokens.now) }
 {
     if let Some(rest) = after(tokens, Mark::Symbol("=")) {

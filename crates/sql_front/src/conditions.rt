@@ -9,6 +9,7 @@ ghost use Rattle.sql_front.specs.reading.Gives.{Gives};
 ghost use Rattle.sql_front.specs.Builders.{all_of, any_of};
 ghost use Rattle.sql_statements.specs.Lexemes.{Lexeme, lexemes};
 ghost use Rattle.sql_statements.specs.Plain.{plain_condition};
+ghost use Rattle.sql_statements.specs.Trees.{test};
 
 use crate::mark::{Mark, after, skip, starts};
 use crate::unread::Unread;
@@ -16,7 +17,7 @@ use sql_statements::token::Token;
 use sql_statements::tree::Tree;
 use std::alloc::Global;
 
-/// A test that stands in a condition.
+/// A test in a condition.
 pub trait Test: Sized + Drop {
     ghost reader: { List Lexeme → Option (Self × List Lexeme) };
 
@@ -32,7 +33,8 @@ pub trait Test: Sized + Drop {
 /// The chain of OR of the first part and of the others after it.
 #[tactic(auto, using(crate::proofs::ConditionViews::or_view))]
 fn or_chain<T: Drop>(alloc: Global, first: Tree<T>, others: Vec<Tree<T>>) -> Result<Tree<T>, Unread>
-    ensures { Gives plain_condition result (Some (any_of (plain_condition first ∷ map plain_condition others.items))) }
+    ensures { Gives plain_condition result
+        (Some (any_of (plain_condition first ∷ map plain_condition others.items))) }
 {
     Ok(Tree::Or(Box::new(alloc, first)?, others))
 }
@@ -44,9 +46,18 @@ fn and_chain<T: Drop>(
     first: Tree<T>,
     others: Vec<Tree<T>>,
 ) -> Result<Tree<T>, Unread>
-    ensures { Gives plain_condition result (Some (all_of (plain_condition first ∷ map plain_condition others.items))) }
+    ensures { Gives plain_condition result
+        (Some (all_of (plain_condition first ∷ map plain_condition others.items))) }
 {
     Ok(Tree::And(Box::new(alloc, first)?, others))
+}
+
+/// The condition that is one test.
+#[tactic(auto, using(crate::proofs::ConditionViews::test_view))]
+fn one_test<T: Drop>(leaf: T) -> Tree<T>
+    ensures { plain_condition result ≡ test leaf }
+{
+    Tree::Test(leaf)
 }
 
 /// A condition, and the tokens after it. At most `depth` parentheses open in it.
@@ -57,7 +68,8 @@ pub fn read_condition<'a, 'b, T: Test>(
     depth: usize,
     tokens: &'b [Token<'a>],
 ) -> Result<(Tree<T>, &'b [Token<'a>]), Unread>
-    ensures value { Gives (λ x. (plain_condition x.0, lexemes x.1.now)) result (condition_read T.reader depth (lexemes tokens.now)) }
+    ensures value { Gives (λ x. (plain_condition x.0, lexemes x.1.now)) result
+        (condition_read T.reader depth (lexemes tokens.now)) }
     ensures rest { IfOk result (λ x. length x.1.now ≤ length tokens.now) }
 {
     let mut others = Vec::new(alloc);
@@ -77,7 +89,8 @@ fn read_conjunction<'a, 'b, T: Test>(
     depth: usize,
     tokens: &'b [Token<'a>],
 ) -> Result<(Tree<T>, &'b [Token<'a>]), Unread>
-    ensures value { Gives (λ x. (plain_condition x.0, lexemes x.1.now)) result (conjunction_read T.reader depth (lexemes tokens.now)) }
+    ensures value { Gives (λ x. (plain_condition x.0, lexemes x.1.now)) result
+        (conjunction_read T.reader depth (lexemes tokens.now)) }
     ensures rest { IfOk result (λ x. length x.1.now ≤ length tokens.now) }
 {
     let mut others = Vec::new(alloc);
@@ -97,7 +110,8 @@ fn read_factor<'a, 'b, T: Test>(
     depth: usize,
     tokens: &'b [Token<'a>],
 ) -> Result<(Tree<T>, &'b [Token<'a>]), Unread>
-    ensures value { Gives (λ x. (plain_condition x.0, lexemes x.1.now)) result (factor_read T.reader depth (lexemes tokens.now)) }
+    ensures value { Gives (λ x. (plain_condition x.0, lexemes x.1.now)) result
+        (factor_read T.reader depth (lexemes tokens.now)) }
     ensures rest { IfOk result (λ x. length x.1.now ≤ length tokens.now) }
 {
     let Some(negated) = after(tokens, Mark::Keyword("NOT")) else {
@@ -108,18 +122,19 @@ fn read_factor<'a, 'b, T: Test>(
 }
 
 #[cycle(conditions)]
-#[tactic(auto, unfolding(crate::specs::reading::ConditionReaders::test_read), using(crate::proofs::ConditionViews::test_view))]
+#[tactic(auto, unfolding(crate::specs::reading::ConditionReaders::test_read))]
 fn read_test<'a, 'b, T: Test>(
     alloc: Global,
     depth: usize,
     tokens: &'b [Token<'a>],
 ) -> Result<(Tree<T>, &'b [Token<'a>]), Unread>
-    ensures value { Gives (λ x. (plain_condition x.0, lexemes x.1.now)) result (test_read T.reader depth (lexemes tokens.now)) }
+    ensures value { Gives (λ x. (plain_condition x.0, lexemes x.1.now)) result
+        (test_read T.reader depth (lexemes tokens.now)) }
     ensures rest { IfOk result (λ x. length x.1.now ≤ length tokens.now) }
 {
     let Some(inside) = after(tokens, Mark::Symbol("(")) else {
         let (test, rest) = T::read(alloc, tokens)?;
-        return Ok((Tree::Test(test), rest));
+        return Ok((one_test(test), rest));
     };
     let (inner, rest) = read_nested::<T>(alloc, depth, inside)?;
     match skip(rest, Mark::Symbol(")")) {
@@ -132,15 +147,16 @@ fn read_test<'a, 'b, T: Test>(
     }
 }
 
-/// What stands in parentheses.
+/// A condition in parentheses.
 #[cycle(conditions)]
-#[tactic(auto, using(crate::proofs::ConditionViews::inner_none, crate::proofs::ConditionViews::inner_below))]
+#[tactic(auto, using(crate::proofs::ConditionViews::inner_views))]
 fn read_nested<'a, 'b, T: Test>(
     alloc: Global,
     depth: usize,
     tokens: &'b [Token<'a>],
 ) -> Result<(Tree<T>, &'b [Token<'a>]), Unread>
-    ensures value { Gives (λ x. (plain_condition x.0, lexemes x.1.now)) result (inner_read T.reader depth (lexemes tokens.now)) }
+    ensures value { Gives (λ x. (plain_condition x.0, lexemes x.1.now)) result
+        (inner_read T.reader depth (lexemes tokens.now)) }
     ensures rest { IfOk result (λ x. length x.1.now ≤ length tokens.now) }
 {
     if depth == 0 {
@@ -156,7 +172,8 @@ pub fn read_where<'a, 'b, T: Test>(
     depth: usize,
     tokens: &'b [Token<'a>],
 ) -> Result<(Option<Tree<T>>, &'b [Token<'a>]), Unread>
-    ensures value { Gives (λ x. (option_map plain_condition x.0, lexemes x.1.now)) result (where_read T.reader depth (lexemes tokens.now)) }
+    ensures value { Gives (λ x. (option_map plain_condition x.0, lexemes x.1.now)) result
+        (where_read T.reader depth (lexemes tokens.now)) }
     ensures rest { IfOk result (λ x. length x.1.now ≤ length tokens.now) }
 {
     let Some(rest) = after(tokens, Mark::Keyword("WHERE")) else {

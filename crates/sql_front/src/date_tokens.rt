@@ -3,8 +3,8 @@
 ghost use Rattle.std.specs.Prelude.{◌≡◌, ◌↔◌, IsSome};
 ghost use Rattle.sql_front.specs.reading.LeafValues as leaves;
 ghost use Rattle.sql_front.specs.reading.LeafValues.{clock_value, day_value, moment_value};
-ghost use Rattle.sql_front.specs.Values as values;
-ghost use Rattle.sql_front.specs.Values.{IsClockToken, IsDateToken, IsMomentToken};
+ghost use Rattle.sql_front.specs.LiteralValues as values;
+ghost use Rattle.sql_front.specs.LiteralValues.{IsClockToken, IsDateToken, IsMomentToken};
 
 use period_core::{Day, Moment};
 use sql_statements::clock_moment::ClockMoment;

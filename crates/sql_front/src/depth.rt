@@ -1,4 +1,4 @@
-//! How deep parentheses stand.
+//! How deep parentheses nest.
 
 ghost use Rattle.std.specs.Prelude.{◌≡◌, ◌↔◌, IsTrue, is_none};
 ghost use Rattle.sql_statements.specs.Lexemes.{lexemes};

@@ -1,6 +1,7 @@
 //! Names and literals, read from the front.
 
 ghost use Rattle.std.specs.Prelude.{◌≡◌, ◌≤◌, ℕ, List, length, IfOk};
+ghost use Rattle.period_core.specs.Encoding.{greatest_number};
 ghost use Rattle.period_core.specs.declared.value.Value as values;
 ghost use Rattle.sql_front.specs.reading.Gives.{Gives};
 ghost use Rattle.sql_front.specs.Builders as builders;
@@ -12,7 +13,7 @@ ghost use Rattle.sql_front.specs.reading.Leaves.{moment_read, name_read, names_r
 ghost use Rattle.sql_front.specs.reading.Leaves.{tuple_read, unsigned_read};
 
 use crate::date_tokens::{named_clock_moment, named_day, named_moment};
-use crate::decimal::{negative_value, number_value};
+use crate::digits::{negative_value, number_value};
 use crate::list::{Item, separated};
 use crate::mark::{Mark, name, number, skip, skip_optional, starts, starts_text, text};
 use crate::texts::text_of;
@@ -44,6 +45,7 @@ pub fn read_name<'a, 'b>(
 #[tactic(auto, unfolding(crate::specs::reading::Leaves::number_read))]
 pub fn read_number<'a, 'b>(tokens: &'b [Token<'a>]) -> Result<(u64, &'b [Token<'a>]), Unread>
     ensures value { Gives (λ x. (x.0, lexemes x.1.now)) result (number_read (lexemes tokens.now)) }
+    ensures fits { IfOk result (λ x. x.0 ≤ greatest_number) }
     ensures rest { IfOk result (λ x. length x.1.now ≤ length tokens.now) }
 {
     let (digits, rest) = number(tokens)?;
@@ -65,7 +67,8 @@ pub fn read_moment<'a, 'b>(tokens: &'b [Token<'a>]) -> Result<(Moment, &'b [Toke
 pub fn read_clock_moment<'a, 'b>(
     tokens: &'b [Token<'a>],
 ) -> Result<(ClockMoment, &'b [Token<'a>]), Unread>
-    ensures value { Gives (λ x. (x.0, lexemes x.1.now)) result (clock_moment_read (lexemes tokens.now)) }
+    ensures value { Gives (λ x. (x.0, lexemes x.1.now)) result
+        (clock_moment_read (lexemes tokens.now)) }
     ensures rest { IfOk result (λ x. length x.1.now ≤ length tokens.now) }
 {
     let (token, rest) = text(skip(tokens, Mark::Keyword("TIMESTAMP"))?)?;
@@ -83,13 +86,14 @@ pub fn read_date<'a, 'b>(tokens: &'b [Token<'a>]) -> Result<(Day, &'b [Token<'a>
 }
 
 /// A number without a minus as a value, and the tokens after it.
-#[tactic(auto, unfolding(crate::specs::reading::Leaves::unsigned_read, crate::specs::reading::Leaves::number_read))]
+#[tactic(auto, unfolding(crate::specs::reading::Leaves::unsigned_read))]
 fn read_unsigned<'a, 'b>(tokens: &'b [Token<'a>]) -> Result<(Value, &'b [Token<'a>]), Unread>
-    ensures value { Gives (λ x. (x.0, lexemes x.1.now)) result (unsigned_read (lexemes tokens.now)) }
+    ensures value { Gives (λ x. (x.0, lexemes x.1.now)) result
+        (unsigned_read (lexemes tokens.now)) }
     ensures rest { IfOk result (λ x. length x.1.now ≤ length tokens.now) }
 {
-    let (digits, rest) = number(skip_optional(tokens, Mark::Symbol("+")))?;
-    Ok((Value::Int(number_value(digits) as i64), rest))
+    let (value, rest) = read_number(skip_optional(tokens, Mark::Symbol("+")))?;
+    Ok((Value::Int(value as i64), rest))
 }
 
 /// A text as a value, and the tokens after it.
@@ -97,7 +101,8 @@ fn read_text<'a, 'b>(
     alloc: Global,
     tokens: &'b [Token<'a>],
 ) -> Result<(Value, &'b [Token<'a>]), Unread>
-    ensures value { Gives (λ x. (x.0, lexemes x.1.now)) result (built_read builders.text_of (one_read language.text) (lexemes tokens.now)) }
+    ensures value { Gives (λ x. (x.0, lexemes x.1.now)) result
+        (built_read builders.text_of (one_read language.text) (lexemes tokens.now)) }
     ensures rest { IfOk result (λ x. length x.1.now ≤ length tokens.now) }
 {
     let (token, rest) = text(tokens)?;

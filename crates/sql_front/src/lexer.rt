@@ -1,12 +1,13 @@
 //! The tokens of a script.
 
-ghost use Rattle.std.specs.Prelude.{◌≡◌, ℕ, ◌+◌, ◌<◌, ◌^◌, length, All, IfOk};
+ghost use Rattle.std.specs.Prelude.{◌≡◌, ℕ, ◌+◌, ◌<◌, length, All, IfOk};
 ghost use Rattle.sql_front.specs.declared.lexer.LexFault.TheVariants.{BadToken, Memory};
 ghost use Rattle.sql_statements.specs.Lexemes.{lexemes};
 ghost use Rattle.sql_statements.specs.Lexis.{TokensFrom, StopsFrom, TokensOf, StopsAt, IsTokenAt};
+ghost use Rattle.sql_statements.specs.Lexis.{text_limit};
 
 use sql_statements::lexeme::{Front, first_lexeme};
-use sql_statements::scan::mark_size;
+use sql_statements::scan::byte_order_mark_size;
 use sql_statements::token::Token;
 use std::alloc::{AllocError, AllocFailed, Global};
 use thiserror::Error;
@@ -38,9 +39,9 @@ impl<T: Drop> From<AllocFailed<T>> for LexFault {
     }
 }
 
-/// The tokens of a text that stands at this offset of a script.
+/// The tokens of a text that begins at this offset of a script.
 fn lex_from<'a>(alloc: Global, start: usize, text: &'a str) -> Result<Vec<Token<'a>>, LexFault>
-    requires { start + length text.now < 2 ^ 63 }
+    requires { start + length text.now < text_limit }
     ensures tokens { IfOk result (λ tokens. TokensFrom start text.now (lexemes tokens.items)) }
     ensures bad { (offset : ℕ) → result ≡ Err (BadToken offset) → StopsFrom start text.now offset }
 {
@@ -73,14 +74,14 @@ fn lex_from<'a>(alloc: Global, start: usize, text: &'a str) -> Result<Vec<Token<
 
 /// The tokens of a script, in order. Offsets count bytes of the whole script.
 ///
-/// Where at some place no case fits, the first such offset is the fault, or want of memory in its
+/// If at some place no case fits, the fault is the first such offset, or out of memory in its
 /// place.
 pub fn lex<'a>(alloc: Global, script: &'a str) -> Result<Vec<Token<'a>>, LexFault>
     ensures tokens { IfOk result (λ tokens. TokensOf script.now (lexemes tokens.items)) }
     ensures slices { IfOk result (λ tokens. All (IsTokenAt script.now) (lexemes tokens.items)) }
     ensures bad { (offset : ℕ) → result ≡ Err (BadToken offset) → StopsAt script.now offset }
 {
-    let start = mark_size(script.as_bytes());
+    let start = byte_order_mark_size(script.as_bytes());
     let (_, text) = script.split_at(start);
     lex_from(alloc, start, text)
 }

@@ -1,6 +1,13 @@
-//! The text of statements: its tokens and its grammar. A new form of statement has its production in
-//! `specs/Grammar`, its reader in `specs/reading/`, its file here, and its tree in `sql_statements`;
-//! a new literal its text in `specs/Literals` and its faults in `specs/LiteralFaults`.
+//! The text of statements: its tokens and its grammar.
+//!
+//! To add a form of statement, whose tree is in `sql_statements`: its production in
+//! `specs/Grammar`, with what it builds in `specs/Builders`; its reader in `specs/reading/` and in
+//! a file here; and its first keyword in `specs/reading/StatementReaders` and in `statements`.
+//!
+//! To add a literal: the values that its text names in `specs/LiteralValues`, its field in
+//! `specs/Literals` and `specs/StandIns`, its case in `IsLiteral` of `specs/Grammar`, its reader in
+//! `specs/reading/Leaves` and in `leaves`; and what may be wrong with it in `specs/LiteralFaults`
+//! and in `literal_faults`.
 #![tactic(auto)]
 
 mod changes;
@@ -8,8 +15,8 @@ mod column_elements;
 mod comparisons;
 mod conditions;
 mod date_tokens;
-mod decimal;
 mod depth;
+mod digits;
 pub mod grammar_laws;
 mod leaves;
 pub mod lexer;

@@ -11,7 +11,7 @@ use crate::unread::Unread;
 use sql_statements::token::Token;
 use std::alloc::Global;
 
-/// What stands in a list with commas.
+/// An item of a list with commas.
 pub trait Item<'a>: Sized + Drop {
     ghost Tree: { Type 0 };
 
@@ -25,7 +25,8 @@ pub trait Item<'a>: Sized + Drop {
         depth: usize,
         tokens: &'b [Token<'a>],
     ) -> Result<(Self, &'b [Token<'a>]), Unread>
-        ensures value { Gives (λ x. (view x.0, lexemes x.1.now)) result (reader depth (lexemes tokens.now)) }
+        ensures value { Gives (λ x. (view x.0, lexemes x.1.now)) result
+            (reader depth (lexemes tokens.now)) }
         ensures rest { IfOk result (λ x. length x.1.now ≤ length tokens.now) };
 }
 
@@ -35,7 +36,8 @@ pub fn separated<'a, 'b, T: Item<'a>>(
     depth: usize,
     tokens: &'b [Token<'a>],
 ) -> Result<(Vec<T>, &'b [Token<'a>]), Unread>
-    ensures value { Gives (λ x. (map T.view x.0.items, lexemes x.1.now)) result (separated_read (symbol (codes ",")) (T.reader depth) (lexemes tokens.now)) }
+    ensures value { Gives (λ x. (map T.view x.0.items, lexemes x.1.now)) result
+        (separated_read (symbol (codes ",")) (T.reader depth) (lexemes tokens.now)) }
     ensures rest { IfOk result (λ x. length x.1.now ≤ length tokens.now) }
     ensures filled { IfOk result (λ x. 0 < length x.0.items) }
 {

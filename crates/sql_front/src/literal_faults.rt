@@ -10,10 +10,10 @@ ghost use Rattle.sql_front.specs.LiteralTests as tests;
 ghost use Rattle.sql_front.specs.LiteralTests.{number_above, somewhere};
 
 use crate::date_tokens::{clock_moment_of_token, day_of_token, moment_of_token};
-use crate::decimal::{GREATEST, decimal_up_to};
+use crate::digits::number_up_to;
 use crate::mark::{Mark, is_mark};
-use period_core::Refusal;
-use sql_statements::token::{Kind, Token};
+use period_core::{GREATEST_NUMBER, Refusal};
+use sql_statements::token::{Token, TokenKind};
 
 fn is_bad_date(first: &Token<'_>, after: &[Token<'_>]) -> bool
     ensures { result ≡ tests.is_bad_date (lexeme first.now) (lexemes after.now) }
@@ -22,7 +22,7 @@ fn is_bad_date(first: &Token<'_>, after: &[Token<'_>]) -> bool
         [] => false,
         [token, ..] => {
             is_mark(first, Mark::Keyword("DATE"))
-                && token.kind == Kind::Text
+                && token.kind == TokenKind::Text
                 && day_of_token(token.text).is_none()
         }
     }
@@ -35,20 +35,21 @@ fn is_no_moment(first: &Token<'_>, after: &[Token<'_>]) -> bool
         [] => false,
         [token, ..] => {
             is_mark(first, Mark::Keyword("TIMESTAMP"))
-                && token.kind == Kind::Text
+                && token.kind == TokenKind::Text
                 && moment_of_token(token.text).is_none()
         }
     }
 }
 
 fn is_no_clock_moment(first: &Token<'_>, after: &[Token<'_>]) -> bool
-    ensures { result ≡ tests.is_unread (codes "TIMESTAMP") clock_of_token (lexeme first.now) (lexemes after.now) }
+    ensures { result ≡ tests.is_unread (codes "TIMESTAMP") clock_of_token
+        (lexeme first.now) (lexemes after.now) }
 {
     match after {
         [] => false,
         [token, ..] => {
             is_mark(first, Mark::Keyword("TIMESTAMP"))
-                && token.kind == Kind::Text
+                && token.kind == TokenKind::Text
                 && clock_moment_of_token(token.text).is_none()
         }
     }
@@ -69,8 +70,12 @@ fn is_open_end(first: &Token<'_>, after: &[Token<'_>]) -> bool
 fn is_above(minus: bool, token: &Token<'_>) -> bool
     ensures { result ≡ tests.is_above minus (lexeme token.now) }
 {
-    let limit = if minus { GREATEST + 1 } else { GREATEST };
-    token.kind == Kind::Number && decimal_up_to(token.text, limit).is_none()
+    let limit = if minus {
+        GREATEST_NUMBER + 1
+    } else {
+        GREATEST_NUMBER
+    };
+    token.kind == TokenKind::Number && number_up_to(token.text, limit).is_none()
 }
 
 fn date_fails(tokens: &[Token<'_>]) -> bool
@@ -138,12 +143,12 @@ pub fn has_number_outside(tokens: &[Token<'_>]) -> bool
     number_fails(tokens)
 }
 
-/// The refusal of the least number that the literals of a piece call for, if they call for one.
+/// The lowest-numbered refusal that the literals of a piece call for, if they call for one.
 pub fn literal_fault(tokens: &[Token<'_>]) -> Option<Refusal>
-    // What is answered is the least whose condition holds.
+    // What is returned is the lowest-numbered refusal whose condition holds.
     ensures least { IfSome result (IsLeast (LiteralApplies (lexemes tokens.now))) }
 
-    // Nothing is answered only where no condition holds.
+    // Nothing is returned only where no condition holds.
     ensures none { IfNone result (NoneApplies (LiteralApplies (lexemes tokens.now))) }
 {
     if has_bad_date(tokens) {

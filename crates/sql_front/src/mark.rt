@@ -11,11 +11,11 @@ ghost use Rattle.sql_front.specs.Marks.{mark};
 ghost use Rattle.sql_front.specs.reading.Gives.{Gives};
 
 use crate::unread::Unread;
-use sql_statements::token::{Kind, Token};
+use sql_statements::token::{Token, TokenKind};
 use sql_statements::word_text::is_plain_word;
 use sql_statements::words::is_same_word;
 
-/// A token that stands for nothing but itself.
+/// A keyword or a symbol: a token that means nothing but itself.
 #[derive(Clone, Copy)]
 pub enum Mark<'m> {
     Keyword(&'m str),
@@ -27,8 +27,8 @@ pub fn is_mark(token: &Token<'_>, want: Mark<'_>) -> bool
     ensures { result ≡ mark want.entry (lexeme token.now) }
 {
     match want {
-        Mark::Keyword(word) => token.kind == Kind::Word && is_same_word(token.text, word),
-        Mark::Symbol(symbol) => token.kind == Kind::Symbol && token.text == symbol,
+        Mark::Keyword(word) => token.kind == TokenKind::Word && is_same_word(token.text, word),
+        Mark::Symbol(symbol) => token.kind == TokenKind::Symbol && token.text == symbol,
     }
 }
 
@@ -54,7 +54,8 @@ pub fn third(tokens: &[Token<'_>], want: Mark<'_>) -> bool
 
 /// The tokens after this mark.
 pub fn skip<'a, 'b>(tokens: &'b [Token<'a>], want: Mark<'_>) -> Result<&'b [Token<'a>], Unread>
-    ensures value { Gives (λ rest. (tt, lexemes rest.now)) result (fixed_read (mark want.entry) (lexemes tokens.now)) }
+    ensures value { Gives (λ rest. (tt, lexemes rest.now)) result
+        (fixed_read (mark want.entry) (lexemes tokens.now)) }
     ensures rest { IfOk result (λ r. length r.now < length tokens.now) }
 {
     match tokens {
@@ -66,7 +67,8 @@ pub fn skip<'a, 'b>(tokens: &'b [Token<'a>], want: Mark<'_>) -> Result<&'b [Toke
 /// The tokens after this mark, where they begin with it.
 pub fn after<'a, 'b>(tokens: &'b [Token<'a>], want: Mark<'_>) -> Option<&'b [Token<'a>]>
     ensures there { is_some result ≡ begins (mark want.entry) (lexemes tokens.now) }
-    ensures value { IfSome result (λ r. fixed_read (mark want.entry) (lexemes tokens.now) ≡ Some (tt, lexemes r.now)) }
+    ensures value { IfSome result
+        (λ r. fixed_read (mark want.entry) (lexemes tokens.now) ≡ Some (tt, lexemes r.now)) }
     ensures rest { IfSome result (λ r. length r.now < length tokens.now) }
 {
     match tokens {
@@ -89,12 +91,13 @@ pub fn skip_optional<'a, 'b>(tokens: &'b [Token<'a>], want: Mark<'_>) -> &'b [To
 fn is_name(token: &Token<'_>) -> bool
     ensures { result ≡ name (lexeme token.now) }
 {
-    token.kind == Kind::Word && is_plain_word(token.text)
+    token.kind == TokenKind::Word && is_plain_word(token.text)
 }
 
 /// A name, as it is written, and the tokens after it.
 pub fn name<'a, 'b>(tokens: &'b [Token<'a>]) -> Result<(&'a str, &'b [Token<'a>]), Unread>
-    ensures value { Gives (λ x. (x.0.now, lexemes x.1.now)) result (one_read name (lexemes tokens.now)) }
+    ensures value { Gives (λ x. (x.0.now, lexemes x.1.now)) result
+        (one_read name (lexemes tokens.now)) }
     ensures rest { IfOk result (λ x. length x.1.now < length tokens.now) }
     ensures plain { IfOk result (λ x. is_plain_word x.0.now ≡ true) }
 {
@@ -106,22 +109,24 @@ pub fn name<'a, 'b>(tokens: &'b [Token<'a>]) -> Result<(&'a str, &'b [Token<'a>]
 
 /// A number's digits, and the tokens after it.
 pub fn number<'a, 'b>(tokens: &'b [Token<'a>]) -> Result<(&'a str, &'b [Token<'a>]), Unread>
-    ensures value { Gives (λ x. (x.0.now, lexemes x.1.now)) result (one_read number (lexemes tokens.now)) }
+    ensures value { Gives (λ x. (x.0.now, lexemes x.1.now)) result
+        (one_read number (lexemes tokens.now)) }
     ensures rest { IfOk result (λ x. length x.1.now < length tokens.now) }
 {
     match tokens {
-        [first, rest @ ..] if first.kind == Kind::Number => Ok((first.text, rest)),
+        [first, rest @ ..] if first.kind == TokenKind::Number => Ok((first.text, rest)),
         _ => Err(Unread::Syntax),
     }
 }
 
 /// A text with its quotes, and the tokens after it.
 pub fn text<'a, 'b>(tokens: &'b [Token<'a>]) -> Result<(&'a str, &'b [Token<'a>]), Unread>
-    ensures value { Gives (λ x. (x.0.now, lexemes x.1.now)) result (one_read text (lexemes tokens.now)) }
+    ensures value { Gives (λ x. (x.0.now, lexemes x.1.now)) result
+        (one_read text (lexemes tokens.now)) }
     ensures rest { IfOk result (λ x. length x.1.now < length tokens.now) }
 {
     match tokens {
-        [first, rest @ ..] if first.kind == Kind::Text => Ok((first.text, rest)),
+        [first, rest @ ..] if first.kind == TokenKind::Text => Ok((first.text, rest)),
         _ => Err(Unread::Syntax),
     }
 }
@@ -132,7 +137,7 @@ pub fn starts_text(tokens: &[Token<'_>]) -> bool
 {
     match tokens {
         [] => false,
-        [first, ..] => first.kind == Kind::Text,
+        [first, ..] => first.kind == TokenKind::Text,
     }
 }
 

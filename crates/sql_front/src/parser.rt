@@ -16,17 +16,17 @@ use sql_statements::statement::Statement;
 use sql_statements::token::Token;
 use std::alloc::Global;
 
-/// The statement that the tokens of a piece of the script spell, all of them; else the refusal of
-/// the least number, 10 to 14, whose condition holds, or want of memory. Each token has its slice of
-/// the script, and nothing else of it is read.
+/// The statement that the tokens of a piece of the script spell, all of them. Else the result is
+/// the lowest-numbered refusal that applies, of 10 to 14, or out of memory. Each token has its own
+/// slice of the script, and nothing else of it is read.
 pub fn parse(alloc: Global, _script: &str, tokens: &[Token<'_>]) -> Result<Statement, Refusal>
-    // What is answered is what the tokens spell.
+    // A statement is returned only if the tokens spell it.
     ensures found { IfOk result (λ s. IsStatement (lexemes tokens.now) (plain s)) }
 
-    // No refusal applies to what is answered.
+    // A statement is returned only if no refusal applies.
     ensures sound { OnOk result (NoneApplies (PieceApplies (lexemes tokens.now))) }
 
-    // A refusal is the least that applies, or want of memory.
+    // A refusal is the lowest-numbered one that applies, or out of memory.
     ensures refused { IfErr result (MayAnswer (PieceApplies (lexemes tokens.now))) }
 {
     if is_too_deep(tokens) {

@@ -22,8 +22,8 @@ fn is_semicolon(token: &Token<'_>) -> bool
     token.text == ";"
 }
 
-/// The pieces of these tokens, in order: what stands between semicolons, where that is not empty.
-/// The last piece needs no semicolon. The only fault is want of memory.
+/// The pieces of these tokens, in order: what is between semicolons, where that is not empty.
+/// The last piece needs no semicolon. The only fault is out of memory.
 pub fn cut(alloc: Global, tokens: &[Token<'_>]) -> Result<Vec<Span>, Memory>
     ensures pieces { IfOk result
         (λ spans. HasPieces (lexemes tokens.now) (map (spanned (lexemes tokens.now)) spans.items)) }

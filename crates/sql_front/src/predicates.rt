@@ -43,7 +43,8 @@ fn read_period_operand<'a, 'b>(
     alloc: Global,
     tokens: &'b [Token<'a>],
 ) -> Result<(PeriodOperand, &'b [Token<'a>]), Unread>
-    ensures value { Gives (λ x. (x.0, lexemes x.1.now)) result (period_operand_read (lexemes tokens.now)) }
+    ensures value { Gives (λ x. (x.0, lexemes x.1.now)) result
+        (period_operand_read (lexemes tokens.now)) }
     ensures rest { IfOk result (λ x. length x.1.now ≤ length tokens.now) }
 {
     let Some(dates) = after(tokens, Mark::Keyword("PERIOD")) else {
@@ -60,7 +61,8 @@ fn read_period_operand<'a, 'b>(
 fn read_relation<'a, 'b>(
     tokens: &'b [Token<'a>],
 ) -> Result<(PeriodPredicate, &'b [Token<'a>]), Unread>
-    ensures value { Gives (λ x. (x.0, lexemes x.1.now)) result (relation_read (lexemes tokens.now)) }
+    ensures value { Gives (λ x. (x.0, lexemes x.1.now)) result
+        (relation_read (lexemes tokens.now)) }
     ensures rest { IfOk result (λ x. length x.1.now ≤ length tokens.now) }
 {
     if let Some(rest) = after(tokens, Mark::Keyword("OVERLAPS")) {
@@ -100,12 +102,13 @@ fn starts_contains_date(tokens: &[Token<'_>]) -> bool
 }
 
 /// A period predicate, and the tokens after it.
-#[tactic(auto, unfolding(crate::specs::reading::PredicateReaders::predicate_read, crate::specs::reading::PredicateReaders::said_read))]
+#[tactic(auto, unfolding(crate::specs::reading::PredicateReaders::predicate_read))]
 fn read_predicate<'a, 'b>(
     alloc: Global,
     tokens: &'b [Token<'a>],
 ) -> Result<(StoredTest, &'b [Token<'a>]), Unread>
-    ensures value { Gives (λ x. (x.0, lexemes x.1.now)) result (predicate_read (lexemes tokens.now)) }
+    ensures value { Gives (λ x. (x.0, lexemes x.1.now)) result
+        (predicate_read (lexemes tokens.now)) }
     ensures rest { IfOk result (λ x. length x.1.now ≤ length tokens.now) }
 {
     let (left, rest) = read_period_operand(alloc, tokens)?;
@@ -133,7 +136,7 @@ fn starts_relation(tokens: &[Token<'_>]) -> bool
                         || starts(tokens, Mark::Keyword("SUCCEEDS"))))))
 }
 
-/// Does such a word stand behind the column that the tokens begin with?
+/// Does such a word come after the column that the tokens begin with?
 #[tactic(auto, unfolding(crate::specs::reading::PredicateReaders::relation_behind_column))]
 fn has_relation_behind_column(tokens: &[Token<'_>]) -> bool
     ensures { result ≡ relation_behind_column (lexemes tokens.now) }
@@ -161,7 +164,8 @@ pub fn read_stored_test<'a, 'b>(
     alloc: Global,
     tokens: &'b [Token<'a>],
 ) -> Result<(StoredTest, &'b [Token<'a>]), Unread>
-    ensures value { Gives (λ x. (x.0, lexemes x.1.now)) result (stored_test_read (lexemes tokens.now)) }
+    ensures value { Gives (λ x. (x.0, lexemes x.1.now)) result
+        (stored_test_read (lexemes tokens.now)) }
     ensures rest { IfOk result (λ x. length x.1.now ≤ length tokens.now) }
 {
     if is_predicate_ahead(tokens) {

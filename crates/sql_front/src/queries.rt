@@ -3,7 +3,7 @@
 ghost use Rattle.std.specs.Prelude.{◌≡◌, ◌≤◌, ◌<◌, List, [], ℕ, Some, length, map, IfOk};
 ghost use Rattle.sql_front.specs.reading.Gives.{Gives};
 ghost use Rattle.sql_statements.specs.Lexemes.{lexemes};
-ghost use Rattle.sql_statements.specs.Plain.{plain_query, plain_step, steps_of};
+ghost use Rattle.sql_statements.specs.Plain.{plain_query, plain_select, plain_step, steps_of};
 ghost use Rattle.sql_front.specs.reading.Reading.{begins};
 ghost use Rattle.sql_statements.specs.Trees as trees;
 ghost use Rattle.sql_front.specs.reading.QueryReaders.{begins_step, inner_query_read};
@@ -29,13 +29,22 @@ fn starts_step(tokens: &[Token<'_>]) -> bool
 /// A set operator, and the tokens after it.
 #[tactic(auto, unfolding(crate::specs::reading::QueryReaders::operator_read))]
 fn read_operator<'a, 'b>(tokens: &'b [Token<'a>]) -> Result<(SetOperator, &'b [Token<'a>]), Unread>
-    ensures value { Gives (λ x. (x.0, lexemes x.1.now)) result (operator_read (lexemes tokens.now)) }
+    ensures value { Gives (λ x. (x.0, lexemes x.1.now)) result
+        (operator_read (lexemes tokens.now)) }
     ensures rest { IfOk result (λ x. length x.1.now < length tokens.now) }
 {
     if let Some(rest) = after(tokens, Mark::Keyword("UNION")) {
         return Ok((SetOperator::Union, rest));
     }
     Ok((SetOperator::Except, skip(tokens, Mark::Keyword("EXCEPT"))?))
+}
+
+/// The query that is one select.
+#[tactic(auto, using(sql_statements::proofs::QueryViews::simple_view))]
+fn one_select(select: SelectDistinct) -> QueryTree<SelectDistinct>
+    ensures { plain_query result ≡ trees.simple (plain_select select) }
+{
+    QueryTree::Select(select)
 }
 
 /// The query of the first and of the set operators after it.
@@ -45,7 +54,8 @@ fn combined(
     first: QueryTree<SelectDistinct>,
     steps: Vec<(SetOperator, QueryTree<SelectDistinct>)>,
 ) -> Result<QueryTree<SelectDistinct>, Unread>
-    ensures { Gives plain_query result (Some (trees.combined (plain_query first) (steps_of (map plain_step steps.items)))) }
+    ensures { Gives plain_query result
+        (Some (trees.combined (plain_query first) (steps_of (map plain_step steps.items)))) }
 {
     Ok(QueryTree::Combined(Box::new(alloc, first)?, steps))
 }
@@ -58,7 +68,8 @@ pub fn read_query<'a, 'b>(
     depth: usize,
     tokens: &'b [Token<'a>],
 ) -> Result<(QueryTree<SelectDistinct>, &'b [Token<'a>]), Unread>
-    ensures value { Gives (λ x. (plain_query x.0, lexemes x.1.now)) result (query_read depth (lexemes tokens.now)) }
+    ensures value { Gives (λ x. (plain_query x.0, lexemes x.1.now)) result
+        (query_read depth (lexemes tokens.now)) }
     ensures rest { IfOk result (λ x. length x.1.now ≤ length tokens.now) }
 {
     let (first, rest) = read_primary(alloc, depth, tokens)?;
@@ -99,7 +110,8 @@ fn read_steps<'a, 'b>(
     ),
     Unread,
 >
-    ensures value { Gives (λ x. (map plain_step x.0.items, lexemes x.1.now)) result (steps_read depth (lexemes tokens.now)) }
+    ensures value { Gives (λ x. (map plain_step x.0.items, lexemes x.1.now)) result
+        (steps_read depth (lexemes tokens.now)) }
     ensures rest { IfOk result (λ x. length x.1.now ≤ length tokens.now) }
 {
     let (mut items, mut rest) = no_steps(alloc, tokens);
@@ -119,7 +131,8 @@ fn read_step<'a, 'b>(
     depth: usize,
     tokens: &'b [Token<'a>],
 ) -> Result<((SetOperator, QueryTree<SelectDistinct>), &'b [Token<'a>]), Unread>
-    ensures value { Gives (λ x. (plain_step x.0, lexemes x.1.now)) result (step_read depth (lexemes tokens.now)) }
+    ensures value { Gives (λ x. (plain_step x.0, lexemes x.1.now)) result
+        (step_read depth (lexemes tokens.now)) }
     ensures rest { IfOk result (λ x. length x.1.now < length tokens.now) }
 {
     let (operator, rest) = read_operator(tokens)?;
@@ -130,18 +143,19 @@ fn read_step<'a, 'b>(
 
 /// A select, or a query in parentheses, and the tokens after it.
 #[cycle(queries)]
-#[tactic(auto, unfolding(crate::specs::reading::QueryReaders::primary_read), using(sql_statements::proofs::QueryViews::simple_view))]
+#[tactic(auto, unfolding(crate::specs::reading::QueryReaders::primary_read))]
 fn read_primary<'a, 'b>(
     alloc: Global,
     depth: usize,
     tokens: &'b [Token<'a>],
 ) -> Result<(QueryTree<SelectDistinct>, &'b [Token<'a>]), Unread>
-    ensures value { Gives (λ x. (plain_query x.0, lexemes x.1.now)) result (primary_read depth (lexemes tokens.now)) }
+    ensures value { Gives (λ x. (plain_query x.0, lexemes x.1.now)) result
+        (primary_read depth (lexemes tokens.now)) }
     ensures rest { IfOk result (λ x. length x.1.now ≤ length tokens.now) }
 {
     let Some(inside) = after(tokens, Mark::Symbol("(")) else {
         let (select, rest) = read_select(alloc, depth, tokens)?;
-        return Ok((QueryTree::Select(select), rest));
+        return Ok((one_select(select), rest));
     };
     let (inner, rest) = read_inner_query(alloc, depth, inside)?;
     match skip(rest, Mark::Symbol(")")) {
@@ -156,13 +170,14 @@ fn read_primary<'a, 'b>(
 
 /// A query in parentheses, where `depth` may open, and the tokens after it.
 #[cycle(queries)]
-#[tactic(auto, using(crate::proofs::QueryViews::inner_none, crate::proofs::QueryViews::inner_below))]
+#[tactic(auto, using(crate::proofs::QueryViews::inner_views))]
 fn read_inner_query<'a, 'b>(
     alloc: Global,
     depth: usize,
     tokens: &'b [Token<'a>],
 ) -> Result<(QueryTree<SelectDistinct>, &'b [Token<'a>]), Unread>
-    ensures value { Gives (λ x. (plain_query x.0, lexemes x.1.now)) result (inner_query_read depth (lexemes tokens.now)) }
+    ensures value { Gives (λ x. (plain_query x.0, lexemes x.1.now)) result
+        (inner_query_read depth (lexemes tokens.now)) }
     ensures rest { IfOk result (λ x. length x.1.now ≤ length tokens.now) }
 {
     if depth == 0 {
@@ -178,7 +193,8 @@ pub fn read_sequenced<'a, 'b>(
     depth: usize,
     tokens: &'b [Token<'a>],
 ) -> Result<(QueryTree<SelectDistinct>, &'b [Token<'a>]), Unread>
-    ensures value { Gives (λ x. (plain_query x.0, lexemes x.1.now)) result (sequenced_read depth (lexemes tokens.now)) }
+    ensures value { Gives (λ x. (plain_query x.0, lexemes x.1.now)) result
+        (sequenced_read depth (lexemes tokens.now)) }
     ensures rest { IfOk result (λ x. length x.1.now ≤ length tokens.now) }
 {
     read_query(alloc, depth, skip(tokens, Mark::Keyword("VALIDTIME"))?)

@@ -3,7 +3,8 @@
 ghost use Rattle.std.specs.Prelude.{◌≡◌, ◌≤◌, ◌<◌, List, length, map, IfOk};
 ghost use Rattle.sql_front.specs.reading.Gives.{Gives};
 ghost use Rattle.sql_statements.specs.Lexemes.{lexemes};
-ghost use Rattle.sql_statements.specs.Plain.{plain_chain, plain_condition, plain_join, plain_select};
+ghost use Rattle.sql_statements.specs.Plain.{plain_chain, plain_condition, plain_join};
+ghost use Rattle.sql_statements.specs.Plain.{plain_select};
 ghost use Rattle.sql_front.specs.reading.Reading.{begins};
 ghost use Rattle.sql_statements.specs.Trees as trees;
 ghost use Rattle.sql_front.specs.reading.QueryReaders.{begins_join, chain_read, from_read};
@@ -41,7 +42,8 @@ fn read_joined<'a, 'b>(
     depth: usize,
     tokens: &'b [Token<'a>],
 ) -> Result<((TableReference, Tree<Compare>), &'b [Token<'a>]), Unread>
-    ensures value { Gives (λ x. ((x.0.0, plain_condition x.0.1), lexemes x.1.now)) result (joined_read depth (lexemes tokens.now)) }
+    ensures value { Gives (λ x. ((x.0.0, plain_condition x.0.1), lexemes x.1.now)) result
+        (joined_read depth (lexemes tokens.now)) }
     ensures rest { IfOk result (λ x. length x.1.now < length tokens.now) }
 {
     let (reference, rest) = read_reference(alloc, skip(tokens, Mark::Keyword("JOIN"))?)?;
@@ -57,7 +59,8 @@ fn read_join<'a, 'b>(
     depth: usize,
     tokens: &'b [Token<'a>],
 ) -> Result<(Join, &'b [Token<'a>]), Unread>
-    ensures value { Gives (λ x. (plain_join x.0, lexemes x.1.now)) result (join_read depth (lexemes tokens.now)) }
+    ensures value { Gives (λ x. (plain_join x.0, lexemes x.1.now)) result
+        (join_read depth (lexemes tokens.now)) }
     ensures rest { IfOk result (λ x. length x.1.now < length tokens.now) }
 {
     let joined = skip_optional(tokens, Mark::Keyword("INNER"));
@@ -78,7 +81,8 @@ fn read_chain<'a, 'b>(
     depth: usize,
     tokens: &'b [Token<'a>],
 ) -> Result<(JoinChain, &'b [Token<'a>]), Unread>
-    ensures value { Gives (λ x. (plain_chain x.0, lexemes x.1.now)) result (chain_read depth (lexemes tokens.now)) }
+    ensures value { Gives (λ x. (plain_chain x.0, lexemes x.1.now)) result
+        (chain_read depth (lexemes tokens.now)) }
     ensures rest { IfOk result (λ x. length x.1.now ≤ length tokens.now) }
 {
     let mut items = Vec::new(alloc);
@@ -118,7 +122,8 @@ fn read_items<'a, 'b>(
     alloc: Global,
     tokens: &'b [Token<'a>],
 ) -> Result<(NonEmpty<SelectItem>, &'b [Token<'a>]), Unread>
-    ensures value { Gives (λ x. (x.0, lexemes x.1.now)) result (separated_read comma item_read (lexemes tokens.now)) }
+    ensures value { Gives (λ x. (x.0, lexemes x.1.now)) result
+        (separated_read comma item_read (lexemes tokens.now)) }
     ensures rest { IfOk result (λ x. length x.1.now ≤ length tokens.now) }
 {
     let (items, rest) = separated::<SelectItem>(alloc, 0, tokens)?;
@@ -131,7 +136,8 @@ fn read_chains<'a, 'b>(
     depth: usize,
     tokens: &'b [Token<'a>],
 ) -> Result<(NonEmpty<JoinChain>, &'b [Token<'a>]), Unread>
-    ensures value { Gives (λ x. (map plain_chain x.0, lexemes x.1.now)) result (separated_read comma (chain_read depth) (lexemes tokens.now)) }
+    ensures value { Gives (λ x. (map plain_chain x.0, lexemes x.1.now)) result
+        (separated_read comma (chain_read depth) (lexemes tokens.now)) }
     ensures rest { IfOk result (λ x. length x.1.now ≤ length tokens.now) }
 {
     let (chains, rest) = separated::<JoinChain>(alloc, depth, tokens)?;
@@ -152,7 +158,9 @@ fn read_from<'a, 'b>(
     ),
     Unread,
 >
-    ensures value { Gives (λ x. ((map plain_chain x.0.0, option_map plain_condition x.0.1), lexemes x.1.now)) result (from_read depth (lexemes tokens.now)) }
+    ensures value { Gives
+        (λ x. ((map plain_chain x.0.0, option_map plain_condition x.0.1), lexemes x.1.now)) result
+        (from_read depth (lexemes tokens.now)) }
     ensures rest { IfOk result (λ x. length x.1.now ≤ length tokens.now) }
 {
     let (chains, rest) = read_chains(alloc, depth, skip(tokens, Mark::Keyword("FROM"))?)?;
@@ -168,7 +176,8 @@ fn read_selected<'a, 'b>(
     depth: usize,
     tokens: &'b [Token<'a>],
 ) -> Result<(SelectDistinct, &'b [Token<'a>]), Unread>
-    ensures value { Gives (λ x. (plain_select x.0, lexemes x.1.now)) result (selected_read depth (lexemes tokens.now)) }
+    ensures value { Gives (λ x. (plain_select x.0, lexemes x.1.now)) result
+        (selected_read depth (lexemes tokens.now)) }
     ensures rest { IfOk result (λ x. length x.1.now ≤ length tokens.now) }
 {
     let (items, rest) = read_items(alloc, tokens)?;
@@ -191,7 +200,8 @@ pub fn read_select<'a, 'b>(
     depth: usize,
     tokens: &'b [Token<'a>],
 ) -> Result<(SelectDistinct, &'b [Token<'a>]), Unread>
-    ensures value { Gives (λ x. (plain_select x.0, lexemes x.1.now)) result (select_read depth (lexemes tokens.now)) }
+    ensures value { Gives (λ x. (plain_select x.0, lexemes x.1.now)) result
+        (select_read depth (lexemes tokens.now)) }
     ensures rest { IfOk result (λ x. length x.1.now ≤ length tokens.now) }
 {
     let rest = skip(tokens, Mark::Keyword("SELECT"))?;

@@ -30,7 +30,8 @@ fn read_query_statement<'a, 'b>(
     alloc: Global,
     tokens: &'b [Token<'a>],
 ) -> Result<(StatementForm, &'b [Token<'a>]), Unread>
-    ensures { Gives (λ x. (plain_form x.0, lexemes x.1.now)) result (query_statement_read most_open (lexemes tokens.now)) }
+    ensures { Gives (λ x. (plain_form x.0, lexemes x.1.now)) result
+        (query_statement_read most_open (lexemes tokens.now)) }
 {
     if starts(tokens, Mark::Keyword("VALIDTIME")) {
         let (query, rest) = read_sequenced(alloc, MOST_OPEN, tokens)?;
@@ -46,7 +47,8 @@ fn read_later_statement<'a, 'b>(
     alloc: Global,
     tokens: &'b [Token<'a>],
 ) -> Result<(StatementForm, &'b [Token<'a>]), Unread>
-    ensures { Gives (λ x. (plain_form x.0, lexemes x.1.now)) result (later_statement_read most_open (lexemes tokens.now)) }
+    ensures { Gives (λ x. (plain_form x.0, lexemes x.1.now)) result
+        (later_statement_read most_open (lexemes tokens.now)) }
 {
     if starts(tokens, Mark::Keyword("INSERT")) {
         let (rows, rest) = read_insert(alloc, tokens)?;
@@ -68,7 +70,8 @@ fn read_statement<'a, 'b>(
     alloc: Global,
     tokens: &'b [Token<'a>],
 ) -> Result<(StatementForm, &'b [Token<'a>]), Unread>
-    ensures { Gives (λ x. (plain_form x.0, lexemes x.1.now)) result (statement_read most_open (lexemes tokens.now)) }
+    ensures { Gives (λ x. (plain_form x.0, lexemes x.1.now)) result
+        (statement_read most_open (lexemes tokens.now)) }
 {
     if starts(tokens, Mark::Keyword("AT")) {
         return match read_at(tokens) {
@@ -97,11 +100,12 @@ fn read_all(alloc: Global, tokens: &[Token<'_>]) -> Result<Statement, Unread>
 
 /// The statement that the tokens spell, all of them, with at most 32 parentheses open.
 pub fn spelled(alloc: Global, tokens: &[Token<'_>]) -> Result<Statement, Unread>
-    // What is read is spelled so, with a stand-in for a literal that names no value.
+    // The tokens spell what is read, with a stand-in for a literal that names no value.
     ensures found { IfOk result (λ s. Spells stand_in (lexemes tokens.now) (plain s)) }
 
-    // No statement is spelled so, whatever its literals stand for.
-    ensures none { result ≡ Err Syntax → (IsTooDeep (lexemes tokens.now) → ⊥) → SpellsNone (lexemes tokens.now) }
+    // No statement is spelled so, whatever its literals mean.
+    ensures none { result ≡ Err Syntax
+        → (IsTooDeep (lexemes tokens.now) → ⊥) → SpellsNone (lexemes tokens.now) }
 {
     read_all(alloc, tokens)
 }

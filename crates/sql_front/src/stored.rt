@@ -23,7 +23,8 @@ fn read_stored_table<'a, 'b>(
     depth: usize,
     tokens: &'b [Token<'a>],
 ) -> Result<(StoredQuery, &'b [Token<'a>]), Unread>
-    ensures value { Gives (λ x. (plain_stored x.0, lexemes x.1.now)) result (stored_table_read depth (lexemes tokens.now)) }
+    ensures value { Gives (λ x. (plain_stored x.0, lexemes x.1.now)) result
+        (stored_table_read depth (lexemes tokens.now)) }
     ensures rest { IfOk result (λ x. length x.1.now ≤ length tokens.now) }
 {
     let (table, rest) = read_name(alloc, tokens)?;
@@ -49,7 +50,8 @@ pub fn read_stored<'a, 'b>(
     depth: usize,
     tokens: &'b [Token<'a>],
 ) -> Result<(StoredQuery, &'b [Token<'a>]), Unread>
-    ensures value { Gives (λ x. (plain_stored x.0, lexemes x.1.now)) result (stored_read depth (lexemes tokens.now)) }
+    ensures value { Gives (λ x. (plain_stored x.0, lexemes x.1.now)) result
+        (stored_read depth (lexemes tokens.now)) }
     ensures rest { IfOk result (λ x. length x.1.now ≤ length tokens.now) }
 {
     let rest = skip(tokens, Mark::Keyword("SELECT"))?;

@@ -43,7 +43,8 @@ pub fn read_period_element<'a, 'b>(
     alloc: Global,
     tokens: &'b [Token<'a>],
 ) -> Result<(PeriodElement, &'b [Token<'a>]), Unread>
-    ensures value { Gives (λ x. (x.0, lexemes x.1.now)) result (period_element_read (lexemes tokens.now)) }
+    ensures value { Gives (λ x. (x.0, lexemes x.1.now)) result
+        (period_element_read (lexemes tokens.now)) }
     ensures rest { IfOk result (λ x. length x.1.now ≤ length tokens.now) }
 {
     let rest = skip(tokens, Mark::Keyword("PERIOD"))?;
@@ -59,7 +60,8 @@ pub fn read_system_element<'a, 'b>(
     alloc: Global,
     tokens: &'b [Token<'a>],
 ) -> Result<(SystemElement, &'b [Token<'a>]), Unread>
-    ensures value { Gives (λ x. (x.0, lexemes x.1.now)) result (system_element_read (lexemes tokens.now)) }
+    ensures value { Gives (λ x. (x.0, lexemes x.1.now)) result
+        (system_element_read (lexemes tokens.now)) }
     ensures rest { IfOk result (λ x. length x.1.now ≤ length tokens.now) }
 {
     let rest = skip(tokens, Mark::Keyword("PERIOD"))?;
@@ -70,7 +72,7 @@ pub fn read_system_element<'a, 'b>(
 }
 
 // The names before the last, and the last. A lone name has none before it.
-#[tactic(auto, using(crate::proofs::SplitLast::split_none, crate::proofs::SplitLast::split_one, crate::proofs::SplitLast::split_more))]
+#[tactic(auto, using(crate::proofs::SplitLast::split_views))]
 fn split_off_last(names: Vec<Name>) -> Result<(NonEmpty<Name>, Name), Unread>
     ensures { Gives (λ x. x) result (split_last names.items) }
 {
@@ -85,12 +87,13 @@ fn split_off_last(names: Vec<Name>) -> Result<(NonEmpty<Name>, Name), Unread>
 }
 
 // The names of a key's columns and its period's, which is the last.
-#[tactic(auto, unfolding(crate::specs::reading::ElementReaders::key_names_read, crate::specs::reading::ElementReaders::all_and_last_read))]
+#[tactic(auto, unfolding(crate::specs::reading::ElementReaders::all_and_last_read))]
 fn read_key_names<'a, 'b>(
     alloc: Global,
     tokens: &'b [Token<'a>],
 ) -> Result<((NonEmpty<Name>, Name), &'b [Token<'a>]), Unread>
-    ensures value { Gives (λ x. (x.0, lexemes x.1.now)) result (key_names_read (lexemes tokens.now)) }
+    ensures value { Gives (λ x. (x.0, lexemes x.1.now)) result
+        (key_names_read (lexemes tokens.now)) }
     ensures rest { IfOk result (λ x. length x.1.now ≤ length tokens.now) }
 {
     let (names, rest) = separated::<Name>(alloc, 0, tokens)?;
@@ -100,7 +103,8 @@ fn read_key_names<'a, 'b>(
 // The tokens after WITHOUT OVERLAPS.
 #[tactic(auto, unfolding(crate::specs::reading::ElementReaders::without_overlaps_read))]
 fn skip_without_overlaps<'a, 'b>(tokens: &'b [Token<'a>]) -> Result<&'b [Token<'a>], Unread>
-    ensures value { Gives (λ x. (tt, lexemes x.now)) result (without_overlaps_read (lexemes tokens.now)) }
+    ensures value { Gives (λ x. (tt, lexemes x.now)) result
+        (without_overlaps_read (lexemes tokens.now)) }
     ensures rest { IfOk result (λ x. length x.now ≤ length tokens.now) }
 {
     skip(
@@ -115,7 +119,8 @@ fn read_key_list<'a, 'b>(
     alloc: Global,
     tokens: &'b [Token<'a>],
 ) -> Result<(KeyElement, &'b [Token<'a>]), Unread>
-    ensures value { Gives (λ x. (x.0, lexemes x.1.now)) result (key_list_read (lexemes tokens.now)) }
+    ensures value { Gives (λ x. (x.0, lexemes x.1.now)) result
+        (key_list_read (lexemes tokens.now)) }
     ensures rest { IfOk result (λ x. length x.1.now ≤ length tokens.now) }
 {
     let inside = skip(tokens, Mark::Symbol("("))?;
@@ -131,7 +136,8 @@ pub fn read_key_element<'a, 'b>(
     alloc: Global,
     tokens: &'b [Token<'a>],
 ) -> Result<(KeyElement, &'b [Token<'a>]), Unread>
-    ensures value { Gives (λ x. (x.0, lexemes x.1.now)) result (key_element_read (lexemes tokens.now)) }
+    ensures value { Gives (λ x. (x.0, lexemes x.1.now)) result
+        (key_element_read (lexemes tokens.now)) }
     ensures rest { IfOk result (λ x. length x.1.now ≤ length tokens.now) }
 {
     let rest = skip(tokens, Mark::Keyword("PRIMARY"))?;
@@ -154,7 +160,8 @@ fn read_leading_names<'a, 'b>(
     alloc: Global,
     tokens: &'b [Token<'a>],
 ) -> Result<(NonEmpty<Name>, &'b [Token<'a>]), Unread>
-    ensures value { Gives (λ x. (x.0, lexemes x.1.now)) result (leading_names_read (lexemes tokens.now)) }
+    ensures value { Gives (λ x. (x.0, lexemes x.1.now)) result
+        (leading_names_read (lexemes tokens.now)) }
     ensures rest { IfOk result (λ x. length x.1.now ≤ length tokens.now) }
 {
     let mut names = Vec::new(alloc);
@@ -174,7 +181,8 @@ fn read_last_period<'a, 'b>(
     alloc: Global,
     tokens: &'b [Token<'a>],
 ) -> Result<(Name, &'b [Token<'a>]), Unread>
-    ensures value { Gives (λ x. (x.0, lexemes x.1.now)) result (last_period_read (lexemes tokens.now)) }
+    ensures value { Gives (λ x. (x.0, lexemes x.1.now)) result
+        (last_period_read (lexemes tokens.now)) }
     ensures rest { IfOk result (λ x. length x.1.now ≤ length tokens.now) }
 {
     let rest = skip(tokens, Mark::Symbol(","))?;
@@ -187,7 +195,8 @@ fn read_reference_list<'a, 'b>(
     alloc: Global,
     tokens: &'b [Token<'a>],
 ) -> Result<((NonEmpty<Name>, Name), &'b [Token<'a>]), Unread>
-    ensures value { Gives (λ x. (x.0, lexemes x.1.now)) result (reference_list_read (lexemes tokens.now)) }
+    ensures value { Gives (λ x. (x.0, lexemes x.1.now)) result
+        (reference_list_read (lexemes tokens.now)) }
     ensures rest { IfOk result (λ x. length x.1.now ≤ length tokens.now) }
 {
     let (columns, rest) = read_leading_names(alloc, skip(tokens, Mark::Symbol("("))?)?;
@@ -215,7 +224,8 @@ pub fn read_reference_element<'a, 'b>(
     alloc: Global,
     tokens: &'b [Token<'a>],
 ) -> Result<(ReferenceElement, &'b [Token<'a>]), Unread>
-    ensures value { Gives (λ x. (x.0, lexemes x.1.now)) result (reference_element_read (lexemes tokens.now)) }
+    ensures value { Gives (λ x. (x.0, lexemes x.1.now)) result
+        (reference_element_read (lexemes tokens.now)) }
     ensures rest { IfOk result (λ x. length x.1.now ≤ length tokens.now) }
 {
     let rest = skip(tokens, Mark::Keyword("FOREIGN"))?;

@@ -42,7 +42,8 @@ fn read_some_period<'a, 'b>(
     alloc: Global,
     tokens: &'b [Token<'a>],
 ) -> Result<(TableElement, &'b [Token<'a>]), Unread>
-    ensures value { Gives (λ x. (plain_element x.0, lexemes x.1.now)) result (some_period_read (lexemes tokens.now)) }
+    ensures value { Gives (λ x. (plain_element x.0, lexemes x.1.now)) result
+        (some_period_read (lexemes tokens.now)) }
     ensures rest { IfOk result (λ x. length x.1.now ≤ length tokens.now) }
 {
     if third(tokens, Mark::Keyword("SYSTEM_TIME")) {
@@ -59,7 +60,8 @@ fn read_element<'a, 'b>(
     alloc: Global,
     tokens: &'b [Token<'a>],
 ) -> Result<(TableElement, &'b [Token<'a>]), Unread>
-    ensures value { Gives (λ x. (plain_element x.0, lexemes x.1.now)) result (element_read (lexemes tokens.now)) }
+    ensures value { Gives (λ x. (plain_element x.0, lexemes x.1.now)) result
+        (element_read (lexemes tokens.now)) }
     ensures rest { IfOk result (λ x. length x.1.now ≤ length tokens.now) }
 {
     if starts_name(tokens) {
@@ -99,7 +101,8 @@ fn read_elements<'a, 'b>(
     alloc: Global,
     tokens: &'b [Token<'a>],
 ) -> Result<(Vec<TableElement>, &'b [Token<'a>]), Unread>
-    ensures value { Gives (λ x. (map plain_element x.0.items, lexemes x.1.now)) result (elements_read (lexemes tokens.now)) }
+    ensures value { Gives (λ x. (map plain_element x.0.items, lexemes x.1.now)) result
+        (elements_read (lexemes tokens.now)) }
     ensures rest { IfOk result (λ x. length x.1.now ≤ length tokens.now) }
     ensures filled { IfOk result (λ x. 0 < length x.0.items) }
 {
@@ -128,7 +131,8 @@ fn table_with(
     elements: Vec<TableElement>,
 ) -> Result<CreateStatement, Unread>
     requires { 0 < length elements.items }
-    ensures { Gives (λ t. t) result (Some (table_of (name, (map plain_element elements.items, tt)))) }
+    ensures { Gives (λ t. t) result
+        (Some (table_of (name, (map plain_element elements.items, tt)))) }
 {
     let mut table = CreateTable {
         name,
@@ -163,7 +167,8 @@ fn read_table<'a, 'b>(
     alloc: Global,
     tokens: &'b [Token<'a>],
 ) -> Result<(CreateStatement, &'b [Token<'a>]), Unread>
-    ensures value { Gives (λ x. (x.0, lexemes x.1.now)) result (created_table_read (lexemes tokens.now)) }
+    ensures value { Gives (λ x. (x.0, lexemes x.1.now)) result
+        (created_table_read (lexemes tokens.now)) }
     ensures rest { IfOk result (λ x. length x.1.now ≤ length tokens.now) }
 {
     let (name, rest) = read_name(alloc, tokens)?;

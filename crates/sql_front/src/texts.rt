@@ -2,12 +2,12 @@
 
 ghost use Rattle.std.specs.Prelude.{◌≡◌, ◌++◌, ◌<◌, length, IfOk, IfSome};
 ghost use Rattle.sql_front.specs.Quoting.{continued};
-ghost use Rattle.sql_front.specs.Values.{text_value, unquoted};
+ghost use Rattle.sql_front.specs.LiteralValues.{text_value, unquoted};
 
 use period_core::{Memory, Text};
 use std::alloc::Global;
 
-/// What stands before the next quote, and what stands behind it where it is doubled.
+/// What comes before the next quote, and what comes after it where it is doubled.
 fn part(rest: &str) -> (&str, Option<&str>)
     ensures value { unquoted rest.now ≡ result.0.now ++ continued result.1 }
     ensures shorter { IfSome result.1 (λ more. length more.now < length rest.now) }
@@ -39,7 +39,7 @@ fn unquoted_text(alloc: Global, rest: &str) -> Result<Text, Memory>
     Ok(Text::new(value))
 }
 
-/// The value of a text token. An `Err` says that memory was refused.
+/// The value of a text token. The only fault is out of memory.
 pub fn text_of(alloc: Global, token: &str) -> Result<Text, Memory>
     ensures { IfOk result (λ text. text ≡ text_value token.now) }
 {

@@ -23,7 +23,8 @@ fn read_two_moments<'a, 'b>(
     tokens: &'b [Token<'a>],
     between: Mark<'_>,
 ) -> Result<((Moment, Moment), &'b [Token<'a>]), Unread>
-    ensures value { Gives (λ x. (x.0, lexemes x.1.now)) result (two_moments_read (mark between.entry) (lexemes tokens.now)) }
+    ensures value { Gives (λ x. (x.0, lexemes x.1.now)) result
+        (two_moments_read (mark between.entry) (lexemes tokens.now)) }
     ensures rest { IfOk result (λ x. length x.1.now ≤ length tokens.now) }
 {
     let (from, rest) = match read_moment(tokens) {
@@ -66,7 +67,8 @@ fn read_window<'a, 'b>(tokens: &'b [Token<'a>]) -> Result<(SystemTime, &'b [Toke
 pub fn read_for_window<'a, 'b>(
     tokens: &'b [Token<'a>],
 ) -> Result<(Option<SystemTime>, &'b [Token<'a>]), Unread>
-    ensures value { Gives (λ x. (x.0, lexemes x.1.now)) result (for_window_read (lexemes tokens.now)) }
+    ensures value { Gives (λ x. (x.0, lexemes x.1.now)) result
+        (for_window_read (lexemes tokens.now)) }
     ensures rest { IfOk result (λ x. length x.1.now ≤ length tokens.now) }
 {
     let Some(rest) = after(tokens, Mark::Keyword("FOR")) else {

@@ -5,7 +5,7 @@ use Rattle.std.specs.Io.BufRead.{take_through}
 use Rattle.std.proofs.lemmas.List.{drop_all, drop-drop}
 use Rattle.std.proofs.Math.Seq.{take-length}
 use Rattle.std.proofs.lemmas.Bool.{ne_eqb, cases_lt, eqb-true, and_parts}
-use Rattle.sql_statements.specs.Lexis.{quoted_size, longer, begins}
+use Rattle.sql_statements.specs.Lexis.{quoted_size, longer, begins_with}
 
 -- what stands at a place
 front : (bytes : List ℕ) (i : ℕ) → i < length bytes → drop i bytes ≡ get_or bytes i 0 ∷ drop (i + 1) bytes
@@ -59,16 +59,16 @@ unfolding quoted_size
 other_first b [] h = rw (ne_eqb b 39 h) refl
 other_first b (c ∷ rest) h = rw (ne_eqb b 39 h) refl
 
-pair_first : (rest : List ℕ) → begins "'" rest ≡ true → quoted_size (39 ∷ rest) ≡ longer 2 (quoted_size (drop 1 rest))
+pair_first : (rest : List ℕ) → begins_with "'" rest ≡ true → quoted_size (39 ∷ rest) ≡ longer 2 (quoted_size (drop 1 rest))
 unfolding quoted_size
 pair_first [] h = absurd cc
 pair_first (c ∷ rest) h = let e : c ≡ 39 = sym (eqb-true 39 c (and_parts (39 == c) true h).0) in rw e refl
 
-quote_ends : (rest : List ℕ) → begins "'" rest ≡ false → quoted_size (39 ∷ rest) ≡ Some 1
+quote_ends : (rest : List ℕ) → begins_with "'" rest ≡ false → quoted_size (39 ∷ rest) ≡ Some 1
 unfolding quoted_size
 quote_ends [] h = refl
 quote_ends (c ∷ rest) h =
-    let other : c ≡ 39 → ⊥ = λ e. let f : true ≡ false = subst (λ (k : ℕ). begins "'" (k ∷ rest) ≡ false) e h in absurd cc in
+    let other : c ≡ 39 → ⊥ = λ e. let f : true ≡ false = subst (λ (k : ℕ). begins_with "'" (k ∷ rest) ≡ false) e h in absurd cc in
     rw (ne_eqb c 39 other) refl
 
 longer_twice : (i n : ℕ) (o : Option ℕ) → longer i (longer n o) ≡ longer (i + n) o
@@ -82,7 +82,7 @@ quoted_on bytes i total h other so_far =
     ∙ longer_twice i 1 (quoted_size (drop (i + 1) bytes))
 
 pub quoted_pair : (bytes : List ℕ) (i : ℕ) (total : Option ℕ) → i < length bytes → get_or bytes i 0 ≡ 39
-    → true ≡ begins "'" (drop (i + 1) bytes) → total ≡ longer i (quoted_size (drop i bytes)) → total ≡ longer (i + 2) (quoted_size (drop (i + 2) bytes))
+    → true ≡ begins_with "'" (drop (i + 1) bytes) → total ≡ longer i (quoted_size (drop i bytes)) → total ≡ longer (i + 2) (quoted_size (drop (i + 2) bytes))
 quoted_pair bytes i total h quote follows so_far =
     let after : drop 1 (drop (i + 1) bytes) ≡ drop (i + 2) bytes = drop-drop 1 (i + 1) bytes ∙ ap (λ (k : ℕ). drop k bytes) (omega arith) in
     let here : drop i bytes ≡ 39 ∷ drop (i + 1) bytes = front bytes i h ∙ ap (λ (b : ℕ). b ∷ drop (i + 1) bytes) quote in
@@ -90,7 +90,7 @@ quoted_pair bytes i total h quote follows so_far =
     ∙ longer_twice i 2 (quoted_size (drop (i + 2) bytes))
 
 pub quoted_stops : (bytes : List ℕ) (i : ℕ) (total : Option ℕ) → i < length bytes → get_or bytes i 0 ≡ 39
-    → false ≡ begins "'" (drop (i + 1) bytes) → total ≡ longer i (quoted_size (drop i bytes)) → Some (i + 1) ≡ total
+    → false ≡ begins_with "'" (drop (i + 1) bytes) → total ≡ longer i (quoted_size (drop i bytes)) → Some (i + 1) ≡ total
 quoted_stops bytes i total h quote follows so_far =
     let here : drop i bytes ≡ 39 ∷ drop (i + 1) bytes = front bytes i h ∙ ap (λ (b : ℕ). b ∷ drop (i + 1) bytes) quote in
     sym (so_far ∙ ap (longer i) (ap quoted_size here ∙ quote_ends (drop (i + 1) bytes) (sym follows)))
@@ -100,11 +100,11 @@ unfolding quoted_size
 quoted_none bytes i total h so_far = so_far ∙ rw (drop_all i bytes h) refl
 
 -- a pair of quotes takes two bytes
-pub pair_fits : (bytes : List ℕ) (i : ℕ) → i < length bytes → true ≡ begins "'" (drop (i + 1) bytes) → i + 2 ≤ length bytes
+pub pair_fits : (bytes : List ℕ) (i : ℕ) → i < length bytes → true ≡ begins_with "'" (drop (i + 1) bytes) → i + 2 ≤ length bytes
 pair_fits bytes i h e =
     elim (cases_lt (i + 1) (length bytes)) [
       | inl lt ↦ omega arith
-      | inr le ↦ absurd (let none : begins "'" (drop (i + 1) bytes) ≡ false = rw (drop_all (i + 1) bytes le) refl in cc)
+      | inr le ↦ absurd (let none : begins_with "'" (drop (i + 1) bytes) ≡ false = rw (drop_all (i + 1) bytes le) refl in cc)
     ]
 
 -- a range to the end

@@ -8,7 +8,7 @@ use Rattle.std.specs.Io.BufRead.{take_through}
 use Rattle.std.proofs.lemmas.Str.{IsCharBoundary-after_ascii, IsCharBoundary-end}
 use Rattle.std.proofs.lemmas.Bool.{leb-true, eqb-true, and_parts, or_cases, cases_Bool}
 use Rattle.sql_statements.specs.declared.lexeme.Front.{Front}
-use Rattle.sql_statements.specs.Lexis.{is_blank, is_letter, is_digit, is_word_byte, is_symbol, begins, begins_pair, quoted_size, longer, text_of_size, first_lexeme, EndsBetween}
+use Rattle.sql_statements.specs.Lexis.{is_blank, is_letter, is_digit, is_word_byte, is_symbol_byte, begins_with, begins_pair, quoted_size, longer, text_of_size, first_lexeme, EndsBetween}
 
 -- ---- the bytes of the cases are ASCII
 
@@ -40,7 +40,7 @@ eq_below b k e h = omega (arith, eqb-true b k e)
 last_below : (b : ℕ) → (b == 45) ≡ true → b < 128
 last_below b e = eq_below b 45 e (omega arith)
 
-symbol_below : (b : ℕ) → is_symbol b ≡ true → b < 128
+symbol_below : (b : ℕ) → is_symbol_byte b ≡ true → b < 128
 symbol_below b =
     eq_or b 40 128 _ (omega arith) (eq_or b 41 128 _ (omega arith) (eq_or b 44 128 _ (omega arith) (eq_or b 59 128 _ (omega arith)
     (eq_or b 46 128 _ (omega arith) (eq_or b 42 128 _ (omega arith) (eq_or b 61 128 _ (omega arith) (eq_or b 60 128 _ (omega arith)
@@ -136,8 +136,8 @@ pair_of k m b (c ∷ bytes) h e =
 
 pub pair_second : (b : ℕ) (bytes : List ℕ) → begins_pair (b ∷ bytes) ≡ true → SecondIsAscii bytes
 pair_second b bytes e =
-    elim (or_cases (begins "<>" (b ∷ bytes) || begins "<=" (b ∷ bytes)) (begins ">=" (b ∷ bytes)) e) [
-      | inl h ↦ elim (or_cases (begins "<>" (b ∷ bytes)) (begins "<=" (b ∷ bytes)) h) [
+    elim (or_cases (begins_with "<>" (b ∷ bytes) || begins_with "<=" (b ∷ bytes)) (begins_with ">=" (b ∷ bytes)) e) [
+      | inl h ↦ elim (or_cases (begins_with "<>" (b ∷ bytes)) (begins_with "<=" (b ∷ bytes)) h) [
         | inl k ↦ pair_of 60 62 b bytes (omega arith) k
         | inr k ↦ pair_of 60 61 b bytes (omega arith) k
       ]
@@ -158,9 +158,9 @@ unfolding first_lexeme
 front_ends [] utf8 = tt
 front_ends (b ∷ bytes) utf8 =
     if_ends (is_blank b) _ _ (b ∷ bytes) (λ e. after_ascii (b ∷ bytes) 0 utf8 (omega arith) (blank_below b e)) (λ e1.
-    if_ends (begins "--" (b ∷ bytes)) _ _ (b ∷ bytes) (λ e. comment_ends b bytes utf8) (λ e2.
+    if_ends (begins_with "--" (b ∷ bytes)) _ _ (b ∷ bytes) (λ e. comment_ends b bytes utf8) (λ e2.
     if_ends (is_letter b) _ _ (b ∷ bytes) (λ e. let k = prefix_last is_word_byte word_byte_below b bytes (letter_below b e) in after_ascii (b ∷ bytes) (prefix_len is_word_byte bytes) utf8 k.0 k.1) (λ e3.
     if_ends (is_digit b) _ _ (b ∷ bytes) (λ e. let k = prefix_last is_digit digit_below b bytes (digit_below b e) in after_ascii (b ∷ bytes) (prefix_len is_digit bytes) utf8 k.0 k.1) (λ e4.
     if_ends (b == 39) _ _ (b ∷ bytes) (λ e. text_ends b bytes utf8 (quoted_size bytes) refl) (λ e5.
     if_ends (begins_pair (b ∷ bytes)) _ _ (b ∷ bytes) (λ e. let k = pair_second b bytes e in after_ascii (b ∷ bytes) 1 utf8 (omega (arith, k.0)) k.1) (λ e6.
-    if_ends (is_symbol b) _ _ (b ∷ bytes) (λ e. after_ascii (b ∷ bytes) 0 utf8 (omega arith) (symbol_below b e)) (λ e7. tt)))))))
+    if_ends (is_symbol_byte b) _ _ (b ∷ bytes) (λ e. after_ascii (b ∷ bytes) 0 utf8 (omega arith) (symbol_below b e)) (λ e7. tt)))))))

@@ -21,6 +21,7 @@ mutual
     negated : Condition T → Condition T
     test : T → Condition T
 
+  -- the parts of a chain, in their order
   pub data Conditions (T : Type 0) : Type 0 where
     none : Conditions T
     more : Condition T → Conditions T → Conditions T
@@ -54,6 +55,7 @@ mutual
     simple : Select → Query
     combined : Query → Steps → Query
 
+  -- set operators with the queries after them
   pub data Steps : Type 0 where
     last : Steps
     step : SetOperator → Query → Steps → Steps

@@ -1,5 +1,5 @@
-//! CREATE TABLE as it is written. Its elements stand by their kinds, each list in the order of the
-//! text: no rule reads how the kinds are mixed.
+//! CREATE TABLE as it is written. Its elements are listed by their kinds, each list in the order of
+//! the text: no rule reads how the kinds are mixed.
 
 ghost use Rattle.std.specs.Prelude.{◌≡◌};
 ghost use Rattle.sql_statements.specs.Elements.{HasElement};
@@ -9,7 +9,7 @@ use crate::nonempty::NonEmpty;
 use period_core::Items;
 use std::marker::Model;
 
-/// A column's type. A number is what its token says, not yet judged.
+/// A column's type. A number is that of its token, not yet checked.
 #[derive(Clone, Copy, Debug, PartialEq, Eq)]
 pub enum TypeName {
     Integer,

@@ -1,14 +1,14 @@
-//! What stands at the front of a text.
+//! What comes first in a text.
 
-ghost use Rattle.std.specs.Prelude.{◌≡◌, ◌<◌, ◌^◌, length};
+ghost use Rattle.std.specs.Prelude.{◌≡◌, ◌<◌, length};
 ghost use Rattle.sql_statements.specs.Lexis as lexis;
-ghost use Rattle.sql_statements.specs.Lexis.{EndsBetween};
+ghost use Rattle.sql_statements.specs.Lexis.{EndsBetween, text_limit};
 
 use crate::scan::{
-    begins_pair, comment_size, is_blank, is_digit, is_letter, is_symbol, number_size, quoted_size,
-    word_size,
+    begins_pair, comment_size, is_blank, is_digit, is_letter, is_symbol_byte, number_size,
+    quoted_size, word_size,
 };
-use crate::token::Kind;
+use crate::token::TokenKind;
 
 /// What comes first, and how many bytes it takes.
 #[derive(Clone, Copy, Debug)]
@@ -16,15 +16,15 @@ pub enum Front {
     /// White space or a comment.
     Blank(usize),
     /// A token.
-    Lexeme(Kind, usize),
+    Lexeme(TokenKind, usize),
     /// Nothing: no token begins here, or a text that does not end.
     Bad,
 }
 
-/// The first case that fits.
+/// The first case that fits, over the bytes of a text.
 #[tactic(auto, unfolding(crate::specs::Lexis::first_lexeme))]
 fn first_of_bytes(bytes: &[u8]) -> Front
-    requires { length bytes.now < 2 ^ 63 }
+    requires { length bytes.now < text_limit }
     ensures { result ≡ lexis.first_lexeme bytes.now }
 {
     match bytes {
@@ -35,18 +35,18 @@ fn first_of_bytes(bytes: &[u8]) -> Front
             } else if bytes.starts_with(b"--") {
                 Front::Blank(1 + comment_size(rest))
             } else if is_letter(*first) {
-                Front::Lexeme(Kind::Word, 1 + word_size(rest))
+                Front::Lexeme(TokenKind::Word, 1 + word_size(rest))
             } else if is_digit(*first) {
-                Front::Lexeme(Kind::Number, 1 + number_size(rest))
+                Front::Lexeme(TokenKind::Number, 1 + number_size(rest))
             } else if *first == b'\'' {
                 match quoted_size(rest) {
-                    Some(size) => Front::Lexeme(Kind::Text, 1 + size),
+                    Some(size) => Front::Lexeme(TokenKind::Text, 1 + size),
                     None => Front::Bad,
                 }
             } else if begins_pair(bytes) {
-                Front::Lexeme(Kind::Symbol, 2)
-            } else if is_symbol(*first) {
-                Front::Lexeme(Kind::Symbol, 1)
+                Front::Lexeme(TokenKind::Symbol, 2)
+            } else if is_symbol_byte(*first) {
+                Front::Lexeme(TokenKind::Symbol, 1)
             } else {
                 Front::Bad
             }
@@ -56,7 +56,7 @@ fn first_of_bytes(bytes: &[u8]) -> Front
 
 /// The first case that fits: what comes first in a text, and how many bytes it takes.
 pub fn first_lexeme(text: &str) -> Front
-    requires { length text.now < 2 ^ 63 }
+    requires { length text.now < text_limit }
     ensures value { result ≡ lexis.first_lexeme text.now }
     ensures ends { EndsBetween result text.now }
 {

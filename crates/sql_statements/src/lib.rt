@@ -1,8 +1,9 @@
 //! Words, names and lexemes, and the statements that they spell, as trees. The crates that run
-//! statements stand on this one, and the text of statements is `sql_front`'s.
+//! statements use this one alone; `sql_front` reads statements from text.
 //!
-//! A new form of statement has its variant in `StatementForm`, its plain tree in `specs/Trees` and
-//! `specs/Plain`.
+//! To add a form of statement: its variant in `StatementForm`, and its plain tree in `specs/Trees`
+//! and in `plain_form` of `specs/Plain`. A new keyword that is no name: `specs/Words`, and its
+//! group in `specs/WordGroups` and in `words`. What reads the statement is listed in `sql_front`.
 #![tactic(auto)]
 
 pub mod clock_moment;
@@ -31,5 +32,5 @@ pub use statement::{
     Operand, PeriodOperand, PeriodPredicate, Portion, SelectDistinct, SelectItem, Statement,
     StatementForm, StoredQuery, StoredTest, SystemTime, TableReference, UpdateRows,
 };
-pub use token::{Kind, Token};
+pub use token::{Token, TokenKind};
 pub use tree::{QueryTree, SetOperator, Tree};

@@ -29,7 +29,7 @@ impl Model for Name {
 }
 
 impl Name {
-    /// The name that a word stands for, whatever its case. An `Err` says that memory was refused.
+    /// The name that a word means, whatever its case. The only fault is out of memory.
     #[tactic(auto, using(crate::proofs::NameFacts::upper_is_name))]
     pub fn of_word(alloc: Global, word: &str) -> Result<Name, Memory>
         requires { is_plain_word word.now ≡ true }
@@ -45,7 +45,7 @@ impl Name {
 
     /// The name that a text is: `None` exactly where it is no word, a reserved one, or not in upper
     /// case.
-    #[tactic(auto, using(crate::proofs::NameFacts::upper_by_bytes), unfolding(crate::specs::Names::is_name))]
+    #[tactic(auto, unfolding(crate::specs::Names::is_name))]
     pub fn from_text(text: Text) -> Option<Name>
         ensures there { IsSome result ↔ (is_name text ≡ true) }
         ensures value { IfSome result (λ name. name ≡ text) }
@@ -64,7 +64,7 @@ impl Name {
         &self.text
     }
 
-    /// An equal name. An `Err` says that memory was refused.
+    /// An equal name. The only fault is out of memory.
     pub fn copy(&self, alloc: Global) -> Result<Name, Memory>
         ensures { IfOk result (λ name. name ≡ self.now) }
     {
@@ -81,11 +81,19 @@ impl Name {
     }
 }
 
-/// Whether a text is in upper case: each byte is its own upper case.
-fn is_upper(text: &str) -> bool
+/// Whether each byte of a text is its own upper case.
+fn has_upper_bytes_only(text: &str) -> bool
     ensures { result ≡ list_all (λ b. b == to_ascii_uppercase b) text.now }
 {
     text.as_bytes()
         .iter()
         .all(|byte| *byte == byte.to_ascii_uppercase())
+}
+
+/// Whether a text is in upper case.
+#[tactic(auto, using(crate::proofs::NameFacts::upper_by_bytes))]
+fn is_upper(text: &str) -> bool
+    ensures { result ≡ bytes_eq text.now (upper text.now) }
+{
+    has_upper_bytes_only(text)
 }

@@ -27,15 +27,16 @@ pub fn is_letter(byte: u8) -> bool
     byte.is_ascii_alphabetic() || byte == b'_'
 }
 
+/// Whether a word may have this byte after its first.
 pub fn is_word_byte(byte: u8) -> bool
     ensures { result ≡ lexis.is_word_byte byte }
 {
     is_letter(byte) || is_digit(byte)
 }
 
-/// Whether a byte is a symbol.
-pub fn is_symbol(byte: u8) -> bool
-    ensures { result ≡ lexis.is_symbol byte }
+/// Whether a byte is a symbol of one byte.
+pub fn is_symbol_byte(byte: u8) -> bool
+    ensures { result ≡ lexis.is_symbol_byte byte }
 {
     byte == b'('
         || byte == b')'
@@ -97,12 +98,12 @@ pub fn comment_size(bytes: &[u8]) -> usize
 }
 
 fn begins_quote(bytes: &[u8]) -> bool
-    ensures { result ≡ lexis.begins "'" bytes.now }
+    ensures { result ≡ lexis.begins_with "'" bytes.now }
 {
     bytes.starts_with(b"'")
 }
 
-/// How many bytes there are behind an opening quote up to and with the quote that ends the text.
+/// How many bytes there are after an opening quote up to and with the quote that ends the text.
 pub fn quoted_size(bytes: &[u8]) -> Option<usize>
     ensures size { result ≡ quoted_size bytes.now }
     ensures within { IfSome result (λ n. n ≤ length bytes.now) }
@@ -120,9 +121,9 @@ pub fn quoted_size(bytes: &[u8]) -> Option<usize>
     None
 }
 
-/// How many bytes U+FEFF takes at the start of a script.
-pub fn mark_size(script: &[u8]) -> usize
-    ensures { result ≡ lexis.mark_size script.now }
+/// How many bytes a byte order mark, U+FEFF, takes at the start of a script.
+pub fn byte_order_mark_size(script: &[u8]) -> usize
+    ensures { result ≡ lexis.byte_order_mark_size script.now }
 {
     if script.starts_with(&[239, 187, 191]) {
         3

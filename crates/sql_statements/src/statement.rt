@@ -1,5 +1,5 @@
-//! A statement as it is written: tables, columns and periods stand by their names, which are in
-//! upper case, and literals by their values.
+//! A statement as it is written: tables, columns and periods are named, in upper case, and literals
+//! are values.
 
 ghost use Rattle.std.specs.Prelude.{◌≡◌};
 ghost use Rattle.sql_statements.specs.Plain.{plain, plain_form};

@@ -26,17 +26,20 @@ columns_read = optional_read (symbol (codes "(")) names_read
 unfoldable pub values_read : Reader (List (List Value))
 values_read = preceded_read (keyword (codes "VALUES")) (separated_read comma tuple_read)
 
--- what stands behind INSERT INTO
+-- what comes after INSERT INTO
 unfoldable pub inserted_read : Reader InsertRows
-inserted_read = built_read rows_of (sequence_read name_read (sequence_read columns_read values_read))
+inserted_read =
+    built_read rows_of (sequence_read name_read (sequence_read columns_read values_read))
 
 unfoldable pub insert_read : Reader InsertRows
-insert_read = preceded_read (keyword (codes "INSERT")) (preceded_read (keyword (codes "INTO")) inserted_read)
+insert_read =
+    preceded_read (keyword (codes "INSERT")) (preceded_read (keyword (codes "INTO")) inserted_read)
 
 -- FROM date TO date
 unfoldable pub bounds_read : Reader (ℤ × ℤ)
 bounds_read =
-    preceded_read (keyword (codes "FROM")) (sequence_read date_read (preceded_read (keyword (codes "TO")) date_read))
+    preceded_read (keyword (codes "FROM"))
+    (sequence_read date_read (preceded_read (keyword (codes "TO")) date_read))
 
 -- name FROM date TO date
 unfoldable pub named_portion_read : Reader Portion
@@ -53,21 +56,28 @@ unfoldable pub portion_read : Reader (Option Portion)
 portion_read = optional_read (keyword (codes "FOR")) in_portion_read
 
 unfoldable pub assignment_read : Reader Assignment
-assignment_read = built_read assignment_of (sequence_read name_read (preceded_read (symbol (codes "=")) literal_read))
+assignment_read =
+    built_read assignment_of (sequence_read name_read
+    (preceded_read (symbol (codes "=")) literal_read))
 
 -- SET assignment { ',' assignment } [ WHERE cond ]
 unfoldable pub set_read : ℕ → Reader (List Assignment × Option (Condition Compare))
 set_read n =
-    preceded_read (keyword (codes "SET")) (sequence_read (separated_read comma assignment_read) (where_read compare_read n))
+    preceded_read (keyword (codes "SET"))
+    (sequence_read (separated_read comma assignment_read) (where_read compare_read n))
 
 unfoldable pub update_read : ℕ → Reader Update
 update_read n =
     preceded_read (keyword (codes "UPDATE"))
     (built_read update_of (sequence_read name_read (sequence_read portion_read (set_read n))))
 
--- what stands behind DELETE FROM
+-- what comes after DELETE FROM
 unfoldable pub deleted_read : ℕ → Reader Delete
-deleted_read n = built_read delete_of (sequence_read name_read (sequence_read portion_read (where_read compare_read n)))
+deleted_read n =
+    built_read delete_of (sequence_read name_read
+    (sequence_read portion_read (where_read compare_read n)))
 
 unfoldable pub delete_read : ℕ → Reader Delete
-delete_read n = preceded_read (keyword (codes "DELETE")) (preceded_read (keyword (codes "FROM")) (deleted_read n))
+delete_read n =
+    preceded_read (keyword (codes "DELETE"))
+    (preceded_read (keyword (codes "FROM")) (deleted_read n))

@@ -18,10 +18,14 @@ use Rattle.sql_front.specs.reading.Reading.{enclosed_read, stands_read}
 use Rattle.sql_front.specs.reading.Leaves.{name_read, literal_read}
 
 unfoldable pub column_read : Reader ColumnReference
-column_read = built_read column_reference_of (sequence_read name_read (optional_read (symbol (codes ".")) (preceded_read (symbol (codes ".")) name_read)))
+column_read =
+    built_read column_reference_of
+    (sequence_read name_read (optional_read (symbol (codes "."))
+    (preceded_read (symbol (codes ".")) name_read)))
 
 unfoldable pub operand_read : Reader Operand
-operand_read = choice_read (begins name) (built_read Column column_read) (built_read Literal literal_read)
+operand_read =
+    choice_read (begins name) (built_read Column column_read) (built_read Literal literal_read)
 
 unfoldable pub comparison_read : Reader Comparison
 comparison_read =
@@ -33,15 +37,19 @@ comparison_read =
     (stands_read GreaterOrEqual (symbol (codes ">=")))))))
 
 unfoldable pub compare_read : Reader Compare
-compare_read = built_read compare_of (sequence_read operand_read (sequence_read comparison_read operand_read))
+compare_read =
+    built_read compare_of (sequence_read operand_read (sequence_read comparison_read operand_read))
 
 -- ---- trees over tests that are read so
 
 abbrev pub test_with : {T : Type 0} → Reader T → Reader (Condition T) → Reader (Condition T)
-test_with p inner = choice_read (begins (symbol (codes "("))) (enclosed_read inner) (built_read test p)
+test_with p inner =
+    choice_read (begins (symbol (codes "("))) (enclosed_read inner) (built_read test p)
 
 abbrev pub factor_with : {T : Type 0} → Reader (Condition T) → Reader (Condition T)
-factor_with p = choice_read (begins (keyword (codes "NOT"))) (built_read negated (preceded_read (keyword (codes "NOT")) p)) p
+factor_with p =
+    choice_read (begins (keyword (codes "NOT")))
+    (built_read negated (preceded_read (keyword (codes "NOT")) p)) p
 
 abbrev pub conjunction_with : {T : Type 0} → Reader (Condition T) → Reader (Condition T)
 conjunction_with p = built_read all_of (separated_read (keyword (codes "AND")) p)
@@ -52,7 +60,8 @@ condition_with p = built_read any_of (separated_read (keyword (codes "OR")) p)
 -- a condition whose parentheses nest less than n deep
 unfoldable pub inner_read : {T : Type 0} → Reader T → ℕ → Reader (Condition T)
 inner_read p zero ts = None
-inner_read p (suc n) ts = condition_with (conjunction_with (factor_with (test_with p (inner_read p n)))) ts
+inner_read p (suc n) ts =
+    condition_with (conjunction_with (factor_with (test_with p (inner_read p n)))) ts
 
 unfoldable pub test_read : {T : Type 0} → Reader T → ℕ → Reader (Condition T)
 test_read p n = test_with p (inner_read p n)
@@ -68,4 +77,6 @@ condition_read p n = condition_with (conjunction_read p n)
 
 -- [ WHERE cond ]
 unfoldable pub where_read : {T : Type 0} → Reader T → ℕ → Reader (Option (Condition T))
-where_read p n = optional_read (keyword (codes "WHERE")) (preceded_read (keyword (codes "WHERE")) (condition_read p n))
+where_read p n =
+    optional_read (keyword (codes "WHERE"))
+    (preceded_read (keyword (codes "WHERE")) (condition_read p n))

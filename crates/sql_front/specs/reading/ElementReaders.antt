@@ -9,7 +9,8 @@ use Rattle.sql_statements.specs.declared.create.PeriodElement.{PeriodElement}
 use Rattle.sql_statements.specs.declared.create.ReferenceElement.{ReferenceElement}
 use Rattle.sql_statements.specs.declared.create.SystemElement.{SystemElement}
 use Rattle.sql_statements.specs.declared.create.TypeName.{TypeName}
-use Rattle.sql_statements.specs.declared.create.TypeName.TheVariants.{Integer, Date, Varchar, Timestamp}
+use Rattle.sql_statements.specs.declared.create.TypeName.TheVariants.{Integer, Date, Varchar}
+use Rattle.sql_statements.specs.declared.create.TypeName.TheVariants.{Timestamp}
 use Rattle.sql_statements.specs.Lexemes.{Lexeme}
 use Rattle.sql_front.specs.Language.{keyword, symbol}
 use Rattle.sql_front.specs.Builders.{column_of, period_of, system_of, key_of, reference_of}
@@ -23,7 +24,7 @@ use Rattle.sql_front.specs.reading.Reading.{preceded_read, stands_read, separate
 use Rattle.sql_front.specs.reading.Reading.{enclosed_read}
 use Rattle.sql_front.specs.reading.Leaves.{name_read, number_read}
 
--- ---- lists of names whose last one stands apart
+-- ---- lists of names whose last one is apart
 
 -- the last of a list that has a first, and those before it
 abbrev pub last_of : {A : Type 0} → A → List A → List A × A
@@ -52,7 +53,7 @@ second_is test (t ∷ rest) = begins test rest
 unfoldable pub one_more_name : List Lexeme → Bool
 one_more_name ts = begins comma ts && second_is name ts
 
--- ',' name, as long as a name stands behind the comma
+-- ',' name, as long as a name comes after the comma
 unfoldable pub more_names_read : Reader (List (List ℕ))
 more_names_read = repetition_read one_more_name (preceded_read comma name_read)
 
@@ -70,16 +71,19 @@ length_read = enclosed_read number_read
 -- TIMESTAMP [ '(' num ')' ]
 unfoldable pub timestamp_read : Reader TypeName
 timestamp_read =
-    built_read Timestamp (preceded_read (keyword (codes "TIMESTAMP")) (optional_read (symbol (codes "(")) length_read))
+    built_read Timestamp (preceded_read (keyword (codes "TIMESTAMP"))
+    (optional_read (symbol (codes "(")) length_read))
 
 unfoldable pub type_read : Reader TypeName
 type_read =
-    choice_read (begins (keyword (codes "INTEGER"))) (stands_read Integer (keyword (codes "INTEGER")))
+    choice_read (begins (keyword (codes "INTEGER")))
+    (stands_read Integer (keyword (codes "INTEGER")))
     (choice_read (begins (keyword (codes "DATE"))) (stands_read Date (keyword (codes "DATE")))
     (choice_read (begins (keyword (codes "VARCHAR")))
     (built_read Varchar (preceded_read (keyword (codes "VARCHAR")) length_read))
     (choice_read (begins (keyword (codes "CHARACTER")))
-    (built_read Varchar (preceded_read (keyword (codes "CHARACTER")) (preceded_read (keyword (codes "VARYING")) length_read)))
+    (built_read Varchar (preceded_read (keyword (codes "CHARACTER"))
+    (preceded_read (keyword (codes "VARYING")) length_read)))
     timestamp_read)))
 
 -- START | END
@@ -125,18 +129,21 @@ system_element_read =
 
 -- WITHOUT OVERLAPS
 unfoldable pub without_overlaps_read : Reader (Unit {0})
-without_overlaps_read = preceded_read (keyword (codes "WITHOUT")) (fixed_read (keyword (codes "OVERLAPS")))
+without_overlaps_read =
+    preceded_read (keyword (codes "WITHOUT")) (fixed_read (keyword (codes "OVERLAPS")))
 
 -- name { ',' name } ',' name
-unfoldable pub key_names_read : Reader (List (List ℕ) × List ℕ)
+abbrev pub key_names_read : Reader (List (List ℕ) × List ℕ)
 key_names_read = all_and_last_read comma name_read
 
 -- '(' names WITHOUT OVERLAPS ')'
 unfoldable pub key_list_read : Reader KeyElement
-key_list_read = enclosed_read (built_read key_of (sequence_read key_names_read without_overlaps_read))
+key_list_read =
+    enclosed_read (built_read key_of (sequence_read key_names_read without_overlaps_read))
 
 unfoldable pub key_element_read : Reader KeyElement
-key_element_read = preceded_read (keyword (codes "PRIMARY")) (preceded_read (keyword (codes "KEY")) key_list_read)
+key_element_read =
+    preceded_read (keyword (codes "PRIMARY")) (preceded_read (keyword (codes "KEY")) key_list_read)
 
 -- ',' PERIOD name
 unfoldable pub last_period_read : Reader (List ℕ)
@@ -148,7 +155,8 @@ reference_list_read = enclosed_read (sequence_read leading_names_read last_perio
 
 -- REFERENCES name list
 unfoldable pub parent_read : Reader (List ℕ × (List (List ℕ) × List ℕ))
-parent_read = preceded_read (keyword (codes "REFERENCES")) (sequence_read name_read reference_list_read)
+parent_read =
+    preceded_read (keyword (codes "REFERENCES")) (sequence_read name_read reference_list_read)
 
 unfoldable pub reference_element_read : Reader ReferenceElement
 reference_element_read =
@@ -160,7 +168,8 @@ reference_element_read =
 -- a system period or a period: the third token decides
 unfoldable pub some_period_read : Reader Element
 some_period_read =
-    choice_read (third_is (keyword (codes "SYSTEM_TIME"))) (built_read system_element system_element_read)
+    choice_read (third_is (keyword (codes "SYSTEM_TIME")))
+    (built_read system_element system_element_read)
     (built_read period_element period_element_read)
 
 unfoldable pub element_read : Reader Element
@@ -180,9 +189,12 @@ versioning_read =
 unfoldable pub elements_read : Reader (List Element)
 elements_read = enclosed_read (separated_read comma element_read)
 
--- what stands behind CREATE TABLE
+-- what comes after CREATE TABLE
 unfoldable pub created_table_read : Reader CreateTable
-created_table_read = built_read table_of (sequence_read name_read (sequence_read elements_read versioning_read))
+created_table_read =
+    built_read table_of (sequence_read name_read (sequence_read elements_read versioning_read))
 
 unfoldable pub create_read : Reader CreateTable
-create_read = preceded_read (keyword (codes "CREATE")) (preceded_read (keyword (codes "TABLE")) created_table_read)
+create_read =
+    preceded_read (keyword (codes "CREATE"))
+    (preceded_read (keyword (codes "TABLE")) created_table_read)

@@ -3,6 +3,7 @@ use Rattle.std.specs.Prelude.{◌≡◌, Result, Ok, Err, Option, Some, None}
 use Rattle.sql_front.specs.declared.unread.Unread.{Unread}
 use Rattle.sql_front.specs.declared.unread.Unread.TheVariants as unread
 
+-- what a fault of this kind says of what is to be read
 abbrev pub Fails : {Y : Type 0} → Unread → Option Y → Type 0
 Fails unread.Memory read = Unit {0}
 Fails unread.Syntax read = read ≡ None

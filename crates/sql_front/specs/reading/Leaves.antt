@@ -22,7 +22,8 @@ unfoldable pub moment_read : Reader ℤ
 moment_read = preceded_read (keyword (codes "TIMESTAMP")) (built_read moment_value (one_read text))
 
 unfoldable pub clock_moment_read : Reader ℤ
-clock_moment_read = preceded_read (keyword (codes "TIMESTAMP")) (built_read clock_value (one_read text))
+clock_moment_read =
+    preceded_read (keyword (codes "TIMESTAMP")) (built_read clock_value (one_read text))
 
 unfoldable pub date_read : Reader ℤ
 date_read = preceded_read (keyword (codes "DATE")) (built_read day_value (one_read text))
@@ -33,7 +34,9 @@ unsigned_read = built_read number_of (preceded_or_not_read (symbol (codes "+")) 
 
 unfoldable pub literal_read : Reader Value
 literal_read =
-    choice_read (begins (symbol (codes "-"))) (built_read value.Int (preceded_read (symbol (codes "-")) (built_read negative_value (one_read number))))
+    choice_read (begins (symbol (codes "-")))
+    (built_read value.Int (preceded_read (symbol (codes "-"))
+    (built_read negative_value (one_read number))))
     (choice_read (begins text) (built_read text_of (one_read text))
     (choice_read (begins (keyword (codes "DATE"))) (built_read value.Date date_read)
     unsigned_read))

@@ -9,7 +9,8 @@ use Rattle.sql_statements.specs.declared.statement.PeriodPredicate.TheVariants.{
 use Rattle.sql_statements.specs.declared.statement.PeriodPredicate.TheVariants.{ImmediatelyPrecedes}
 use Rattle.sql_statements.specs.declared.statement.PeriodPredicate.TheVariants.{ImmediatelySucceeds}
 use Rattle.sql_statements.specs.declared.statement.StoredTest.{StoredTest}
-use Rattle.sql_statements.specs.declared.statement.StoredTest.TheVariants.{Values, Periods, ContainsDay}
+use Rattle.sql_statements.specs.declared.statement.StoredTest.TheVariants.{Values, Periods}
+use Rattle.sql_statements.specs.declared.statement.StoredTest.TheVariants.{ContainsDay}
 use Rattle.sql_statements.specs.Lexemes.{Lexeme}
 use Rattle.sql_front.specs.Language.{keyword, symbol, or_test}
 use Rattle.sql_front.specs.Builders.{dates_of}
@@ -31,20 +32,27 @@ period_operand_read =
 
 unfoldable pub relation_read : Reader PeriodPredicate
 relation_read =
-    choice_read (begins (keyword (codes "OVERLAPS"))) (stands_read Overlaps (keyword (codes "OVERLAPS")))
+    choice_read (begins (keyword (codes "OVERLAPS")))
+    (stands_read Overlaps (keyword (codes "OVERLAPS")))
     (choice_read (begins (keyword (codes "EQUALS"))) (stands_read Equals (keyword (codes "EQUALS")))
-    (choice_read (begins (keyword (codes "CONTAINS"))) (stands_read Contains (keyword (codes "CONTAINS")))
+    (choice_read (begins (keyword (codes "CONTAINS")))
+    (stands_read Contains (keyword (codes "CONTAINS")))
     (choice_read (begins (keyword (codes "IMMEDIATELY")))
     (preceded_read (keyword (codes "IMMEDIATELY"))
-    (choice_read (begins (keyword (codes "PRECEDES"))) (stands_read ImmediatelyPrecedes (keyword (codes "PRECEDES"))) (stands_read ImmediatelySucceeds (keyword (codes "SUCCEEDS")))))
-    (choice_read (begins (keyword (codes "PRECEDES"))) (stands_read Precedes (keyword (codes "PRECEDES"))) (stands_read Succeeds (keyword (codes "SUCCEEDS")))))))
+    (choice_read (begins (keyword (codes "PRECEDES")))
+    (stands_read ImmediatelyPrecedes (keyword (codes "PRECEDES")))
+    (stands_read ImmediatelySucceeds (keyword (codes "SUCCEEDS")))))
+    (choice_read (begins (keyword (codes "PRECEDES")))
+    (stands_read Precedes (keyword (codes "PRECEDES")))
+    (stands_read Succeeds (keyword (codes "SUCCEEDS")))))))
 
 -- ---- a predicate: a period, and what is said of it
 
 -- CONTAINS DATE
 unfoldable pub begins_contains_date : List Lexeme → Bool
 begins_contains_date [] = false
-begins_contains_date (first ∷ rest) = keyword (codes "CONTAINS") first && begins (keyword (codes "DATE")) rest
+begins_contains_date (first ∷ rest) =
+    keyword (codes "CONTAINS") first && begins (keyword (codes "DATE")) rest
 
 -- what is said of a period: a day that it contains, or how it stands to another
 pub data Said : Type 0 where
@@ -55,9 +63,10 @@ abbrev pub said_of : PeriodOperand × Said → StoredTest
 said_of (period, contains_day day) = ContainsDay period day
 said_of (period, related other) = Periods period other.0 other.1
 
-unfoldable pub said_read : Reader Said
+abbrev pub said_read : Reader Said
 said_read =
-    choice_read begins_contains_date (built_read contains_day (preceded_read (keyword (codes "CONTAINS")) date_read))
+    choice_read begins_contains_date
+    (built_read contains_day (preceded_read (keyword (codes "CONTAINS")) date_read))
     (built_read related (sequence_read relation_read period_operand_read))
 
 unfoldable pub predicate_read : Reader StoredTest
@@ -68,17 +77,22 @@ predicate_read = built_read said_of (sequence_read period_operand_read said_read
 -- the words with which a relation begins
 unfoldable pub relation_word : Lexeme → Bool
 relation_word =
-    or_test (keyword (codes "OVERLAPS")) (or_test (keyword (codes "EQUALS")) (or_test (keyword (codes "CONTAINS"))
-    (or_test (keyword (codes "IMMEDIATELY")) (or_test (keyword (codes "PRECEDES")) (keyword (codes "SUCCEEDS"))))))
+    or_test (keyword (codes "OVERLAPS")) (or_test (keyword (codes "EQUALS"))
+    (or_test (keyword (codes "CONTAINS")) (or_test (keyword (codes "IMMEDIATELY"))
+    (or_test (keyword (codes "PRECEDES")) (keyword (codes "SUCCEEDS"))))))
 
 -- such a word behind the column that these tokens begin with
 unfoldable pub relation_behind_column : List Lexeme → Bool
 relation_behind_column [] = false
-relation_behind_column (first ∷ rest) = cond (begins (symbol (codes ".")) rest) (third_is relation_word rest) (begins relation_word rest)
+relation_behind_column (first ∷ rest) =
+    cond (begins (symbol (codes ".")) rest) (third_is relation_word rest)
+    (begins relation_word rest)
 
 -- the tokens begin as a predicate does, and not as a comparison
 unfoldable pub predicate_ahead : List Lexeme → Bool
-predicate_ahead tokens = begins (keyword (codes "PERIOD")) tokens || (begins name tokens && relation_behind_column tokens)
+predicate_ahead tokens =
+    begins (keyword (codes "PERIOD")) tokens
+    || (begins name tokens && relation_behind_column tokens)
 
 unfoldable pub stored_test_read : Reader StoredTest
 stored_test_read = choice_read predicate_ahead predicate_read (built_read Values compare_read)

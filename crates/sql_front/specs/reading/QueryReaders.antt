@@ -4,9 +4,6 @@ use Rattle.sql_statements.specs.declared.statement.SelectItem.{SelectItem}
 use Rattle.sql_statements.specs.declared.statement.TableReference.{TableReference}
 use Rattle.sql_statements.specs.declared.tree.SetOperator.{SetOperator}
 use Rattle.sql_statements.specs.declared.tree.SetOperator.TheVariants.{Union, Except}
-use Rattle.sql_statements.specs.declared.tree.QueryTree as queries
-use Rattle.sql_statements.specs.declared.statement.SelectDistinct as selects
-use Rattle.sql_statements.specs.Plain.{plain_query}
 use Rattle.sql_statements.specs.Lexemes.{Lexeme}
 use Rattle.sql_front.specs.Language.{keyword, symbol, or_test}
 use Rattle.sql_statements.specs.declared.statement.Compare.{Compare}
@@ -25,15 +22,19 @@ use Rattle.sql_front.specs.reading.WindowReaders.{for_window_read}
 
 -- ---- references
 
+-- the first token of a new name
 abbrev pub begins_new_name : Lexeme → Bool
 begins_new_name = or_test (keyword (codes "AS")) name
 
 -- [ [ AS ] name ]
 unfoldable pub new_name_read : Reader (Option (List ℕ))
-new_name_read = optional_read begins_new_name (preceded_or_not_read (keyword (codes "AS")) name_read)
+new_name_read =
+    optional_read begins_new_name (preceded_or_not_read (keyword (codes "AS")) name_read)
 
 unfoldable pub reference_read : Reader TableReference
-reference_read = built_read table_reference_of (sequence_read name_read (sequence_read for_window_read new_name_read))
+reference_read =
+    built_read table_reference_of
+    (sequence_read name_read (sequence_read for_window_read new_name_read))
 
 unfoldable pub item_read : Reader SelectItem
 item_read = built_read item_of (sequence_read column_read new_name_read)
@@ -43,12 +44,13 @@ item_read = built_read item_of (sequence_read column_read new_name_read)
 -- JOIN reference ON cond
 unfoldable pub joined_read : ℕ → Reader (TableReference × Condition Compare)
 joined_read n =
-    preceded_read (keyword (codes "JOIN"))
-    (sequence_read reference_read (preceded_read (keyword (codes "ON")) (condition_read compare_read n)))
+    preceded_read (keyword (codes "JOIN")) (sequence_read reference_read
+    (preceded_read (keyword (codes "ON")) (condition_read compare_read n)))
 
 unfoldable pub join_read : ℕ → Reader Join
 join_read n = built_read join_of (preceded_or_not_read (keyword (codes "INNER")) (joined_read n))
 
+-- the first token of a join
 abbrev pub begins_join : Lexeme → Bool
 begins_join = or_test (keyword (codes "INNER")) (keyword (codes "JOIN"))
 
@@ -61,29 +63,38 @@ chain_read n = built_read chain_of (sequence_read reference_read (joins_read n))
 -- FROM chain { ',' chain } [ WHERE cond ]
 unfoldable pub from_read : ℕ → Reader (List JoinChain × Option (Condition Compare))
 from_read n =
-    preceded_read (keyword (codes "FROM")) (sequence_read (separated_read comma (chain_read n)) (where_read compare_read n))
+    preceded_read (keyword (codes "FROM"))
+    (sequence_read (separated_read comma (chain_read n)) (where_read compare_read n))
 
--- what stands behind SELECT DISTINCT
+-- what comes after SELECT DISTINCT
 unfoldable pub selected_read : ℕ → Reader Select
-selected_read n = built_read select_of (sequence_read (separated_read comma item_read) (from_read n))
+selected_read n =
+    built_read select_of (sequence_read (separated_read comma item_read) (from_read n))
 
 unfoldable pub select_read : ℕ → Reader Select
 select_read n =
-    preceded_read (keyword (codes "SELECT")) (preceded_read (keyword (codes "DISTINCT")) (selected_read n))
+    preceded_read (keyword (codes "SELECT"))
+    (preceded_read (keyword (codes "DISTINCT")) (selected_read n))
 
 -- ---- queries
 
 unfoldable pub operator_read : Reader SetOperator
-operator_read = choice_read (begins (keyword (codes "UNION"))) (stands_read Union (keyword (codes "UNION"))) (stands_read Except (keyword (codes "EXCEPT")))
+operator_read =
+    choice_read (begins (keyword (codes "UNION")))
+    (stands_read Union (keyword (codes "UNION")))
+    (stands_read Except (keyword (codes "EXCEPT")))
 
+-- a set operator
 abbrev pub begins_step : Lexeme → Bool
 begins_step = or_test (keyword (codes "UNION")) (keyword (codes "EXCEPT"))
 
 abbrev pub primary_with : Reader Select → Reader Query → Reader Query
-primary_with select inner = choice_read (begins (symbol (codes "("))) (enclosed_read inner) (built_read simple select)
+primary_with select inner =
+    choice_read (begins (symbol (codes "("))) (enclosed_read inner) (built_read simple select)
 
 abbrev pub step_with : Reader Query → Reader (SetOperator × Query)
-step_with primary = sequence_read operator_read (preceded_or_not_read (keyword (codes "DISTINCT")) primary)
+step_with primary =
+    sequence_read operator_read (preceded_or_not_read (keyword (codes "DISTINCT")) primary)
 
 abbrev pub steps_with : Reader (SetOperator × Query) → Reader (List (SetOperator × Query))
 steps_with step = repetition_read (begins begins_step) step
@@ -95,7 +106,8 @@ query_with primary steps = built_read combined_of (sequence_read primary steps)
 unfoldable pub inner_query_read : ℕ → Reader Query
 inner_query_read zero ts = None
 inner_query_read (suc n) ts =
-    query_with (primary_with (select_read n) (inner_query_read n)) (steps_with (step_with (primary_with (select_read n) (inner_query_read n)))) ts
+    query_with (primary_with (select_read n) (inner_query_read n))
+    (steps_with (step_with (primary_with (select_read n) (inner_query_read n)))) ts
 
 unfoldable pub primary_read : ℕ → Reader Query
 primary_read n = primary_with (select_read n) (inner_query_read n)

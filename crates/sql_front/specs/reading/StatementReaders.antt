@@ -1,8 +1,8 @@
 -- Reading stored queries and statements from the front.
 use Rattle.std.specs.Prelude.{ℕ, codes}
 use Rattle.sql_front.specs.Language.{keyword, symbol}
-use Rattle.sql_statements.specs.Trees.{Statement, Stored, at, create, delete, insert, sequenced, stored}
-use Rattle.sql_statements.specs.Trees.{update}
+use Rattle.sql_statements.specs.Trees.{Statement, Stored, at, create, delete, insert, sequenced}
+use Rattle.sql_statements.specs.Trees.{stored, update}
 use Rattle.sql_front.specs.Builders.{stored_of}
 use Rattle.sql_front.specs.reading.Reading.{Reader, begins, built_read, choice_read, preceded_read}
 use Rattle.sql_front.specs.reading.Reading.{sequence_read}
@@ -14,10 +14,11 @@ use Rattle.sql_front.specs.reading.QueryReaders.{sequenced_read}
 use Rattle.sql_front.specs.reading.ElementReaders.{create_read}
 use Rattle.sql_front.specs.reading.ChangeReaders.{at_read, delete_read, insert_read, update_read}
 
--- what stands behind SELECT * FROM
+-- what comes after SELECT * FROM
 unfoldable pub stored_table_read : ℕ → Reader Stored
 stored_table_read n =
-    built_read stored_of (sequence_read name_read (sequence_read for_window_read (where_read stored_test_read n)))
+    built_read stored_of (sequence_read name_read
+    (sequence_read for_window_read (where_read stored_test_read n)))
 
 unfoldable pub stored_read : ℕ → Reader Stored
 stored_read n =

@@ -15,10 +15,18 @@ two_moments_read between = sequence_read moment_read (preceded_read between mome
 
 unfoldable pub window_read : Reader SystemTime
 window_read =
-    choice_read (begins (keyword (codes "AS"))) (built_read AsOf (preceded_read (keyword (codes "AS")) (preceded_read (keyword (codes "OF")) clock_moment_read)))
-    (choice_read (begins (keyword (codes "FROM"))) (built_read from_to_of (preceded_read (keyword (codes "FROM")) (two_moments_read (keyword (codes "TO")))))
-    (built_read between_of (preceded_read (keyword (codes "BETWEEN")) (two_moments_read (keyword (codes "AND"))))))
+    choice_read (begins (keyword (codes "AS")))
+    (built_read AsOf (preceded_read (keyword (codes "AS"))
+    (preceded_read (keyword (codes "OF")) clock_moment_read)))
+    (choice_read (begins (keyword (codes "FROM")))
+    (built_read from_to_of (preceded_read (keyword (codes "FROM"))
+    (two_moments_read (keyword (codes "TO")))))
+    (built_read between_of (preceded_read (keyword (codes "BETWEEN"))
+    (two_moments_read (keyword (codes "AND"))))))
 
 -- [ FOR SYSTEM_TIME window ]
 unfoldable pub for_window_read : Reader (Option SystemTime)
-for_window_read = optional_read (keyword (codes "FOR")) (preceded_read (keyword (codes "FOR")) (preceded_read (keyword (codes "SYSTEM_TIME")) window_read))
+for_window_read =
+    optional_read (keyword (codes "FOR"))
+    (preceded_read (keyword (codes "FOR"))
+    (preceded_read (keyword (codes "SYSTEM_TIME")) window_read))

@@ -1,7 +1,7 @@
 //! What no clause says: tokens of texts from outside, and the places where a text has none.
 
 use sql_front::{LexFault, Span, cut, lex};
-use sql_statements::Kind;
+use sql_statements::TokenKind;
 use sql_statements::words::{is_reserved, is_same_word};
 use std::test::Fail;
 
@@ -17,13 +17,13 @@ fn bad_token(rt: &HostRuntime, script: &str) -> Option<usize> {
 fn tokens_are_slices_of_the_script(rt: HostRuntime) -> Result<(), Fail> {
     let tokens = lex(rt.alloc(), "a<='it''s' -- no\n12a")?;
     assert_eq!(rt; tokens.len(), 5);
-    assert_eq!(rt; tokens[0].kind, Kind::Word);
+    assert_eq!(rt; tokens[0].kind, TokenKind::Word);
     assert_eq!(rt; tokens[1].text, "<=");
-    assert_eq!(rt; tokens[2].kind, Kind::Text);
+    assert_eq!(rt; tokens[2].kind, TokenKind::Text);
     assert_eq!(rt; tokens[2].text, "'it''s'");
-    assert_eq!(rt; tokens[3].kind, Kind::Number);
+    assert_eq!(rt; tokens[3].kind, TokenKind::Number);
     assert_eq!(rt; tokens[3].text, "12");
-    assert_eq!(rt; tokens[4].kind, Kind::Word);
+    assert_eq!(rt; tokens[4].kind, TokenKind::Word);
     assert_eq!(rt; tokens[4].start, 19);
     assert_eq!(rt; tokens[4].end, 20);
     Ok(())

@@ -2,14 +2,14 @@ use Rattle.std.proofs.Common.{◌≡◌, sym, ◌∙◌, ap, subst, rules}
 use Rattle.std.specs.Prelude.{IfOk}
 use Rattle.std.specs.Str.{IsCharBoundary}
 use Rattle.sql_statements.specs.Lexemes.{lexemes}
-use Rattle.sql_statements.specs.Lexis.{mark_size, TokensOf}
+use Rattle.sql_statements.specs.Lexis.{byte_order_mark_size, TokensOf}
 use Rattle.sql_front.proofs.ByteOrderMark.{mark_boundary}
 use Rattle.sql_front.proofs.TokenLists.{ok_tokens_at}
 use Rattle.sql_front.proofs.lexer.lex.Goals as goal
 
 pub split_at-requires : goal.split_at-requires
 split_at-requires c =
-    let size : c.mark_size-start.result ≡ mark_size c.args.script.now = c.mark_size-start.ensures ∙ ap mark_size c.as_bytes.ensures.value in
+    let size : c.byte_order_mark_size-start.result ≡ byte_order_mark_size c.args.script.now = c.byte_order_mark_size-start.ensures ∙ ap byte_order_mark_size c.as_bytes.ensures.value in
     subst (IsCharBoundary c.args.script.now) (sym size) (mark_boundary c.args.script.now c.utf8.script)
 
 pub returns-clause-slices : goal.returns-clause-slices

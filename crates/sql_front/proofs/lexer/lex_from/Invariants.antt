@@ -1,14 +1,14 @@
-use Rattle.std.proofs.Common.{ℕ, ◌+◌, ◌<◌, ◌^◌, List, ◌++◌, length}
+use Rattle.std.proofs.Common.{ℕ, ◌+◌, ◌<◌, List, ◌++◌, length}
 use denote.Shadow.{shadow}
 use denote.Text.{Utf8}
 use Rattle.sql_statements.specs.Lexemes.{Lexeme, lexemes}
-use Rattle.sql_statements.specs.Lexis.{TokensFrom, StopsFrom}
+use Rattle.sql_statements.specs.Lexis.{TokensFrom, StopsFrom, text_limit}
 use Rattle.sql_front.proofs.lexer.lex_from.Given as goal
 
 -- whatever the rest has completes the whole
 abbrev pub invariant-fronts : goal.invariant-fronts
 invariant-fronts l = record {
-  fits : l.at + length l.rest < 2 ^ 63;
+  fits : l.at + length l.rest < text_limit;
   text : shadow (Utf8 l.rest);
   tokens : (more : List Lexeme) → TokensFrom l.at l.rest more → TokensFrom l.start l.text (lexemes l.tokens.items ++ more);
   stops : (bad : ℕ) → StopsFrom l.at l.rest bad → StopsFrom l.start l.text bad;

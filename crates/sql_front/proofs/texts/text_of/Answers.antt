@@ -1,5 +1,5 @@
 use Rattle.std.proofs.Common.{sym, ap, ◌∙◌}
-use Rattle.sql_front.specs.Values.{unquoted}
+use Rattle.sql_front.specs.LiteralValues.{unquoted}
 use Rattle.sql_front.proofs.Quotes.{behind_none, behind_some}
 use Rattle.sql_front.proofs.texts.text_of.Goals as goal
 

@@ -1,6 +1,6 @@
 use Rattle.std.proofs.Common.{◌≡◌, ◌++◌}
 use Rattle.std.specs.Prelude.{string_bytes}
-use Rattle.sql_front.specs.Values.{unquoted}
+use Rattle.sql_front.specs.LiteralValues.{unquoted}
 use Rattle.sql_front.specs.Quoting.{continued, left_over}
 use Rattle.sql_front.proofs.texts.unquoted_text.Given as goal
 

@@ -2,14 +2,15 @@
 
 ghost use Rattle.std.specs.Prelude.{◌≡◌, ◌≤◌, nat_lt, cond, Some, None};
 ghost use Rattle.sql_front.specs.reading.LeafValues as leaves;
-ghost use Rattle.sql_front.specs.Values.{decimal, greatest};
+ghost use Rattle.period_core.specs.Encoding.{greatest_number};
+ghost use Rattle.sql_front.specs.LiteralValues.{number_of_digits};
 
-/// The greatest number of 64 bits signed.
-pub const GREATEST: u64 = 9_223_372_036_854_775_807;
+use period_core::GREATEST_NUMBER;
 
-/// The value of digits, if it is no more than the limit.
-pub fn decimal_up_to(digits: &str, limit: u64) -> Option<u64>
-    ensures { result ≡ cond (nat_lt limit (decimal digits.now)) None (Some (decimal digits.now)) }
+/// The number of digits, if it is no more than the limit.
+pub fn number_up_to(digits: &str, limit: u64) -> Option<u64>
+    ensures { result ≡ cond (nat_lt limit (number_of_digits digits.now)) None
+        (Some (number_of_digits digits.now)) }
 {
     let bytes = digits.as_bytes();
     let mut value: u64 = 0;
@@ -27,9 +28,9 @@ pub fn decimal_up_to(digits: &str, limit: u64) -> Option<u64>
 /// The value of a number without a minus: 0 where it is outside 64 bits signed.
 pub fn number_value(digits: &str) -> u64
     ensures value { result ≡ leaves.number_value digits.now }
-    ensures fits { result ≤ greatest }
+    ensures fits { result ≤ greatest_number }
 {
-    match decimal_up_to(digits, GREATEST) {
+    match number_up_to(digits, GREATEST_NUMBER) {
         Some(value) => value,
         None => 0,
     }
@@ -39,7 +40,7 @@ pub fn number_value(digits: &str) -> u64
 pub fn negative_value(digits: &str) -> i64
     ensures { result ≡ leaves.negative_value digits.now }
 {
-    match decimal_up_to(digits, GREATEST + 1) {
+    match number_up_to(digits, GREATEST_NUMBER + 1) {
         Some(value) => (-(value as i128)) as i64,
         None => 0,
     }

@@ -2,30 +2,30 @@
 use Rattle.std.specs.Prelude.{◌≡◌, ◌≤◌, ◌<ℤ◌, ℕ, ℤ, pos, neg_ℤ, ◌+◌, ◌-◌, ◌*◌, ◌==◌, Bool, cond}
 use Rattle.std.specs.Prelude.{List, [], ◌∷◌, take, drop, length}
 use Rattle.period_core.specs.Calendar.{IsDayText}
+use Rattle.period_core.specs.Encoding.{greatest_number}
 use Rattle.period_core.specs.Moments.{IsMomentText, forever}
 
 -- ---- numbers
 
--- the value of digits behind others
-abbrev pub decimal_from : ℕ → List ℕ → ℕ
-decimal_from value [] = value
-decimal_from value (byte ∷ bytes) = decimal_from (value * 10 + (byte - 48)) bytes
+-- the number of digits after others, which have this value
+abbrev pub number_of_digits_after : ℕ → List ℕ → ℕ
+number_of_digits_after value [] = value
+number_of_digits_after value (byte ∷ bytes) =
+    number_of_digits_after (value * 10 + (byte - 48)) bytes
 
--- the value of digits
-abbrev pub decimal : List ℕ → ℕ
-decimal digits = decimal_from 0 digits
+-- the number that digits write
+abbrev pub number_of_digits : List ℕ → ℕ
+number_of_digits digits = number_of_digits_after 0 digits
 
--- the greatest of 64 bits signed
-abbrev pub greatest : ℕ
-greatest = 9_223_372_036_854_775_807
-
--- a number without a sign, or with a plus
+-- a number without a sign, or with a plus: at most the greatest of 64 bits signed
 abbrev pub NamesNumber : List ℕ → ℕ → Type 0
-NamesNumber digits value = (value ≡ decimal digits) × (value ≤ greatest)
+NamesNumber digits value = (value ≡ number_of_digits digits) × (value ≤ greatest_number)
 
--- the number of digits behind a minus: one more below than above
+-- a number behind a minus: one more below zero than above
 abbrev pub NamesNegative : List ℕ → ℤ → Type 0
-NamesNegative digits value = (value ≡ neg_ℤ (pos (decimal digits))) × (decimal digits ≤ greatest + 1)
+NamesNegative digits value =
+    (value ≡ neg_ℤ (pos (number_of_digits digits)))
+    × (number_of_digits digits ≤ greatest_number + 1)
 
 -- ---- texts
 
@@ -33,23 +33,24 @@ NamesNegative digits value = (value ≡ neg_ℤ (pos (decimal digits))) × (deci
 abbrev pub is_quote : ℕ → Bool
 is_quote byte = byte == 39
 
--- what stands behind the first quote
+-- what comes after the first quote
 abbrev pub behind_quote : List ℕ → List ℕ
 behind_quote [] = []
 behind_quote (byte ∷ rest) = cond (is_quote byte) rest (behind_quote rest)
 
--- what stands before a quote that no quote follows, with one quote for each two
+-- what comes before a quote that no quote follows, with one quote for each two
 abbrev mutual
   pub unquoted : List ℕ → List ℕ
   unquoted [] = []
   unquoted (byte ∷ rest) = cond (is_quote byte) (after_quote rest) (byte ∷ unquoted rest)
 
+  -- the same, where a quote has just been read
   pub after_quote : List ℕ → List ℕ
   after_quote [] = []
   after_quote (byte ∷ rest) = cond (is_quote byte) (39 ∷ unquoted rest) []
 
--- the value of a text token: what stands behind its first quote and before its last, with one quote
--- for each two
+-- the value of a text token: what is between its first quote and its last, with one quote for each
+-- two
 abbrev pub text_value : List ℕ → List ℕ
 text_value token = unquoted (behind_quote token)
 
