@@ -9,7 +9,8 @@ use Rattle.history_model.specs.Histories.{last_state, with_event}
 -- the last state is the same after one more event
 abbrev pub KeepsState : History → Event → Type 0
 KeepsState history event =
-    (table : ℕ) (day : ℤ) → last_state (with_event history event) table day ≡ last_state history table day
+    (table : ℕ) (day : ℤ)
+    → last_state (with_event history event) table day ≡ last_state history table day
 
 -- a creation adds its definition at the end of the catalog, and keeps the last state
 abbrev pub CreationsAddTables : Type 0

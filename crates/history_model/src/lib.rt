@@ -1,7 +1,7 @@
 //! What the tables hold: what a change makes of a day, the histories of a store and the state after
-//! their last event, and the ordinary query on a day. The definitions are in `specs/`; each function
-//! here does nothing, and its contract is a law over them. A new form of change gets its clause in
-//! `specs/Effects`, a new form of query its clause in `specs/Answers`.
+//! their last event, and the ordinary query on a day. The definitions are in `specs/`; each
+//! function here does nothing, and its contract is a law over them. A new form of change gets its
+//! clause in `specs/Effects`, a new form of query its clause in `specs/Answers`.
 #![tactic(auto)]
 
 ghost use Rattle.history_model.specs.Laws.{ChangesTakeEffect, CreationsAddTables};
