@@ -57,6 +57,7 @@ clock_after clock Asked = clock
 abbrev pub clock_of : History → ℤ
 clock_of history = fold clock_after history.opening.clock history.events
 
+-- the definition that an event added, if it was a creation
 abbrev pub created_by : Event → Option TableDef
 created_by (Advanced moment) = None
 created_by (Created definition) = Some definition
@@ -74,7 +75,7 @@ changed_until moment Asked = None
 abbrev pub catalog_of : History → List TableDef
 catalog_of history = history.opening.catalog ++ filter_map created_by history.events
 
--- the rows that each table has on each day; a list stands for the set of its members
+-- the rows that each table has on each day; a list is read as the set of its members
 abbrev pub State : Type 0
 State = ℕ → ℤ → List (List Value)
 

@@ -1,4 +1,4 @@
--- A change that is carried out is a step of the histories that the engine represents.
+-- A change that runs is a step of the histories that the engine represents.
 use Rattle.std.proofs.Common.{◌≡◌, ◌<◌, ◌≤◌, ◌-◌, ◌++◌, ◌∷◌, ◌↔◌, ℕ, zero, suc, ℤ, Bool, true, false, List, [], length, map, Ok, refl, sym, ap, ◌∙◌, subst, inl, inr, arith, get_or, set, nat_eq}
 use Rattle.std.proofs.lemmas.List.{get_or-set_same, get_or-set_other, length-map}
 use Rattle.std.proofs.lemmas.Bool.Decides.{nat_tests}

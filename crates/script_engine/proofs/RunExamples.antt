@@ -74,7 +74,7 @@ syntax_alone = inl (record {
       ];
 })
 
--- a statement that is not carried out is refused by 10, and the history stays
+-- a statement that does not run yet is refused by 10, and the history stays
 not_carried_out : (history : History) (moment : ℤ) → Step history (statement.at moment) (Err Syntax) history
 not_carried_out history moment = (syntax_alone, refl)
 

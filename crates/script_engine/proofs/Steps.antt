@@ -1,4 +1,4 @@
--- Each way in which the engine carries out a statement is a step of the histories that it represents.
+-- Each way in which the engine runs a statement is a step of the histories that it represents.
 use Rattle.std.proofs.Common.{◌≡◌, ◌++◌, ◌∷◌, ◌↔◌, ℕ, zero, suc, ℤ, List, [], Ok, Err, refl, sym, ap, ◌∙◌, subst, get_or}
 use Rattle.std.specs.List.{Contains}
 use Rattle.period_core.specs.Leasts.{MayAnswer, NoneApplies}

@@ -5,25 +5,25 @@ ghost use Rattle.std.specs.Prelude.{length};
 ghost use Rattle.std.specs.Prelude.{IfOk, IfErr, IsOkAnd, OnOk, OnErr, slice_set, slice_index_or};
 ghost use Rattle.history_model.specs.Histories.{History, Database, opened, new_database, rows_in};
 ghost use Rattle.catalog_core.specs.Limits.{most_tables};
-ghost use Rattle.catalog_core.specs.change.Resolution.{IsChange};
-ghost use Rattle.catalog_core.specs.query.Selection.{IsSequenced};
 ghost use Rattle.catalog_core.specs.table.TableWords.{has_date_period, has_distinct_names};
 ghost use Rattle.catalog_core.specs.table.TableWords.{table_of};
 ghost use Rattle.catalog_core.specs.declared.table.TableDef.{TableDef};
 ghost use Rattle.script_engine.specs.engine.Runs.{Represents, StepsTo};
 ghost use Rattle.script_engine.specs.engine.Widths.{HaveWidth};
-ghost use Rattle.sql_statements.specs.Plain.{plain};
+ghost use Rattle.sql_statements.specs.Plain.{plain, plain_query};
 ghost use Rattle.sql_statements.specs.Trees as statement;
 
 pub mod outcome;
 mod rows;
 
 use crate::engine::outcome::{Outcome, Word};
-use crate::engine::rows::{column_names, given_rows, projected_rows};
-use catalog_core::{Catalog, Change, TableDef, define, resolve_change, resolve_query};
+use crate::engine::rows::{column_names, inserted_rows, projected_rows};
+use catalog_core::{Catalog, Change, TableDef, define, resolve_insert, resolve_sequenced};
 use coalesce_core::{coalesce, witnesses};
 use period_core::{Answer, Items, Memory, PeriodRow, Refusal};
-use sql_statements::{CreateTable, Statement, StatementForm};
+use sql_statements::{
+    CreateTable, InsertRows, QueryTree, SelectDistinct, Statement, StatementForm,
+};
 use sqlite::Connection;
 use sqlite_trees::store::Alter;
 use std::alloc::Global;
@@ -125,26 +125,24 @@ impl<S: Alter> Engine<S> {
     }
 
     /// Runs an INSERT. An `Err` changes nothing.
-    fn insert(&mut self, alloc: Global, statement: &Statement) -> Result<Outcome, Refusal>
-        requires { IsChange (plain statement.now) }
+    fn insert(&mut self, alloc: Global, insert: &InsertRows) -> Result<Outcome, Refusal>
         ensures step { (history : History) → Represents history self.old
-            → StepsTo history (plain statement.now) result self.new }
+            → StepsTo history (statement.insert insert.now) result self.new }
         ensures err { OnErr result (self.new ≡ self.old) }
     {
-        let Change { table, action } = resolve_change(alloc, &self.catalog, statement)?;
-        let added = given_rows(alloc, action)?;
+        let Change { table, action } = resolve_insert(alloc, &self.catalog, insert)?;
+        let added = inserted_rows(alloc, action)?;
         let count = added.len() as u64;
         self.add_rows(table, added)?;
         Ok(Outcome::Done(Word::Insert, count))
     }
 
     /// Answers a sequenced query.
-    fn answer(&self, alloc: Global, statement: &Statement) -> Result<Outcome, Refusal>
-        requires { IsSequenced (plain statement.now) }
+    fn answer(&self, alloc: Global, query: &QueryTree<SelectDistinct>) -> Result<Outcome, Refusal>
         ensures { (history : History) → Represents history self.now
-            → StepsTo history (plain statement.now) result self.now }
+            → StepsTo history (statement.sequenced (plain_query query.now)) result self.now }
     {
-        let query = resolve_query(alloc, &self.catalog, statement)?;
+        let query = resolve_sequenced(alloc, &self.catalog, query)?;
         let items = query.items.as_slice();
         let rows = projected_rows(alloc, items, self.table_rows(query.table))?;
         let rows = coalesce(alloc, rows)?;
@@ -167,8 +165,8 @@ impl<S: Alter> Engine<S> {
     {
         match statement.form() {
             StatementForm::Create(create) => self.create(alloc, create.table()),
-            StatementForm::Insert(_) => self.insert(alloc, statement),
-            StatementForm::Sequenced(_) => self.answer(alloc, statement),
+            StatementForm::Insert(insert) => self.insert(alloc, insert),
+            StatementForm::Sequenced(query) => self.answer(alloc, query),
             // The other forms are not run yet.
             StatementForm::At(_)
             | StatementForm::Update(_)

@@ -13,9 +13,11 @@ pub record PlainRow : Type 0 where
   pub start : ℤ
   pub end : ℤ
 
+-- of a period row
 abbrev pub plain_row : PeriodRow → PlainRow
 plain_row row = record { values = row.values; start = row.period.start; end = row.period.end }
 
+-- of a given row
 abbrev pub plain_given : GivenRow → PlainRow
 plain_given given = record { values = given.values; start = given.start; end = given.end }
 
@@ -29,6 +31,7 @@ pub record ReadRow : Type 0 where
   pub start : ℤ
   pub end : ℤ
 
+-- of a period row
 abbrev pub read_row : List Item → PeriodRow → ReadRow
 read_row items row =
     record { values = read_items items row.values; start = row.period.start; end = row.period.end }

@@ -29,8 +29,8 @@ use Rattle.script_engine.specs.declared.engine.outcome.Outcome.TheVariants.{Done
 use Rattle.script_engine.specs.declared.engine.outcome.Outcome.TheVariants.{Answer as Answered}
 use Rattle.script_engine.specs.declared.engine.outcome.Word.TheVariants as word
 
--- the condition of each refusal, for a statement over a catalog; statements of the other forms are
--- not run yet, and refused as if none were spelled so
+-- the condition of each refusal, for a statement over a catalog; statements of the other forms do
+-- not run yet, and are refused with 10 Syntax
 abbrev pub StatementApplies : List TableDef → Statement → Refusal → Type 0
 StatementApplies catalog (statement.create c) = Holds (create_conditions catalog c)
 StatementApplies catalog (statement.insert i) =
@@ -41,21 +41,33 @@ StatementApplies catalog (statement.sequenced q) =
 StatementApplies catalog _ = Holds ((Syntax, true) ∷ [])
 
 -- CREATE adds the definition that it gives
-pub record Creates (history : History) (create : CreateTable) (outcome : Outcome) (new : History) : Type 0 where
+pub record Creates
+    (history : History)
+    (create : CreateTable)
+    (outcome : Outcome)
+    (new : History) : Type 0 where
   pub definition : TableDef
   pub defined : Defines (catalog_of history) create definition
   pub done : outcome ≡ Done word.Create 0
   pub after : new ≡ with_event history (Created definition)
 
 -- a change is run as it is resolved; its count is that of the rows that it gives
-pub record Changes (history : History) (s : Statement) (outcome : Outcome) (new : History) : Type 0 where
+pub record Changes
+    (history : History)
+    (s : Statement)
+    (outcome : Outcome)
+    (new : History) : Type 0 where
   pub change : Change
   pub resolved : ResolvesChange (catalog_of history) s change
   pub done : outcome ≡ Done word.Insert (length (given_of change.action))
   pub after : new ≡ with_event history (Changed change)
 
 -- a sequenced query is answered by the sets that the ordinary query gives on each day
-pub record Answers (history : History) (s : Statement) (answer : Answer) (new : History) : Type 0 where
+pub record Answers
+    (history : History)
+    (s : Statement)
+    (answer : Answer)
+    (new : History) : Type 0 where
   pub query : Select
   pub resolved : ResolvesQuery (catalog_of history) s query
   pub columns : answer.columns ≡ map (λ (item : Item). item.name) query.items
@@ -82,8 +94,9 @@ Step history s (Ok outcome) new =
 -- what is kept is what the history says: its tables, and on each day the set of each
 pub record Represents (history : History) (database : Database) : Type 0 where
   pub catalog : database.catalog ≡ catalog_of history
-  pub daily : (table : ℕ) (day : ℤ) (values : List Value) →
-      (InSnapshot (rows_in database table) day values ↔ Contains (last_state history table day) values)
+  pub daily : (table : ℕ) (day : ℤ) (values : List Value)
+      → (InSnapshot (rows_in database table) day values
+      ↔ Contains (last_state history table day) values)
 
 -- the statement's result is a step of the history, and what is kept then is what the new history
 -- says

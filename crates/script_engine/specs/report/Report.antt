@@ -19,16 +19,19 @@ use Rattle.script_engine.specs.declared.engine.outcome.Word.TheVariants.{Create,
 use Rattle.script_engine.specs.declared.report.ReportFault.{ReportFault}
 use Rattle.script_engine.specs.declared.report.ReportFault.TheVariants.{Memory, Write}
 
--- the bytes that stand apart in a record
+-- `,`, between two fields
 abbrev pub comma : ℕ
 comma = 44
 
+-- `"`, around a field
 abbrev pub quote_mark : ℕ
 quote_mark = 34
 
+-- a carriage return, which ends no record, but is quoted in a field
 abbrev pub carriage_return : ℕ
 carriage_return = 13
 
+-- a line feed, at the end of a record
 abbrev pub line_feed : ℕ
 line_feed = 10
 

@@ -36,7 +36,8 @@ PieceStep history piece result new =
     × Step history s result new)
 
 -- the results of the pieces, one after the other
-abbrev pub RunPieces : History → List (List Lexeme) → List (Result Outcome Refusal) → History → Type 0
+abbrev pub RunPieces :
+    History → List (List Lexeme) → List (Result Outcome Refusal) → History → Type 0
 RunPieces history [] [] new = new ≡ history
 RunPieces history (piece ∷ pieces) (result ∷ results) new =
     (middle : History) × PieceStep history piece result middle × RunPieces middle pieces results new
@@ -52,7 +53,8 @@ most_bytes = 4_194_304
 abbrev pub ScriptApplies : List ℕ → Refusal → Type 0
 ScriptApplies script NotUtf8 = (length script ≤ most_bytes) × (IsUtf8 script → ⊥)
 ScriptApplies script ScriptTooLarge = most_bytes < length script
-ScriptApplies script (BadToken offset) = (length script ≤ most_bytes) × IsUtf8 script × StopsAt script offset
+ScriptApplies script (BadToken offset) =
+    (length script ≤ most_bytes) × IsUtf8 script × StopsAt script offset
 ScriptApplies script other = ⊥
 
 -- which refusals a whole script may get

@@ -4,7 +4,7 @@ ghost use Rattle.std.specs.Prelude.{◌≡◌, ◌⊎◌, List, map, IfOk, IfErr
 ghost use Rattle.std.specs.List.{All, list_any};
 ghost use Rattle.history_model.specs.Effects.{given_of};
 ghost use Rattle.period_core.specs.declared.refusal.Refusal.TheVariants.{EmptyPeriod};
-ghost use Rattle.period_core.specs.declared.refusal.Refusal.TheVariants.{Memory as WantOfMemory};
+ghost use Rattle.period_core.specs.declared.refusal.Refusal.TheVariants.{Memory as OutOfMemory};
 ghost use Rattle.history_model.specs.Answers.{IsProjection};
 ghost use Rattle.catalog_core.specs.change.Resolution.{has_empty_row, is_empty_row};
 ghost use Rattle.script_engine.specs.engine.Rows.{HasItems, plain_given, plain_row, read_row};
@@ -15,9 +15,10 @@ use period_core::{Items, Memory, Period, PeriodRow, Refusal, Text, Value, Values
 use std::alloc::Global;
 
 /// The period rows of the rows that an action gives, or EmptyPeriod where one of these has no day.
-pub fn given_rows(alloc: Global, action: Action) -> Result<Items<PeriodRow>, Refusal>
+pub fn inserted_rows(alloc: Global, action: Action) -> Result<Items<PeriodRow>, Refusal>
     ensures rows { IfOk result (λ rows. map plain_row rows ≡ map plain_given (given_of action)) }
-    ensures refused { IfErr result (λ refusal. ((refusal ≡ EmptyPeriod) × (has_empty_row action ≡ true)) ⊎ (refusal ≡ WantOfMemory)) }
+    ensures refused { IfErr result (λ refusal.
+        ((refusal ≡ EmptyPeriod) × (has_empty_row action ≡ true)) ⊎ (refusal ≡ OutOfMemory)) }
 {
     let Action::Insert(given) = action;
     rows_of_given(alloc, given)
@@ -26,7 +27,9 @@ pub fn given_rows(alloc: Global, action: Action) -> Result<Items<PeriodRow>, Ref
 /// The period rows of given rows.
 fn rows_of_given(alloc: Global, given: Items<GivenRow>) -> Result<Items<PeriodRow>, Refusal>
     ensures rows { IfOk result (λ rows. map plain_row rows ≡ map plain_given given) }
-    ensures refused { IfErr result (λ refusal. ((refusal ≡ EmptyPeriod) × (list_any is_empty_row given ≡ true)) ⊎ (refusal ≡ WantOfMemory)) }
+    ensures refused { IfErr result (λ refusal.
+        ((refusal ≡ EmptyPeriod) × (list_any is_empty_row given ≡ true))
+        ⊎ (refusal ≡ OutOfMemory)) }
 {
     let mut rows = Vec::new(alloc);
     for row in given.into_vec() {

@@ -4,7 +4,8 @@ use Rattle.period_core.specs.declared.row.PeriodRow.{PeriodRow}
 use Rattle.temporal_model.specs.Snapshot.{Equivalent}
 use Rattle.temporal_model.specs.Answer.{IsCertified, IsInAnswerOrder, IsShortest}
 use Rattle.temporal_model.specs.Witness.{witness_of}
-use Rattle.sql_statements.specs.Plain.{plain}
+use Rattle.sql_statements.specs.Plain.{plain_query}
+use Rattle.sql_statements.specs.Trees as statement
 use Rattle.history_model.specs.Histories.{Database, rows_in}
 use Rattle.catalog_core.specs.Judged.{Holds}
 use Rattle.catalog_core.specs.query.Selection.{ResolvesQuery, query_conditions}
@@ -20,9 +21,9 @@ pub projected_rows-requires : goal.projected_rows-requires
 projected_rows-requires g c =
     let same : c.self.inside.catalog.tables ≡ c.args.self.now.catalog = ap (λ (d : Database). d.catalog) c.self.view_is in
     let fit : FitCatalog c.args.self.now.catalog c.args.self.now.rows = subst (λ (d : Database). FitCatalog d.catalog d.rows) c.self.view_is c.self.invariant in
-    let resolved : ResolvesQuery c.args.self.now.catalog (plain c.args.statement.now) c.in_ok-query.query =
-    subst (λ (tables : List TableDef). ResolvesQuery tables (plain c.args.statement.now) c.in_ok-query.query) same c.in_ok-query.ensures.resolved in
-    items_of_query c.args.self.now (plain c.args.statement.now) c.in_ok-query.query c.as_slice-items.result.now c.table_rows.result.now
+    let resolved : ResolvesQuery c.args.self.now.catalog (statement.sequenced (plain_query c.args.query.now)) c.in_ok-query.query =
+    subst (λ (tables : List TableDef). ResolvesQuery tables (statement.sequenced (plain_query c.args.query.now)) c.in_ok-query.query) same c.in_ok-query.ensures.resolved in
+    items_of_query c.args.self.now (statement.sequenced (plain_query c.args.query.now)) c.in_ok-query.query c.as_slice-items.result.now c.table_rows.result.now
     c.as_slice-items.ensures c.table_rows.ensures fit resolved
 
 pub returns : goal.returns
@@ -31,11 +32,11 @@ returns g c history kept =
     let found = c.in_ok-rows-2.ensures in
     let rows : c.in_ok-rows-2.rows.items ≡ c.from_vec.result = sym c.from_vec.ensures in
     let seen : c.as_slice.result.now ≡ c.in_ok-rows-2.rows.items = c.as_slice.ensures.value in
-    answered_step history c.args.self.now (plain c.args.statement.now) c.in_ok-query.query c.in_ok-rows.rows.items
+    answered_step history c.args.self.now (statement.sequenced (plain_query c.args.query.now)) c.in_ok-query.query c.in_ok-rows.rows.items
     (record { columns = c.in_ok-column_names.field-0; rows = c.from_vec.result; witnesses = c.from_vec-2.result })
-    c.requires kept
-    (subst (λ (tables : List TableDef). NoneApplies (Holds (query_conditions tables (plain c.args.statement.now)))) same c.in_ok-query.ensures.sound)
-    (subst (λ (tables : List TableDef). ResolvesQuery tables (plain c.args.statement.now) c.in_ok-query.query) same c.in_ok-query.ensures.resolved)
+    tt kept
+    (subst (λ (tables : List TableDef). NoneApplies (Holds (query_conditions tables (statement.sequenced (plain_query c.args.query.now))))) same c.in_ok-query.ensures.sound)
+    (subst (λ (tables : List TableDef). ResolvesQuery tables (statement.sequenced (plain_query c.args.query.now)) c.in_ok-query.query) same c.in_ok-query.ensures.resolved)
     (record {
       made =
           subst (λ (items : List Item). map (read_row items) (rows_in c.args.self.now c.in_ok-query.query.table) ≡ map whole_row c.in_ok-rows.rows.items) c.as_slice-items.ensures
