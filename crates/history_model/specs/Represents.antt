@@ -1,15 +1,9 @@
 -- When what is kept is what a history says.
 use Rattle.std.specs.Prelude.{◌≡◌, ◌<ℤ◌, ℕ, ℤ, IsPermutation}
-use Rattle.std.specs.List.{All}
 use Rattle.period_core.specs.Moments.{forever}
 use Rattle.history_model.specs.Histories.{Database, History, catalog_of, clock_of, state_at}
 use Rattle.history_model.specs.Histories.{versions_in}
-use Rattle.history_model.specs.Versions.{IsRecorded, values_at}
-
--- the clock is before FOREVER, and each version is as a store with this clock may have it
-pub record IsRecord (database : Database) : Type 0 where
-  pub before : database.clock <ℤ forever
-  pub recorded : (table : ℕ) → All (IsRecorded database.clock) (versions_in database table)
+use Rattle.history_model.specs.Versions.{values_at}
 
 -- what is kept is what the history says: its clock, its tables, and as of each moment on each day
 -- the rows of each table, each as often

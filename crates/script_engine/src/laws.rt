@@ -1,14 +1,8 @@
-//! What follows from the theorem of sequenced answers, and where it begins. Each function does
-//! nothing: its contract is a law.
+//! What follows from the theorem of sequenced answers. Each function does nothing: its contract is a
+//! law.
 
 ghost use Rattle.script_engine.specs.Laws.{AnswersAreUnique, AnswersMapOneToOne};
-ghost use Rattle.script_engine.specs.Laws.{OpeningsAreRepresented, SameSnapshotsSameAnswers};
-
-/// Whatever an engine keeps, it represents the history that opens with it. So what `execute` says
-/// of each history that the engine represents is said of one at the least.
-pub fn openings_are_represented()
-    ensures { OpeningsAreRepresented }
-{}
+ghost use Rattle.script_engine.specs.Laws.{SameSnapshotsSameAnswers};
 
 /// A list with the same snapshots has a row of its own for each row of an answer, of the same
 /// values and first day. So no such list is shorter.

@@ -12,7 +12,8 @@ use Rattle.sql_statements.specs.Lexis.{StopsAt, TokensOf}
 use Rattle.sql_front.specs.Pieces.{HasPieces}
 use Rattle.sql_statements.specs.Trees.{Statement}
 use Rattle.history_model.specs.Histories.{Database, History, new_database, opened}
-use Rattle.script_engine.specs.engine.Runs.{Represents, Step}
+use Rattle.history_model.specs.Represents.{Represents}
+use Rattle.script_engine.specs.engine.Runs.{Step}
 use Rattle.script_engine.specs.declared.engine.outcome.Outcome.{Outcome}
 
 -- a piece of more than 10,000 tokens

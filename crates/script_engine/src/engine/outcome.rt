@@ -5,6 +5,8 @@ use period_core::Answer;
 /// What was done.
 #[derive(Clone, Copy, Debug, PartialEq, Eq)]
 pub enum Word {
+    /// The clock was moved.
+    At,
     /// A table was created.
     Create,
     /// Rows were inserted.
