@@ -7,7 +7,7 @@ use Rattle.std.specs.declared.io.ErrorKind.{ErrorKind}
 use Rattle.std.specs.declared.io.ErrorKind.TheVariants.{InvalidData}
 use Rattle.period_core.specs.Codes.{code_of, name_of}
 use Rattle.period_core.specs.declared.refusal.Refusal.{Refusal}
-use Rattle.period_core.specs.declared.refusal.Refusal.TheVariants.{BadToken, Memory as WantOfMemory}
+use Rattle.period_core.specs.declared.refusal.Refusal.TheVariants.{BadToken, Memory as OutOfMemory}
 use Rattle.script_engine.specs.declared.report.ReportFault.{ReportFault}
 use Rattle.script_engine.specs.declared.report.ReportFault.TheVariants as report
 use Rattle.bitemporal_cli.specs.declared.fault.RunFault.{RunFault}
@@ -46,7 +46,7 @@ words_fault _ = Memory
 -- the line of a fault
 abbrev pub fault_line : RunFault → List ℕ
 fault_line (Script refusal) = refusal_line refusal
-fault_line Memory = refusal_line WantOfMemory
+fault_line Memory = refusal_line OutOfMemory
 fault_line Words = codes "bitemporal: a word of the command line is not UTF-8\n"
 fault_line Read = codes "bitemporal: cannot read the script\n"
 fault_line Write = codes "bitemporal: cannot write the report\n"

@@ -1,2 +1,4 @@
 pub mod HistoryLemmas
+pub mod VersionFacts
+pub mod LeftFacts
 pub mod ModelExamples

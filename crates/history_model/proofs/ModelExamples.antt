@@ -4,7 +4,7 @@ use Rattle.period_core.specs.declared.value.Value.{Value}
 use Rattle.period_core.specs.declared.value.Value.TheVariants.{Int}
 use Rattle.history_model.specs.Answers.{InAnswerOn, IsProjection}
 use Rattle.history_model.specs.Effects.{Given, Kept, effect, traced}
-use Rattle.history_model.specs.Histories.{Asked, Changed, History, catalog_of, last_state, new_database, opened, rows_in, with_event}
+use Rattle.history_model.specs.Histories.{Advanced, Asked, Changed, History, catalog_of, clock_of, last_state, new_database, opened, state_at, versions_in, with_event}
 use Rattle.catalog_core.specs.declared.change.Action.TheVariants.{Insert}
 use Rattle.catalog_core.specs.declared.change.Change.{Change}
 use Rattle.catalog_core.specs.declared.change.GivenRow.{GivenRow}
@@ -46,7 +46,7 @@ origins : traced (Insert (given ∷ [])) (pos 10) (worker ∷ []) ≡ record { o
 origins = refl
 
 abbrev history : History
-history = with_event (with_event (opened new_database) (Changed inserted)) Asked
+history = with_event (with_event (opened new_database) (Changed (pos 0) inserted)) Asked
 
 -- a query changes nothing, and a table that is not there has no rows
 state_on_a_day : last_state history 1 (pos 15) ≡ worker ∷ []
@@ -58,11 +58,24 @@ state_on_another = refl
 not_there : last_state history 2 (pos 15) ≡ []
 not_there = refl
 
-no_table : rows_in new_database 0 ≡ []
+no_table : versions_in new_database 0 ≡ []
 no_table = refl
 
 nothing_created : catalog_of history ≡ []
 nothing_created = refl
+
+-- AT moves the clock, and a change is seen from its moment on
+abbrev later : History
+later = with_event (with_event (opened new_database) (Advanced (pos 5))) (Changed (pos 5) inserted)
+
+moved : clock_of later ≡ pos 5
+moved = refl
+
+moment_before : state_at later (pos 4) 1 (pos 15) ≡ []
+moment_before = refl
+
+at_its_moment : state_at later (pos 5) 1 (pos 15) ≡ worker ∷ []
+at_its_moment = refl
 
 -- the department and then the employee
 abbrev query : Select

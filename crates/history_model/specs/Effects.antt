@@ -1,4 +1,5 @@
--- What a change makes of a table's set of rows on one day. A list stands for the set of its members.
+-- What a change makes of a table's set of rows on one day. A list is read as the set of its
+-- members.
 use Rattle.std.specs.Prelude.{◌==◌, ◌++◌, ℕ, ℤ, Bool, List, filter, map, if◌then◌else◌}
 use Rattle.std.specs.List.{enumerate_from}
 use Rattle.period_core.specs.declared.value.Value.{Value}
@@ -18,6 +19,7 @@ pub record Traced : Type 0 where
   pub origin : Origin
   pub row : List Value
 
+-- a row that was there
 abbrev pub kept : List Value → Traced
 kept row = record { origin = Kept row; row = row }
 
@@ -35,9 +37,11 @@ given_covers day (i, given) = covers_day given.start given.end day
 
 -- the rows that the action makes of a day's rows, each with its origin
 abbrev pub traced : Action → ℤ → List (List Value) → List Traced
-traced (Insert given) day rows = map kept rows ++ map given_row (filter (given_covers day) (enumerate_from 0 given))
+traced (Insert given) day rows =
+    map kept rows ++ map given_row (filter (given_covers day) (enumerate_from 0 given))
 
 -- a table's rows on a day after the change: other tables keep theirs
 abbrev pub effect : Change → ℕ → ℤ → List (List Value) → List (List Value)
 effect change table day rows =
-    if table == change.table then map (λ (t : Traced). t.row) (traced change.action day rows) else rows
+    if table == change.table then map (λ (t : Traced). t.row) (traced change.action day rows)
+    else rows

@@ -1,34 +1,38 @@
--- What the tables hold: an opening, and what was done since.
-use Rattle.std.specs.Prelude.{◌++◌, ◌∷◌, ℕ, zero, suc, ℤ, List, [], Option, Some, None, filter_map}
-use Rattle.std.specs.Prelude.{fold, slice_index_or}
-use Rattle.period_core.specs.declared.row.PeriodRow.{PeriodRow}
+-- What the tables held at each moment: an opening, and what was done since.
+use Rattle.std.specs.Prelude.{◌++◌, ◌∷◌, ℕ, zero, suc, ℤ, List, [], Option, Some}
+use Rattle.std.specs.Prelude.{None, filter_map, fold, int_le, slice_index_or, cond}
+use Rattle.period_core.specs.Moments.{first_moment}
 use Rattle.period_core.specs.declared.value.Value.{Value}
-use Rattle.temporal_model.specs.Snapshot.{values_on}
-use Rattle.history_model.specs.Effects.{effect}
-use Rattle.catalog_core.specs.declared.table.TableDef.{TableDef}
+use Rattle.period_core.specs.declared.version.VersionRow.{VersionRow}
 use Rattle.catalog_core.specs.declared.change.Change.{Change}
+use Rattle.catalog_core.specs.declared.table.TableDef.{TableDef}
+use Rattle.history_model.specs.Effects.{effect}
+use Rattle.history_model.specs.Versions.{last_moment, values_at}
 
--- what is kept: the tables' definitions in the order of their creation, and in the same places their rows
+-- what is kept: the clock, the tables' definitions in the order of their creation, and in the same
+-- places their versions
 pub record Database : Type 0 where
+  pub clock : ℤ
   pub catalog : List TableDef
-  pub rows : List (List PeriodRow)
+  pub versions : List (List VersionRow)
 
--- a new store has no tables
+-- a new store has no tables, and its clock is the first moment
 abbrev pub new_database : Database
-new_database = record { catalog = []; rows = [] }
+new_database = record { clock = first_moment; catalog = []; versions = [] }
 
--- the rows of the table of a number, which counts from 1; a table that is not there has none
-abbrev pub rows_in : Database → ℕ → List PeriodRow
-rows_in database zero = []
-rows_in database (suc place) = slice_index_or database.rows place []
+-- the versions of the table of a number, which counts from 1; a table that is not there has none
+abbrev pub versions_in : Database → ℕ → List VersionRow
+versions_in database zero = []
+versions_in database (suc place) = slice_index_or database.versions place []
 
--- what an accepted statement did
+-- what an accepted statement did; a change with its moment, the clock as it was made
 pub data Event : Type 0 where
+  Advanced : (moment : ℤ) → Event
   Created : (definition : TableDef) → Event
-  Changed : (change : Change) → Event
+  Changed : (moment : ℤ) (change : Change) → Event
   Asked : Event
 
--- what stood at first, and what was done since, the oldest first
+-- what there was at first, and what was done since, the oldest first
 pub record History : Type 0 where
   pub opening : Database
   pub events : List Event
@@ -39,27 +43,50 @@ opened database = record { opening = database; events = [] }
 
 -- the history with one more event
 abbrev pub with_event : History → Event → History
-with_event history event = record { opening = history.opening; events = history.events ++ event ∷ [] }
+with_event history event =
+    record { opening = history.opening; events = history.events ++ event ∷ [] }
 
+-- the clock after an event: AT moves it
+abbrev pub clock_after : ℤ → Event → ℤ
+clock_after clock (Advanced moment) = moment
+clock_after clock (Created definition) = clock
+clock_after clock (Changed moment change) = clock
+clock_after clock Asked = clock
+
+-- the opening's clock, or the moment of the last AT
+abbrev pub clock_of : History → ℤ
+clock_of history = fold clock_after history.opening.clock history.events
+
+-- the definition that an event added, if it was a creation
 abbrev pub created_by : Event → Option TableDef
+created_by (Advanced moment) = None
 created_by (Created definition) = Some definition
-created_by (Changed change) = None
+created_by (Changed moment change) = None
 created_by Asked = None
 
-abbrev pub changed_by : Event → Option Change
-changed_by (Created definition) = None
-changed_by (Changed change) = Some change
-changed_by Asked = None
+-- the change of an event that was made by the moment
+abbrev pub changed_until : ℤ → Event → Option Change
+changed_until moment (Advanced at) = None
+changed_until moment (Created definition) = None
+changed_until moment (Changed at change) = cond (int_le at moment) (Some change) None
+changed_until moment Asked = None
 
 -- the definitions of the opening's tables, then of those that were created
 abbrev pub catalog_of : History → List TableDef
 catalog_of history = history.opening.catalog ++ filter_map created_by history.events
 
--- the rows that each table has on each day; a list stands for the set of its members
+-- the rows that each table has on each day; a list is read as the set of its members
 abbrev pub State : Type 0
 State = ℕ → ℤ → List (List Value)
 
--- the state after the last accepted statement: the opening's rows, after each change in turn
+-- the state at a moment: what the opening's versions hold as of it, after each change that was made
+-- by then, in turn
+abbrev pub state_at : History → ℤ → State
+state_at history moment table day =
+    fold (λ rows change. effect change table day rows)
+    (values_at (versions_in history.opening table) moment day)
+    (filter_map (changed_until moment) history.events)
+
+-- the last state: that at the last moment
 abbrev pub last_state : History → State
-last_state history table day =
-    fold (λ rows change. effect change table day rows) (values_on (rows_in history.opening table) day) (filter_map changed_by history.events)
+last_state history = state_at history last_moment

@@ -1,33 +1,85 @@
 -- What one more event makes of a history. Each law is the contract of a function of this crate.
-use Rattle.std.specs.Prelude.{◌≡◌, ◌++◌, ◌∷◌, [], ℕ, ℤ}
+use Rattle.std.specs.Prelude.{◌≡◌, ◌++◌, ◌∷◌, ◌≤ℤ◌, ◌<ℤ◌, [], ℕ, ℤ, List, IsPermutation, map}
+use Rattle.std.specs.List.{All}
+use Rattle.period_core.specs.Moments.{forever}
+use Rattle.period_core.specs.declared.version.VersionRow.{VersionRow}
+use Rattle.temporal_model.specs.Snapshot.{values_on}
 use Rattle.catalog_core.specs.declared.change.Change.{Change}
 use Rattle.catalog_core.specs.declared.table.TableDef.{TableDef}
 use Rattle.history_model.specs.Effects.{effect}
-use Rattle.history_model.specs.Histories.{Asked, Changed, Created, Event, History, catalog_of}
-use Rattle.history_model.specs.Histories.{last_state, with_event}
+use Rattle.history_model.specs.Histories.{Advanced, Asked, Changed, Created, Database, Event}
+use Rattle.history_model.specs.Histories.{History, catalog_of, clock_of, opened, state_at}
+use Rattle.history_model.specs.Histories.{with_event}
+use Rattle.history_model.specs.Left.{AreLeftBy}
+use Rattle.history_model.specs.Represents.{Represents}
+use Rattle.history_model.specs.Versions.{IsRecorded, current, row_of, values_at}
 
--- the last state is the same after one more event
-abbrev pub KeepsState : History → Event → Type 0
-KeepsState history event =
-    (table : ℕ) (day : ℤ) → last_state (with_event history event) table day ≡ last_state history table day
+-- the clock is the same after one more event
+abbrev pub KeepsClock : History → Event → Type 0
+KeepsClock history event = clock_of (with_event history event) ≡ clock_of history
 
--- a creation adds its definition at the end of the catalog, and keeps the last state
+-- so is the catalog
+abbrev pub KeepsCatalog : History → Event → Type 0
+KeepsCatalog history event = catalog_of (with_event history event) ≡ catalog_of history
+
+-- so is the state at each moment
+abbrev pub KeepsStates : History → Event → Type 0
+KeepsStates history event =
+    (moment : ℤ) (table : ℕ) (day : ℤ)
+    → state_at (with_event history event) moment table day ≡ state_at history moment table day
+
+-- whatever is kept, it represents the history that opens with it
+abbrev pub OpeningsAreRepresented : Type 0
+OpeningsAreRepresented = (database : Database) → Represents (opened database) database
+
+-- the versions that a history leaves of a table hold its state as of every moment on every day
+abbrev pub VersionsHoldTheStates : Type 0
+VersionsHoldTheStates =
+    (history : History) (table : ℕ) (versions : List VersionRow) → AreLeftBy history table versions
+    → (moment day : ℤ) → moment <ℤ forever
+    → IsPermutation (values_at versions moment day) (state_at history moment table day)
+
+-- where the versions are as a store with this clock may have them, the current ones hold on each day
+-- what all of them hold as of the clock, and as of each later moment
+abbrev pub CurrentVersionsHold : Type 0
+CurrentVersionsHold =
+    (clock : ℤ) (versions : List VersionRow) → All (IsRecorded clock) versions
+    → (moment day : ℤ) → clock ≤ℤ moment → moment <ℤ forever
+    → values_at versions moment day ≡ values_on (map row_of (current versions)) day
+
+-- AT moves the clock, and keeps the catalog and all states
+abbrev pub AdvancesMoveTheClock : Type 0
+AdvancesMoveTheClock =
+    (history : History) (moment : ℤ)
+    → (clock_of (with_event history (Advanced moment)) ≡ moment)
+    × KeepsCatalog history (Advanced moment) × KeepsStates history (Advanced moment)
+
+-- a creation adds its definition at the end of the catalog, and keeps the clock and all states
 abbrev pub CreationsAddTables : Type 0
 CreationsAddTables =
     (history : History) (definition : TableDef)
     → (catalog_of (with_event history (Created definition)) ≡ catalog_of history ++ definition ∷ [])
-    × KeepsState history (Created definition)
+    × KeepsClock history (Created definition) × KeepsStates history (Created definition)
 
--- a change has its effect on each table's rows on each day, and keeps the catalog
+-- from its moment on a change has its effect on each table's rows on each day
 abbrev pub ChangesTakeEffect : Type 0
 ChangesTakeEffect =
-    (history : History) (change : Change)
-    → (catalog_of (with_event history (Changed change)) ≡ catalog_of history)
-    × ((table : ℕ) (day : ℤ) → last_state (with_event history (Changed change)) table day
-    ≡ effect change table day (last_state history table day))
+    (history : History) (at : ℤ) (change : Change) (moment : ℤ) (table : ℕ) (day : ℤ)
+    → at ≤ℤ moment
+    → state_at (with_event history (Changed at change)) moment table day
+    ≡ effect change table day (state_at history moment table day)
 
--- a query keeps the catalog and the last state
+-- no change is seen before its moment, nor in the clock or the catalog
+abbrev pub EarlierStatesStay : Type 0
+EarlierStatesStay =
+    (history : History) (at : ℤ) (change : Change)
+    → KeepsClock history (Changed at change) × KeepsCatalog history (Changed at change)
+    × ((moment : ℤ) (table : ℕ) (day : ℤ) → moment <ℤ at
+    → state_at (with_event history (Changed at change)) moment table day
+    ≡ state_at history moment table day)
+
+-- a query keeps the clock, the catalog and all states
 abbrev pub QueriesChangeNothing : Type 0
 QueriesChangeNothing =
     (history : History)
-    → (catalog_of (with_event history Asked) ≡ catalog_of history) × KeepsState history Asked
+    → KeepsClock history Asked × KeepsCatalog history Asked × KeepsStates history Asked

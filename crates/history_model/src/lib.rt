@@ -1,24 +1,53 @@
-//! What the tables hold: what a change makes of a day, the histories of a store and the state after
-//! their last event, and the ordinary query on a day. The definitions are in `specs/`; each function
-//! here does nothing, and its contract is a law over them. A new form of change gets its clause in
-//! `specs/Effects`, a new form of query its clause in `specs/Answers`.
+//! What the tables held at each moment: what a change makes of a day, the histories of a store and
+//! their states, versions, and the ordinary query on a day. The definitions are in `specs/`; each
+//! function here does nothing, and its contract is a law over them. A new form of change gets its
+//! clause in `specs/Effects`, a new form of query its clause in `specs/Answers`.
 #![tactic(auto)]
 
-ghost use Rattle.history_model.specs.Laws.{ChangesTakeEffect, CreationsAddTables};
-ghost use Rattle.history_model.specs.Laws.{QueriesChangeNothing};
+ghost use Rattle.history_model.specs.Laws.{AdvancesMoveTheClock, ChangesTakeEffect};
+ghost use Rattle.history_model.specs.Laws.{CreationsAddTables, CurrentVersionsHold};
+ghost use Rattle.history_model.specs.Laws.{EarlierStatesStay, VersionsHoldTheStates};
+ghost use Rattle.history_model.specs.Laws.{OpeningsAreRepresented, QueriesChangeNothing};
 
-/// A creation adds its definition at the end of the catalog, and changes no table's rows.
+/// Whatever a store keeps, it represents the history that opens with it. So what is said of each
+/// history that a store represents is said of one at the least.
+pub fn openings_are_represented()
+    ensures { OpeningsAreRepresented }
+{}
+
+/// The versions that a history leaves, up to their order, hold its state as of every moment on every
+/// day.
+pub fn versions_hold_the_states()
+    ensures { VersionsHoldTheStates }
+{}
+
+/// From the clock on the versions of a store hold what the current ones hold.
+pub fn current_versions_hold()
+    ensures { CurrentVersionsHold }
+{}
+
+/// AT moves the clock, and changes neither the catalog nor the state at any moment.
+pub fn advances_move_the_clock()
+    ensures { AdvancesMoveTheClock }
+{}
+
+/// A creation adds its definition at the end of the catalog, and changes neither the clock nor the
+/// state at any moment.
 pub fn creations_add_tables()
     ensures { CreationsAddTables }
 {}
 
-/// A change makes of each table's rows on each day what its effect says, and leaves the catalog as
-/// it was.
+/// From its moment on a change has its effect on each table's rows on each day.
 pub fn changes_take_effect()
     ensures { ChangesTakeEffect }
 {}
 
-/// A query changes neither the catalog nor the rows.
+/// No change is seen in the state at an earlier moment.
+pub fn earlier_states_stay()
+    ensures { EarlierStatesStay }
+{}
+
+/// A query changes neither the clock nor the catalog nor the state at any moment.
 pub fn queries_change_nothing()
     ensures { QueriesChangeNothing }
 {}

@@ -181,6 +181,11 @@ day_value t = if_there (day_of_text t) (λ n. IsDayText n t) (day_read_is_text t
 pub moment_value : (t : List ℕ) → IfSome (moment_of_text t) (λ n. IsMomentText n t)
 moment_value t = if_there (moment_of_text t) (λ n. IsMomentText n t) (moment_read_is_text t)
 
+-- for the functions `from_text`, as their `using` names them
+pub ruleset day_readings = (day_there, day_value)
+
+pub ruleset moment_readings = (moment_there, moment_value)
+
 -- ---- step by step, as the code reads
 
 abbrev nothing : Option ℤ

@@ -4,6 +4,7 @@ use Rattle.std.specs.Prelude.{length, slice_index, Option, Some, None, option_an
 use Rattle.period_core.specs.Calendar.{day_number, month_length}
 use Rattle.period_core.specs.Moments.{moment_number}
 
+-- goes on with the value where there is one; `do` uses it
 infixl 10 ◌>>=◌
 abbrev pub ◌>>=◌ : {A B : Type 0} → Option A → (A → Option B) → Option B
 o >>= f = option_and_then f o

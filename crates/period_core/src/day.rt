@@ -64,7 +64,7 @@ impl Day {
 
     /// The day with this text, YYYY-MM-DD in ASCII as `write_text` writes it: `None` exactly where
     /// it is no day's.
-    #[tactic(auto, using(crate::proofs::TextReadings::day_there, crate::proofs::TextReadings::day_value))]
+    #[tactic(auto, using(crate::proofs::TextReadings::day_readings))]
     pub fn from_text(text: &[u8]) -> Option<Day>
         ensures there { IsSome result ↔ ((n : ℤ) × IsDayText n text.now) }
         ensures value { IfSome result (λ d. IsDayText d text.now) }

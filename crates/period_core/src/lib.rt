@@ -1,5 +1,11 @@
 //! Days, moments, periods, system-time windows, values, rows over a period, versions, numbered
-//! refusals.
+//! refusals. What to touch in order to add
+//!
+//! - a refusal: `Refusal` in `refusal.rt`, its number and name there and in `specs/Codes`, the list
+//!   in `help.rt` of bitemporal_cli, the table in docs/PROFILE.md, and tools/explain;
+//! - a column type: `Value` in `value.rt`, its order in `specs/Order` and `specs/OrderLaws`, its
+//!   bytes in `specs/Encoding`, `specs/Decoding`, `encoding.rt` and `decoding.rt`, its text in
+//!   `specs/report/Report` of script_engine, and what `lib.rt` of catalog_core names.
 #![tactic(auto)]
 
 pub mod answer;

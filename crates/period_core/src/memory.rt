@@ -1,8 +1,8 @@
-//! Want of memory, the one fault of calls that take memory.
+//! Out of memory, the one fault of calls that take memory.
 
 use std::alloc::{AllocError, AllocFailed};
 
-/// Want of memory: an allocation was refused. It carries nothing.
+/// Out of memory: an allocation was refused. It carries nothing.
 #[derive(Clone, Copy, Debug, PartialEq, Eq)]
 pub struct Memory;
 

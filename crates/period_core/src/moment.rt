@@ -86,7 +86,7 @@ impl Moment {
 
     /// The moment with this text, YYYY-MM-DD HH:MM:SS in ASCII as `write_text` writes it: `None`
     /// exactly where it is no moment's.
-    #[tactic(auto, using(crate::proofs::TextReadings::moment_there, crate::proofs::TextReadings::moment_value))]
+    #[tactic(auto, using(crate::proofs::TextReadings::moment_readings))]
     pub fn from_text(text: &[u8]) -> Option<Moment>
         ensures there { IsSome result ↔ ((n : ℤ) × IsMomentText n text.now) }
         ensures value { IfSome result (λ m. IsMomentText m text.now) }

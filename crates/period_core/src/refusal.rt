@@ -1,7 +1,7 @@
 //! The numbered refusals of scripts, statements and stores; the least that applies is answered.
 
 ghost use Rattle.std.specs.Prelude.{◌≡◌};
-ghost use Rattle.period_core.specs.declared.refusal.Refusal.TheVariants.{Memory as WantOfMemory};
+ghost use Rattle.period_core.specs.declared.refusal.Refusal.TheVariants.{Memory as OutOfMemory};
 
 use crate::day::Day;
 use crate::memory::Memory;
@@ -17,7 +17,7 @@ pub enum Refusal {
     /// No token begins at this byte of the script, or a text that is opened here does not end. It
     /// carries the byte's offset, the least such, from 0.
     BadToken(usize),
-    /// No statement is spelled so.
+    /// The tokens have the syntax of no statement, or of one that does not run yet.
     Syntax,
     /// Up to some token there are over 32 more `(` than `)`.
     TooDeep,
@@ -59,7 +59,7 @@ pub enum Refusal {
     PeriodReference(Day),
     /// A store that was not written by this product, or is damaged.
     BadStore,
-    /// Want of memory.
+    /// Out of memory.
     Memory,
     /// Any other refusal of the database.
     Store,
@@ -138,7 +138,7 @@ impl Refusal {
 }
 
 impl From<Memory> for Refusal {
-    ghost from_gives = { λ _ refusal. refusal ≡ WantOfMemory };
+    ghost from_gives = { λ _ refusal. refusal ≡ OutOfMemory };
 
     fn from(_fault: Memory) -> Refusal {
         Refusal::Memory
@@ -146,7 +146,7 @@ impl From<Memory> for Refusal {
 }
 
 impl From<AllocError> for Refusal {
-    ghost from_gives = { λ _ refusal. refusal ≡ WantOfMemory };
+    ghost from_gives = { λ _ refusal. refusal ≡ OutOfMemory };
 
     fn from(_fault: AllocError) -> Refusal {
         Refusal::Memory
@@ -154,7 +154,7 @@ impl From<AllocError> for Refusal {
 }
 
 impl<T: Drop> From<AllocFailed<T>> for Refusal {
-    ghost from_gives = { λ _ refusal. refusal ≡ WantOfMemory };
+    ghost from_gives = { λ _ refusal. refusal ≡ OutOfMemory };
 
     fn from(_fault: AllocFailed<T>) -> Refusal {
         Refusal::Memory

@@ -4,8 +4,9 @@ ghost use Rattle.std.specs.Prelude.{◌≡◌};
 
 use crate::moment::Moment;
 
-/// The versions that a table reference sees, by their system time. A FROM .. TO sees none unless its
-/// first moment is before its second, and a BETWEEN .. AND none where its first is after its second.
+/// The versions that a table reference sees, by their system time. A FROM .. TO sees none unless
+/// its first moment is before its second, and a BETWEEN .. AND none where its first is after its
+/// second.
 #[derive(Clone, Copy, PartialEq, Eq, Debug)]
 pub enum Window {
     /// The current versions: those that end at FOREVER.

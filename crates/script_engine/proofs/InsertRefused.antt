@@ -1,16 +1,18 @@
 -- The refusals that an INSERT gets are those of the histories that the engine represents.
-use Rattle.std.proofs.Common.{◌≡◌, ◌⊎◌, true, List, Err, refl, sym, ◌∙◌, subst, inl, inr}
+use Rattle.std.proofs.Common.{◌≡◌, ◌⊎◌, ◌++◌, ◌∷◌, [], true, List, Err, refl, sym, ◌∙◌, subst, inl, inr}
 use Rattle.period_core.specs.Leasts.{MayAnswer, NoneApplies}
 use Rattle.period_core.specs.declared.refusal.Refusal.{Refusal}
 use Rattle.period_core.specs.declared.refusal.Refusal.TheVariants.{EmptyPeriod, Memory}
 use Rattle.sql_statements.specs.Trees.{Statement}
 use Rattle.sql_statements.specs.Trees as statement
+use Rattle.sql_statements.specs.declared.statement.InsertRows.{InsertRows}
 use Rattle.catalog_core.specs.Judged.{Holds}
 use Rattle.catalog_core.specs.change.Resolution.{IsChange, change_conditions, empty_period, has_empty_row}
 use Rattle.history_model.specs.Histories.{Database, History}
 use Rattle.catalog_core.specs.declared.table.TableDef.{TableDef}
 use Rattle.catalog_core.specs.declared.change.Change.{Change}
-use Rattle.script_engine.specs.engine.Runs.{Represents, StatementApplies, StepsTo}
+use Rattle.history_model.specs.Represents.{Represents}
+use Rattle.script_engine.specs.engine.Runs.{StepsTo}
 use Rattle.script_engine.proofs.Refused.{are_at_most, may_answer-before, may_answer-empty}
 use Rattle.script_engine.proofs.Steps.{refused_step}
 
@@ -19,11 +21,16 @@ insert_numbers : (catalog : List TableDef) (s : Statement) → are_at_most 41 (c
 insert_numbers catalog (statement.insert insert) = refl
 insert_numbers catalog other = refl
 
+-- the conditions of an INSERT over a catalog
+abbrev Applies : List TableDef → InsertRows → Refusal → Type 0
+Applies catalog insert = Holds (change_conditions catalog (statement.insert insert) ++ empty_period catalog (statement.insert insert) ∷ [])
+
 pub unresolved_step : (history : History) (database : Database) (s : Statement) (refusal : Refusal) → IsChange s → Represents history database →
     MayAnswer (Holds (change_conditions database.catalog s)) refusal → StepsTo history s (Err refusal) database
 unresolved_step history database (statement.insert insert) refusal form kept may =
     refused_step history database (statement.insert insert) refusal kept
-    (may_answer-before (change_conditions database.catalog (statement.insert insert)) ((empty_period database.catalog (statement.insert insert)).1) refusal (insert_numbers database.catalog (statement.insert insert)) may)
+    (subst (λ (c : List TableDef). MayAnswer (Applies c insert) refusal) kept.catalog
+    (may_answer-before (change_conditions database.catalog (statement.insert insert)) ((empty_period database.catalog (statement.insert insert)).1) refusal (insert_numbers database.catalog (statement.insert insert)) may))
 unresolved_step history database other refusal form kept may = absurd form
 
 pub empty_step : (history : History) (database : Database) (s : Statement) (change : Change) (refusal : Refusal) → IsChange s → Represents history database →
@@ -34,5 +41,6 @@ empty_step history database (statement.insert insert) change refusal form kept s
 empty_step history database (statement.insert insert) change refusal form kept sound empty (inl why) =
     let holds : (empty_period database.catalog (statement.insert insert)).1 ≡ true = empty ∙ why.1 in
     refused_step history database (statement.insert insert) refusal kept
-    (subst (λ r. MayAnswer (StatementApplies database.catalog (statement.insert insert)) r) (sym why.0) (may_answer-empty (change_conditions database.catalog (statement.insert insert)) ((empty_period database.catalog (statement.insert insert)).1) sound holds))
+    (subst (λ (c : List TableDef). MayAnswer (Applies c insert) refusal) kept.catalog
+    (subst (λ r. MayAnswer (Applies database.catalog insert) r) (sym why.0) (may_answer-empty (change_conditions database.catalog (statement.insert insert)) ((empty_period database.catalog (statement.insert insert)).1) sound holds)))
 empty_step history database other change refusal form kept sound empty why = absurd form

@@ -12,6 +12,7 @@ mod Images
 mod Steps
 mod TableNumbers
 mod Widths
+mod OpenVersions
 pub mod AppendFacts
 pub mod BufferFacts
 pub mod CheckExamples

@@ -1,19 +1,27 @@
 -- Worked rows: a sequenced query of a table with one row and of one with two that overlap, each as a step of the history.
-use Rattle.std.proofs.Common.{◌≡◌, ◌==◌, ◌∷◌, ◌↔◌, [], ℕ, zero, suc, ℤ, pos, Bool, true, false, List, Option, None, Some, Ok, map, codes, refl, sym, ap, ap₂, ◌∙◌, subst, inl, inr, arith}
+use Rattle.std.specs.Prelude.{int_le, int_lt}
+use Rattle.std.specs.List.Sorted.{IsPermutation}
+use Rattle.std.proofs.lemmas.List.Sorted.{Contains-permutation, IsPermutation-refl, IsPermutation-sym}
+use Rattle.std.proofs.Common.{◌≡◌, ◌==◌, ◌∷◌, ◌↔◌, ◌<ℤ◌, fold, filter_map, [], ℕ, zero, suc, ℤ, pos, Bool, true, false, List, Option, None, Some, Ok, map, codes, refl, sym, ap, ap₂, ◌∙◌, subst, inl, inr, arith}
 use Rattle.std.proofs.lemmas.Int.{by_lt_z, ints}
 use Rattle.std.specs.List.{Contains}
 use Rattle.period_core.specs.Leasts.{NoneApplies}
 use Rattle.period_core.proofs.Periods.{period_over}
 use Rattle.period_core.specs.declared.answer.Answer.{Answer}
 use Rattle.period_core.specs.declared.row.PeriodRow.{PeriodRow}
+use Rattle.period_core.specs.Moments.{first_moment, forever}
 use Rattle.period_core.specs.declared.value.Value.{Value}
+use Rattle.period_core.specs.declared.version.VersionRow.{VersionRow}
 use Rattle.temporal_model.specs.Snapshot.{InSnapshot, covers_day, values_on}
 use Rattle.temporal_model.proofs.Members.{Contains-cons_cases, Contains-here, Contains-nil, Contains-one, Contains-there}
 use Rattle.temporal_model.proofs.Snapshots.{CoversDay, held, in_snapshot}
 use Rattle.sql_statements.specs.Trees as statement
 use Rattle.sql_statements.specs.Trees.{Query, combined, last, simple}
+use Rattle.history_model.specs.Effects.{effect}
+use Rattle.history_model.specs.Versions.{values_at}
 use Rattle.history_model.specs.Answers.{InAnswerOn, IsProjection, read_items}
-use Rattle.history_model.specs.Histories.{Asked, Database, History, last_state, rows_in, with_event}
+use Rattle.history_model.specs.Histories.{Asked, Changed, Created, Database, History, changed_until, last_state, state_at, versions_in, with_event}
+use Rattle.catalog_core.specs.Judged.{Holds}
 use Rattle.catalog_core.specs.table.Matches.{is_matching}
 use Rattle.catalog_core.specs.table.Naming.{Name}
 use Rattle.catalog_core.specs.query.Selection.{ResolvesQuery, has_many_items, item_parts, lacks_source, names_no_value, query_conditions, selects_ambiguous, selects_no_value, selects_unknown, value_position, written_item}
@@ -22,10 +30,11 @@ use Rattle.catalog_core.specs.declared.query.Item.{Item}
 use Rattle.catalog_core.specs.declared.query.Select.{Select}
 use Rattle.catalog_core.specs.declared.table.TableDef.{TableDef}
 use Rattle.script_engine.specs.Headline.{IsSequencedAnswer}
-use Rattle.script_engine.specs.engine.Runs.{Represents, StatementApplies, Step}
+use Rattle.history_model.specs.Represents.{Represents}
+use Rattle.script_engine.specs.engine.Runs.{Step}
 use Rattle.script_engine.specs.declared.engine.outcome.Outcome.TheVariants.{Answer as Answered}
 use Rattle.script_engine.proofs.Given.{same_values}
-use Rattle.script_engine.proofs.StepExamples.{colleague, emp, none_if_no_first, with_row, with_rows, worker}
+use Rattle.script_engine.proofs.StepExamples.{colleague, emp, inserted_row, none_if_no_first, with_row, with_rows, worker}
 use Rattle.script_engine.proofs.RunExamples.{Sets, is_answer, one_row, seven, two_rows, whole}
 
 -- ---- the query
@@ -50,7 +59,7 @@ abbrev pub answer : Answer
 answer = record one_row { columns = codes "DEPT" ∷ [] }
 
 -- no condition of a refusal holds for it where EMP is the one table
-question_is_sound : NoneApplies (StatementApplies (emp ∷ []) (statement.sequenced question))
+question_is_sound : NoneApplies (Holds (query_conditions (emp ∷ []) (statement.sequenced question)))
 unfolding def_matches some_def_match is_matching number_of table_of_name has_many_items lacks_source names_no_value selects_ambiguous selects_no_value selects_unknown value_position is_value_column
 question_is_sound = none_if_no_first (query_conditions (emp ∷ []) (statement.sequenced question)) refl
 
@@ -167,29 +176,43 @@ not_cut_in_two new (sound, (given, same, answers)) =
 
 -- ---- what is kept
 
--- the table with its row
-abbrev kept_database : Database
-kept_database = record { catalog = emp ∷ []; rows = (kept_row ∷ []) ∷ [] }
+-- the table with its row, recorded from the first moment on
+abbrev kept_version : VersionRow
+kept_version = record { values = worker; period = kept_row.period; from = first_moment; to = forever }
 
--- on each day each table has what is kept of it
-represented_daily : (table : ℕ) (day : ℤ) (values : List Value) →
-    (InSnapshot (rows_in kept_database table) day values ↔ Contains (last_state with_row table day) values)
-represented_daily zero day values = (λ h. h, λ h. h)
-represented_daily (suc zero) day values = (
-  λ there. subst (λ (rows : List (List Value)). Contains rows values) (sym (state_on day)) there,
-  λ among. subst (λ (rows : List (List Value)). Contains rows values) (state_on day) among,
-)
-represented_daily (suc (suc place)) day values =
-    let other : (suc (suc place) == 1) ≡ false = grind arith in
-    rw other (λ h. h, λ h. h)
+abbrev kept_database : Database
+kept_database = record { clock = first_moment; catalog = emp ∷ []; versions = (kept_version ∷ []) ∷ [] }
+
+-- as of each moment on each day it holds what the history says
+represented_by : (moment day : ℤ) (a c : Bool) → int_le first_moment moment ≡ a → int_lt moment forever ≡ true → covers_day (pos 5) (pos 8) day ≡ c →
+    values_at (kept_version ∷ []) moment day ≡ state_at with_row moment 1 day
+represented_by moment day true true e f g = rw (e, f, g) refl
+represented_by moment day true false e f g = rw (e, f, g) refl
+represented_by moment day false c e f g = rw e refl
 
 -- what is kept is what the history says
 represented : Represents with_row kept_database
-represented = record { catalog = refl; daily = represented_daily }
+represented = record { clock = refl; catalog = refl; daily = held_daily }
+  where
+    elsewhere : (table : ℕ) (moment day : ℤ) (b : Bool) → (table == 1) ≡ false → int_le first_moment moment ≡ b → [] ≡ fold (λ rows change. effect change table day rows) [] (filter_map (changed_until moment) (Created emp ∷ Changed first_moment inserted_row ∷ []))
+    elsewhere table moment day true off e = rw (e, off) refl
+    elsewhere table moment day false off e = rw e refl
+
+    held_daily : (table : ℕ) (moment day : ℤ) → moment <ℤ forever → IsPermutation (values_at (versions_in kept_database table) moment day) (state_at with_row moment table day)
+    held_daily zero moment day before = subst (IsPermutation []) (elsewhere zero moment day (int_le first_moment moment) refl refl) (IsPermutation-refl [])
+    held_daily (suc zero) moment day before =
+        let now : int_lt moment forever ≡ true = grind (arith, ints) in
+        subst (IsPermutation (values_at (kept_version ∷ []) moment day)) (represented_by moment day (int_le first_moment moment) (covers_day (pos 5) (pos 8) day) refl now refl)
+        (IsPermutation-refl (values_at (kept_version ∷ []) moment day))
+    held_daily (suc (suc place)) moment day before =
+        let other : (suc (suc place) == 1) ≡ false = grind arith in
+        subst (IsPermutation []) (elsewhere (suc (suc place)) moment day (int_le first_moment moment) other refl) (IsPermutation-refl [])
 
 -- without the row it is not
-not_represented : Represents with_row (record { catalog = emp ∷ []; rows = [] ∷ [] }) → ⊥
-not_represented kept = Contains-nil worker ((kept.daily 1 (pos 5) worker).1 (0, omega arith, refl))
+not_represented : Represents with_row (record { clock = first_moment; catalog = emp ∷ []; versions = [] ∷ [] }) → ⊥
+not_represented kept =
+    let same : IsPermutation [] (worker ∷ []) = kept.daily 1 first_moment (pos 5) (omega (arith, ints)) in
+    Contains-nil worker (Contains-permutation (worker ∷ []) [] worker (IsPermutation-sym [] (worker ∷ []) same) (0, omega arith, refl))
 
 -- ---- rows whose periods overlap
 

@@ -1,5 +1,5 @@
 -- Worked rows: which refusal a whole script has, the run of no pieces, a refused statement, and an answer of one row.
-use Rattle.std.proofs.Common.{◌≡◌, ◌<◌, ◌≤◌, ◌+◌, ◌<ℤ◌, ◌≤ℤ◌, ◌-ℤ◌, ◌∙◌, ◌∷◌, [], ℕ, ℤ, pos, List, Some, Err, true, codes, length, refl, ap, subst, inl, inr, arith}
+use Rattle.std.proofs.Common.{◌≡◌, ◌<◌, ◌≤◌, ◌+◌, ◌<ℤ◌, ◌≤ℤ◌, ◌-ℤ◌, ◌∙◌, ◌∷◌, [], ℕ, ℤ, pos, List, Some, Ok, Err, true, false, codes, length, refl, ap, subst, inl, inr, arith}
 use Rattle.std.proofs.lemmas.Int.{ints}
 use Rattle.std.proofs.lemmas.Str.{is_utf8-from_IsUtf8}
 use Rattle.std.specs.Str.{IsUtf8, chars, is_utf8}
@@ -7,7 +7,7 @@ use Rattle.period_core.specs.Codes.{code_of}
 use Rattle.period_core.specs.Leasts.{MayAnswer}
 use Rattle.period_core.proofs.Periods.{are_ends, period_over}
 use Rattle.period_core.specs.declared.answer.Answer.{Answer}
-use Rattle.period_core.specs.declared.refusal.Refusal.TheVariants.{BadToken, NotUtf8, ScriptTooLarge, Syntax}
+use Rattle.period_core.specs.declared.refusal.Refusal.TheVariants.{BadToken, MomentBack, NotUtf8, ScriptTooLarge, Syntax}
 use Rattle.period_core.specs.declared.row.PeriodRow.{PeriodRow}
 use Rattle.period_core.specs.declared.value.Value.{Value}
 use Rattle.period_core.specs.declared.value.Value.TheVariants.{Int}
@@ -19,13 +19,17 @@ use Rattle.sql_statements.specs.Lexemes.{Lexeme}
 use Rattle.sql_statements.specs.Lexis as lexis
 use Rattle.sql_statements.specs.Lexis.{first_lexeme}
 use Rattle.sql_statements.specs.declared.token.TokenKind.TheVariants.{Word}
+use Rattle.sql_statements.specs.Trees.{Delete}
 use Rattle.sql_statements.specs.Trees as statement
 use Rattle.catalog_core.specs.Judged.{Holds}
-use Rattle.history_model.specs.Histories.{History, new_database, opened}
+use Rattle.history_model.specs.Histories.{Advanced, History, new_database, opened, with_event}
 use Rattle.script_engine.specs.Headline.{IsSequencedAnswer}
 use Rattle.script_engine.specs.engine.Runs.{Step, StepsTo}
+use Rattle.script_engine.specs.declared.engine.outcome.Outcome.{Outcome}
+use Rattle.script_engine.specs.declared.engine.outcome.Outcome.TheVariants.{Done}
+use Rattle.script_engine.specs.declared.engine.outcome.Word.TheVariants as word
 use Rattle.script_engine.specs.script.Script.{RunPieces, ScriptApplies, most_bytes}
-use Rattle.script_engine.proofs.ScriptFacts.{represents_opened}
+use Rattle.history_model.proofs.HistoryLemmas.{represents_opened}
 
 -- ---- whole scripts
 
@@ -74,13 +78,30 @@ syntax_alone = inl (record {
       ];
 })
 
--- a statement that is not carried out is refused by 10, and the history stays
-not_carried_out : (history : History) (moment : ℤ) → Step history (statement.at moment) (Err Syntax) history
-not_carried_out history moment = (syntax_alone, refl)
+-- a statement that does not run yet is refused by 10, and the history stays
+not_run_yet : (history : History) (rows : Delete) → Step history (statement.delete rows) (Err Syntax) history
+not_run_yet history rows = (syntax_alone, refl)
 
 -- and what is kept stays
-kept_as_it_was : (moment : ℤ) → StepsTo (opened new_database) (statement.at moment) (Err Syntax) new_database
-kept_as_it_was moment = (opened new_database, not_carried_out (opened new_database) moment, represents_opened new_database)
+kept_as_it_was : (rows : Delete) → StepsTo (opened new_database) (statement.delete rows) (Err Syntax) new_database
+kept_as_it_was rows = (opened new_database, not_run_yet (opened new_database) rows, represents_opened new_database)
+
+-- ---- AT
+
+-- the clock at the moment 5
+abbrev at_five : History
+at_five = with_event (opened new_database) (Advanced (pos 5))
+
+-- a later moment and an equal one are accepted
+later_moment : Step (opened new_database) (statement.at (pos 5)) (Ok (Done word.At 0)) at_five
+later_moment = (λ refusal h. elim h [ inl both ↦ (let off : false ≡ true = both.1 in absurd cc) | inr nothing ↦ nothing ], record { done = refl; after = refl })
+
+equal_moment : Step at_five (statement.at (pos 5)) (Ok (Done word.At 0)) (with_event at_five (Advanced (pos 5)))
+equal_moment = (λ refusal h. elim h [ inl both ↦ (let off : false ≡ true = both.1 in absurd cc) | inr nothing ↦ nothing ], record { done = refl; after = refl })
+
+-- an earlier one is not
+earlier_moment : (outcome : Outcome) (new : History) → Step at_five (statement.at (pos 4)) (Ok outcome) new → ⊥
+earlier_moment outcome new step = step.0 MomentBack (inl (refl, refl))
 
 -- ---- answers
 

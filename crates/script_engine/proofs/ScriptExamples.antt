@@ -199,7 +199,7 @@ lookup_not_refused : IsPieceCheck lookup (Err Syntax) → ⊥
 lookup_not_refused (inl least) = lookup_sound Syntax least.applies
 lookup_not_refused (inr memory) = cc
 
--- run: the first is a statement that is not carried out, and refused with 10 too; the history stays
+-- run: the first is a statement that does not run yet, and refused with 10 too; the history stays
 lookup_step : (history : History) → PieceStep history lookup (Err Syntax) history
 lookup_step history = inr (looked_up, lookup_sound, lookup_spelled, (syntax_alone, refl))
 

@@ -1,5 +1,5 @@
--- A script that has tokens is not refused as a whole and is cut into pieces, and a new engine represents a history without events.
-use Rattle.std.proofs.Common.{◌≡◌, ◌≤◌, ℕ, List, length, map, append-nil, subst, sym, arith}
+-- A script that has tokens is not refused as a whole and is cut into pieces.
+use Rattle.std.proofs.Common.{◌≡◌, ◌≤◌, ℕ, List, length, map, subst, arith}
 use Rattle.std.specs.Str.{IsUtf8}
 use Rattle.period_core.specs.Leasts.{NoneApplies}
 use Rattle.period_core.specs.declared.refusal.Refusal.TheVariants.{BadToken, NotUtf8, ScriptTooLarge}
@@ -9,8 +9,6 @@ use Rattle.sql_front.specs.declared.pieces.Span.{Span}
 use Rattle.sql_statements.specs.declared.token.Token.{Token}
 use Rattle.sql_statements.specs.Lexis.{TokensOf}
 use Rattle.sql_front.proofs.TokenLists.{never_both_of}
-use Rattle.history_model.specs.Histories.{Database, opened}
-use Rattle.script_engine.specs.engine.Runs.{Represents}
 use Rattle.script_engine.specs.script.Script.{IsCutInto, ScriptApplies, most_bytes}
 
 pub none_of_script : (script : List ℕ) (tokens : List Lexeme) → length script ≤ most_bytes → IsUtf8 script → TokensOf script tokens → NoneApplies (ScriptApplies script)
@@ -18,13 +16,6 @@ none_of_script script tokens small utf8 lexed NotUtf8 h = h.1 utf8
 none_of_script script tokens small utf8 lexed ScriptTooLarge h = omega arith
 none_of_script script tokens small utf8 lexed (BadToken offset) h = never_both_of script tokens offset lexed h.2
 none_of_script script tokens small utf8 lexed _ h = h
-
--- what is kept represents the history in which nothing was done to it
-pub represents_opened : (database : Database) → Represents (opened database) database
-represents_opened database = record {
-  catalog = sym (append-nil database.catalog);
-  daily = λ table day values. (λ h. h, λ h. h);
-}
 
 -- the pieces of a script are what the spans of its tokens span
 pub cut_of : (script text : List ℕ) (tokens seen others : List Token) (spans gone : List Span) → text ≡ script → seen ≡ tokens → others ≡ tokens → gone ≡ spans →

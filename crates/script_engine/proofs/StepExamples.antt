@@ -2,6 +2,7 @@
 use Rattle.std.proofs.Common.{◌≡◌, ◌∷◌, ◌++◌, [], ℕ, pos, true, false, List, None, Some, Ok, Err, codes, refl, inl, inr, length, arith, lit≤}
 use Rattle.std.proofs.lemmas.Bool.{false≢true}
 use Rattle.std.specs.Str.{chars}
+use Rattle.period_core.specs.Moments.{first_moment}
 use Rattle.period_core.specs.Leasts.{NoneApplies}
 use Rattle.period_core.specs.declared.refusal.Refusal.TheVariants.{EmptyPeriod, TableExists}
 use Rattle.period_core.specs.declared.value.Value.{Value}
@@ -97,7 +98,7 @@ abbrev pub with_table : History
 with_table = with_event at_first (Created emp)
 
 -- in a new store no condition of a refusal holds for it
-creation_is_sound : NoneApplies (StatementApplies [] (statement.create creation))
+creation_is_sound : NoneApplies (StatementApplies at_first (statement.create creation))
 unfolding own_matches period_matches def_matches some_own_match some_def_match some_parent_match some_match has_sort sort_count exceeds_limits is_there lacks_parent names_other_period lacks_period lacks_name is_ambiguous is_shared repeats repeats_name is_no_value_column some_no_value keys_period_column lacks_one_of_each has_bad_period has_bad_system_period is_bad_type has_bad_column is_used_otherwise has_other_period is_at is_key_name is_named are_key names_no_key references_no_key is_bad_definition has_unequal_lists own_kind def_kind have_other_kinds names_other_kind references_other_kind is_matching is_of_sort match_count number_of table_of_name kind_of_type kind_of_column same_kind differ
 creation_is_sound = none_if_no_first (create_conditions [] creation) refl
 
@@ -149,15 +150,15 @@ abbrev pub worker : List Value
 worker = Int (pos 1) ∷ Int (pos 7) ∷ []
 
 -- in table 1, from day 5 on and before day 8
-abbrev inserted_row : Change
+abbrev pub inserted_row : Change
 inserted_row = record { table = 1; action = Insert (record { values = worker; start = pos 5; end = pos 8 } ∷ []) }
 
 -- the history in which the row was added
 abbrev pub with_row : History
-with_row = with_event with_table (Changed inserted_row)
+with_row = with_event with_table (Changed first_moment inserted_row)
 
 -- no condition of a refusal holds for it
-insertion_is_sound : NoneApplies (StatementApplies (emp ∷ []) (statement.insert insertion))
+insertion_is_sound : NoneApplies (StatementApplies with_table (statement.insert insertion))
 unfolding def_matches some_def_match def_kind repeats is_matching match_count number_of table_of_name kind_of_column same_kind differ wanted_names given_names lacks_table lists_unknown lists_ambiguous lists_twice is_system_name some_system_name lists_system lacks_some some_other_length has_other_count is_of_other_kind is_longer is_too_long is_wrong gives_wrong has_wrong given_value value_for is_no_period gives_no_period has_no_period is_value_column chars
 insertion_is_sound =
     none_if_no_first
@@ -231,10 +232,10 @@ inserted_rows =
 
 -- the history in which both were added
 abbrev pub with_rows : History
-with_rows = with_event with_table (Changed inserted_rows)
+with_rows = with_event with_table (Changed first_moment inserted_rows)
 
 -- no condition of a refusal holds for it
-overlapping_is_sound : NoneApplies (StatementApplies (emp ∷ []) (statement.insert overlapping))
+overlapping_is_sound : NoneApplies (StatementApplies with_table (statement.insert overlapping))
 unfolding def_matches some_def_match def_kind repeats is_matching match_count number_of table_of_name kind_of_column same_kind differ wanted_names given_names lacks_table lists_unknown lists_ambiguous lists_twice is_system_name some_system_name lists_system lacks_some some_other_length has_other_count is_of_other_kind is_longer is_too_long is_wrong gives_wrong has_wrong given_value value_for is_no_period gives_no_period has_no_period is_value_column chars
 overlapping_is_sound =
     none_if_no_first

@@ -1,4 +1,5 @@
--- The theorem of the project, of each sequenced answer: by the sets of the ordinary query on each day.
+-- The theorem of the project, of each sequenced answer: by the sets of the ordinary query on each
+-- day.
 use Rattle.std.specs.Prelude.{◌↔◌, ℤ, List}
 use Rattle.period_core.specs.declared.answer.Answer.{Answer}
 use Rattle.period_core.specs.declared.value.Value.{Value}

@@ -1,5 +1,5 @@
--- What follows of two lists with the same snapshots where one is a sequenced answer, and that each
--- engine represents a history. Each law is the contract of a function of this crate.
+-- What follows of two lists with the same snapshots where one is a sequenced answer. Each law is the
+-- contract of a function of this crate.
 use Rattle.std.specs.Prelude.{◌≡◌, List}
 use Rattle.period_core.specs.declared.answer.Answer.{Answer}
 use Rattle.period_core.specs.declared.row.PeriodRow.{PeriodRow}
@@ -7,14 +7,9 @@ use Rattle.temporal_model.specs.Answer.{IsUniqueUpToOrder}
 use Rattle.temporal_model.specs.Laws.{MapsOneToOne}
 use Rattle.temporal_model.specs.Snapshot.{Equivalent}
 use Rattle.history_model.specs.Answers.{InAnswerOn}
-use Rattle.history_model.specs.Histories.{Database, History, opened}
+use Rattle.history_model.specs.Histories.{History}
 use Rattle.catalog_core.specs.declared.query.Select.{Select}
 use Rattle.script_engine.specs.Headline.{IsSequencedAnswer}
-use Rattle.script_engine.specs.engine.Runs.{Represents}
-
--- what is kept represents the history that opens with it, in which nothing was done since
-abbrev pub OpeningsAreRepresented : Type 0
-OpeningsAreRepresented = (database : Database) → Represents (opened database) database
 
 -- a list with the same snapshots has a row of its own for each row of the answer,
 -- of the same values and first day

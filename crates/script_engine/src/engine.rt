@@ -1,52 +1,64 @@
-//! The engine: a catalog, the rows of its tables, and the statements that it runs.
+//! The engine: a clock, a catalog, the versions of its tables, and the statements that it runs.
 
 ghost use Rattle.std.specs.Prelude.{◌≡◌, ◌<◌, ◌≤◌, ◌+◌, ◌-◌, ◌++◌, ◌∷◌, [], ℕ, List, Some, true};
-ghost use Rattle.std.specs.Prelude.{length};
+ghost use Rattle.std.specs.Prelude.{length, All, ◌<ℤ◌, ◌≤ℤ◌, ◌⊎◌};
+ghost use Rattle.period_core.specs.Moments.{forever};
+ghost use Rattle.period_core.specs.declared.refusal.Refusal.TheVariants.{BadMoment, MomentBack};
 ghost use Rattle.std.specs.Prelude.{IfOk, IfErr, IsOkAnd, OnOk, OnErr, slice_set, slice_index_or};
-ghost use Rattle.history_model.specs.Histories.{History, Database, opened, new_database, rows_in};
+ghost use Rattle.history_model.specs.Histories.{History, Database, new_database, versions_in};
 ghost use Rattle.catalog_core.specs.Limits.{most_tables};
-ghost use Rattle.catalog_core.specs.change.Resolution.{IsChange};
-ghost use Rattle.catalog_core.specs.query.Selection.{IsSequenced};
 ghost use Rattle.catalog_core.specs.table.TableWords.{has_date_period, has_distinct_names};
 ghost use Rattle.catalog_core.specs.table.TableWords.{table_of};
 ghost use Rattle.catalog_core.specs.declared.table.TableDef.{TableDef};
-ghost use Rattle.script_engine.specs.engine.Runs.{Represents, StepsTo};
-ghost use Rattle.script_engine.specs.engine.Widths.{HaveWidth};
-ghost use Rattle.sql_statements.specs.Plain.{plain};
+ghost use Rattle.history_model.specs.Represents.{Represents};
+ghost use Rattle.script_engine.specs.engine.Runs.{StepsTo};
+ghost use Rattle.script_engine.specs.engine.Kept.{HaveWidth, IsOpen};
+ghost use Rattle.sql_statements.specs.Plain.{plain, plain_query};
 ghost use Rattle.sql_statements.specs.Trees as statement;
 
 pub mod outcome;
 mod rows;
 
 use crate::engine::outcome::{Outcome, Word};
-use crate::engine::rows::{column_names, given_rows, projected_rows};
-use catalog_core::{Catalog, Change, TableDef, define, resolve_change, resolve_query};
+use crate::engine::rows::{column_names, inserted_rows, projected_rows};
+use catalog_core::{Catalog, Change, TableDef, define, resolve_insert, resolve_sequenced};
 use coalesce_core::{coalesce, witnesses};
-use period_core::{Answer, Items, Memory, PeriodRow, Refusal};
-use sql_statements::{CreateTable, Statement, StatementForm};
+use period_core::{Answer, Items, Memory, Moment, Refusal, VersionRow};
+use sql_statements::{
+    ClockMoment, CreateTable, InsertRows, QueryTree, SelectDistinct, Statement, StatementForm,
+};
 use sqlite::Connection;
 use sqlite_trees::store::Alter;
 use std::alloc::Global;
 use std::marker::Model;
 
-/// The tables' definitions and, in the same places, their rows, beside the connection that it was
-/// handed.
+/// The clock, the tables' definitions and, in the same places, their versions, beside the connection
+/// that it was handed.
 #[derive(Drop)]
 pub struct Engine<S: Alter> {
     connection: Connection<S>,
+    clock: ClockMoment,
     catalog: Catalog,
-    rows: Vec<Items<PeriodRow>>,
+    versions: Vec<Items<VersionRow>>,
 }
 
 impl<S: Alter> Model for Engine<S> {
     ghost use Rattle.history_model.specs.Histories.{Database};
-    ghost use Rattle.script_engine.specs.engine.Widths.{FitCatalog};
+    ghost use Rattle.script_engine.specs.engine.Kept.{IsKept};
 
     ghost Value = { Database };
 
-    ghost view = { λ e. record { catalog = e.catalog.tables; rows = e.rows.items } };
+    ghost view = { λ e. record {
+      clock = e.clock;
+      catalog = e.catalog.tables;
+      versions = e.versions.items;
+    } };
 
-    ghost invariant = { λ e. FitCatalog e.catalog.tables e.rows.items };
+    ghost invariant = { λ e. IsKept (record {
+      clock = e.clock;
+      catalog = e.catalog.tables;
+      versions = e.versions.items;
+    }) };
 }
 
 impl<S: Alter> Engine<S> {
@@ -60,16 +72,44 @@ impl<S: Alter> Engine<S> {
     {
         Ok(Engine {
             connection,
+            clock: ClockMoment::first(),
             catalog: Catalog::new(alloc),
-            rows: Vec::new(alloc),
+            versions: Vec::new(alloc),
         })
     }
 
+    /// The clock: the moment of the last AT, in a new store the first moment.
+    pub fn clock(&self) -> Moment
+        ensures { result ≡ self.now.clock }
+    {
+        self.clock.moment()
+    }
+
     /// The tables' definitions in the order of their creation.
-    fn catalog(&self) -> &Catalog
+    pub fn catalog(&self) -> &Catalog
         ensures { result.now.tables ≡ self.now.catalog }
     {
         &self.catalog
+    }
+
+    /// Moves the clock to a moment. An `Err` changes nothing: it is 13 for FOREVER, and 40 for a moment
+    /// before the clock. No memory is taken.
+    pub fn at(&mut self, moment: Moment) -> Result<(), Refusal>
+        ensures moved { IfOk result (λ _. self.new ≡ record self.old { clock = moment }) }
+        ensures later { OnOk result ((self.old.clock ≤ℤ moment) × (moment <ℤ forever)) }
+        ensures err { OnErr result (self.new ≡ self.old) }
+        ensures refused { IfErr result (λ refusal.
+            ((refusal ≡ BadMoment) × (moment ≡ forever))
+            ⊎ ((refusal ≡ MomentBack) × (moment <ℤ self.old.clock))) }
+    {
+        match ClockMoment::new(moment) {
+            Some(moment) if moment < self.clock => Err(Refusal::MomentBack),
+            Some(moment) => {
+                self.clock = moment;
+                Ok(())
+            }
+            None => Err(Refusal::BadMoment),
+        }
     }
 
     /// Adds a table without rows. An `Err` changes nothing.
@@ -78,39 +118,50 @@ impl<S: Alter> Engine<S> {
         requires dated { has_date_period definition ≡ true }
         requires distinct { has_distinct_names definition ≡ true }
         ensures catalog { OnOk result (self.new.catalog ≡ self.old.catalog ++ definition ∷ []) }
-        ensures rows { OnOk result (self.new.rows ≡ self.old.rows ++ [] ∷ []) }
+        ensures versions { OnOk result (self.new.versions ≡ self.old.versions ++ [] ∷ []) }
+        ensures clock { self.new.clock ≡ self.old.clock }
         ensures err { OnErr result (self.new ≡ self.old) }
     {
-        self.rows.reserve(1)?;
+        self.versions.reserve(1)?;
         self.catalog.push(definition)?;
-        self.rows.push_reserved(Items::empty(alloc));
+        self.versions.push_reserved(Items::empty(alloc));
         Ok(())
     }
 
-    /// The rows of the table of a number.
-    #[tactic(auto, using(crate::proofs::Widths::fit_lengths))]
-    fn table_rows(&self, table: u8) -> &[PeriodRow]
+    /// The versions of the table of a number.
+    fn table_versions(&self, table: u8) -> &[VersionRow]
         requires low { 0 < table }
         requires high { table ≤ length self.now.catalog }
-        ensures { result.now ≡ rows_in self.now table }
+        ensures { result.now ≡ versions_in self.now table }
     {
-        self.rows[usize::from(table) - 1].as_slice()
+        self.versions[usize::from(table) - 1].as_slice()
     }
 
-    /// Adds rows to the table of a number. An `Err` changes nothing.
-    #[tactic(auto, using(crate::proofs::Widths::fit_lengths))]
-    fn add_rows(&mut self, table: u8, added: Items<PeriodRow>) -> Result<(), Memory>
+    /// Adds versions that begin at the clock to the table of a number. An `Err` changes nothing.
+    fn add_versions(&mut self, table: u8, added: Items<VersionRow>) -> Result<(), Memory>
         requires low { 0 < table }
         requires high { table ≤ length self.old.catalog }
         requires width { (definition : TableDef)
             → table_of self.old.catalog table ≡ Some definition → HaveWidth definition added }
+        requires unended { All (IsOpen self.old.clock) added }
         ensures catalog { self.new.catalog ≡ self.old.catalog }
-        ensures rows { OnOk result
-            (self.new.rows ≡ slice_set self.old.rows (table - 1)
-            (slice_index_or self.old.rows (table - 1) [] ++ added)) }
+        ensures clock { self.new.clock ≡ self.old.clock }
+        ensures versions { OnOk result
+            (self.new.versions ≡ slice_set self.old.versions (table - 1)
+            (slice_index_or self.old.versions (table - 1) [] ++ added)) }
         ensures err { OnErr result (self.new ≡ self.old) }
     {
-        self.rows[usize::from(table) - 1].append(added)
+        self.versions[usize::from(table) - 1].append(added)
+    }
+
+    /// Runs an AT. An `Err` changes nothing.
+    fn advance(&mut self, moment: ClockMoment) -> Result<Outcome, Refusal>
+        ensures step { (history : History) → Represents history self.old
+            → StepsTo history (statement.at moment) result self.new }
+        ensures err { OnErr result (self.new ≡ self.old) }
+    {
+        self.at(moment.moment())?;
+        Ok(Outcome::Done(Word::At, 0))
     }
 
     /// Runs a CREATE. An `Err` changes nothing.
@@ -125,28 +176,26 @@ impl<S: Alter> Engine<S> {
     }
 
     /// Runs an INSERT. An `Err` changes nothing.
-    fn insert(&mut self, alloc: Global, statement: &Statement) -> Result<Outcome, Refusal>
-        requires { IsChange (plain statement.now) }
+    fn insert(&mut self, alloc: Global, insert: &InsertRows) -> Result<Outcome, Refusal>
         ensures step { (history : History) → Represents history self.old
-            → StepsTo history (plain statement.now) result self.new }
+            → StepsTo history (statement.insert insert.now) result self.new }
         ensures err { OnErr result (self.new ≡ self.old) }
     {
-        let Change { table, action } = resolve_change(alloc, &self.catalog, statement)?;
-        let added = given_rows(alloc, action)?;
+        let Change { table, action } = resolve_insert(alloc, &self.catalog, insert)?;
+        let added = inserted_rows(alloc, self.clock.moment(), action)?;
         let count = added.len() as u64;
-        self.add_rows(table, added)?;
+        self.add_versions(table, added)?;
         Ok(Outcome::Done(Word::Insert, count))
     }
 
     /// Answers a sequenced query.
-    fn answer(&self, alloc: Global, statement: &Statement) -> Result<Outcome, Refusal>
-        requires { IsSequenced (plain statement.now) }
+    fn answer(&self, alloc: Global, query: &QueryTree<SelectDistinct>) -> Result<Outcome, Refusal>
         ensures { (history : History) → Represents history self.now
-            → StepsTo history (plain statement.now) result self.now }
+            → StepsTo history (statement.sequenced (plain_query query.now)) result self.now }
     {
-        let query = resolve_query(alloc, &self.catalog, statement)?;
+        let query = resolve_sequenced(alloc, &self.catalog, query)?;
         let items = query.items.as_slice();
-        let rows = projected_rows(alloc, items, self.table_rows(query.table))?;
+        let rows = projected_rows(alloc, items, self.table_versions(query.table))?;
         let rows = coalesce(alloc, rows)?;
         let witnesses = witnesses(alloc, rows.as_slice())?;
         Ok(Outcome::Answer(Answer {
@@ -166,14 +215,14 @@ impl<S: Alter> Engine<S> {
         ensures err { OnErr result (self.new ≡ self.old) }
     {
         match statement.form() {
+            StatementForm::At(moment) => self.advance(*moment),
             StatementForm::Create(create) => self.create(alloc, create.table()),
-            StatementForm::Insert(_) => self.insert(alloc, statement),
-            StatementForm::Sequenced(_) => self.answer(alloc, statement),
+            StatementForm::Insert(insert) => self.insert(alloc, insert),
+            StatementForm::Sequenced(query) => self.answer(alloc, query),
             // The other forms are not run yet.
-            StatementForm::At(_)
-            | StatementForm::Update(_)
-            | StatementForm::Delete(_)
-            | StatementForm::Stored(_) => Err(Refusal::Syntax),
+            StatementForm::Update(_) | StatementForm::Delete(_) | StatementForm::Stored(_) => Err(
+                Refusal::Syntax,
+            ),
         }
     }
 }

@@ -1,17 +1,11 @@
-//! What follows from the theorem of sequenced answers, and where it begins. Each function does
-//! nothing: its contract is a law.
+//! What follows from the theorem of sequenced answers. Each function does nothing: its contract is a
+//! law.
 
 ghost use Rattle.script_engine.specs.Laws.{AnswersAreUnique, AnswersMapOneToOne};
-ghost use Rattle.script_engine.specs.Laws.{OpeningsAreRepresented, SameSnapshotsSameAnswers};
+ghost use Rattle.script_engine.specs.Laws.{SameSnapshotsSameAnswers};
 
-/// Whatever an engine keeps, it represents the history that opens with it. So what `execute` says of
-/// each history that the engine represents is said of one at the least.
-pub fn openings_are_represented()
-    ensures { OpeningsAreRepresented }
-{}
-
-/// A list with the same snapshots has a row of its own for each row of an answer, of the same values
-/// and first day. So no such list is shorter.
+/// A list with the same snapshots has a row of its own for each row of an answer, of the same
+/// values and first day. So no such list is shorter.
 pub fn answers_map_one_to_one()
     ensures { AnswersMapOneToOne }
 {}

@@ -1,7 +1,7 @@
-//! The engine, the scripts that it runs, their checks, and the reports of both. What to touch in order
-//! to add a form of statement that runs: `Engine::execute` in `engine.rt`, `Accepts` and
-//! `StatementApplies` in `specs/engine/Runs`; where it has an outcome of its own, `engine/outcome.rt`
-//! and the record in `report.rt` and `specs/report/Report`.
+//! The engine, the scripts that it runs, their checks, and the reports of both. What to touch in
+//! order to add a form of statement that runs: `Engine::execute` in `engine.rt`, `Accepts` and
+//! `StatementApplies` in `specs/engine/Runs`; where it has an outcome of its own,
+//! `engine/outcome.rt` and the record in `report.rt` and `specs/report/Report`.
 #![tactic(auto)]
 
 pub mod engine;

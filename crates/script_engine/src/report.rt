@@ -36,6 +36,7 @@ impl Word {
         ensures { result.now ≡ word_text self }
     {
         match self {
+            Word::At => "at",
             Word::Create => "create",
             Word::Insert => "insert",
         }

@@ -10,7 +10,7 @@ ghost use Rattle.sql_statements.specs.Lexis.{TokensOf};
 ghost use Rattle.sql_front.specs.Pieces.{IsWithin, spanned};
 ghost use Rattle.sql_statements.specs.Plain.{plain};
 ghost use Rattle.history_model.specs.Histories.{History, new_database, opened};
-ghost use Rattle.script_engine.specs.engine.Runs.{Represents};
+ghost use Rattle.history_model.specs.Represents.{Represents};
 ghost use Rattle.script_engine.specs.script.Script.{IsRunOf, MayRefuseScript, PieceStepsTo};
 ghost use Rattle.script_engine.specs.script.Script.{RunPieces};
 ghost use Rattle.script_engine.specs.script.Script.{ScriptApplies, TextApplies, most_bytes};

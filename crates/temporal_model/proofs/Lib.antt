@@ -1,4 +1,5 @@
 pub mod Members
+pub mod Rearranged
 pub mod AnswerOrder
 pub mod Snapshots
 pub mod Days

@@ -1,5 +1,7 @@
-use Rattle.history_model.proofs.HistoryLemmas.{catalog_of-asked, last_state-asked}
+use Rattle.std.proofs.Common.{◌∙◌, append-nil}
+use Rattle.history_model.specs.Histories.{Asked, catalog_of}
+use Rattle.history_model.proofs.HistoryLemmas.{catalog_of-event, clock_of-event, state_at-event}
 use Rattle.history_model.proofs.queries_change_nothing.Goals as goal
 
 pub returns : goal.returns
-returns c = λ history. (catalog_of-asked history, last_state-asked history)
+returns c = λ history. (clock_of-event history Asked, catalog_of-event history Asked ∙ append-nil (catalog_of history), state_at-event history Asked)

@@ -3,35 +3,24 @@ use Rattle.std.specs.Prelude.{◌<◌, ℤ, List, Option, Some, length, map}
 use Rattle.std.specs.List.{All}
 use Rattle.period_core.specs.declared.row.PeriodRow.{PeriodRow}
 use Rattle.period_core.specs.declared.value.Value.{Value}
+use Rattle.period_core.specs.declared.version.VersionRow.{VersionRow}
 use Rattle.history_model.specs.Answers.{read_items}
-use Rattle.catalog_core.specs.declared.change.GivenRow.{GivenRow}
 use Rattle.catalog_core.specs.declared.query.Item.{Item}
-
--- values from a day on and before an end
-pub record PlainRow : Type 0 where
-  pub values : List Value
-  pub start : ℤ
-  pub end : ℤ
-
-abbrev pub plain_row : PeriodRow → PlainRow
-plain_row row = record { values = row.values; start = row.period.start; end = row.period.end }
-
-abbrev pub plain_given : GivenRow → PlainRow
-plain_given given = record { values = given.values; start = given.start; end = given.end }
 
 -- the row has a value at the position of each item
 abbrev pub HasItems : List Item → List Value → Type 0
 HasItems items values = All (λ (item : Item). item.position < length values) items
 
--- what a select list reads in a row, over the row's period
+-- what a select list reads in a version, over its period
 pub record ReadRow : Type 0 where
   pub values : List (Option Value)
   pub start : ℤ
   pub end : ℤ
 
-abbrev pub read_row : List Item → PeriodRow → ReadRow
-read_row items row =
-    record { values = read_items items row.values; start = row.period.start; end = row.period.end }
+-- of a period row
+abbrev pub read_row : List Item → VersionRow → ReadRow
+read_row items v =
+    record { values = read_items items v.values; start = v.period.start; end = v.period.end }
 
 -- a row, as a list of all its values reads it
 abbrev pub whole_row : PeriodRow → ReadRow

@@ -1,12 +1,10 @@
 -- Which outcomes a statement may have in a history, and which history follows.
-use Rattle.std.specs.Prelude.{◌≡◌, ◌↔◌, ◌++◌, ◌∷◌, ℕ, ℤ, List, [], Contains, Result, Ok, Err, true}
+use Rattle.std.specs.Prelude.{◌≡◌, ◌++◌, ◌∷◌, ℤ, [], Result, Ok, Err, int_lt, true}
 use Rattle.std.specs.Prelude.{length, map}
 use Rattle.period_core.specs.Leasts.{MayAnswer, NoneApplies}
 use Rattle.period_core.specs.declared.answer.Answer.{Answer}
 use Rattle.period_core.specs.declared.refusal.Refusal.{Refusal}
-use Rattle.period_core.specs.declared.refusal.Refusal.TheVariants.{Syntax}
-use Rattle.period_core.specs.declared.value.Value.{Value}
-use Rattle.temporal_model.specs.Snapshot.{InSnapshot}
+use Rattle.period_core.specs.declared.refusal.Refusal.TheVariants.{MomentBack, Syntax}
 use Rattle.sql_statements.specs.declared.create.CreateTable.{CreateTable}
 use Rattle.sql_statements.specs.Trees.{Statement}
 use Rattle.sql_statements.specs.Trees as statement
@@ -17,8 +15,9 @@ use Rattle.catalog_core.specs.change.Resolution.{ResolvesChange, change_conditio
 use Rattle.catalog_core.specs.query.Selection.{ResolvesQuery, query_conditions}
 use Rattle.history_model.specs.Answers.{InAnswerOn}
 use Rattle.history_model.specs.Effects.{given_of}
-use Rattle.history_model.specs.Histories.{Asked, Changed, Created, Database, History, catalog_of}
-use Rattle.history_model.specs.Histories.{last_state, rows_in, with_event}
+use Rattle.history_model.specs.Histories.{Advanced, Asked, Changed, Created, Database, History}
+use Rattle.history_model.specs.Histories.{catalog_of, clock_of, with_event}
+use Rattle.history_model.specs.Represents.{Represents}
 use Rattle.catalog_core.specs.declared.change.Change.{Change}
 use Rattle.catalog_core.specs.declared.query.Item.{Item}
 use Rattle.catalog_core.specs.declared.query.Select.{Select}
@@ -29,33 +28,53 @@ use Rattle.script_engine.specs.declared.engine.outcome.Outcome.TheVariants.{Done
 use Rattle.script_engine.specs.declared.engine.outcome.Outcome.TheVariants.{Answer as Answered}
 use Rattle.script_engine.specs.declared.engine.outcome.Word.TheVariants as word
 
--- the condition of each refusal, for a statement over a catalog; statements of the other forms are
--- not run yet, and refused as if none were spelled so
-abbrev pub StatementApplies : List TableDef → Statement → Refusal → Type 0
-StatementApplies catalog (statement.create c) = Holds (create_conditions catalog c)
-StatementApplies catalog (statement.insert i) =
-    Holds (change_conditions catalog (statement.insert i)
-    ++ empty_period catalog (statement.insert i) ∷ [])
-StatementApplies catalog (statement.sequenced q) =
-    Holds (query_conditions catalog (statement.sequenced q))
-StatementApplies catalog _ = Holds ((Syntax, true) ∷ [])
+-- the condition of each refusal, for a statement in a history; statements of the other forms do
+-- not run yet, and are refused with 10 Syntax
+abbrev pub StatementApplies : History → Statement → Refusal → Type 0
+StatementApplies history (statement.at moment) =
+    Holds ((MomentBack, int_lt moment (clock_of history)) ∷ [])
+StatementApplies history (statement.create c) = Holds (create_conditions (catalog_of history) c)
+StatementApplies history (statement.insert i) =
+    Holds (change_conditions (catalog_of history) (statement.insert i)
+    ++ empty_period (catalog_of history) (statement.insert i) ∷ [])
+StatementApplies history (statement.sequenced q) =
+    Holds (query_conditions (catalog_of history) (statement.sequenced q))
+StatementApplies history _ = Holds ((Syntax, true) ∷ [])
+
+-- AT moves the clock
+pub record Advances
+    (history : History) (moment : ℤ) (outcome : Outcome) (new : History) : Type 0 where
+  pub done : outcome ≡ Done word.At 0
+  pub after : new ≡ with_event history (Advanced moment)
 
 -- CREATE adds the definition that it gives
-pub record Creates (history : History) (create : CreateTable) (outcome : Outcome) (new : History) : Type 0 where
+pub record Creates
+    (history : History)
+    (create : CreateTable)
+    (outcome : Outcome)
+    (new : History) : Type 0 where
   pub definition : TableDef
   pub defined : Defines (catalog_of history) create definition
   pub done : outcome ≡ Done word.Create 0
   pub after : new ≡ with_event history (Created definition)
 
--- a change is run as it is resolved; its count is that of the rows that it gives
-pub record Changes (history : History) (s : Statement) (outcome : Outcome) (new : History) : Type 0 where
+-- a change is made as it is resolved, at the clock; its count is that of the rows that it gives
+pub record Changes
+    (history : History)
+    (s : Statement)
+    (outcome : Outcome)
+    (new : History) : Type 0 where
   pub change : Change
   pub resolved : ResolvesChange (catalog_of history) s change
   pub done : outcome ≡ Done word.Insert (length (given_of change.action))
-  pub after : new ≡ with_event history (Changed change)
+  pub after : new ≡ with_event history (Changed (clock_of history) change)
 
 -- a sequenced query is answered by the sets that the ordinary query gives on each day
-pub record Answers (history : History) (s : Statement) (answer : Answer) (new : History) : Type 0 where
+pub record Answers
+    (history : History)
+    (s : Statement)
+    (answer : Answer)
+    (new : History) : Type 0 where
   pub query : Select
   pub resolved : ResolvesQuery (catalog_of history) s query
   pub columns : answer.columns ≡ map (λ (item : Item). item.name) query.items
@@ -64,6 +83,7 @@ pub record Answers (history : History) (s : Statement) (answer : Answer) (new : 
 
 -- what follows where no condition of a refusal holds
 abbrev pub Accepts : History → Statement → Outcome → History → Type 0
+Accepts history (statement.at moment) outcome new = Advances history moment outcome new
 Accepts history (statement.create c) outcome new = Creates history c outcome new
 Accepts history (statement.insert i) outcome new =
     Changes history (statement.insert i) outcome new
@@ -75,15 +95,9 @@ Accepts history _ outcome new = ⊥
 -- a statement's result: refused, and the history stays; or accepted, and added to the history
 abbrev pub Step : History → Statement → Result Outcome Refusal → History → Type 0
 Step history s (Err refusal) new =
-    MayAnswer (StatementApplies (catalog_of history) s) refusal × (new ≡ history)
+    MayAnswer (StatementApplies history s) refusal × (new ≡ history)
 Step history s (Ok outcome) new =
-    NoneApplies (StatementApplies (catalog_of history) s) × Accepts history s outcome new
-
--- what is kept is what the history says: its tables, and on each day the set of each
-pub record Represents (history : History) (database : Database) : Type 0 where
-  pub catalog : database.catalog ≡ catalog_of history
-  pub daily : (table : ℕ) (day : ℤ) (values : List Value) →
-      (InSnapshot (rows_in database table) day values ↔ Contains (last_state history table day) values)
+    NoneApplies (StatementApplies history s) × Accepts history s outcome new
 
 -- the statement's result is a step of the history, and what is kept then is what the new history
 -- says

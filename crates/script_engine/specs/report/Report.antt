@@ -15,20 +15,23 @@ use Rattle.period_core.specs.declared.value.Value.TheVariants.{Int, Text, Date}
 use Rattle.script_engine.specs.declared.engine.outcome.Outcome.{Outcome}
 use Rattle.script_engine.specs.declared.engine.outcome.Outcome.TheVariants as outcome
 use Rattle.script_engine.specs.declared.engine.outcome.Word.{Word}
-use Rattle.script_engine.specs.declared.engine.outcome.Word.TheVariants.{Create, Insert}
+use Rattle.script_engine.specs.declared.engine.outcome.Word.TheVariants.{At, Create, Insert}
 use Rattle.script_engine.specs.declared.report.ReportFault.{ReportFault}
 use Rattle.script_engine.specs.declared.report.ReportFault.TheVariants.{Memory, Write}
 
--- the bytes that stand apart in a record
+-- `,`, between two fields
 abbrev pub comma : ℕ
 comma = 44
 
+-- `"`, around a field
 abbrev pub quote_mark : ℕ
 quote_mark = 34
 
+-- a carriage return, which ends no record, but is quoted in a field
 abbrev pub carriage_return : ℕ
 carriage_return = 13
 
+-- a line feed, at the end of a record
 abbrev pub line_feed : ℕ
 line_feed = 10
 
@@ -59,6 +62,7 @@ record_text (field ∷ rest) = field_text field ++ (more_fields rest ++ line_fee
 
 -- what was done
 abbrev pub word_text : Word → List ℕ
+word_text At = codes "at"
 word_text Create = codes "create"
 word_text Insert = codes "insert"
 

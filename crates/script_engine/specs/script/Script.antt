@@ -12,7 +12,8 @@ use Rattle.sql_statements.specs.Lexis.{StopsAt, TokensOf}
 use Rattle.sql_front.specs.Pieces.{HasPieces}
 use Rattle.sql_statements.specs.Trees.{Statement}
 use Rattle.history_model.specs.Histories.{Database, History, new_database, opened}
-use Rattle.script_engine.specs.engine.Runs.{Represents, Step}
+use Rattle.history_model.specs.Represents.{Represents}
+use Rattle.script_engine.specs.engine.Runs.{Step}
 use Rattle.script_engine.specs.declared.engine.outcome.Outcome.{Outcome}
 
 -- a piece of more than 10,000 tokens
@@ -36,7 +37,8 @@ PieceStep history piece result new =
     × Step history s result new)
 
 -- the results of the pieces, one after the other
-abbrev pub RunPieces : History → List (List Lexeme) → List (Result Outcome Refusal) → History → Type 0
+abbrev pub RunPieces :
+    History → List (List Lexeme) → List (Result Outcome Refusal) → History → Type 0
 RunPieces history [] [] new = new ≡ history
 RunPieces history (piece ∷ pieces) (result ∷ results) new =
     (middle : History) × PieceStep history piece result middle × RunPieces middle pieces results new
@@ -52,7 +54,8 @@ most_bytes = 4_194_304
 abbrev pub ScriptApplies : List ℕ → Refusal → Type 0
 ScriptApplies script NotUtf8 = (length script ≤ most_bytes) × (IsUtf8 script → ⊥)
 ScriptApplies script ScriptTooLarge = most_bytes < length script
-ScriptApplies script (BadToken offset) = (length script ≤ most_bytes) × IsUtf8 script × StopsAt script offset
+ScriptApplies script (BadToken offset) =
+    (length script ≤ most_bytes) × IsUtf8 script × StopsAt script offset
 ScriptApplies script other = ⊥
 
 -- which refusals a whole script may get

@@ -3,42 +3,59 @@
 ghost use Rattle.std.specs.Prelude.{◌≡◌, ◌⊎◌, List, map, IfOk, IfErr, true};
 ghost use Rattle.std.specs.List.{All, list_any};
 ghost use Rattle.history_model.specs.Effects.{given_of};
+ghost use Rattle.history_model.specs.Versions.{AreBegun};
 ghost use Rattle.period_core.specs.declared.refusal.Refusal.TheVariants.{EmptyPeriod};
-ghost use Rattle.period_core.specs.declared.refusal.Refusal.TheVariants.{Memory as WantOfMemory};
+ghost use Rattle.period_core.specs.declared.refusal.Refusal.TheVariants.{Memory as OutOfMemory};
 ghost use Rattle.history_model.specs.Answers.{IsProjection};
 ghost use Rattle.catalog_core.specs.change.Resolution.{has_empty_row, is_empty_row};
-ghost use Rattle.script_engine.specs.engine.Rows.{HasItems, plain_given, plain_row, read_row};
+ghost use Rattle.script_engine.specs.engine.Rows.{HasItems, read_row};
 ghost use Rattle.script_engine.specs.engine.Rows.{whole_row};
 
 use catalog_core::{Action, GivenRow, Item};
-use period_core::{Items, Memory, Period, PeriodRow, Refusal, Text, Value, Values};
+use period_core::{
+    Items, Memory, Moment, Period, PeriodRow, Refusal, Text, Value, Values, VersionRow,
+};
 use std::alloc::Global;
 
-/// The period rows of the rows that an action gives, or EmptyPeriod where one of these has no day.
-pub fn given_rows(alloc: Global, action: Action) -> Result<Items<PeriodRow>, Refusal>
-    ensures rows { IfOk result (λ rows. map plain_row rows ≡ map plain_given (given_of action)) }
-    ensures refused { IfErr result (λ refusal. ((refusal ≡ EmptyPeriod) × (has_empty_row action ≡ true)) ⊎ (refusal ≡ WantOfMemory)) }
+/// The versions of the rows that an action gives, begun at a moment, or EmptyPeriod where one of
+/// these has no day.
+pub fn inserted_rows(
+    alloc: Global,
+    moment: Moment,
+    action: Action,
+) -> Result<Items<VersionRow>, Refusal>
+    ensures rows { IfOk result (λ versions. AreBegun moment (given_of action) versions) }
+    ensures refused { IfErr result (λ refusal.
+        ((refusal ≡ EmptyPeriod) × (has_empty_row action ≡ true)) ⊎ (refusal ≡ OutOfMemory)) }
 {
     let Action::Insert(given) = action;
-    rows_of_given(alloc, given)
+    rows_of_given(alloc, moment, given)
 }
 
-/// The period rows of given rows.
-fn rows_of_given(alloc: Global, given: Items<GivenRow>) -> Result<Items<PeriodRow>, Refusal>
-    ensures rows { IfOk result (λ rows. map plain_row rows ≡ map plain_given given) }
-    ensures refused { IfErr result (λ refusal. ((refusal ≡ EmptyPeriod) × (list_any is_empty_row given ≡ true)) ⊎ (refusal ≡ WantOfMemory)) }
+/// The versions of given rows.
+fn rows_of_given(
+    alloc: Global,
+    moment: Moment,
+    given: Items<GivenRow>,
+) -> Result<Items<VersionRow>, Refusal>
+    ensures rows { IfOk result (λ versions. AreBegun moment given versions) }
+    ensures refused { IfErr result (λ refusal.
+        ((refusal ≡ EmptyPeriod) × (list_any is_empty_row given ≡ true))
+        ⊎ (refusal ≡ OutOfMemory)) }
 {
-    let mut rows = Vec::new(alloc);
+    let mut versions = Vec::new(alloc);
     for row in given.into_vec() {
         let Some(period) = Period::new(row.start, row.end) else {
             return Err(Refusal::EmptyPeriod);
         };
-        rows.push(PeriodRow {
+        versions.push(VersionRow {
             values: row.values,
             period,
+            from: moment,
+            to: Moment::forever(),
         })?;
     }
-    Ok(Items::from_vec(rows))
+    Ok(Items::from_vec(versions))
 }
 
 /// The values of a select list.
@@ -57,14 +74,14 @@ fn projected_values(alloc: Global, items: &[Item], values: &[Value]) -> Result<V
 pub fn projected_rows(
     alloc: Global,
     items: &[Item],
-    rows: &[PeriodRow],
+    versions: &[VersionRow],
 ) -> Result<Vec<PeriodRow>, Memory>
-    requires { All (λ row. HasItems items.now row.values) rows.now }
+    requires { All (λ v. HasItems items.now v.values) versions.now }
     ensures { IfOk result (λ projections.
-        map (read_row items.now) rows.now ≡ map whole_row projections.items) }
+        map (read_row items.now) versions.now ≡ map whole_row projections.items) }
 {
     let mut projections = Vec::new(alloc);
-    for row in rows {
+    for row in versions {
         projections.push(PeriodRow {
             values: projected_values(alloc, items, row.values.as_slice())?,
             period: row.period,

@@ -50,8 +50,8 @@ fn records_into(memory: Vec<u8>) -> Writer<Vec<u8>>
 }
 
 impl ReportBuffer {
-    /// No text yet. The writer gets the texts once some `capacity` bytes are gathered, or each record
-    /// by itself where `capacity` is 0.
+    /// No text yet. The writer gets the texts once some `capacity` bytes are gathered, or each
+    /// record by itself where `capacity` is 0.
     pub(crate) fn new(alloc: Global, capacity: usize) -> ReportBuffer
         ensures { result ≡ [] }
     {

@@ -2,7 +2,7 @@ use Rattle.std.proofs.Common.{◌≡◌, ◌≤◌, length, map, take, vec_capac
 use Rattle.sql_statements.specs.Lexemes.{lexemes}
 use Rattle.sql_front.specs.Pieces.{spanned}
 use Rattle.history_model.specs.Histories.{History, new_database, opened}
-use Rattle.script_engine.specs.engine.Runs.{Represents}
+use Rattle.history_model.specs.Represents.{Represents}
 use Rattle.script_engine.specs.script.Script.{RunPieces}
 use Rattle.script_engine.proofs.script.run_pieces.Given as goal
 

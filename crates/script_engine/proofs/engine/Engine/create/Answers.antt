@@ -16,7 +16,7 @@ returns-clause-step g c history kept =
     created_step history c.args.self.now c.add_table.new.self c.args.create.now c.in_ok-definition.definition kept
     (subst (λ (tables : List TableDef). NoneApplies (Holds (create_conditions tables c.args.create.now))) same c.in_ok-definition.ensures.sound)
     (subst (λ (tables : List TableDef). Defines tables c.args.create.now c.in_ok-definition.definition) same c.in_ok-definition.ensures.defined)
-    c.in_ok-add_table.ensures.catalog c.in_ok-add_table.ensures.rows
+    c.in_ok-add_table.ensures.catalog c.in_ok-add_table.ensures.versions c.add_table.ensures.clock
 
 pub add_table-requires-clause-room : goal.add_table-requires-clause-room
 add_table-requires-clause-room g c =

@@ -4,4 +4,4 @@ use Rattle.script_engine.proofs.engine.rows.projected_rows.Given as goal
 
 abbrev pub invariant-loop-row : goal.invariant-loop-row
 invariant-loop-row l =
-    map (read_row l.items) (take l.row-index l.rows) ≡ map whole_row l.projections.items
+    map (read_row l.items) (take l.row-index l.versions) ≡ map whole_row l.projections.items
