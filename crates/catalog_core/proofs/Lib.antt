@@ -16,6 +16,8 @@ pub mod Distinct
 pub mod DistinctDefined
 pub mod GivenPlaces
 pub mod KeyedColumns
+pub mod InsertFaults
+pub mod SelectFaults
 pub mod Fronts
 pub mod DefinitionFronts
 pub mod DefinitionSpelling

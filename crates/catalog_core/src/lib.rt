@@ -5,7 +5,8 @@
 //!   is by positions in the folder of that name in `specs/`, a file beside `change/insertion.rt` or
 //!   `query/selection.rt`, and what it makes of a day in `history_model`;
 //! - a condition of a statement: the list of its conditions (`create_conditions`,
-//!   `insert_conditions`, `select_conditions`), and its `first_fault`, both in ascending order;
+//!   `insert_conditions`, `select_conditions`), and the function that judges them (`first_fault`,
+//!   `shape_fault`, `value_fault`, `columns_fault`), both in ascending order;
 //! - a column type: `ColumnKind` and `Kind`, `specs/table/Kinds`, `create/building.rt`, and its
 //!   number in `bytes/`.
 #![tactic(auto)]

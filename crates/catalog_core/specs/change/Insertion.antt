@@ -124,6 +124,21 @@ has_no_period t i = list_any (λ (row : List Value). gives_no_period t i.columns
 
 -- ==== the whole ====
 
+-- 24 to 29, over the table that is there: the list of columns and the lengths of the rows
+abbrev pub shape_conditions : TableDef → InsertRows → List Judged
+shape_conditions t i =
+    (UnknownColumn, lists_unknown t i)
+    ∷ (AmbiguousColumn, lists_ambiguous t i)
+    ∷ (DuplicateName, lists_twice i)
+    ∷ (PeriodColumn, lists_system t i)
+    ∷ (ColumnCount, has_other_count t i)
+    ∷ []
+
+-- 30 and 31: the values
+abbrev pub value_conditions : TableDef → InsertRows → List Judged
+value_conditions t i =
+    (TypeMismatch, has_wrong wrong.Kind t i) ∷ (TextTooLong, has_wrong wrong.Length t i) ∷ []
+
 -- the refusals that INSERT may get by its statement and the catalog, each with its condition, but for
 -- an empty period. The limit on its tokens is judged on the text; no other limit is about INSERT.
 abbrev pub insert_conditions : List TableDef → InsertRows → List Judged

@@ -45,6 +45,14 @@ names_no_value t name = list_any (λ (c : ℕ × Column). bytes_eq name c.1.name
 unfoldable pub selects_no_value : TableDef → List Name → Bool
 selects_no_value t names = list_any (λ name. names_no_value t name) names
 
+-- 24, 25 and 27, over the table that is there
+abbrev pub column_conditions : TableDef → SimpleSelect → List Judged
+column_conditions t s =
+    (UnknownColumn, selects_unknown t s)
+    ∷ (AmbiguousColumn, selects_ambiguous t s)
+    ∷ (PeriodColumn, selects_no_value t s.columns)
+    ∷ []
+
 -- the refusals that a sequenced query may get, each with its condition
 abbrev pub select_conditions : List TableDef → SimpleSelect → List Judged
 select_conditions catalog s =

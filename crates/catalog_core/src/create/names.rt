@@ -33,11 +33,14 @@ const MOST_COLUMNS: usize = 32;
 const MOST_REFERENCES: usize = 8;
 
 /// The table that a reference names.
-#[tactic(auto)]
+#[tactic(auto, unfolding(crate::specs::table::TableWords::table_of_name))]
 pub fn parent_of<'a>(catalog: &'a Catalog, reference: &ReferenceElement) -> Option<&'a TableDef>
     ensures { option_copied result ≡ parent_of catalog.now.tables reference.now }
 {
-    catalog.table_named(&reference.parent)
+    match catalog.find(&reference.parent) {
+        Some((_, table)) => Some(table),
+        None => None,
+    }
 }
 
 /// Whether one of the columns that a reference names in its parent matches so many there.
