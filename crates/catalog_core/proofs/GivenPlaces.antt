@@ -23,7 +23,7 @@ use Rattle.catalog_core.specs.table.TableWords.{def_kind, def_place, has_date_pe
 use Rattle.catalog_core.specs.declared.change.insert_values.Wrong.{Wrong}
 use Rattle.catalog_core.specs.declared.change.insert_values.Wrong.TheVariants as wrong
 use Rattle.catalog_core.specs.declared.table.Column.{Column}
-use Rattle.catalog_core.specs.declared.table.Kind.{Kind}
+use Rattle.catalog_core.specs.declared.table.ValueKind.{ValueKind}
 use Rattle.catalog_core.specs.declared.table.TableDef.{TableDef}
 
 -- ==== the column that a name stands for ====
@@ -69,7 +69,7 @@ wrong_kind : (t : TableDef) (name : Name) (place : ℕ) (v : Value) → def_plac
 unfolding is_wrong is_of_other_kind differ is_wrong_at is_wrong_for
 wrong_kind t name place v placed =
     let s = stands t name place placed in
-    ap (λ (k : Option Kind). differ k (Some (kind_of_value v))) s.kinds
+    ap (λ (k : Option ValueKind). differ k (Some (kind_of_value v))) s.kinds
     ∙ sym (ap (passes (λ (x : Column). is_wrong_for wrong.Kind x.kind v)) s.there)
 
 wrong_length : (t : TableDef) (name : Name) (place : ℕ) (v : Value) → has_distinct_names t ≡ true → def_place t name ≡ Some place

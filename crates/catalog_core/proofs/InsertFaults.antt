@@ -1,5 +1,5 @@
 -- The conditions of an INSERT whose table is there: those by its shape, then those by its values.
-use Rattle.std.proofs.Common.{◌≡◌, ◌∷◌, ◌++◌, ◌∙◌, false, List, Option, None, Some, ap, lit≤, refl}
+use Rattle.std.proofs.Common.{◌≡◌, ◌∷◌, ◌++◌, ◌∙◌, false, List, None, Some, ap, lit≤, refl}
 use Rattle.std.specs.Option.{option_and_then, option_or}
 use Rattle.period_core.specs.Leasts.{IsLeast, NoneApplies}
 use Rattle.period_core.specs.declared.refusal.Refusal.{Refusal}
@@ -7,7 +7,7 @@ use Rattle.period_core.specs.declared.refusal.Refusal.TheVariants.{UnknownTable}
 use Rattle.sql_statements.specs.declared.statement.InsertRows.{InsertRows}
 use Rattle.catalog_core.proofs.Least.{Ascending, first_append, first_least, none_first}
 use Rattle.catalog_core.specs.change.Insertion.{insert_conditions, lacks_table, shape_conditions, value_conditions}
-use Rattle.catalog_core.specs.Judged.{Holds, Judged, first_holding}
+use Rattle.catalog_core.specs.Judged.{Holds, first_holding}
 use Rattle.catalog_core.specs.table.TableWords.{number_of, table_of, table_of_name}
 use Rattle.catalog_core.specs.declared.table.TableDef.{TableDef}
 

@@ -1,12 +1,12 @@
 -- The conditions of a select of few columns: those of one whose table is there are by its columns.
-use Rattle.std.proofs.Common.{◌≡◌, ◌∷◌, ◌∙◌, true, false, List, Option, None, Some, ap, lit≤, refl}
+use Rattle.std.proofs.Common.{◌≡◌, ◌∙◌, true, false, List, None, Some, ap, lit≤, refl}
 use Rattle.std.specs.Option.{option_and_then}
 use Rattle.period_core.specs.Leasts.{IsLeast, NoneApplies}
 use Rattle.period_core.specs.declared.refusal.Refusal.{Refusal}
 use Rattle.period_core.specs.declared.refusal.Refusal.TheVariants.{LimitReached, UnknownTable}
 use Rattle.catalog_core.proofs.Least.{Ascending, first_least, none_first}
 use Rattle.catalog_core.specs.query.Selection.{column_conditions, has_many_items, lacks_source, select_conditions}
-use Rattle.catalog_core.specs.Judged.{Holds, Judged, first_holding}
+use Rattle.catalog_core.specs.Judged.{Holds, first_holding}
 use Rattle.catalog_core.specs.table.TableWords.{number_of, table_of, table_of_name}
 use Rattle.catalog_core.specs.declared.query.simple_select.SimpleSelect.{SimpleSelect}
 use Rattle.catalog_core.specs.declared.table.TableDef.{TableDef}

@@ -18,7 +18,7 @@ use Rattle.catalog_core.specs.table.Matches.{is_matching}
 use Rattle.catalog_core.specs.table.Naming.{Name}
 use Rattle.catalog_core.specs.query.Selection.{ResolvesQuery, has_many_items, item_parts, lacks_source, names_no_value, query_conditions, selects_ambiguous, selects_no_value, selects_unknown, value_position, written_item}
 use Rattle.catalog_core.specs.table.TableWords.{def_matches, is_value_column, number_of, some_def_match, table_of, table_of_name}
-use Rattle.catalog_core.specs.declared.query.Item.{Item}
+use Rattle.catalog_core.specs.declared.query.AnswerColumn.{AnswerColumn}
 use Rattle.catalog_core.specs.declared.query.Select.{Select}
 use Rattle.catalog_core.specs.declared.table.TableDef.{TableDef}
 use Rattle.script_engine.specs.Headline.{IsSequencedAnswer}
@@ -130,14 +130,14 @@ asked = (
 -- a select of table 1 with these items is this one
 same_select : (query : Select) → query.table ≡ 1 → query.items ≡ departments.items → query ≡ departments
 same_select query table items =
-    let made : ℕ → List Item → Select = λ number its. record { table = number; items = its } in
+    let made : ℕ → List AnswerColumn → Select = λ number its. record { table = number; items = its } in
     ap₂ made table items
 
 -- an item that stands for DEPT at the position 1 is this one
-one_item : (items : List Item) → (Some 1, codes "DEPT") ∷ [] ≡ map item_parts items → items ≡ departments.items
+one_item : (items : List AnswerColumn) → (Some 1, codes "DEPT") ∷ [] ≡ map item_parts items → items ≡ departments.items
 one_item [] e = cc
 one_item (item ∷ []) e =
-    let made : ℕ → Name → List Item = λ position name. record { position = position; name = name } ∷ [] in
+    let made : ℕ → Name → List AnswerColumn = λ position name. record { position = position; name = name } ∷ [] in
     let parts : (Some 1, codes "DEPT") ≡ item_parts item = cc in
     let place : Some 1 ≡ Some item.position = ap (λ (p : Option ℕ × Name). p.0) parts in
     let position : item.position ≡ 1 = cc in

@@ -12,7 +12,8 @@ use Rattle.period_core.specs.declared.refusal.Refusal.TheVariants.{AmbiguousColu
 use Rattle.period_core.specs.declared.refusal.Refusal.TheVariants.{PeriodColumn, BadDefinition}
 use Rattle.period_core.specs.declared.refusal.Refusal.TheVariants.{ColumnCount, TypeMismatch}
 use Rattle.sql_statements.specs.declared.create.TypeName.{TypeName}
-use Rattle.sql_statements.specs.declared.create.TypeName.TheVariants.{Integer, Date, Varchar, Timestamp}
+use Rattle.sql_statements.specs.declared.create.TypeName.TheVariants.{Integer, Date, Varchar}
+use Rattle.sql_statements.specs.declared.create.TypeName.TheVariants.{Timestamp}
 use Rattle.sql_statements.specs.declared.create.ColumnElement.{ColumnElement}
 use Rattle.sql_statements.specs.declared.create.PeriodElement.{PeriodElement}
 use Rattle.sql_statements.specs.declared.create.SystemElement.{SystemElement}
@@ -20,7 +21,8 @@ use Rattle.sql_statements.specs.declared.create.KeyElement.{KeyElement}
 use Rattle.sql_statements.specs.declared.create.ReferenceElement.{ReferenceElement}
 use Rattle.sql_statements.specs.declared.create.CreateTable.{CreateTable}
 use Rattle.catalog_core.specs.Judged.{Judged}
-use Rattle.catalog_core.specs.Limits.{most_columns, most_references, most_tables}
+use Rattle.catalog_core.specs.Limits.{greatest_precision, most_code_points, most_columns}
+use Rattle.catalog_core.specs.Limits.{most_references, most_tables}
 use Rattle.catalog_core.specs.table.Matches.{is_matching, is_of_sort}
 use Rattle.catalog_core.specs.table.Kinds.{kind_of_type, differ}
 use Rattle.catalog_core.specs.table.Naming.{Name, passes, repeats}
@@ -32,7 +34,7 @@ use Rattle.catalog_core.specs.declared.table.matching.ColumnSort.TheVariants.{Pl
 use Rattle.catalog_core.specs.declared.table.matching.Matching.{Matching}
 use Rattle.catalog_core.specs.declared.table.matching.Matching.TheVariants.{Nothing, Several}
 use Rattle.catalog_core.specs.declared.table.Column.{Column}
-use Rattle.catalog_core.specs.declared.table.Kind.{Kind}
+use Rattle.catalog_core.specs.declared.table.ValueKind.{ValueKind}
 use Rattle.catalog_core.specs.declared.table.TableDef.{TableDef}
 
 -- ==== words ====
@@ -174,9 +176,9 @@ has_bad_system_period c =
 unfoldable pub is_bad_type : TypeName → Bool → Bool
 is_bad_type Integer generated = generated
 is_bad_type Date generated = generated
-is_bad_type (Varchar n) generated = generated || nat_lt n 1 || nat_lt 1000 n
+is_bad_type (Varchar n) generated = generated || nat_lt n 1 || nat_lt most_code_points n
 is_bad_type (Timestamp None) generated = not generated
-is_bad_type (Timestamp (Some p)) generated = not generated || nat_lt 12 p
+is_bad_type (Timestamp (Some p)) generated = not generated || nat_lt greatest_precision p
 
 unfoldable pub has_bad_column : CreateTable → Bool
 has_bad_column c =
@@ -232,7 +234,7 @@ has_unequal_lists c =
     c.references
 
 -- 30: a column of a reference and its parent's at the same place are of two kinds
-unfoldable pub own_kind : CreateTable → Name → Option Kind
+unfoldable pub own_kind : CreateTable → Name → Option ValueKind
 own_kind c name =
     option_map (λ (x : ColumnElement). kind_of_type x.kind)
     (find (λ (x : ColumnElement). bytes_eq name x.name) c.columns)

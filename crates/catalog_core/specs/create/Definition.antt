@@ -3,7 +3,8 @@ use Rattle.std.specs.Prelude.{◌∷◌, ◌≡◌, ℕ, List, [], Option, Some,
 use Rattle.std.specs.List.{position}
 use Rattle.std.specs.Option.{option_map}
 use Rattle.sql_statements.specs.declared.create.TypeName.{TypeName}
-use Rattle.sql_statements.specs.declared.create.TypeName.TheVariants.{Integer, Date, Varchar, Timestamp}
+use Rattle.sql_statements.specs.declared.create.TypeName.TheVariants.{Integer, Date, Varchar}
+use Rattle.sql_statements.specs.declared.create.TypeName.TheVariants.{Timestamp}
 use Rattle.sql_statements.specs.declared.create.Generated.{Generated}
 use Rattle.sql_statements.specs.declared.create.Generated.TheVariants.{Start, End}
 use Rattle.sql_statements.specs.declared.create.ColumnElement.{ColumnElement}
@@ -55,8 +56,11 @@ abbrev pub Numbers : Type 0
 Numbers = Option ℕ × List (Option ℕ) × Option (List (Option ℕ))
 
 unfoldable pub declared_reference : List TableDef → CreateTable → ReferenceElement → Numbers
-declared_reference catalog c x =
-    (number_of catalog x.parent, map (own_place c) x.columns, option_map (λ (t : TableDef). map (def_place t) x.parent_columns) (parent_of catalog x))
+declared_reference catalog c x = (
+  number_of catalog x.parent,
+  map (own_place c) x.columns,
+  option_map (λ (t : TableDef). map (def_place t) x.parent_columns) (parent_of catalog x),
+)
 
 abbrev pub reference_parts : Reference → Numbers
 reference_parts r = (Some r.parent, map Some r.own, Some (map Some r.keys))
@@ -65,6 +69,9 @@ reference_parts r = (Some r.parent, map Some r.own, Some (map Some r.keys))
 pub record Defines (catalog : List TableDef) (c : CreateTable) (d : TableDef) : Type 0 where
   pub name : d.name ≡ c.name
   pub columns : map declared_column c.columns ≡ map column_parts d.columns
-  pub period : map (declared_period c) c.periods ≡ (d.period.name, Some d.period.start, Some d.period.end) ∷ []
+  pub period :
+      map (declared_period c) c.periods
+      ≡ (d.period.name, Some d.period.start, Some d.period.end) ∷ []
   pub key : map (declared_key c) c.keys ≡ map Some d.key ∷ []
-  pub references : map (declared_reference catalog c) c.references ≡ map reference_parts d.references
+  pub references :
+      map (declared_reference catalog c) c.references ≡ map reference_parts d.references

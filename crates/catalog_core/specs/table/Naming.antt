@@ -1,5 +1,6 @@
 -- Names, and what they match.
--- Each word answers for every list: a name that matches nothing has no place and no kind, and no test holds of it.
+-- Each word answers for every list: a name that matches nothing has no place and no kind, and no
+-- test holds of it.
 use Rattle.std.specs.Prelude.{ℕ, Bool, false, List, Option, Some, None, bytes_eq, count_by}
 use Rattle.std.specs.List.{list_any}
 use Rattle.catalog_core.specs.table.Matches.{is_matching}

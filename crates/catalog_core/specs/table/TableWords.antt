@@ -12,8 +12,8 @@ use Rattle.catalog_core.specs.declared.table.Column.{Column}
 use Rattle.catalog_core.specs.declared.table.ColumnKind.{ColumnKind}
 use Rattle.catalog_core.specs.declared.table.ColumnKind.TheVariants.{Integer, Varchar, Date}
 use Rattle.catalog_core.specs.declared.table.ColumnKind.TheVariants.{RowStart, RowEnd}
-use Rattle.catalog_core.specs.declared.table.Kind.{Kind}
-use Rattle.catalog_core.specs.declared.table.Kind.TheVariants as kind
+use Rattle.catalog_core.specs.declared.table.ValueKind.{ValueKind}
+use Rattle.catalog_core.specs.declared.table.ValueKind.TheVariants as kind
 use Rattle.catalog_core.specs.declared.table.TableDef.{TableDef}
 
 -- the number of the table of this name, from 1 in the order of creation
@@ -45,7 +45,7 @@ has_distinct_names t =
     not (list_any (λ (x : Column). is_matching Several (def_matches t x.name)) t.columns)
 
 -- the kind, and the place among the declared columns, of the column that a name stands for
-unfoldable pub def_kind : TableDef → Name → Option Kind
+unfoldable pub def_kind : TableDef → Name → Option ValueKind
 def_kind t name =
     option_map (λ (x : Column). kind_of_column x.kind)
     (find (λ (x : Column). bytes_eq name x.name) t.columns)

@@ -14,8 +14,9 @@ ghost use Rattle.catalog_core.specs.query.Selection.{item_parts, query_condition
 ghost use Rattle.catalog_core.specs.query.Selection.{select_conditions, selects_no_value};
 ghost use Rattle.catalog_core.specs.query.Selection.{written_item};
 
+use crate::limits::MOST_ITEMS;
 use crate::query::simple_select::{SimpleSelect, simple_select_of};
-use crate::query::{Item, Query, Select};
+use crate::query::{AnswerColumn, Query, Select};
 use crate::table::TableDef;
 use crate::table::catalog::Catalog;
 use crate::table::columns::{names_no_value, value_position};
@@ -23,9 +24,6 @@ use crate::table::matching::{Matching, some_def_match};
 use period_core::{Items, Memory, Refusal};
 use sql_statements::{Name, QueryTree, SelectDistinct, Statement, StatementForm};
 use std::alloc::Global;
-
-/// How many items a select may have.
-const MOST_ITEMS: usize = 32;
 
 /// Whether there are more items than a select may have.
 #[tactic(auto, unfolding(crate::specs::query::Selection::has_many_items))]
@@ -66,7 +64,11 @@ fn columns_fault(table: &TableDef, select: &SimpleSelect) -> Option<Refusal>
 }
 
 /// The items by their positions.
-fn resolve_items(alloc: Global, table: &TableDef, names: &[Name]) -> Result<Vec<Item>, Memory>
+fn resolve_items(
+    alloc: Global,
+    table: &TableDef,
+    names: &[Name],
+) -> Result<Vec<AnswerColumn>, Memory>
     requires there { some_def_match table.now Nothing names.now ≡ false }
     requires values { selects_no_value table.now names.now ≡ false }
     ensures { IfOk result
@@ -77,7 +79,7 @@ fn resolve_items(alloc: Global, table: &TableDef, names: &[Name]) -> Result<Vec<
         let Some(position) = value_position(table, name) else {
             unreachable!()
         };
-        let item = Item {
+        let item = AnswerColumn {
             position,
             name: name.copy(alloc)?,
         };

@@ -7,6 +7,7 @@ ghost use Rattle.catalog_core.specs.Limits.{most_tables};
 ghost use Rattle.catalog_core.specs.table.TableWords.{has_date_period, has_distinct_names};
 ghost use Rattle.catalog_core.specs.table.TableWords.{number_of, table_of};
 
+use crate::limits::MOST_TABLES;
 use crate::table::TableDef;
 use period_core::{Items, Memory};
 use sql_statements::Name;
@@ -21,9 +22,6 @@ pub struct Catalog {
     pub ghost dated: { list_all has_date_period tables ≡ true },
     pub ghost distinct: { list_all has_distinct_names tables ≡ true },
 }
-
-/// How many tables a catalog may have.
-pub const MOST_TABLES: usize = 64;
 
 /// Whether the application period of each table is over two different DATE columns.
 fn have_date_periods(tables: &[TableDef]) -> bool

@@ -10,7 +10,7 @@ ghost use Rattle.catalog_core.specs.table.TableWords.{is_date_column, is_value_c
 
 use crate::table::kinds::{is_system, kind_of_column, same_kind};
 use crate::table::matching::{Matching, def_matches};
-use crate::table::{Column, Kind, TableDef};
+use crate::table::{Column, TableDef, ValueKind};
 use sql_statements::Name;
 
 /// The place of a table's column that a name stands for.
@@ -39,7 +39,7 @@ pub fn is_date_column(table: &TableDef, place: usize) -> bool
     let Some(named) = def_place(table, &column.name) else {
         return false;
     };
-    same_kind(kind_of_column(column.kind), Kind::Date) && named == place
+    same_kind(kind_of_column(column.kind), ValueKind::Date) && named == place
 }
 
 impl TableDef {
@@ -80,8 +80,8 @@ pub fn is_value_column(table: &TableDef, place: usize, column: &Column) -> bool
 
 /// Whether the column that is declared at a place has this name and is no value column.
 fn is_other_column(table: &TableDef, place: usize, column: &Column, name: &Name) -> bool
-    ensures { result
-        ≡ (bytes_eq name.now column.now.name && not (is_value_column table.now (place, column.now))) }
+    ensures { result ≡ (bytes_eq name.now column.now.name
+        && not (is_value_column table.now (place, column.now))) }
 {
     name.is(&column.name) && !is_value_column(table, place, column)
 }

@@ -5,7 +5,7 @@ use Rattle.period_core.specs.declared.row.PeriodRow.{PeriodRow}
 use Rattle.period_core.specs.declared.value.Value.{Value}
 use Rattle.history_model.specs.Answers.{read_items}
 use Rattle.catalog_core.specs.declared.change.GivenRow.{GivenRow}
-use Rattle.catalog_core.specs.declared.query.Item.{Item}
+use Rattle.catalog_core.specs.declared.query.AnswerColumn.{AnswerColumn}
 
 -- values from a day on and before an end
 pub record PlainRow : Type 0 where
@@ -20,8 +20,8 @@ abbrev pub plain_given : GivenRow → PlainRow
 plain_given given = record { values = given.values; start = given.start; end = given.end }
 
 -- the row has a value at the position of each item
-abbrev pub HasItems : List Item → List Value → Type 0
-HasItems items values = All (λ (item : Item). item.position < length values) items
+abbrev pub HasItems : List AnswerColumn → List Value → Type 0
+HasItems items values = All (λ (item : AnswerColumn). item.position < length values) items
 
 -- what a select list reads in a row, over the row's period
 pub record ReadRow : Type 0 where
@@ -29,7 +29,7 @@ pub record ReadRow : Type 0 where
   pub start : ℤ
   pub end : ℤ
 
-abbrev pub read_row : List Item → PeriodRow → ReadRow
+abbrev pub read_row : List AnswerColumn → PeriodRow → ReadRow
 read_row items row =
     record { values = read_items items row.values; start = row.period.start; end = row.period.end }
 

@@ -20,7 +20,7 @@ use Rattle.history_model.specs.Effects.{given_of}
 use Rattle.history_model.specs.Histories.{Asked, Changed, Created, Database, History, catalog_of}
 use Rattle.history_model.specs.Histories.{last_state, rows_in, with_event}
 use Rattle.catalog_core.specs.declared.change.Change.{Change}
-use Rattle.catalog_core.specs.declared.query.Item.{Item}
+use Rattle.catalog_core.specs.declared.query.AnswerColumn.{AnswerColumn}
 use Rattle.catalog_core.specs.declared.query.Select.{Select}
 use Rattle.catalog_core.specs.declared.table.TableDef.{TableDef}
 use Rattle.script_engine.specs.Headline.{IsSequencedAnswer}
@@ -58,7 +58,7 @@ pub record Changes (history : History) (s : Statement) (outcome : Outcome) (new 
 pub record Answers (history : History) (s : Statement) (answer : Answer) (new : History) : Type 0 where
   pub query : Select
   pub resolved : ResolvesQuery (catalog_of history) s query
-  pub columns : answer.columns ≡ map (λ (item : Item). item.name) query.items
+  pub columns : answer.columns ≡ map (λ (item : AnswerColumn). item.name) query.items
   pub right : IsSequencedAnswer (InAnswerOn history query) answer
   pub after : new ≡ with_event history Asked
 

@@ -10,7 +10,7 @@ ghost use Rattle.catalog_core.specs.change.Resolution.{has_empty_row, is_empty_r
 ghost use Rattle.script_engine.specs.engine.Rows.{HasItems, plain_given, plain_row, read_row};
 ghost use Rattle.script_engine.specs.engine.Rows.{whole_row};
 
-use catalog_core::{Action, GivenRow, Item};
+use catalog_core::{Action, GivenRow, AnswerColumn};
 use period_core::{Items, Memory, Period, PeriodRow, Refusal, Text, Value, Values};
 use std::alloc::Global;
 
@@ -42,7 +42,7 @@ fn rows_of_given(alloc: Global, given: Items<GivenRow>) -> Result<Items<PeriodRo
 }
 
 /// The values of a select list.
-fn projected_values(alloc: Global, items: &[Item], values: &[Value]) -> Result<Values, Memory>
+fn projected_values(alloc: Global, items: &[AnswerColumn], values: &[Value]) -> Result<Values, Memory>
     requires { HasItems items.now values.now }
     ensures { IfOk result (IsProjection items.now values.now) }
 {
@@ -56,7 +56,7 @@ fn projected_values(alloc: Global, items: &[Item], values: &[Value]) -> Result<V
 /// The rows with the values of a select list, in the same places over the same periods.
 pub fn projected_rows(
     alloc: Global,
-    items: &[Item],
+    items: &[AnswerColumn],
     rows: &[PeriodRow],
 ) -> Result<Vec<PeriodRow>, Memory>
     requires { All (λ row. HasItems items.now row.values) rows.now }
@@ -74,7 +74,7 @@ pub fn projected_rows(
 }
 
 /// The names of a select list.
-pub fn column_names(alloc: Global, items: &[Item]) -> Result<Items<Text>, Memory>
+pub fn column_names(alloc: Global, items: &[AnswerColumn]) -> Result<Items<Text>, Memory>
     ensures { IfOk result (λ names. names ≡ map (λ item. item.name) items.now) }
 {
     let mut names = Vec::new(alloc);

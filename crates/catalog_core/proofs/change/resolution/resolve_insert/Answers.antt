@@ -1,4 +1,4 @@
-use Rattle.std.proofs.Common.{◌≡◌, ◌∙◌, ap, inl, map, sym}
+use Rattle.std.proofs.Common.{◌∙◌, ap, inl, map, sym}
 use Rattle.catalog_core.proofs.GivenValues.{all_at}
 use Rattle.catalog_core.proofs.InsertFaults.{none_applies, shape_least, table_least, value_least}
 use Rattle.catalog_core.proofs.RowFacts.{empty_change, table_named}

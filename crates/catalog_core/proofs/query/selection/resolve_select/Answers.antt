@@ -1,4 +1,4 @@
-use Rattle.std.proofs.Common.{◌≡◌, ◌∙◌, ap, inl, map, sym}
+use Rattle.std.proofs.Common.{◌∙◌, ap, inl, map, sym}
 use Rattle.catalog_core.proofs.RowFacts.{table_named}
 use Rattle.catalog_core.proofs.SelectFaults.{column_least, many_least, none_applies, table_least}
 use Rattle.catalog_core.proofs.Sound.{all_false}
