@@ -13,6 +13,7 @@ use Rattle.catalog_core.specs.table.TableWords.{def_matches, def_place, has_dist
 use Rattle.catalog_core.specs.declared.table.matching.Matching.TheVariants.{Several}
 use Rattle.catalog_core.specs.declared.table.Column.{Column}
 use Rattle.catalog_core.specs.declared.table.TableDef.{TableDef}
+use Rattle.catalog_core.specs.table.Naming.{matches_among, place_among}
 
 -- an element that passes is kept
 kept_some : {X : Type 0} (p : X → Bool) (xs : List X) (i : ℕ) (d : X) → i < length xs → p (get_or xs i d) ≡ true → 0 < length (filter p xs)
@@ -78,7 +79,7 @@ not_true false e = refl
 -- a column's name matches no other
 pub few_named : (t : TableDef) (i : ℕ) (x : Column) → has_distinct_names t ≡ true → i < length t.columns → x ≡ get_or t.columns i x
     → length (filter (λ (y : Column). bytes_eq x.name y.name) t.columns) ≤ 1
-unfolding has_distinct_names def_matches is_matching
+unfolding has_distinct_names matches_among is_matching
 few_named t i x distinct here item =
     let several : Column → Bool = λ y. is_matching Several (def_matches t y.name) in
     let p : Column → Bool = λ y. bytes_eq x.name y.name in
@@ -91,7 +92,7 @@ own_name x = (bytes_eq-Decides x.name x.name).1 refl
 
 -- so it stands for the column's place
 pub its_place : (t : TableDef) (i : ℕ) (x : Column) → has_distinct_names t ≡ true → i < length t.columns → x ≡ get_or t.columns i x → def_place t x.name ≡ Some i
-unfolding def_place
+unfolding place_among
 its_place t i x distinct here item =
     let p : Column → Bool = λ y. bytes_eq x.name y.name in
     let mine : p (get_or t.columns i x) ≡ true = ap p (sym item) ∙ own_name x in

@@ -19,6 +19,7 @@ use Rattle.catalog_core.specs.declared.table.matching.Matching.TheVariants.{Seve
 use Rattle.catalog_core.specs.declared.table.Column.{Column}
 use Rattle.catalog_core.specs.declared.table.ColumnKind.{ColumnKind}
 use Rattle.catalog_core.specs.declared.table.TableDef.{TableDef}
+use Rattle.catalog_core.specs.table.Naming.{matches_among}
 
 -- the columns have the names that are declared
 kept_same : (test : Name → Bool) (elements : List ColumnElement) (columns : List Column) → map declared_column elements ≡ map column_parts columns
@@ -50,7 +51,7 @@ any_mapped test (x ∷ elements) (c ∷ columns) same =
     rw (name, any_mapped test elements columns later) refl
 
 matches_same : (catalog : List TableDef) (c : CreateTable) (d : TableDef) (name : Name) → Defines catalog c d → own_matches c name ≡ def_matches d name
-unfolding own_matches def_matches
+unfolding matches_among
 matches_same catalog c d name defines =
     sym (length-filter (λ (x : ColumnElement). bytes_eq name x.name) c.columns)
     ∙ kept_same (bytes_eq name) c.columns d.columns defines.columns

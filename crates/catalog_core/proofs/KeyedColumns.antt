@@ -16,6 +16,7 @@ use Rattle.catalog_core.specs.table.Matches.{is_matching}
 use Rattle.catalog_core.specs.table.Naming.{Name}
 use Rattle.catalog_core.specs.declared.table.matching.Matching.TheVariants.{Nothing}
 use Rattle.catalog_core.specs.declared.table.TableDef.{TableDef}
+use Rattle.catalog_core.specs.table.Naming.{matches_among, some_match_among}
 
 same_name : (name : Name) → bytes_eq name name ≡ true
 same_name name = (bytes_eq-Decides name name).1 refl
@@ -70,7 +71,7 @@ reference_names x = x.columns
 -- a column that a name matches passes what each of this name passes
 column_found : (c : CreateTable) (name : Name) (test : ColumnElement → Bool) → is_matching Nothing (own_matches c name) ≡ false
     → ((x : ColumnElement) → name ≡ x.name → test x ≡ true) → list_any test c.columns ≡ true
-unfolding own_matches is_matching
+unfolding matches_among is_matching
 column_found c name test matching passing =
     let p : ColumnElement → Bool = λ x. bytes_eq name x.name in
     any_weaker p test (λ x same. passing x ((bytes_eq-Decides name x.name).0 same)) c.columns (any_counted p c.columns matching)
@@ -88,7 +89,7 @@ name_keyed c name there other matching =
     (λ x same. rw (← same, there, other) refl)
 
 keyed_from : (catalog : List TableDef) (c : CreateTable) → some_match catalog c Nothing ≡ false → keys_period_column c ≡ true → some_keyed_no_value c ≡ true
-unfolding keys_period_column some_no_value some_own_match is_keyed
+unfolding keys_period_column some_no_value some_match_among is_keyed
 keyed_from catalog c matching some =
     let all = all_match catalog c matching in
     let other : Name → Bool = λ name. is_no_value_column c name in

@@ -27,6 +27,7 @@ use Rattle.script_engine.specs.declared.engine.outcome.Outcome.TheVariants.{Answ
 use Rattle.script_engine.proofs.Given.{same_values}
 use Rattle.script_engine.proofs.StepExamples.{colleague, emp, none_if_no_first, with_row, with_rows, worker}
 use Rattle.script_engine.proofs.RunExamples.{Sets, is_answer, one_row, seven, two_rows, whole}
+use Rattle.catalog_core.specs.table.Naming.{matches_among, some_match_among}
 
 -- ---- the query
 
@@ -51,7 +52,7 @@ answer = record one_row { columns = codes "DEPT" ∷ [] }
 
 -- no condition of a refusal holds for it where EMP is the one table
 question_is_sound : NoneApplies (StatementApplies (emp ∷ []) (statement.sequenced question))
-unfolding def_matches some_def_match is_matching number_of table_of_name has_many_items lacks_source names_no_value selects_ambiguous selects_no_value selects_unknown value_position is_value_column
+unfolding matches_among some_match_among is_matching number_of table_of_name has_many_items lacks_source names_no_value selects_ambiguous selects_no_value selects_unknown value_position is_value_column
 question_is_sound = none_if_no_first (query_conditions (emp ∷ []) (statement.sequenced question)) refl
 
 -- the row that the table holds

@@ -25,7 +25,8 @@ use Rattle.catalog_core.specs.Limits.{greatest_precision, most_code_points, most
 use Rattle.catalog_core.specs.Limits.{most_references, most_tables}
 use Rattle.catalog_core.specs.table.Matches.{is_matching, is_of_sort}
 use Rattle.catalog_core.specs.table.Kinds.{kind_of_type, differ}
-use Rattle.catalog_core.specs.table.Naming.{Name, passes, repeats}
+use Rattle.catalog_core.specs.table.Naming.{Name, matches_among, passes, repeats}
+use Rattle.catalog_core.specs.table.Naming.{some_match_among}
 use Rattle.catalog_core.specs.table.TableWords.{def_kind, some_def_match, table_of_name}
 use Rattle.catalog_core.specs.declared.table.matching.ColumnSort.{ColumnSort}
 use Rattle.catalog_core.specs.declared.table.matching.ColumnSort.TheVariants.{System, RowStart}
@@ -40,8 +41,8 @@ use Rattle.catalog_core.specs.declared.table.TableDef.{TableDef}
 -- ==== words ====
 
 -- how many of the statement's columns or periods a name matches
-unfoldable pub own_matches : CreateTable → Name → ℕ
-own_matches c name = count_by (λ (x : ColumnElement). bytes_eq name x.name) c.columns
+abbrev pub own_matches : CreateTable → Name → ℕ
+own_matches c name = matches_among (λ (x : ColumnElement). x.name) c.columns name
 
 unfoldable pub period_matches : CreateTable → Name → ℕ
 period_matches c name = count_by (λ (x : PeriodElement). bytes_eq name x.name) c.periods
@@ -51,9 +52,9 @@ abbrev pub parent_of : List TableDef → ReferenceElement → Option TableDef
 parent_of catalog r = table_of_name catalog r.parent
 
 -- some of the names matches so many of the statement's own columns
-unfoldable pub some_own_match : CreateTable → Matching → List Name → Bool
+abbrev pub some_own_match : CreateTable → Matching → List Name → Bool
 some_own_match c wanted names =
-    list_any (λ name. is_matching wanted (own_matches c name)) names
+    some_match_among (λ (x : ColumnElement). x.name) c.columns wanted names
 
 -- of the columns that a reference names in its parent
 unfoldable pub some_parent_match : List TableDef → Matching → ReferenceElement → Bool

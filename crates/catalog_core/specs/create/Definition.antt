@@ -13,7 +13,7 @@ use Rattle.sql_statements.specs.declared.create.KeyElement.{KeyElement}
 use Rattle.sql_statements.specs.declared.create.ReferenceElement.{ReferenceElement}
 use Rattle.sql_statements.specs.declared.create.CreateTable.{CreateTable}
 use Rattle.catalog_core.specs.create.Creation.{parent_of}
-use Rattle.catalog_core.specs.table.Naming.{Name}
+use Rattle.catalog_core.specs.table.Naming.{Name, place_among}
 use Rattle.catalog_core.specs.table.TableWords.{def_place, number_of}
 use Rattle.catalog_core.specs.declared.table.Column.{Column}
 use Rattle.catalog_core.specs.declared.table.ColumnKind.{ColumnKind}
@@ -34,8 +34,8 @@ declared_kind (Timestamp p) (Some Start) = Some (kind.RowStart p)
 declared_kind (Timestamp p) (Some End) = Some (kind.RowEnd p)
 
 -- the place of the column that a name stands for
-unfoldable pub own_place : CreateTable → Name → Option ℕ
-own_place c name = position (λ (x : ColumnElement). bytes_eq name x.name) c.columns
+abbrev pub own_place : CreateTable → Name → Option ℕ
+own_place c name = place_among (λ (x : ColumnElement). x.name) c.columns name
 
 -- a column by its name and what it holds
 abbrev pub declared_column : ColumnElement → Name × Option ColumnKind

@@ -19,23 +19,17 @@ ghost use Rattle.catalog_core.specs.declared.table.matching.Matching.TheVariants
 
 use crate::table::catalog::Catalog;
 use crate::table::columns::def_place;
+use crate::table::named::place_among;
 use crate::table::{Column, ColumnKind, PeriodColumns, Reference, TableDef};
 use period_core::{Items, Memory};
 use sql_statements::{ColumnElement, CreateTable, Generated, Name, ReferenceElement, TypeName};
 use std::alloc::Global;
 
 /// The place of the statement's column that a name stands for.
-#[tactic(auto, unfolding(crate::specs::create::Definition::own_place))]
 fn own_place(create: &CreateTable, name: &Name) -> Option<usize>
     ensures { result ≡ own_place create.now name.now }
 {
-    let columns = create.columns.as_slice();
-    for i in 0..columns.len() {
-        if name.is(&columns[i].name) {
-            return Some(i);
-        }
-    }
-    None
+    place_among(create.columns.as_slice(), name)
 }
 
 /// The places of the statement's columns that the names stand for.

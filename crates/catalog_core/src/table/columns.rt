@@ -10,22 +10,16 @@ ghost use Rattle.catalog_core.specs.table.TableWords.{is_date_column, is_value_c
 
 use crate::table::kinds::{is_system, kind_of_column, same_kind};
 use crate::table::matching::{Matching, def_matches};
+use crate::table::named::place_among;
 use crate::table::{Column, TableDef, ValueKind};
 use sql_statements::Name;
 
 /// The place of a table's column that a name stands for.
-#[tactic(auto, unfolding(crate::specs::table::TableWords::def_place))]
 pub fn def_place(table: &TableDef, name: &Name) -> Option<usize>
     ensures value { result ≡ def_place table.now name.now }
     ensures small { IfSome result (λ place. place < number_limit) }
 {
-    let columns = table.columns.as_slice();
-    for i in 0..columns.len() {
-        if name.is(&columns[i].name) {
-            return Some(i);
-        }
-    }
-    None
+    place_among(table.columns.as_slice(), name)
 }
 
 /// Whether the column at a place is a DATE column, and its name stands for it.

@@ -7,9 +7,10 @@ use Rattle.catalog_core.specs.table.TableWords.{def_matches, def_place, some_def
 use Rattle.catalog_core.specs.declared.table.matching.Matching.TheVariants.{Nothing}
 use Rattle.catalog_core.specs.declared.table.Column.{Column}
 use Rattle.catalog_core.proofs.create.building.def_places.Goals as goal
+use Rattle.catalog_core.specs.table.Naming.{matches_among, place_among, some_match_among}
 
 pub unreachable-requires : goal.unreachable-requires
-unfolding some_def_match def_matches def_place
+unfolding some_match_among matches_among place_among
 unreachable-requires c =
     let some : Name → Bool = λ name. is_matching Nothing (def_matches c.args.table.now name) in
     placed (λ (x : Column). bytes_eq c.name-item.result x.name) c.args.table.now.columns

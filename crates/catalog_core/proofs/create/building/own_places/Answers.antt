@@ -8,9 +8,10 @@ use Rattle.catalog_core.specs.table.Matches.{is_matching}
 use Rattle.catalog_core.specs.table.Naming.{Name}
 use Rattle.catalog_core.specs.declared.table.matching.Matching.TheVariants.{Nothing}
 use Rattle.catalog_core.proofs.create.building.own_places.Goals as goal
+use Rattle.catalog_core.specs.table.Naming.{matches_among, place_among, some_match_among}
 
 pub unreachable-requires : goal.unreachable-requires
-unfolding some_own_match own_matches own_place
+unfolding some_match_among matches_among place_among
 unreachable-requires c =
     let some : Name → Bool = λ name. is_matching Nothing (own_matches c.args.create.now name) in
     placed (λ (x : ColumnElement). bytes_eq c.name-item.result x.name) c.args.create.now.columns
