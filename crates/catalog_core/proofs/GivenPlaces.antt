@@ -26,6 +26,7 @@ use Rattle.catalog_core.specs.declared.table.Column.{Column}
 use Rattle.catalog_core.specs.declared.table.ValueKind.{ValueKind}
 use Rattle.catalog_core.specs.declared.table.TableDef.{TableDef}
 use Rattle.catalog_core.specs.table.Naming.{place_among}
+use Rattle.catalog_core.specs.table.Naming.{find_among}
 
 -- ==== the column that a name stands for ====
 
@@ -38,7 +39,7 @@ record Stands (t : TableDef) (name : Name) (place : ℕ) : Type 0 where
   kinds : def_kind t name ≡ Some (kind_of_column column.kind)
 
 stands : (t : TableDef) (name : Name) (place : ℕ) → def_place t name ≡ Some place → Stands t name place
-unfolding place_among def_kind
+unfolding place_among def_kind find_among
 stands t name place placed =
     let p : Column → Bool = λ y. bytes_eq name y.name in
     let inside : place < length t.columns = place_within p t.columns place placed in

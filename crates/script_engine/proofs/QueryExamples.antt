@@ -17,7 +17,7 @@ use Rattle.history_model.specs.Histories.{Asked, Database, History, last_state, 
 use Rattle.catalog_core.specs.table.Matches.{is_matching}
 use Rattle.catalog_core.specs.table.Naming.{Name}
 use Rattle.catalog_core.specs.query.Selection.{ResolvesQuery, has_many_items, item_parts, lacks_source, names_no_value, query_conditions, selects_ambiguous, selects_no_value, selects_unknown, value_position, written_item}
-use Rattle.catalog_core.specs.table.TableWords.{def_matches, is_value_column, number_of, some_def_match, table_of, table_of_name}
+use Rattle.catalog_core.specs.table.TableWords.{is_value_column, number_of, table_of, table_of_name}
 use Rattle.catalog_core.specs.declared.query.AnswerColumn.{AnswerColumn}
 use Rattle.catalog_core.specs.declared.query.Select.{Select}
 use Rattle.catalog_core.specs.declared.table.TableDef.{TableDef}

@@ -2,7 +2,7 @@
 -- A name is judged by what it matches. One that matches nothing, in a list or among the tables, is
 -- refused by 23 or 24: each other condition that it makes hold has a higher number.
 use Rattle.std.specs.Prelude.{◌==◌, ◌&&◌, ◌||◌, ◌+◌, ◌∷◌, ℕ, Bool, not, List, [], Option, Some}
-use Rattle.std.specs.Prelude.{None, find, length, bytes_eq, count_by, nat_le, nat_lt, is_none}
+use Rattle.std.specs.Prelude.{None, length, bytes_eq, count_by, nat_le, nat_lt, is_none}
 use Rattle.std.specs.Prelude.{is_some, slice_get}
 use Rattle.std.specs.List.{list_all, list_any, zip}
 use Rattle.std.specs.Option.{option_map}
@@ -25,7 +25,7 @@ use Rattle.catalog_core.specs.Limits.{greatest_precision, most_code_points, most
 use Rattle.catalog_core.specs.Limits.{most_references, most_tables}
 use Rattle.catalog_core.specs.table.Matches.{is_matching, is_of_sort}
 use Rattle.catalog_core.specs.table.Kinds.{kind_of_type, differ}
-use Rattle.catalog_core.specs.table.Naming.{Name, matches_among, passes, repeats}
+use Rattle.catalog_core.specs.table.Naming.{Name, find_among, matches_among, passes, repeats}
 use Rattle.catalog_core.specs.table.Naming.{some_match_among}
 use Rattle.catalog_core.specs.table.TableWords.{def_kind, some_def_match, table_of_name}
 use Rattle.catalog_core.specs.declared.table.matching.ColumnSort.{ColumnSort}
@@ -238,7 +238,7 @@ has_unequal_lists c =
 unfoldable pub own_kind : CreateTable → Name → Option ValueKind
 own_kind c name =
     option_map (λ (x : ColumnElement). kind_of_type x.kind)
-    (find (λ (x : ColumnElement). bytes_eq name x.name) c.columns)
+    (find_among (λ (x : ColumnElement). x.name) c.columns name)
 
 unfoldable pub have_other_kinds : CreateTable → TableDef → List Name → List Name → Bool
 have_other_kinds c t own others =

@@ -1,6 +1,5 @@
 -- CREATE TABLE: the definition that it gives, with places for names.
-use Rattle.std.specs.Prelude.{◌∷◌, ◌≡◌, ℕ, List, [], Option, Some, None, map, bytes_eq}
-use Rattle.std.specs.List.{position}
+use Rattle.std.specs.Prelude.{◌∷◌, ◌≡◌, ℕ, List, [], Option, Some, None, map}
 use Rattle.std.specs.Option.{option_map}
 use Rattle.sql_statements.specs.declared.create.TypeName.{TypeName}
 use Rattle.sql_statements.specs.declared.create.TypeName.TheVariants.{Integer, Date, Varchar}

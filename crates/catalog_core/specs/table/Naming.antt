@@ -2,6 +2,7 @@
 -- Each word answers for every list: a name that matches nothing has no place and no kind, and no
 -- test holds of it.
 use Rattle.std.specs.Prelude.{ℕ, Bool, false, List, Option, Some, None, bytes_eq, count_by}
+use Rattle.std.specs.Prelude.{find}
 use Rattle.std.specs.List.{list_any, position}
 use Rattle.catalog_core.specs.table.Matches.{is_matching}
 use Rattle.catalog_core.specs.declared.table.matching.Matching.{Matching}
@@ -23,6 +24,10 @@ some_match_among named xs wanted names =
 -- the place of the first that a name matches
 unfoldable pub place_among : {X : Type 0} → (X → Name) → List X → Name → Option ℕ
 place_among named xs name = position (λ x. bytes_eq name (named x)) xs
+
+-- the first
+unfoldable pub find_among : {X : Type 0} → (X → Name) → List X → Name → Option X
+find_among named xs name = find (λ x. bytes_eq name (named x)) xs
 
 -- how many of the names a name matches
 abbrev pub match_count : List Name → Name → ℕ

@@ -1,11 +1,12 @@
 -- Words on tables: numbers and definitions, what a name matches in one, and its value columns.
 use Rattle.std.specs.Prelude.{◌+◌, ◌==◌, ◌&&◌, ℕ, zero, suc, Bool, true, false, not, List, Option}
-use Rattle.std.specs.Prelude.{None, find, slice_get, map, filter, length, bytes_eq, count_by}
+use Rattle.std.specs.Prelude.{None, slice_get, map, filter, length, bytes_eq}
 use Rattle.std.specs.List.{enumerate_from, list_any, position}
 use Rattle.std.specs.Option.{option_and_then, option_map}
 use Rattle.catalog_core.specs.table.Kinds.{kind_of_column, same_kind}
 use Rattle.catalog_core.specs.table.Matches.{is_matching}
-use Rattle.catalog_core.specs.table.Naming.{Name, matches_among, passes, place_among}
+use Rattle.catalog_core.specs.table.Naming.{Name, find_among, matches_among, passes}
+use Rattle.catalog_core.specs.table.Naming.{place_among}
 use Rattle.catalog_core.specs.table.Naming.{some_match_among}
 use Rattle.catalog_core.specs.declared.table.matching.Matching.{Matching}
 use Rattle.catalog_core.specs.declared.table.matching.Matching.TheVariants.{Several}
@@ -48,7 +49,7 @@ has_distinct_names t =
 unfoldable pub def_kind : TableDef → Name → Option ValueKind
 def_kind t name =
     option_map (λ (x : Column). kind_of_column x.kind)
-    (find (λ (x : Column). bytes_eq name x.name) t.columns)
+    (find_among (λ (x : Column). x.name) t.columns name)
 
 -- its place among the declared columns
 abbrev pub def_place : TableDef → Name → Option ℕ

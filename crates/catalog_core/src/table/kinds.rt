@@ -6,6 +6,7 @@ ghost use Rattle.catalog_core.specs.table.Kinds.{differ, kind_of_column, kind_of
 ghost use Rattle.catalog_core.specs.table.Kinds.{kind_of_value, same_kind};
 ghost use Rattle.catalog_core.specs.table.TableWords.{def_kind, is_system};
 
+use crate::table::named::find_among;
 use crate::table::{ColumnKind, TableDef, ValueKind};
 use period_core::Value;
 use sql_statements::{CreateTable, Name, TypeName};
@@ -92,12 +93,10 @@ pub fn differ(left: Option<ValueKind>, right: Option<ValueKind>) -> bool
 pub fn own_kind(create: &CreateTable, name: &Name) -> Option<ValueKind>
     ensures { result ≡ own_kind create.now name.now }
 {
-    for x in create.columns.as_slice() {
-        if name.is(&x.name) {
-            return Some(kind_of_type(x.kind));
-        }
+    match find_among(create.columns.as_slice(), name) {
+        Some(x) => Some(kind_of_type(x.kind)),
+        None => None,
     }
-    None
 }
 
 /// The kind of a table's column of this name.
@@ -105,10 +104,8 @@ pub fn own_kind(create: &CreateTable, name: &Name) -> Option<ValueKind>
 pub fn def_kind(table: &TableDef, name: &Name) -> Option<ValueKind>
     ensures { result ≡ def_kind table.now name.now }
 {
-    for x in table.columns.as_slice() {
-        if name.is(&x.name) {
-            return Some(kind_of_column(x.kind));
-        }
+    match find_among(table.columns.as_slice(), name) {
+        Some(x) => Some(kind_of_column(x.kind)),
+        None => None,
     }
-    None
 }

@@ -4,7 +4,7 @@ use Rattle.catalog_core.proofs.Sound.{fails_at}
 use Rattle.catalog_core.specs.table.Matches.{is_matching}
 use Rattle.catalog_core.specs.table.Naming.{Name}
 use Rattle.catalog_core.specs.query.Selection.{names_no_value, selects_no_value, value_position}
-use Rattle.catalog_core.specs.table.TableWords.{def_matches, some_def_match}
+use Rattle.catalog_core.specs.table.TableWords.{def_matches}
 use Rattle.catalog_core.specs.declared.table.matching.Matching.TheVariants.{Nothing}
 use Rattle.catalog_core.proofs.query.selection.resolve_items.Goals as goal
 use Rattle.catalog_core.specs.table.Naming.{some_match_among}
