@@ -23,7 +23,7 @@ use Rattle.catalog_core.specs.table.Matches.{is_matching, is_of_sort}
 use Rattle.catalog_core.specs.table.Naming.{Name, repeats}
 use Rattle.catalog_core.specs.change.Resolution.{ResolvesAction, change_conditions, empty_period}
 use Rattle.catalog_core.specs.table.TableWords.{def_kind, is_value_column, number_of, table_of_name}
-use Rattle.catalog_core.proofs.Least.{first_is_least}
+use Rattle.catalog_core.proofs.lemmas.judged.Least.{first_is_least}
 use Rattle.catalog_core.specs.declared.change.Action.{Action}
 use Rattle.catalog_core.specs.declared.change.Action.TheVariants.{Insert}
 use Rattle.catalog_core.specs.declared.change.Change.{Change}

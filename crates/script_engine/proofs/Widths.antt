@@ -22,8 +22,8 @@ use Rattle.catalog_core.specs.declared.query.AnswerColumn.{AnswerColumn}
 use Rattle.catalog_core.specs.declared.query.Select.{Select}
 use Rattle.catalog_core.specs.declared.query.simple_select.SimpleSelect.{SimpleSelect}
 use Rattle.catalog_core.specs.declared.table.TableDef.{TableDef}
-use Rattle.catalog_core.proofs.Positions.{positions_within}
-use Rattle.catalog_core.proofs.RowFacts.{row_widths}
+use Rattle.catalog_core.proofs.lemmas.table.Positions.{positions_within}
+use Rattle.catalog_core.proofs.lemmas.change.RowFacts.{row_widths}
 use Rattle.sql_statements.specs.declared.statement.InsertRows.{InsertRows}
 use Rattle.script_engine.specs.engine.Rows.{HasItems, PlainRow, plain_given, plain_row}
 use Rattle.script_engine.specs.engine.Widths.{FitCatalog, HaveWidth}

@@ -1,8 +1,8 @@
 use Rattle.std.proofs.Common.{◌∙◌, ap, inl, map, sym}
-use Rattle.catalog_core.proofs.GivenValues.{all_at}
-use Rattle.catalog_core.proofs.InsertFaults.{none_applies, shape_least, table_least, value_least}
-use Rattle.catalog_core.proofs.RowFacts.{empty_change, table_named}
-use Rattle.catalog_core.proofs.Sound.{all_false}
+use Rattle.catalog_core.proofs.lemmas.change.GivenValues.{all_at}
+use Rattle.catalog_core.proofs.lemmas.change.InsertFaults.{none_applies, shape_least, table_least, value_least}
+use Rattle.catalog_core.proofs.lemmas.change.RowFacts.{empty_change, table_named}
+use Rattle.catalog_core.proofs.lemmas.judged.Sound.{all_false}
 use Rattle.catalog_core.specs.change.Insertion.{lists_unknown, shape_conditions, value_conditions}
 use Rattle.catalog_core.specs.change.Resolution.{ResolvesInsert, row_parts}
 use Rattle.catalog_core.specs.table.TableWords.{has_date_period, has_distinct_names}

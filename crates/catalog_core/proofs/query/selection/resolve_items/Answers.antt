@@ -1,6 +1,6 @@
 use Rattle.std.proofs.Common.{◌≡◌, ◌∙◌, Bool, None, sym}
-use Rattle.catalog_core.proofs.Positions.{positioned}
-use Rattle.catalog_core.proofs.Sound.{fails_at}
+use Rattle.catalog_core.proofs.lemmas.table.Positions.{positioned}
+use Rattle.catalog_core.proofs.lemmas.judged.Sound.{fails_at}
 use Rattle.catalog_core.specs.table.Matches.{is_matching}
 use Rattle.catalog_core.specs.table.Naming.{Name}
 use Rattle.catalog_core.specs.query.Selection.{names_no_value, selects_no_value, value_position}

@@ -1,7 +1,7 @@
 use Rattle.std.proofs.Common.{◌∙◌, ap, inl, map, sym}
-use Rattle.catalog_core.proofs.RowFacts.{table_named}
-use Rattle.catalog_core.proofs.SelectFaults.{column_least, many_least, none_applies, table_least}
-use Rattle.catalog_core.proofs.Sound.{all_false}
+use Rattle.catalog_core.proofs.lemmas.change.RowFacts.{table_named}
+use Rattle.catalog_core.proofs.lemmas.query.SelectFaults.{column_least, many_least, none_applies, table_least}
+use Rattle.catalog_core.proofs.lemmas.judged.Sound.{all_false}
 use Rattle.catalog_core.specs.query.Selection.{column_conditions, item_parts, selects_unknown, written_item}
 use Rattle.catalog_core.proofs.query.selection.resolve_select.Goals as goal
 

@@ -1,5 +1,5 @@
 use Rattle.std.proofs.Common.{◌≡◌, ◌≤◌, ℕ, List, Result, Ok, Err, IfOk, arith, length, true}
-use Rattle.catalog_core.proofs.DefinitionParts.{places_wider}
+use Rattle.catalog_core.proofs.lemmas.bytes.DefinitionParts.{places_wider}
 use Rattle.catalog_core.specs.Limits.{number_limit}
 use Rattle.catalog_core.specs.table.IsDefinition.{are_places}
 use Rattle.catalog_core.proofs.table.columns.def_places.Goals as goal

@@ -1,5 +1,5 @@
 use Rattle.std.proofs.Common.{◌∙◌, ap, bytes_eq, refl, sym}
-use Rattle.catalog_core.proofs.Finds.{found_by, none_by}
+use Rattle.catalog_core.proofs.lemmas.lists.Finds.{found_by, none_by}
 use Rattle.catalog_core.specs.table.Naming.{find_among}
 use Rattle.catalog_core.proofs.table.named.find_among.Goals as goal
 

@@ -1,5 +1,5 @@
 use Rattle.std.proofs.Common.{◌∙◌, ap, bytes_eq, refl, sym}
-use Rattle.catalog_core.proofs.Places.{place_by}
+use Rattle.catalog_core.proofs.lemmas.lists.Places.{place_by}
 use Rattle.catalog_core.specs.table.Naming.{place_among}
 use Rattle.catalog_core.proofs.table.named.place_among.Goals as goal
 

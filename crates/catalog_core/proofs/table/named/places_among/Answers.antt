@@ -1,6 +1,6 @@
 use Rattle.std.proofs.Common.{◌∙◌, Bool, bytes_eq, sym}
-use Rattle.catalog_core.proofs.Positions.{placed}
-use Rattle.catalog_core.proofs.Sound.{fails_at}
+use Rattle.catalog_core.proofs.lemmas.table.Positions.{placed}
+use Rattle.catalog_core.proofs.lemmas.judged.Sound.{fails_at}
 use Rattle.catalog_core.specs.table.Matches.{is_matching}
 use Rattle.catalog_core.specs.table.Naming.{Name, matches_among, place_among, some_match_among}
 use Rattle.catalog_core.specs.declared.table.matching.Matching.TheVariants.{Nothing}

@@ -2,7 +2,7 @@ use Rattle.std.proofs.Common.{◌≡◌, ◌∙◌, ◌+◌, ℕ, Bool, Some, ad
 use Rattle.std.specs.Option.{option_map}
 use Rattle.std.proofs.lemmas.Option.{slice_get_read}
 use Rattle.catalog_core.specs.declared.table.TableDef.{TableDef}
-use Rattle.catalog_core.proofs.Places.{place_by}
+use Rattle.catalog_core.proofs.lemmas.lists.Places.{place_by}
 use Rattle.catalog_core.specs.table.TableWords.{number_of, table_of}
 use Rattle.catalog_core.proofs.table.catalog.Catalog.find.Goals as goal
 

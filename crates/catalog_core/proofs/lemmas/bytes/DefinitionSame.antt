@@ -6,9 +6,9 @@ use Rattle.std.proofs.lemmas.Bool.{and_parts}
 use Rattle.std.proofs.lemmas.List.{append-nil}
 use Rattle.period_core.proofs.EncodingOrder as encoding
 use Rattle.period_core.specs.declared.value.Value.{Value}
-use Rattle.catalog_core.proofs.DefinitionFronts.{behind_columns, behind_name, behind_period, fit, split}
-use Rattle.catalog_core.proofs.DefinitionParts.{reference_parts}
-use Rattle.catalog_core.proofs.Fronts.{IsPrefixCode, any_all, behind_parent, column_code, counted_code, counted_length, period_rest, place_code, places_rest, reference_code, same_length}
+use Rattle.catalog_core.proofs.lemmas.bytes.DefinitionFronts.{behind_columns, behind_name, behind_period, fit, split}
+use Rattle.catalog_core.proofs.lemmas.bytes.DefinitionParts.{reference_parts}
+use Rattle.catalog_core.proofs.lemmas.bytes.Fronts.{IsPrefixCode, any_all, behind_parent, column_code, counted_code, counted_length, period_rest, place_code, places_rest, reference_code, same_length}
 use Rattle.catalog_core.specs.bytes.DefinitionEncoding.{is_writable}
 use Rattle.catalog_core.specs.bytes.DefinitionLaws.{DefinitionReadsBack}
 use Rattle.catalog_core.specs.bytes.DefinitionReading.{is_any, is_column, is_small_reference}

@@ -5,9 +5,9 @@ use Rattle.std.proofs.lemmas.Bool.Decides.{nat_tests}
 use Rattle.std.proofs.lemmas.List.Quantifiers.{position-Some}
 use Rattle.std.proofs.lemmas.List.Sums.{length-filter}
 use Rattle.std.proofs.lemmas.Slice.Eq.{bytes_eq-Decides}
-use Rattle.catalog_core.proofs.Built.{place_within}
-use Rattle.catalog_core.proofs.Positions.{none_passes}
-use Rattle.catalog_core.proofs.Sound.{fails_at}
+use Rattle.catalog_core.proofs.lemmas.create.Built.{place_within}
+use Rattle.catalog_core.proofs.lemmas.table.Positions.{none_passes}
+use Rattle.catalog_core.proofs.lemmas.judged.Sound.{fails_at}
 use Rattle.catalog_core.specs.table.Matches.{is_matching}
 use Rattle.catalog_core.specs.table.TableWords.{def_matches, def_place, has_distinct_names}
 use Rattle.catalog_core.specs.declared.table.matching.Matching.TheVariants.{Several}

@@ -7,9 +7,9 @@ use Rattle.sql_statements.specs.declared.create.ColumnElement.{ColumnElement}
 use Rattle.sql_statements.specs.declared.create.CreateTable.{CreateTable}
 use Rattle.sql_statements.specs.declared.create.KeyElement.{KeyElement}
 use Rattle.sql_statements.specs.declared.create.ReferenceElement.{ReferenceElement}
-use Rattle.catalog_core.proofs.AnyTests.{any_gives, any_weaker, or_right}
-use Rattle.catalog_core.proofs.GivenValues.{any_counted}
-use Rattle.catalog_core.proofs.Shape.{all_match}
+use Rattle.catalog_core.proofs.lemmas.lists.AnyTests.{any_gives, any_weaker, or_right}
+use Rattle.catalog_core.proofs.lemmas.change.GivenValues.{any_counted}
+use Rattle.catalog_core.proofs.lemmas.create.Shape.{all_match}
 use Rattle.catalog_core.specs.create.Creation.{is_no_value_column, keys_period_column, own_matches, some_match, some_no_value}
 use Rattle.catalog_core.specs.create.Keyed.{is_keyed, some_keyed_no_value}
 use Rattle.catalog_core.specs.table.Matches.{is_matching}

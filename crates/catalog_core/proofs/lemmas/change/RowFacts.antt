@@ -10,7 +10,7 @@ use Rattle.period_core.specs.declared.refusal.Refusal.TheVariants.{EmptyPeriod}
 use Rattle.period_core.specs.declared.value.Value.{Value}
 use Rattle.sql_statements.specs.declared.statement.InsertRows.{InsertRows}
 use Rattle.catalog_core.specs.change.Insertion.{gives_empty_row, gives_no_period, has_no_period, insert_conditions, is_no_period}
-use Rattle.catalog_core.proofs.Least.{least_stays, within}
+use Rattle.catalog_core.proofs.lemmas.judged.Least.{least_stays, within}
 use Rattle.catalog_core.specs.Judged.{Holds}
 use Rattle.catalog_core.specs.table.Naming.{Name, passes}
 use Rattle.catalog_core.specs.change.Resolution.{ResolvesAction, ResolvesInsert, RowParts, has_empty_row, is_empty_row, row_parts, written_row}

@@ -9,7 +9,7 @@ use Rattle.sql_statements.specs.declared.create.CreateTable.{CreateTable}
 use Rattle.sql_statements.specs.declared.create.KeyElement.{KeyElement}
 use Rattle.sql_statements.specs.declared.create.PeriodElement.{PeriodElement}
 use Rattle.sql_statements.specs.declared.create.ReferenceElement.{ReferenceElement}
-use Rattle.catalog_core.proofs.AnyTests.{any_same, none_stronger}
+use Rattle.catalog_core.proofs.lemmas.lists.AnyTests.{any_same, none_stronger}
 use Rattle.catalog_core.specs.create.Creation.{is_shared, own_matches, period_matches, repeats_name}
 use Rattle.catalog_core.specs.create.Definition.{Defines, column_parts, declared_column}
 use Rattle.catalog_core.specs.table.Matches.{is_matching}

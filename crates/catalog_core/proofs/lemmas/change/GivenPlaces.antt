@@ -10,10 +10,10 @@ use Rattle.std.proofs.lemmas.Option.{none-some, same_Some, slice_get_within, get
 use Rattle.std.proofs.lemmas.Slice.Eq.{bytes_eq-Decides}
 use Rattle.period_core.specs.declared.value.Value.{Value}
 use Rattle.sql_statements.specs.declared.statement.InsertRows.{InsertRows}
-use Rattle.catalog_core.proofs.AnyTests.{any_same}
-use Rattle.catalog_core.proofs.Built.{place_within}
-use Rattle.catalog_core.proofs.Distinct.{few_named, its_place, only_one, own_name}
-use Rattle.catalog_core.proofs.GivenValues.{date_column, date_given, date_parts, found_first, given_there, value_plain}
+use Rattle.catalog_core.proofs.lemmas.lists.AnyTests.{any_same}
+use Rattle.catalog_core.proofs.lemmas.create.Built.{place_within}
+use Rattle.catalog_core.proofs.lemmas.table.Distinct.{few_named, its_place, only_one, own_name}
+use Rattle.catalog_core.proofs.lemmas.change.GivenValues.{date_column, date_given, date_parts, found_first, given_there, value_plain}
 use Rattle.catalog_core.specs.change.Insertion.{given_names, given_value, gives_wrong, has_wrong, is_longer, is_of_other_kind, is_too_long, is_wrong, lacks_some, value_for}
 use Rattle.catalog_core.specs.change.InsertPlaces.{ArePlaces, HasDate, HasValue, HasValues, gives_wrong_at, has_wrong_at, is_wrong_at, is_wrong_for, row_at, value_at}
 use Rattle.catalog_core.specs.table.Kinds.{differ, kind_of_column, kind_of_value}

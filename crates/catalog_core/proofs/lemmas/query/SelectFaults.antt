@@ -4,7 +4,7 @@ use Rattle.std.specs.Option.{option_and_then}
 use Rattle.period_core.specs.Leasts.{IsLeast, NoneApplies}
 use Rattle.period_core.specs.declared.refusal.Refusal.{Refusal}
 use Rattle.period_core.specs.declared.refusal.Refusal.TheVariants.{LimitReached, UnknownTable}
-use Rattle.catalog_core.proofs.Least.{Ascending, first_least, none_first}
+use Rattle.catalog_core.proofs.lemmas.judged.Least.{Ascending, first_least, none_first}
 use Rattle.catalog_core.specs.query.Selection.{column_conditions, has_many_items, lacks_source, select_conditions}
 use Rattle.catalog_core.specs.Judged.{Holds, first_holding}
 use Rattle.catalog_core.specs.table.TableWords.{number_of, table_of, table_of_name}
