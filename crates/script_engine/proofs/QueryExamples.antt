@@ -16,7 +16,7 @@ use Rattle.history_model.specs.Answers.{InAnswerOn, IsProjection, read_items}
 use Rattle.history_model.specs.Histories.{Asked, Database, History, last_state, rows_in, with_event}
 use Rattle.catalog_core.specs.table.Matches.{is_matching}
 use Rattle.catalog_core.specs.table.Naming.{Name}
-use Rattle.catalog_core.specs.query.Selection.{ResolvesQuery, has_many_items, item_parts, lacks_source, names_no_value, query_conditions, selects_ambiguous, selects_no_value, selects_unknown, value_position, written_item}
+use Rattle.catalog_core.specs.query.Selection.{ResolvesQuery, has_many_items, item_parts, lacks_source, names_no_value, query_conditions, selects_no_value, value_position, written_item}
 use Rattle.catalog_core.specs.table.TableWords.{is_value_column, number_of, table_of, table_of_name}
 use Rattle.catalog_core.specs.declared.query.AnswerColumn.{AnswerColumn}
 use Rattle.catalog_core.specs.declared.query.Select.{Select}
@@ -52,7 +52,7 @@ answer = record one_row { columns = codes "DEPT" ∷ [] }
 
 -- no condition of a refusal holds for it where EMP is the one table
 question_is_sound : NoneApplies (StatementApplies (emp ∷ []) (statement.sequenced question))
-unfolding matches_among some_match_among is_matching number_of table_of_name has_many_items lacks_source names_no_value selects_ambiguous selects_no_value selects_unknown value_position is_value_column
+unfolding matches_among some_match_among is_matching number_of table_of_name has_many_items lacks_source names_no_value selects_no_value value_position is_value_column
 question_is_sound = none_if_no_first (query_conditions (emp ∷ []) (statement.sequenced question)) refl
 
 -- the row that the table holds

@@ -33,10 +33,10 @@ lacks_source catalog s = is_none (table_of_name catalog s.table)
 
 -- 24 and 25: an item that matches no column, or several; a period's name in the place of a column
 -- matches none
-unfoldable pub selects_unknown : TableDef → SimpleSelect → Bool
+abbrev pub selects_unknown : TableDef → SimpleSelect → Bool
 selects_unknown t s = some_def_match t Nothing s.columns
 
-unfoldable pub selects_ambiguous : TableDef → SimpleSelect → Bool
+abbrev pub selects_ambiguous : TableDef → SimpleSelect → Bool
 selects_ambiguous t s = some_def_match t Several s.columns
 
 -- 27: a period or system column among the items

@@ -47,7 +47,6 @@ fn selects_no_value(table: &TableDef, names: &[Name]) -> bool
 }
 
 /// The first of the refusals 24, 25 and 27 whose condition holds: by the columns.
-#[tactic(auto, unfolding(crate::specs::query::Selection::selects_unknown, crate::specs::query::Selection::selects_ambiguous))]
 fn columns_fault(table: &TableDef, select: &SimpleSelect) -> Option<Refusal>
     ensures { result ≡ first_holding (column_conditions table.now select.now) }
 {

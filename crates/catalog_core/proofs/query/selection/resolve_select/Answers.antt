@@ -2,7 +2,7 @@ use Rattle.std.proofs.Common.{◌∙◌, ap, inl, map, sym}
 use Rattle.catalog_core.proofs.lemmas.change.RowFacts.{table_named}
 use Rattle.catalog_core.proofs.lemmas.query.SelectFaults.{column_least, many_least, none_applies, table_least}
 use Rattle.catalog_core.proofs.lemmas.judged.Sound.{all_false}
-use Rattle.catalog_core.specs.query.Selection.{column_conditions, item_parts, selects_unknown, written_item}
+use Rattle.catalog_core.specs.query.Selection.{column_conditions, item_parts, written_item}
 use Rattle.catalog_core.proofs.query.selection.resolve_select.Goals as goal
 
 pub returns-then-has_many_items-clause-refused : goal.returns-then-has_many_items-clause-refused
@@ -22,7 +22,6 @@ returns-in-Some-columns_fault-clause-refused c =
     inl (column_least tables select t c.in-Some-columns_fault.fault (sym c.has_many_items.ensures ∙ c.if-has_many_items.false) there (sym c.columns_fault.ensures ∙ c.in-Some-columns_fault.is))
 
 pub resolve_items-requires : goal.resolve_items-requires
-unfolding selects_unknown
 resolve_items-requires c =
     let none = all_false (column_conditions c.in-Some.table.now c.args.select.now) (sym c.columns_fault.ensures ∙ c.in_default-columns_fault.is) in
     record { there = rw c.as_slice.ensures.value none.0; values = rw c.as_slice.ensures.value none.1.1.0 }
