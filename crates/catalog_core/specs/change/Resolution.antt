@@ -72,6 +72,7 @@ pub record ResolvesInsert (catalog : List TableDef) (i : InsertRows) (change : C
     pub table : table_of catalog change.table ≡ Some definition
     pub action : ResolvesAction definition i change.action
 
+-- the same change as the statement makes; other statements make none
 abbrev pub ResolvesChange : List TableDef → Statement → Change → Type 0
 ResolvesChange catalog (statement.insert i) change = ResolvesInsert catalog i change
 ResolvesChange catalog _ change = ⊥

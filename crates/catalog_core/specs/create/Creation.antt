@@ -109,6 +109,7 @@ lacks_period catalog c =
     c.references
     || list_any (λ (x : ReferenceElement). names_other_period catalog x) c.references
 
+-- a column or a period
 unfoldable pub lacks_name : List TableDef → CreateTable → Bool
 lacks_name catalog c = some_match catalog c Nothing || lacks_period catalog c
 
@@ -219,6 +220,7 @@ unfoldable pub references_no_key : List TableDef → CreateTable → Bool
 references_no_key catalog c =
     list_any (λ (x : ReferenceElement). names_no_key catalog x) c.references
 
+-- one of these
 unfoldable pub is_bad_definition : List TableDef → CreateTable → Bool
 is_bad_definition catalog c =
     lacks_one_of_each c

@@ -40,6 +40,7 @@ own_place c name = place_among (λ (x : ColumnElement). x.name) c.columns name
 abbrev pub declared_column : ColumnElement → Name × Option ColumnKind
 declared_column x = (x.name, declared_kind x.kind x.generated)
 
+-- the same of a column of the definition
 abbrev pub column_parts : Column → Name × Option ColumnKind
 column_parts x = (x.name, Some x.kind)
 
@@ -47,6 +48,7 @@ column_parts x = (x.name, Some x.kind)
 abbrev pub declared_period : CreateTable → PeriodElement → Name × Option ℕ × Option ℕ
 declared_period c x = (x.name, own_place c x.start, own_place c x.end)
 
+-- a key by the places of its columns
 abbrev pub declared_key : CreateTable → KeyElement → List (Option ℕ)
 declared_key c x = map (own_place c) x.columns
 
@@ -54,6 +56,7 @@ declared_key c x = map (own_place c) x.columns
 abbrev pub Numbers : Type 0
 Numbers = Option ℕ × List (Option ℕ) × Option (List (Option ℕ))
 
+-- of a reference as it is written
 unfoldable pub declared_reference : List TableDef → CreateTable → ReferenceElement → Numbers
 declared_reference catalog c x = (
   number_of catalog x.parent,
@@ -61,6 +64,7 @@ declared_reference catalog c x = (
   option_map (λ (t : TableDef). map (def_place t) x.parent_columns) (parent_of catalog x),
 )
 
+-- of a reference of the definition
 abbrev pub reference_parts : Reference → Numbers
 reference_parts r = (Some r.parent, map Some r.own, Some (map Some r.keys))
 

@@ -89,6 +89,7 @@ value_position t name = position (bytes_eq name) (value_names t)
 abbrev pub written_item : TableDef → Name → Option ℕ × Name
 written_item t name = (value_position t name, name)
 
+-- of a column of the answer
 abbrev pub item_parts : AnswerColumn → Option ℕ × Name
 item_parts item = (Some item.position, item.name)
 
@@ -105,6 +106,7 @@ abbrev pub ResolvesSimple : List TableDef → Option SimpleSelect → Select →
 ResolvesSimple catalog None select = ⊥
 ResolvesSimple catalog (Some s) select = ResolvesSelect catalog s select
 
+-- the same query as the statement asks; other statements ask none
 abbrev pub ResolvesQuery : List TableDef → Statement → Select → Type 0
 ResolvesQuery catalog (sequenced query) select = ResolvesSimple catalog (simple_select query) select
 ResolvesQuery catalog _ select = ⊥

@@ -9,12 +9,13 @@ use Rattle.catalog_core.specs.declared.table.ColumnKind.TheVariants as kind
 use Rattle.catalog_core.specs.declared.table.ValueKind.{ValueKind}
 use Rattle.catalog_core.specs.declared.table.ValueKind.TheVariants.{Integer, Text, Date, Moment}
 
--- the kind of a value, of a column, of a column's type as it is written
+-- the kind of a value
 abbrev pub kind_of_value : Value → ValueKind
 kind_of_value (value.Int n) = Integer
 kind_of_value (value.Text t) = Text
 kind_of_value (value.Date d) = Date
 
+-- of a column
 unfoldable pub kind_of_column : ColumnKind → ValueKind
 kind_of_column kind.Integer = Integer
 kind_of_column (kind.Varchar n) = Text
@@ -22,12 +23,14 @@ kind_of_column kind.Date = Date
 kind_of_column (kind.RowStart p) = Moment
 kind_of_column (kind.RowEnd p) = Moment
 
+-- of a column's type as it is written
 unfoldable pub kind_of_type : TypeName → ValueKind
 kind_of_type type_name.Integer = Integer
 kind_of_type type_name.Date = Date
 kind_of_type (type_name.Varchar n) = Text
 kind_of_type (type_name.Timestamp p) = Moment
 
+-- one kind
 unfoldable pub same_kind : ValueKind → ValueKind → Bool
 same_kind Integer Integer = true
 same_kind Text Text = true
