@@ -1,18 +1,20 @@
 //! The tables of a store and their bytes, and the statements about them with positions in place of
 //! names, or the lowest-numbered refusal that applies. What to touch in order to add
 //!
-//! - a form of change or query: its resolved form in `change` or `query`, its conditions and what it
-//!   is by positions in the folder of that name in `specs/`, a file beside `change/insertion.rt` or
-//!   `query/selection.rt`, and what it makes of a day in `history_model`;
+//! - a form of change or query: its resolved form in `change` or `query`, its conditions and what
+//!   it is by positions in the folder of that name in `specs/`, a file beside `change/insertion.rt`
+//!   or `query/selection.rt`, and what it makes of a day in `history_model`;
 //! - a condition of a statement: the list of its conditions (`create_conditions`,
-//!   `insert_conditions`, `select_conditions`), and its `first_fault`, both in ascending order;
-//! - a column type: `ColumnKind` and `Kind`, `specs/table/Kinds`, `create/building.rt`, and its
-//!   number in `bytes/`.
+//!   `insert_conditions`, `select_conditions`), and the function that judges them (`first_fault`,
+//!   `shape_fault`, `value_fault`, `columns_fault`), both in ascending order;
+//! - a column type: `ColumnKind` and `ValueKind`, `specs/table/Kinds`, `create/building.rt`, and
+//!   its number in `bytes/`.
 #![tactic(auto)]
 
 mod bytes;
 mod change;
 mod create;
+mod limits;
 mod query;
 mod table;
 
@@ -22,6 +24,6 @@ pub use change::resolution::{resolve_change, resolve_insert};
 pub use change::{Action, Change, GivenRow};
 pub use create::define;
 pub use query::selection::{resolve_query, resolve_sequenced};
-pub use query::{Item, Query, Select};
+pub use query::{AnswerColumn, Query, Select};
 pub use table::catalog::Catalog;
-pub use table::{Column, ColumnKind, Kind, PeriodColumns, Reference, TableDef};
+pub use table::{Column, ColumnKind, PeriodColumns, Reference, TableDef, ValueKind};

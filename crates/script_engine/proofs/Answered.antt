@@ -24,7 +24,7 @@ use Rattle.script_engine.proofs.Widths.{open-versions}
 use Rattle.history_model.specs.Answers.{InAnswerOn, read_items}
 use Rattle.history_model.specs.Histories.{Asked, Database, History, catalog_of, last_state, state_at, versions_in, with_event}
 use Rattle.history_model.proofs.HistoryLemmas.{catalog_of-event, clock_of-event, state_at-event}
-use Rattle.catalog_core.specs.declared.query.Item.{Item}
+use Rattle.catalog_core.specs.declared.query.AnswerColumn.{AnswerColumn}
 use Rattle.catalog_core.specs.declared.query.Select.{Select}
 use Rattle.script_engine.specs.Headline.{IsSequencedAnswer}
 use Rattle.script_engine.specs.engine.Rows.{read_row, whole_row}
@@ -76,7 +76,7 @@ pub record Finds (database : Database) (query : Select) (projections : List Peri
   pub ordered : IsInAnswerOrder answer.rows
   pub certified : IsCertified answer.rows
   pub witnesses : answer.witnesses ≡ map witness_of answer.rows
-  pub columns : answer.columns ≡ map (λ (item : Item). item.name) query.items
+  pub columns : answer.columns ≡ map (λ (item : AnswerColumn). item.name) query.items
 
 answer_right : (history : History) (database : Database) (query : Select) (projections : List PeriodRow) (answer : Answer) → Represents history database → IsKept database → Finds database query projections answer →
     IsSequencedAnswer (InAnswerOn history query) answer

@@ -9,7 +9,7 @@ use Rattle.period_core.specs.declared.version.VersionRow.{VersionRow}
 use Rattle.temporal_model.specs.Snapshot.{covers_day, values_on}
 use Rattle.history_model.specs.Answers.{IsProjection, read_items}
 use Rattle.history_model.specs.Versions.{row_of}
-use Rattle.catalog_core.specs.declared.query.Item.{Item}
+use Rattle.catalog_core.specs.declared.query.AnswerColumn.{AnswerColumn}
 use Rattle.script_engine.specs.engine.Rows.{ReadRow, read_row, whole_row}
 
 -- the row, as a period row or one that is read, holds on the day
@@ -20,7 +20,7 @@ abbrev read_covers : ℤ → ReadRow → Bool
 read_covers day row = covers_day row.start row.end day
 
 -- the values of a list of projections on a day are what the select list reads in the versions on it
-pub values_on-read : (items : List Item) (versions : List VersionRow) (projections : List PeriodRow) (day : ℤ) → map (read_row items) versions ≡ map whole_row projections →
+pub values_on-read : (items : List AnswerColumn) (versions : List VersionRow) (projections : List PeriodRow) (day : ℤ) → map (read_row items) versions ≡ map whole_row projections →
     map (read_items items) (values_on (map row_of versions) day) ≡ map (map Some) (values_on projections day)
 values_on-read items [] [] day e = refl
 values_on-read items [] (projection ∷ projections) day e = cc
@@ -48,10 +48,10 @@ same_values (value ∷ values) (other ∷ others) e =
     ap₂ (λ (v : Value) (vs : List Value). v ∷ vs) head (same_values values others tail)
 
 -- one item more
-pub projected_more : (items : List Item) (values row : List Value) (place : ℕ) (item : Item) (value : Value) → place < length items → item ≡ get_or items place item →
+pub projected_more : (items : List AnswerColumn) (values row : List Value) (place : ℕ) (item : AnswerColumn) (value : Value) → place < length items → item ≡ get_or items place item →
     item.position < length values → value ≡ get_or values item.position value → IsProjection (take place items) values row → IsProjection (take (place + 1) items) values (row ++ value ∷ [])
 projected_more items values row place item value inside its within read so_far =
-    let at : Item → Option Value = λ (i : Item). slice_get values i.position in
+    let at : AnswerColumn → Option Value = λ (i : AnswerColumn). slice_get values i.position in
     let here : at (get_or items place item) ≡ Some value = ap at (sym its) ∙ slice_get_read values (length values) item.position value refl within read in
     map_more at items place item inside
     ∙ ap₂ (λ (a : List (Option Value)) (b : Option Value). a ++ b ∷ []) so_far here

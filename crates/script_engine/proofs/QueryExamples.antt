@@ -24,9 +24,9 @@ use Rattle.history_model.specs.Histories.{Asked, Changed, Created, Database, His
 use Rattle.catalog_core.specs.Judged.{Holds}
 use Rattle.catalog_core.specs.table.Matches.{is_matching}
 use Rattle.catalog_core.specs.table.Naming.{Name}
-use Rattle.catalog_core.specs.query.Selection.{ResolvesQuery, has_many_items, item_parts, lacks_source, names_no_value, query_conditions, selects_ambiguous, selects_no_value, selects_unknown, value_position, written_item}
-use Rattle.catalog_core.specs.table.TableWords.{def_matches, is_value_column, number_of, some_def_match, table_of, table_of_name}
-use Rattle.catalog_core.specs.declared.query.Item.{Item}
+use Rattle.catalog_core.specs.query.Selection.{ResolvesQuery, has_many_items, item_parts, lacks_source, names_no_value, query_conditions, selects_no_value, value_position, written_item}
+use Rattle.catalog_core.specs.table.TableWords.{is_value_column, number_of, table_of, table_of_name}
+use Rattle.catalog_core.specs.declared.query.AnswerColumn.{AnswerColumn}
 use Rattle.catalog_core.specs.declared.query.Select.{Select}
 use Rattle.catalog_core.specs.declared.table.TableDef.{TableDef}
 use Rattle.script_engine.specs.Headline.{IsSequencedAnswer}
@@ -36,6 +36,7 @@ use Rattle.script_engine.specs.declared.engine.outcome.Outcome.TheVariants.{Answ
 use Rattle.script_engine.proofs.Given.{same_values}
 use Rattle.script_engine.proofs.StepExamples.{colleague, emp, inserted_row, none_if_no_first, with_row, with_rows, worker}
 use Rattle.script_engine.proofs.RunExamples.{Sets, is_answer, one_row, seven, two_rows, whole}
+use Rattle.catalog_core.specs.table.Naming.{matches_among, some_match_among}
 
 -- ---- the query
 
@@ -60,7 +61,7 @@ answer = record one_row { columns = codes "DEPT" ∷ [] }
 
 -- no condition of a refusal holds for it where EMP is the one table
 question_is_sound : NoneApplies (Holds (query_conditions (emp ∷ []) (statement.sequenced question)))
-unfolding def_matches some_def_match is_matching number_of table_of_name has_many_items lacks_source names_no_value selects_ambiguous selects_no_value selects_unknown value_position is_value_column
+unfolding matches_among some_match_among is_matching number_of table_of_name has_many_items lacks_source names_no_value selects_no_value value_position is_value_column
 question_is_sound = none_if_no_first (query_conditions (emp ∷ []) (statement.sequenced question)) refl
 
 -- the row that the table holds
@@ -139,14 +140,14 @@ asked = (
 -- a select of table 1 with these items is this one
 same_select : (query : Select) → query.table ≡ 1 → query.items ≡ departments.items → query ≡ departments
 same_select query table items =
-    let made : ℕ → List Item → Select = λ number its. record { table = number; items = its } in
+    let made : ℕ → List AnswerColumn → Select = λ number its. record { table = number; items = its } in
     ap₂ made table items
 
 -- an item that stands for DEPT at the position 1 is this one
-one_item : (items : List Item) → (Some 1, codes "DEPT") ∷ [] ≡ map item_parts items → items ≡ departments.items
+one_item : (items : List AnswerColumn) → (Some 1, codes "DEPT") ∷ [] ≡ map item_parts items → items ≡ departments.items
 one_item [] e = cc
 one_item (item ∷ []) e =
-    let made : ℕ → Name → List Item = λ position name. record { position = position; name = name } ∷ [] in
+    let made : ℕ → Name → List AnswerColumn = λ position name. record { position = position; name = name } ∷ [] in
     let parts : (Some 1, codes "DEPT") ≡ item_parts item = cc in
     let place : Some 1 ≡ Some item.position = ap (λ (p : Option ℕ × Name). p.0) parts in
     let position : item.position ≡ 1 = cc in

@@ -13,18 +13,18 @@ use Rattle.sql_statements.specs.declared.create.CreateTable.{CreateTable}
 use Rattle.sql_statements.specs.declared.create.Generated.TheVariants as generated
 use Rattle.sql_statements.specs.declared.create.TypeName.TheVariants as type_name
 use Rattle.sql_statements.specs.declared.statement.InsertRows.{InsertRows}
-use Rattle.catalog_core.specs.create.Creation.{create_conditions, own_matches, period_matches, some_own_match, some_parent_match, some_match, has_sort, sort_count, exceeds_limits, is_there, lacks_parent, names_other_period, lacks_period, lacks_name, is_ambiguous, is_shared, repeats_name, is_no_value_column, some_no_value, keys_period_column, lacks_one_of_each, has_bad_period, has_bad_system_period, is_bad_type, has_bad_column, is_used_otherwise, has_other_period, is_at, is_key_name, is_named, are_key, names_no_key, references_no_key, is_bad_definition, has_unequal_lists, own_kind, have_other_kinds, names_other_kind, references_other_kind}
-use Rattle.catalog_core.specs.create.Definition.{declared_kind, declared_reference, own_place}
+use Rattle.catalog_core.specs.create.Creation.{create_conditions, period_matches, some_parent_match, some_match, has_sort, sort_count, exceeds_limits, is_there, lacks_parent, names_other_period, lacks_period, lacks_name, is_ambiguous, is_shared, repeats_name, is_no_value_column, some_no_value, keys_period_column, lacks_one_of_each, has_bad_period, has_bad_system_period, is_bad_type, has_bad_column, is_used_otherwise, has_other_period, is_at, is_key_name, is_named, are_key, names_no_key, references_no_key, is_bad_definition, has_unequal_lists, own_kind, have_other_kinds, names_other_kind, references_other_kind}
+use Rattle.catalog_core.specs.create.Definition.{declared_kind, declared_reference}
 use Rattle.history_model.specs.Effects.{given_of}
 use Rattle.history_model.specs.Histories.{Changed, Created, History, new_database, opened, with_event}
 use Rattle.catalog_core.specs.change.Insertion.{gives_empty_row, wanted_names, given_names, lacks_table, lists_unknown, lists_ambiguous, lists_twice, is_system_name, some_system_name, lists_system, lacks_some, some_other_length, has_other_count, is_of_other_kind, is_longer, is_too_long, is_wrong, gives_wrong, has_wrong, given_value, value_for, is_no_period, gives_no_period, has_no_period}
 use Rattle.catalog_core.specs.Judged.{Holds, Judged, first_holding}
 use Rattle.catalog_core.specs.table.Kinds.{kind_of_type, kind_of_column, same_kind, differ}
 use Rattle.catalog_core.specs.table.Matches.{is_matching, is_of_sort}
-use Rattle.catalog_core.specs.table.Naming.{Name, match_count, repeats}
+use Rattle.catalog_core.specs.table.Naming.{Name, repeats}
 use Rattle.catalog_core.specs.change.Resolution.{ResolvesAction, change_conditions, empty_period}
-use Rattle.catalog_core.specs.table.TableWords.{def_kind, def_matches, def_place, is_value_column, number_of, some_def_match, table_of_name}
-use Rattle.catalog_core.proofs.Least.{first_is_least}
+use Rattle.catalog_core.specs.table.TableWords.{def_kind, is_value_column, number_of, table_of_name}
+use Rattle.catalog_core.proofs.lemmas.judged.Least.{first_is_least}
 use Rattle.catalog_core.specs.declared.change.Action.{Action}
 use Rattle.catalog_core.specs.declared.change.Action.TheVariants.{Insert}
 use Rattle.catalog_core.specs.declared.change.Change.{Change}
@@ -34,6 +34,8 @@ use Rattle.script_engine.specs.engine.Runs.{StatementApplies, Step}
 use Rattle.script_engine.specs.declared.engine.outcome.Outcome.TheVariants.{Done}
 use Rattle.script_engine.specs.declared.engine.outcome.Word.TheVariants as word
 use Rattle.script_engine.proofs.Refused.{may_answer-empty}
+use Rattle.catalog_core.specs.table.Naming.{matches_among, place_among, some_match_among}
+use Rattle.catalog_core.specs.table.Naming.{find_among}
 
 -- where no condition is the first that holds, none does
 pub none_if_no_first : (conditions : List Judged) → first_holding conditions ≡ None → NoneApplies (Holds conditions)
@@ -99,12 +101,12 @@ with_table = with_event at_first (Created emp)
 
 -- in a new store no condition of a refusal holds for it
 creation_is_sound : NoneApplies (StatementApplies at_first (statement.create creation))
-unfolding own_matches period_matches def_matches some_own_match some_def_match some_parent_match some_match has_sort sort_count exceeds_limits is_there lacks_parent names_other_period lacks_period lacks_name is_ambiguous is_shared repeats repeats_name is_no_value_column some_no_value keys_period_column lacks_one_of_each has_bad_period has_bad_system_period is_bad_type has_bad_column is_used_otherwise has_other_period is_at is_key_name is_named are_key names_no_key references_no_key is_bad_definition has_unequal_lists own_kind def_kind have_other_kinds names_other_kind references_other_kind is_matching is_of_sort match_count number_of table_of_name kind_of_type kind_of_column same_kind differ
+unfolding matches_among period_matches some_match_among some_parent_match some_match has_sort sort_count exceeds_limits is_there lacks_parent names_other_period lacks_period lacks_name is_ambiguous is_shared repeats repeats_name is_no_value_column some_no_value keys_period_column lacks_one_of_each has_bad_period has_bad_system_period is_bad_type has_bad_column is_used_otherwise has_other_period is_at is_key_name is_named are_key names_no_key references_no_key is_bad_definition has_unequal_lists own_kind def_kind have_other_kinds names_other_kind references_other_kind is_matching is_of_sort number_of table_of_name kind_of_type kind_of_column same_kind differ find_among
 creation_is_sound = none_if_no_first (create_conditions [] creation) refl
 
 -- the statement is accepted: it gives no rows, and the table is there from then on
 pub created : Step at_first (statement.create creation) (Ok (Done word.Create 0)) with_table
-unfolding own_place def_place declared_reference declared_kind number_of table_of_name
+unfolding place_among declared_reference declared_kind number_of table_of_name
 created = (
   creation_is_sound,
   record {
@@ -125,7 +127,7 @@ created_is_kept (sound, creates) = let e = creates.after in cc
 
 -- the same statement once more: the table is there, and nothing happens
 created_again : Step with_table (statement.create creation) (Err TableExists) with_table
-unfolding own_matches period_matches def_matches some_own_match some_def_match some_parent_match some_match has_sort sort_count exceeds_limits is_there lacks_parent names_other_period lacks_period lacks_name is_ambiguous is_shared repeats repeats_name is_no_value_column some_no_value keys_period_column lacks_one_of_each has_bad_period has_bad_system_period is_bad_type has_bad_column is_used_otherwise has_other_period is_at is_key_name is_named are_key names_no_key references_no_key is_bad_definition has_unequal_lists own_kind def_kind have_other_kinds names_other_kind references_other_kind is_matching is_of_sort match_count number_of table_of_name kind_of_type kind_of_column same_kind differ
+unfolding matches_among period_matches some_match_among some_parent_match some_match has_sort sort_count exceeds_limits is_there lacks_parent names_other_period lacks_period lacks_name is_ambiguous is_shared repeats repeats_name is_no_value_column some_no_value keys_period_column lacks_one_of_each has_bad_period has_bad_system_period is_bad_type has_bad_column is_used_otherwise has_other_period is_at is_key_name is_named are_key names_no_key references_no_key is_bad_definition has_unequal_lists own_kind def_kind have_other_kinds names_other_kind references_other_kind is_matching is_of_sort number_of table_of_name kind_of_type kind_of_column same_kind differ find_among
 created_again = (
   inl (first_is_least 0 (create_conditions (emp ∷ []) creation) (lit≤ tt, (lit≤ tt, (lit≤ tt, (lit≤ tt, (lit≤ tt, (lit≤ tt, (lit≤ tt, (lit≤ tt, (lit≤ tt, (lit≤ tt, tt))))))))))),
   refl,
@@ -159,7 +161,7 @@ with_row = with_event with_table (Changed first_moment inserted_row)
 
 -- no condition of a refusal holds for it
 insertion_is_sound : NoneApplies (StatementApplies with_table (statement.insert insertion))
-unfolding def_matches some_def_match def_kind repeats is_matching match_count number_of table_of_name kind_of_column same_kind differ wanted_names given_names lacks_table lists_unknown lists_ambiguous lists_twice is_system_name some_system_name lists_system lacks_some some_other_length has_other_count is_of_other_kind is_longer is_too_long is_wrong gives_wrong has_wrong given_value value_for is_no_period gives_no_period has_no_period is_value_column chars
+unfolding matches_among some_match_among def_kind repeats is_matching number_of table_of_name kind_of_column same_kind differ wanted_names given_names lacks_table lists_unknown lists_ambiguous lists_twice is_system_name some_system_name lists_system lacks_some some_other_length has_other_count is_of_other_kind is_longer is_too_long is_wrong gives_wrong has_wrong given_value value_for is_no_period gives_no_period has_no_period is_value_column chars find_among
 insertion_is_sound =
     none_if_no_first
     (change_conditions (emp ∷ []) (statement.insert insertion) ++ empty_period (emp ∷ []) (statement.insert insertion) ∷ [])
@@ -198,7 +200,7 @@ half_empty = into_emp (employee 1 5 8 ∷ employee 2 8 8 ∷ [])
 
 -- the second row ends on its first day: the statement is refused with 41, and its first row isn't added either
 refused_whole : Step with_table (statement.insert half_empty) (Err EmptyPeriod) with_table
-unfolding def_matches some_def_match def_kind repeats is_matching match_count number_of table_of_name kind_of_column same_kind differ wanted_names given_names lacks_table lists_unknown lists_ambiguous lists_twice is_system_name some_system_name lists_system lacks_some some_other_length has_other_count is_of_other_kind is_longer is_too_long is_wrong gives_wrong has_wrong given_value value_for is_no_period gives_no_period has_no_period is_value_column chars
+unfolding matches_among some_match_among def_kind repeats is_matching number_of table_of_name kind_of_column same_kind differ wanted_names given_names lacks_table lists_unknown lists_ambiguous lists_twice is_system_name some_system_name lists_system lacks_some some_other_length has_other_count is_of_other_kind is_longer is_too_long is_wrong gives_wrong has_wrong given_value value_for is_no_period gives_no_period has_no_period is_value_column chars find_among
 refused_whole = (
   may_answer-empty
       (change_conditions (emp ∷ []) (statement.insert half_empty))
@@ -236,7 +238,7 @@ with_rows = with_event with_table (Changed first_moment inserted_rows)
 
 -- no condition of a refusal holds for it
 overlapping_is_sound : NoneApplies (StatementApplies with_table (statement.insert overlapping))
-unfolding def_matches some_def_match def_kind repeats is_matching match_count number_of table_of_name kind_of_column same_kind differ wanted_names given_names lacks_table lists_unknown lists_ambiguous lists_twice is_system_name some_system_name lists_system lacks_some some_other_length has_other_count is_of_other_kind is_longer is_too_long is_wrong gives_wrong has_wrong given_value value_for is_no_period gives_no_period has_no_period is_value_column chars
+unfolding matches_among some_match_among def_kind repeats is_matching number_of table_of_name kind_of_column same_kind differ wanted_names given_names lacks_table lists_unknown lists_ambiguous lists_twice is_system_name some_system_name lists_system lacks_some some_other_length has_other_count is_of_other_kind is_longer is_too_long is_wrong gives_wrong has_wrong given_value value_for is_no_period gives_no_period has_no_period is_value_column chars find_among
 overlapping_is_sound =
     none_if_no_first
     (change_conditions (emp ∷ []) (statement.insert overlapping) ++ empty_period (emp ∷ []) (statement.insert overlapping) ∷ [])

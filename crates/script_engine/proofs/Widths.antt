@@ -19,12 +19,12 @@ use Rattle.catalog_core.specs.declared.change.Action.{Action}
 use Rattle.catalog_core.specs.declared.change.Action.TheVariants.{Insert}
 use Rattle.catalog_core.specs.declared.change.Change.{Change}
 use Rattle.catalog_core.specs.declared.change.GivenRow.{GivenRow}
-use Rattle.catalog_core.specs.declared.query.Item.{Item}
+use Rattle.catalog_core.specs.declared.query.AnswerColumn.{AnswerColumn}
 use Rattle.catalog_core.specs.declared.query.Select.{Select}
 use Rattle.catalog_core.specs.declared.query.simple_select.SimpleSelect.{SimpleSelect}
 use Rattle.catalog_core.specs.declared.table.TableDef.{TableDef}
-use Rattle.catalog_core.proofs.Positions.{positions_within}
-use Rattle.catalog_core.proofs.RowFacts.{row_widths}
+use Rattle.catalog_core.proofs.lemmas.table.Positions.{positions_within}
+use Rattle.catalog_core.proofs.lemmas.change.RowFacts.{row_widths}
 use Rattle.sql_statements.specs.declared.statement.InsertRows.{InsertRows}
 use Rattle.history_model.specs.Versions.{AreBegun, PlainVersion, plain_begun, plain_version}
 use Rattle.script_engine.specs.engine.Rows.{HasItems}
@@ -165,11 +165,11 @@ open-versions database zero unended = All-nil (IsOpen database.clock)
 open-versions database (suc place) unended = open-at database.clock database.versions place unended
 
 -- a row of the width has a value for each item of a select list within it
-items_within : (definition : TableDef) (items : List Item) (rows : List VersionRow) → All (λ (item : Item). item.position < value_count definition) items →
+items_within : (definition : TableDef) (items : List AnswerColumn) (rows : List VersionRow) → All (λ (item : AnswerColumn). item.position < value_count definition) items →
     HaveWidth definition rows → All (λ (row : VersionRow). HasItems items row.values) rows
 items_within definition items rows within wide =
     All-weaker (λ (row : VersionRow). length row.values ≡ value_count definition) (λ (row : VersionRow). HasItems items row.values)
-    (λ row width. subst (λ (n : ℕ). All (λ (item : Item). item.position < n) items) (sym width) within)
+    (λ row width. subst (λ (n : ℕ). All (λ (item : AnswerColumn). item.position < n) items) (sym width) within)
     rows wide
 
 items_of_simple : (database : Database) (found : Option SimpleSelect) (query : Select) → FitCatalog database.catalog database.versions →
@@ -187,10 +187,10 @@ items_of_sequenced database (statement.sequenced asked) query fit resolved =
 items_of_sequenced database other query fit resolved = absurd resolved
 
 -- the rows of a resolved query's table have a value for each of its items
-pub items_of_query : (database : Database) (s : Statement) (query : Select) (items : List Item) (rows : List VersionRow) →
+pub items_of_query : (database : Database) (s : Statement) (query : Select) (items : List AnswerColumn) (rows : List VersionRow) →
     items ≡ query.items → rows ≡ versions_in database query.table → FitCatalog database.catalog database.versions →
     ResolvesQuery database.catalog s query → All (λ (row : VersionRow). HasItems items row.values) rows
 items_of_query database s query items rows e f fit resolved =
-    subst (λ (l : List Item). All (λ (row : VersionRow). HasItems l row.values) rows) (sym e)
+    subst (λ (l : List AnswerColumn). All (λ (row : VersionRow). HasItems l row.values) rows) (sym e)
     (subst (λ (l : List VersionRow). All (λ (row : VersionRow). HasItems query.items row.values) l) (sym f)
     (items_of_sequenced database s query fit resolved))

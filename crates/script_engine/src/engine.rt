@@ -220,9 +220,9 @@ impl<S: Alter> Engine<S> {
             StatementForm::Insert(insert) => self.insert(alloc, insert),
             StatementForm::Sequenced(query) => self.answer(alloc, query),
             // The other forms are not run yet.
-            StatementForm::Update(_) | StatementForm::Delete(_) | StatementForm::Stored(_) => Err(
-                Refusal::Syntax,
-            ),
+            StatementForm::Update(_) | StatementForm::Delete(_) | StatementForm::Stored(_) => {
+                Err(Refusal::Syntax)
+            }
         }
     }
 }

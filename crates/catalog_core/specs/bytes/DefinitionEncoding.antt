@@ -3,6 +3,7 @@ use Rattle.std.specs.Prelude.{◌≡◌, ◌&&◌, ℕ, Bool, true, List, nat_lt
 use Rattle.std.specs.List.{All, list_all}
 use Rattle.period_core.specs.Encoding.{IsColumnValue, encoded}
 use Rattle.sql_statements.specs.Names.{is_name}
+use Rattle.catalog_core.specs.Limits.{table_number_limit}
 use Rattle.catalog_core.specs.bytes.DefinitionValues.{definition_values}
 use Rattle.catalog_core.specs.declared.table.Column.{Column}
 use Rattle.catalog_core.specs.declared.table.Reference.{Reference}
@@ -13,7 +14,8 @@ abbrev pub is_writable : TableDef → Bool
 is_writable d =
     is_name d.name
     && (list_all (λ (c : Column). is_name c.name) d.columns
-    && (is_name d.period.name && list_all (λ (r : Reference). nat_lt r.parent 256) d.references))
+    && (is_name d.period.name
+    && list_all (λ (r : Reference). nat_lt r.parent table_number_limit) d.references))
 
 -- the bytes are the encoding of this definition, each of whose values is one that a column holds
 abbrev pub EncodesDefinition : TableDef → List ℕ → Type 0

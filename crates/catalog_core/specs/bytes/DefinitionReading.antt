@@ -4,18 +4,21 @@ use Rattle.std.specs.List.{list_all}
 use Rattle.period_core.specs.declared.value.Value.{Value}
 use Rattle.period_core.specs.declared.value.Value.TheVariants.{Text}
 use Rattle.sql_statements.specs.Names.{is_name}
+use Rattle.catalog_core.specs.Limits.{table_number_limit}
 use Rattle.catalog_core.specs.table.IsDefinition.{is_kind, is_period, is_reference}
 use Rattle.catalog_core.specs.declared.table.Column.{Column}
 use Rattle.catalog_core.specs.declared.table.PeriodColumns.{PeriodColumns}
 use Rattle.catalog_core.specs.declared.table.Reference.{Reference}
 
 -- the part that was read is fit, and the values are the part's and those behind it
-abbrev pub IsFront : {A : Type 0} → (A → Bool) → (A → List Value) → List Value → A → List Value → Type 0
+abbrev pub IsFront :
+    {A : Type 0} → (A → Bool) → (A → List Value) → List Value → A → List Value → Type 0
 IsFront fits written values part rest = (fits part ≡ true) × (values ≡ written part ++ rest)
 
 -- no fit part's values begin these
 abbrev pub HasNoFront : {A : Type 0} → (A → Bool) → (A → List Value) → List Value → Type 0
-HasNoFront {A} fits written values = (part : A) (rest : List Value) → fits part ≡ true → values ≡ written part ++ rest → ⊥
+HasNoFront {A} fits written values =
+    (part : A) (rest : List Value) → fits part ≡ true → values ≡ written part ++ rest → ⊥
 
 -- any number
 abbrev pub is_any : ℕ → Bool
@@ -39,4 +42,4 @@ abbrev pub is_named_period : ℕ → PeriodColumns → Bool
 is_named_period count p = is_name p.name && is_period count p
 
 abbrev pub is_small_reference : ℕ → Reference → Bool
-is_small_reference count r = nat_lt r.parent 256 && is_reference count r
+is_small_reference count r = nat_lt r.parent table_number_limit && is_reference count r

@@ -49,4 +49,8 @@ reference_values r = number r.parent ∷ counted place_values r.own ++ flat_map 
 -- the name, the columns, the application period, the key, the references
 abbrev pub definition_values : TableDef → List Value
 definition_values d =
-    Text d.name ∷ counted column_values d.columns ++ period_values d.period ++ counted place_values d.key ++ counted reference_values d.references
+    Text d.name
+    ∷ counted column_values d.columns
+    ++ period_values d.period
+    ++ counted place_values d.key
+    ++ counted reference_values d.references

@@ -1,5 +1,6 @@
 -- INSERT: when it is refused by its statement and the catalog alone.
--- Values are judged by the names of the columns that they are given for. A name that matches no column, or a value past the last name, makes no condition of a value hold: 24 or 29 is lower.
+-- Values are judged by the names of the columns that they are given for. A name that matches no
+-- column, or a value past the last name, makes no condition of a value hold: 24 or 29 is lower.
 use Rattle.std.specs.Prelude.{◌==◌, ◌&&◌, ◌||◌, ◌∷◌, ℕ, Bool, false, not, List, [], Option, Some}
 use Rattle.std.specs.Prelude.{None, filter, find, length, map, bytes_eq, nat_lt, is_none, slice_get}
 use Rattle.std.specs.Prelude.{int_le}
@@ -29,7 +30,8 @@ use Rattle.catalog_core.specs.declared.table.TableDef.{TableDef}
 
 -- the columns that a row is to give: all but the system ones
 unfoldable pub wanted_names : TableDef → List Name
-wanted_names t = map (λ (x : Column). x.name) (filter (λ (x : Column). not (is_system x.kind)) t.columns)
+wanted_names t =
+    map (λ (x : Column). x.name) (filter (λ (x : Column). not (is_system x.kind)) t.columns)
 
 -- the names of the columns that a row's values are given for, in order
 unfoldable pub given_names : TableDef → Option (List Name) → List Name
@@ -63,7 +65,8 @@ lists_twice i = passes repeats i.columns
 
 -- 27: a system column in the list
 unfoldable pub is_system_name : TableDef → Name → Bool
-is_system_name t name = list_any (λ (x : Column). bytes_eq name x.name && is_system x.kind) t.columns
+is_system_name t name =
+    list_any (λ (x : Column). bytes_eq name x.name && is_system x.kind) t.columns
 
 unfoldable pub some_system_name : TableDef → List Name → Bool
 some_system_name t names = list_any (λ name. is_system_name t name) names
@@ -73,13 +76,16 @@ lists_system t i = passes (some_system_name t) i.columns
 
 -- 29: the list lacks a column; a row has another number of values than there are names
 unfoldable pub lacks_some : TableDef → List Name → Bool
-lacks_some t names = list_any (λ (x : Column). not (is_system x.kind) && match_count names x.name == 0) t.columns
+lacks_some t names =
+    list_any (λ (x : Column). not (is_system x.kind) && match_count names x.name == 0) t.columns
 
 unfoldable pub some_other_length : ℕ → List (List Value) → Bool
 some_other_length count rows = list_any (λ (row : List Value). not (length row == count)) rows
 
 unfoldable pub has_other_count : TableDef → InsertRows → Bool
-has_other_count t i = passes (lacks_some t) i.columns || some_other_length (length (given_names t i.columns)) i.rows
+has_other_count t i =
+    passes (lacks_some t) i.columns
+    || some_other_length (length (given_names t i.columns)) i.rows
 
 -- 30: a value of another kind than its column
 unfoldable pub is_of_other_kind : TableDef → Name × Value → Bool
@@ -91,7 +97,8 @@ is_longer (kind.Varchar n) (Text t) = nat_lt n (length (chars t))
 is_longer _ _ = false
 
 unfoldable pub is_too_long : TableDef → Name × Value → Bool
-is_too_long t given = list_any (λ (x : Column). bytes_eq given.0 x.name && is_longer x.kind given.1) t.columns
+is_too_long t given =
+    list_any (λ (x : Column). bytes_eq given.0 x.name && is_longer x.kind given.1) t.columns
 
 -- a value that is wrong in one of the two ways, among those of a row, and among those of the rows
 unfoldable pub is_wrong : Wrong → TableDef → Name × Value → Bool
@@ -99,33 +106,54 @@ is_wrong wrong.Kind t given = is_of_other_kind t given
 is_wrong wrong.Length t given = is_too_long t given
 
 unfoldable pub gives_wrong : Wrong → TableDef → Option (List Name) → List Value → Bool
-gives_wrong way t list row = list_any (λ (given : Name × Value). is_wrong way t given) (given_values t list row)
+gives_wrong way t list row =
+    list_any (λ (given : Name × Value). is_wrong way t given) (given_values t list row)
 
 unfoldable pub has_wrong : Wrong → TableDef → InsertRows → Bool
 has_wrong way t i = list_any (λ (row : List Value). gives_wrong way t i.columns row) i.rows
 
 -- 41: the row's period does not end after its start
 unfoldable pub given_value : TableDef → Option (List Name) → List Value → Name → Option Value
-given_value t list row name = option_map (λ (given : Name × Value). given.1) (find (λ (given : Name × Value). bytes_eq name given.0) (given_values t list row))
+given_value t list row name =
+    option_map (λ (given : Name × Value). given.1)
+    (find (λ (given : Name × Value). bytes_eq name given.0) (given_values t list row))
 
 -- the value that a row gives for the column at a place
 unfoldable pub value_for : TableDef → Option (List Name) → List Value → ℕ → Option Value
-value_for t list row place = option_and_then (λ (x : Column). given_value t list row x.name) (slice_get t.columns place)
+value_for t list row place =
+    option_and_then (λ (x : Column). given_value t list row x.name) (slice_get t.columns place)
 
 unfoldable pub is_no_period : Option Value → Option Value → Bool
 is_no_period (Some (Date start)) (Some (Date end)) = int_le end start
 is_no_period _ _ = false
 
 unfoldable pub gives_no_period : TableDef → Option (List Name) → List Value → Bool
-gives_no_period t list row = is_no_period (value_for t list row t.period.start) (value_for t list row t.period.end)
+gives_no_period t list row =
+    is_no_period (value_for t list row t.period.start) (value_for t list row t.period.end)
 
 unfoldable pub has_no_period : TableDef → InsertRows → Bool
 has_no_period t i = list_any (λ (row : List Value). gives_no_period t i.columns row) i.rows
 
 -- ==== the whole ====
 
--- the refusals that INSERT may get by its statement and the catalog, each with its condition, but for
--- an empty period. The limit on its tokens is judged on the text; no other limit is about INSERT.
+-- 24 to 29, over the table that is there: the list of columns and the lengths of the rows
+abbrev pub shape_conditions : TableDef → InsertRows → List Judged
+shape_conditions t i =
+    (UnknownColumn, lists_unknown t i)
+    ∷ (AmbiguousColumn, lists_ambiguous t i)
+    ∷ (DuplicateName, lists_twice i)
+    ∷ (PeriodColumn, lists_system t i)
+    ∷ (ColumnCount, has_other_count t i)
+    ∷ []
+
+-- 30 and 31: the values
+abbrev pub value_conditions : TableDef → InsertRows → List Judged
+value_conditions t i =
+    (TypeMismatch, has_wrong wrong.Kind t i) ∷ (TextTooLong, has_wrong wrong.Length t i) ∷ []
+
+-- the refusals that INSERT may get by its statement and the catalog, each with its condition, but
+-- for an empty period. The limit on its tokens is judged on the text; no other limit is about
+-- INSERT.
 abbrev pub insert_conditions : List TableDef → InsertRows → List Judged
 insert_conditions catalog i =
     (UnknownTable, lacks_table catalog i)

@@ -1,4 +1,5 @@
--- A change with positions for names: its table by its number, and its rows by their value columns and their period.
+-- A change with positions for names: its table by its number, and its rows by their value columns
+-- and their period.
 use Rattle.std.specs.Prelude.{◌≡◌, Bool, false, List, [], Option, Some, int_le, map}
 use Rattle.std.specs.List.{list_any}
 use Rattle.period_core.specs.declared.refusal.Refusal.TheVariants.{EmptyPeriod}
@@ -23,7 +24,8 @@ abbrev pub IsChange : Statement → Type 0
 IsChange (statement.insert i) = Unit {0}
 IsChange _ = ⊥
 
--- the refusals that a change may get by its statement and the catalog, each with its condition, but for an empty period; other statements have none
+-- the refusals that a change may get by its statement and the catalog, each with its condition, but
+-- for an empty period; other statements have none
 abbrev pub change_conditions : List TableDef → Statement → List Judged
 change_conditions catalog (statement.insert i) = insert_conditions catalog i
 change_conditions catalog _ = []
@@ -33,7 +35,8 @@ abbrev pub empty_period : List TableDef → Statement → Judged
 empty_period catalog (statement.insert i) = (EmptyPeriod, gives_empty_row catalog i)
 empty_period catalog _ = (EmptyPeriod, false)
 
--- what stands for a row: the values of the value columns in declared order, and its period's start and end
+-- the parts of a row: the values of the value columns in declared order, and its period's start and
+-- end
 pub record RowParts : Type 0 where
   pub values : List (Option Value)
   pub start : Option Value
@@ -50,19 +53,26 @@ written_row t list row =
 
 -- of a given row
 abbrev pub row_parts : GivenRow → RowParts
-row_parts given = record { values = map Some given.values; start = Some (Date given.start); end = Some (Date given.end) }
+row_parts given =
+    record {
+      values = map Some given.values;
+      start = Some (Date given.start);
+      end = Some (Date given.end);
+    }
 
 -- the same rows
 abbrev pub ResolvesAction : TableDef → InsertRows → Action → Type 0
 ResolvesAction t i (Insert given) = map (written_row t i.columns) i.rows ≡ map row_parts given
 
 -- the same change of the table that it names
-pub record ResolvesInsert (catalog : List TableDef) (i : InsertRows) (change : Change) : Type 0 where
-  pub definition : TableDef
-  pub number : number_of catalog i.table ≡ Some change.table
-  pub table : table_of catalog change.table ≡ Some definition
-  pub action : ResolvesAction definition i change.action
+pub record ResolvesInsert (catalog : List TableDef) (i : InsertRows) (change : Change) : Type 0
+  where
+    pub definition : TableDef
+    pub number : number_of catalog i.table ≡ Some change.table
+    pub table : table_of catalog change.table ≡ Some definition
+    pub action : ResolvesAction definition i change.action
 
+-- the same change as the statement makes; other statements make none
 abbrev pub ResolvesChange : List TableDef → Statement → Change → Type 0
 ResolvesChange catalog (statement.insert i) change = ResolvesInsert catalog i change
 ResolvesChange catalog _ change = ⊥

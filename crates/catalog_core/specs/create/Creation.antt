@@ -2,7 +2,7 @@
 -- A name is judged by what it matches. One that matches nothing, in a list or among the tables, is
 -- refused by 23 or 24: each other condition that it makes hold has a higher number.
 use Rattle.std.specs.Prelude.{◌==◌, ◌&&◌, ◌||◌, ◌+◌, ◌∷◌, ℕ, Bool, not, List, [], Option, Some}
-use Rattle.std.specs.Prelude.{None, find, length, bytes_eq, count_by, nat_le, nat_lt, is_none}
+use Rattle.std.specs.Prelude.{None, length, bytes_eq, count_by, nat_le, nat_lt, is_none}
 use Rattle.std.specs.Prelude.{is_some, slice_get}
 use Rattle.std.specs.List.{list_all, list_any, zip}
 use Rattle.std.specs.Option.{option_map}
@@ -12,7 +12,8 @@ use Rattle.period_core.specs.declared.refusal.Refusal.TheVariants.{AmbiguousColu
 use Rattle.period_core.specs.declared.refusal.Refusal.TheVariants.{PeriodColumn, BadDefinition}
 use Rattle.period_core.specs.declared.refusal.Refusal.TheVariants.{ColumnCount, TypeMismatch}
 use Rattle.sql_statements.specs.declared.create.TypeName.{TypeName}
-use Rattle.sql_statements.specs.declared.create.TypeName.TheVariants.{Integer, Date, Varchar, Timestamp}
+use Rattle.sql_statements.specs.declared.create.TypeName.TheVariants.{Integer, Date, Varchar}
+use Rattle.sql_statements.specs.declared.create.TypeName.TheVariants.{Timestamp}
 use Rattle.sql_statements.specs.declared.create.ColumnElement.{ColumnElement}
 use Rattle.sql_statements.specs.declared.create.PeriodElement.{PeriodElement}
 use Rattle.sql_statements.specs.declared.create.SystemElement.{SystemElement}
@@ -20,10 +21,12 @@ use Rattle.sql_statements.specs.declared.create.KeyElement.{KeyElement}
 use Rattle.sql_statements.specs.declared.create.ReferenceElement.{ReferenceElement}
 use Rattle.sql_statements.specs.declared.create.CreateTable.{CreateTable}
 use Rattle.catalog_core.specs.Judged.{Judged}
-use Rattle.catalog_core.specs.Limits.{most_columns, most_references, most_tables}
+use Rattle.catalog_core.specs.Limits.{greatest_precision, most_code_points, most_columns}
+use Rattle.catalog_core.specs.Limits.{most_references, most_tables}
 use Rattle.catalog_core.specs.table.Matches.{is_matching, is_of_sort}
 use Rattle.catalog_core.specs.table.Kinds.{kind_of_type, differ}
-use Rattle.catalog_core.specs.table.Naming.{Name, passes, repeats}
+use Rattle.catalog_core.specs.table.Naming.{Name, find_among, matches_among, passes, repeats}
+use Rattle.catalog_core.specs.table.Naming.{some_match_among}
 use Rattle.catalog_core.specs.table.TableWords.{def_kind, some_def_match, table_of_name}
 use Rattle.catalog_core.specs.declared.table.matching.ColumnSort.{ColumnSort}
 use Rattle.catalog_core.specs.declared.table.matching.ColumnSort.TheVariants.{System, RowStart}
@@ -32,14 +35,14 @@ use Rattle.catalog_core.specs.declared.table.matching.ColumnSort.TheVariants.{Pl
 use Rattle.catalog_core.specs.declared.table.matching.Matching.{Matching}
 use Rattle.catalog_core.specs.declared.table.matching.Matching.TheVariants.{Nothing, Several}
 use Rattle.catalog_core.specs.declared.table.Column.{Column}
-use Rattle.catalog_core.specs.declared.table.Kind.{Kind}
+use Rattle.catalog_core.specs.declared.table.ValueKind.{ValueKind}
 use Rattle.catalog_core.specs.declared.table.TableDef.{TableDef}
 
 -- ==== words ====
 
 -- how many of the statement's columns or periods a name matches
-unfoldable pub own_matches : CreateTable → Name → ℕ
-own_matches c name = count_by (λ (x : ColumnElement). bytes_eq name x.name) c.columns
+abbrev pub own_matches : CreateTable → Name → ℕ
+own_matches c name = matches_among (λ (x : ColumnElement). x.name) c.columns name
 
 unfoldable pub period_matches : CreateTable → Name → ℕ
 period_matches c name = count_by (λ (x : PeriodElement). bytes_eq name x.name) c.periods
@@ -49,9 +52,9 @@ abbrev pub parent_of : List TableDef → ReferenceElement → Option TableDef
 parent_of catalog r = table_of_name catalog r.parent
 
 -- some of the names matches so many of the statement's own columns
-unfoldable pub some_own_match : CreateTable → Matching → List Name → Bool
+abbrev pub some_own_match : CreateTable → Matching → List Name → Bool
 some_own_match c wanted names =
-    list_any (λ name. is_matching wanted (own_matches c name)) names
+    some_match_among (λ (x : ColumnElement). x.name) c.columns wanted names
 
 -- of the columns that a reference names in its parent
 unfoldable pub some_parent_match : List TableDef → Matching → ReferenceElement → Bool
@@ -106,6 +109,7 @@ lacks_period catalog c =
     c.references
     || list_any (λ (x : ReferenceElement). names_other_period catalog x) c.references
 
+-- a column or a period
 unfoldable pub lacks_name : List TableDef → CreateTable → Bool
 lacks_name catalog c = some_match catalog c Nothing || lacks_period catalog c
 
@@ -174,9 +178,9 @@ has_bad_system_period c =
 unfoldable pub is_bad_type : TypeName → Bool → Bool
 is_bad_type Integer generated = generated
 is_bad_type Date generated = generated
-is_bad_type (Varchar n) generated = generated || nat_lt n 1 || nat_lt 1000 n
+is_bad_type (Varchar n) generated = generated || nat_lt n 1 || nat_lt most_code_points n
 is_bad_type (Timestamp None) generated = not generated
-is_bad_type (Timestamp (Some p)) generated = not generated || nat_lt 12 p
+is_bad_type (Timestamp (Some p)) generated = not generated || nat_lt greatest_precision p
 
 unfoldable pub has_bad_column : CreateTable → Bool
 has_bad_column c =
@@ -216,6 +220,7 @@ unfoldable pub references_no_key : List TableDef → CreateTable → Bool
 references_no_key catalog c =
     list_any (λ (x : ReferenceElement). names_no_key catalog x) c.references
 
+-- one of these
 unfoldable pub is_bad_definition : List TableDef → CreateTable → Bool
 is_bad_definition catalog c =
     lacks_one_of_each c
@@ -232,10 +237,10 @@ has_unequal_lists c =
     c.references
 
 -- 30: a column of a reference and its parent's at the same place are of two kinds
-unfoldable pub own_kind : CreateTable → Name → Option Kind
+unfoldable pub own_kind : CreateTable → Name → Option ValueKind
 own_kind c name =
     option_map (λ (x : ColumnElement). kind_of_type x.kind)
-    (find (λ (x : ColumnElement). bytes_eq name x.name) c.columns)
+    (find_among (λ (x : ColumnElement). x.name) c.columns name)
 
 unfoldable pub have_other_kinds : CreateTable → TableDef → List Name → List Name → Bool
 have_other_kinds c t own others =

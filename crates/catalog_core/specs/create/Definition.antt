@@ -1,9 +1,9 @@
 -- CREATE TABLE: the definition that it gives, with places for names.
-use Rattle.std.specs.Prelude.{◌∷◌, ◌≡◌, ℕ, List, [], Option, Some, None, map, bytes_eq}
-use Rattle.std.specs.List.{position}
+use Rattle.std.specs.Prelude.{◌∷◌, ◌≡◌, ℕ, List, [], Option, Some, None, map}
 use Rattle.std.specs.Option.{option_map}
 use Rattle.sql_statements.specs.declared.create.TypeName.{TypeName}
-use Rattle.sql_statements.specs.declared.create.TypeName.TheVariants.{Integer, Date, Varchar, Timestamp}
+use Rattle.sql_statements.specs.declared.create.TypeName.TheVariants.{Integer, Date, Varchar}
+use Rattle.sql_statements.specs.declared.create.TypeName.TheVariants.{Timestamp}
 use Rattle.sql_statements.specs.declared.create.Generated.{Generated}
 use Rattle.sql_statements.specs.declared.create.Generated.TheVariants.{Start, End}
 use Rattle.sql_statements.specs.declared.create.ColumnElement.{ColumnElement}
@@ -12,7 +12,7 @@ use Rattle.sql_statements.specs.declared.create.KeyElement.{KeyElement}
 use Rattle.sql_statements.specs.declared.create.ReferenceElement.{ReferenceElement}
 use Rattle.sql_statements.specs.declared.create.CreateTable.{CreateTable}
 use Rattle.catalog_core.specs.create.Creation.{parent_of}
-use Rattle.catalog_core.specs.table.Naming.{Name}
+use Rattle.catalog_core.specs.table.Naming.{Name, place_among}
 use Rattle.catalog_core.specs.table.TableWords.{def_place, number_of}
 use Rattle.catalog_core.specs.declared.table.Column.{Column}
 use Rattle.catalog_core.specs.declared.table.ColumnKind.{ColumnKind}
@@ -33,13 +33,14 @@ declared_kind (Timestamp p) (Some Start) = Some (kind.RowStart p)
 declared_kind (Timestamp p) (Some End) = Some (kind.RowEnd p)
 
 -- the place of the column that a name stands for
-unfoldable pub own_place : CreateTable → Name → Option ℕ
-own_place c name = position (λ (x : ColumnElement). bytes_eq name x.name) c.columns
+abbrev pub own_place : CreateTable → Name → Option ℕ
+own_place c name = place_among (λ (x : ColumnElement). x.name) c.columns name
 
 -- a column by its name and what it holds
 abbrev pub declared_column : ColumnElement → Name × Option ColumnKind
 declared_column x = (x.name, declared_kind x.kind x.generated)
 
+-- the same of a column of the definition
 abbrev pub column_parts : Column → Name × Option ColumnKind
 column_parts x = (x.name, Some x.kind)
 
@@ -47,6 +48,7 @@ column_parts x = (x.name, Some x.kind)
 abbrev pub declared_period : CreateTable → PeriodElement → Name × Option ℕ × Option ℕ
 declared_period c x = (x.name, own_place c x.start, own_place c x.end)
 
+-- a key by the places of its columns
 abbrev pub declared_key : CreateTable → KeyElement → List (Option ℕ)
 declared_key c x = map (own_place c) x.columns
 
@@ -54,10 +56,15 @@ declared_key c x = map (own_place c) x.columns
 abbrev pub Numbers : Type 0
 Numbers = Option ℕ × List (Option ℕ) × Option (List (Option ℕ))
 
+-- of a reference as it is written
 unfoldable pub declared_reference : List TableDef → CreateTable → ReferenceElement → Numbers
-declared_reference catalog c x =
-    (number_of catalog x.parent, map (own_place c) x.columns, option_map (λ (t : TableDef). map (def_place t) x.parent_columns) (parent_of catalog x))
+declared_reference catalog c x = (
+  number_of catalog x.parent,
+  map (own_place c) x.columns,
+  option_map (λ (t : TableDef). map (def_place t) x.parent_columns) (parent_of catalog x),
+)
 
+-- of a reference of the definition
 abbrev pub reference_parts : Reference → Numbers
 reference_parts r = (Some r.parent, map Some r.own, Some (map Some r.keys))
 
@@ -65,6 +72,9 @@ reference_parts r = (Some r.parent, map Some r.own, Some (map Some r.keys))
 pub record Defines (catalog : List TableDef) (c : CreateTable) (d : TableDef) : Type 0 where
   pub name : d.name ≡ c.name
   pub columns : map declared_column c.columns ≡ map column_parts d.columns
-  pub period : map (declared_period c) c.periods ≡ (d.period.name, Some d.period.start, Some d.period.end) ∷ []
+  pub period :
+      map (declared_period c) c.periods
+      ≡ (d.period.name, Some d.period.start, Some d.period.end) ∷ []
   pub key : map (declared_key c) c.keys ≡ map Some d.key ∷ []
-  pub references : map (declared_reference catalog c) c.references ≡ map reference_parts d.references
+  pub references :
+      map (declared_reference catalog c) c.references ≡ map reference_parts d.references

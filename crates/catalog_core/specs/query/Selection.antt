@@ -13,7 +13,7 @@ use Rattle.catalog_core.specs.query.SimpleSelects.{simple_select}
 use Rattle.catalog_core.specs.table.TableWords.{is_value_column, number_of, some_def_match}
 use Rattle.catalog_core.specs.table.TableWords.{table_of, table_of_name, value_names}
 use Rattle.catalog_core.specs.declared.table.matching.Matching.TheVariants.{Nothing, Several}
-use Rattle.catalog_core.specs.declared.query.Item.{Item}
+use Rattle.catalog_core.specs.declared.query.AnswerColumn.{AnswerColumn}
 use Rattle.catalog_core.specs.declared.query.Select.{Select}
 use Rattle.catalog_core.specs.declared.query.simple_select.SimpleSelect.{SimpleSelect}
 use Rattle.catalog_core.specs.declared.table.Column.{Column}
@@ -31,19 +31,30 @@ has_many_items s = nat_lt most_items (length s.columns)
 unfoldable pub lacks_source : List TableDef → SimpleSelect → Bool
 lacks_source catalog s = is_none (table_of_name catalog s.table)
 
--- 24 and 25: an item that matches no column, or several; a period's name in the place of a column matches none
-unfoldable pub selects_unknown : TableDef → SimpleSelect → Bool
+-- 24 and 25: an item that matches no column, or several; a period's name in the place of a column
+-- matches none
+abbrev pub selects_unknown : TableDef → SimpleSelect → Bool
 selects_unknown t s = some_def_match t Nothing s.columns
 
-unfoldable pub selects_ambiguous : TableDef → SimpleSelect → Bool
+abbrev pub selects_ambiguous : TableDef → SimpleSelect → Bool
 selects_ambiguous t s = some_def_match t Several s.columns
 
 -- 27: a period or system column among the items
 unfoldable pub names_no_value : TableDef → Name → Bool
-names_no_value t name = list_any (λ (c : ℕ × Column). bytes_eq name c.1.name && not (is_value_column t c)) (enumerate_from 0 t.columns)
+names_no_value t name =
+    list_any (λ (c : ℕ × Column). bytes_eq name c.1.name && not (is_value_column t c))
+    (enumerate_from 0 t.columns)
 
 unfoldable pub selects_no_value : TableDef → List Name → Bool
 selects_no_value t names = list_any (λ name. names_no_value t name) names
+
+-- 24, 25 and 27, over the table that is there
+abbrev pub column_conditions : TableDef → SimpleSelect → List Judged
+column_conditions t s =
+    (UnknownColumn, selects_unknown t s)
+    ∷ (AmbiguousColumn, selects_ambiguous t s)
+    ∷ (PeriodColumn, selects_no_value t s.columns)
+    ∷ []
 
 -- the refusals that a sequenced query may get, each with its condition
 abbrev pub select_conditions : List TableDef → SimpleSelect → List Judged
@@ -78,21 +89,24 @@ value_position t name = position (bytes_eq name) (value_names t)
 abbrev pub written_item : TableDef → Name → Option ℕ × Name
 written_item t name = (value_position t name, name)
 
-abbrev pub item_parts : Item → Option ℕ × Name
+-- of a column of the answer
+abbrev pub item_parts : AnswerColumn → Option ℕ × Name
 item_parts item = (Some item.position, item.name)
 
 -- the same select of the table that it names, with positions for its columns
-pub record ResolvesSelect (catalog : List TableDef) (s : SimpleSelect) (select : Select) : Type 0 where
-  pub definition : TableDef
-  pub number : number_of catalog s.table ≡ Some select.table
-  pub table : table_of catalog select.table ≡ Some definition
-  pub items : map (written_item definition) s.columns ≡ map item_parts select.items
+pub record ResolvesSelect (catalog : List TableDef) (s : SimpleSelect) (select : Select) : Type 0
+  where
+    pub definition : TableDef
+    pub number : number_of catalog s.table ≡ Some select.table
+    pub table : table_of catalog select.table ≡ Some definition
+    pub items : map (written_item definition) s.columns ≡ map item_parts select.items
 
 -- the same query, which is one simple select
 abbrev pub ResolvesSimple : List TableDef → Option SimpleSelect → Select → Type 0
 ResolvesSimple catalog None select = ⊥
 ResolvesSimple catalog (Some s) select = ResolvesSelect catalog s select
 
+-- the same query as the statement asks; other statements ask none
 abbrev pub ResolvesQuery : List TableDef → Statement → Select → Type 0
 ResolvesQuery catalog (sequenced query) select = ResolvesSimple catalog (simple_select query) select
 ResolvesQuery catalog _ select = ⊥

@@ -31,7 +31,9 @@ is_one_table (chain ∷ other ∷ more) = false
 
 -- columns of one table, without a condition
 abbrev pub is_simple : Select → Bool
-is_simple select = list_all is_bare select.items && (is_one_table select.chains && is_none select.condition)
+is_simple select =
+    list_all is_bare select.items
+    && (is_one_table select.chains && is_none select.condition)
 
 abbrev pub name_of : SelectItem → Name
 name_of item = item.column.name
@@ -43,7 +45,10 @@ first_table (chain ∷ more) = chain.first.table
 
 -- its columns and its table, if the select is simple
 abbrev pub simple_of : Select → Option SimpleSelect
-simple_of select = cond (is_simple select) (Some (record { columns = map name_of select.items; table = first_table select.chains })) None
+simple_of select =
+    cond (is_simple select)
+    (Some (record { columns = map name_of select.items; table = first_table select.chains }))
+    None
 
 -- the columns and the table of a query that is one simple select
 abbrev pub simple_select : Query → Option SimpleSelect

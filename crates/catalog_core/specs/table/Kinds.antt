@@ -6,29 +6,32 @@ use Rattle.sql_statements.specs.declared.create.TypeName.{TypeName}
 use Rattle.sql_statements.specs.declared.create.TypeName.TheVariants as type_name
 use Rattle.catalog_core.specs.declared.table.ColumnKind.{ColumnKind}
 use Rattle.catalog_core.specs.declared.table.ColumnKind.TheVariants as kind
-use Rattle.catalog_core.specs.declared.table.Kind.{Kind}
-use Rattle.catalog_core.specs.declared.table.Kind.TheVariants.{Integer, Text, Date, Moment}
+use Rattle.catalog_core.specs.declared.table.ValueKind.{ValueKind}
+use Rattle.catalog_core.specs.declared.table.ValueKind.TheVariants.{Integer, Text, Date, Moment}
 
--- the kind of a value, of a column, of a column's type as it is written
-abbrev pub kind_of_value : Value → Kind
+-- the kind of a value
+abbrev pub kind_of_value : Value → ValueKind
 kind_of_value (value.Int n) = Integer
 kind_of_value (value.Text t) = Text
 kind_of_value (value.Date d) = Date
 
-unfoldable pub kind_of_column : ColumnKind → Kind
+-- of a column
+unfoldable pub kind_of_column : ColumnKind → ValueKind
 kind_of_column kind.Integer = Integer
 kind_of_column (kind.Varchar n) = Text
 kind_of_column kind.Date = Date
 kind_of_column (kind.RowStart p) = Moment
 kind_of_column (kind.RowEnd p) = Moment
 
-unfoldable pub kind_of_type : TypeName → Kind
+-- of a column's type as it is written
+unfoldable pub kind_of_type : TypeName → ValueKind
 kind_of_type type_name.Integer = Integer
 kind_of_type type_name.Date = Date
 kind_of_type (type_name.Varchar n) = Text
 kind_of_type (type_name.Timestamp p) = Moment
 
-unfoldable pub same_kind : Kind → Kind → Bool
+-- one kind
+unfoldable pub same_kind : ValueKind → ValueKind → Bool
 same_kind Integer Integer = true
 same_kind Text Text = true
 same_kind Date Date = true
@@ -36,6 +39,6 @@ same_kind Moment Moment = true
 same_kind _ _ = false
 
 -- two kinds that are both there and differ
-unfoldable pub differ : Option Kind → Option Kind → Bool
+unfoldable pub differ : Option ValueKind → Option ValueKind → Bool
 differ (Some x) (Some y) = not (same_kind x y)
 differ _ _ = false

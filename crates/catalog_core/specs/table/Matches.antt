@@ -5,7 +5,8 @@ use Rattle.sql_statements.specs.declared.create.ColumnElement.{ColumnElement}
 use Rattle.sql_statements.specs.declared.create.Generated.{Generated}
 use Rattle.sql_statements.specs.declared.create.Generated.TheVariants as generated
 use Rattle.sql_statements.specs.declared.create.TypeName.{TypeName}
-use Rattle.sql_statements.specs.declared.create.TypeName.TheVariants.{Integer, Date, Varchar, Timestamp}
+use Rattle.sql_statements.specs.declared.create.TypeName.TheVariants.{Integer, Date, Varchar}
+use Rattle.sql_statements.specs.declared.create.TypeName.TheVariants.{Timestamp}
 use Rattle.catalog_core.specs.declared.table.matching.ColumnSort.{ColumnSort}
 use Rattle.catalog_core.specs.declared.table.matching.ColumnSort.TheVariants.{System, RowStart}
 use Rattle.catalog_core.specs.declared.table.matching.ColumnSort.TheVariants.{RowEnd, PlainDate}
@@ -24,7 +25,8 @@ is_date Integer = false
 is_date (Varchar n) = false
 is_date (Timestamp p) = false
 
--- a column of the sort: a system column, one generated as row start or as row end, a plain DATE column
+-- a column of the sort: a system column, one generated as row start or as row end, a plain DATE
+-- column
 unfoldable pub is_of_sort : ColumnSort → ColumnElement → Bool
 is_of_sort System x = is_some x.generated
 is_of_sort RowStart x = starts x.generated

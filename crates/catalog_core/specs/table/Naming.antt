@@ -1,17 +1,37 @@
 -- Names, and what they match.
--- Each word answers for every list: a name that matches nothing has no place and no kind, and no test holds of it.
+-- Each word answers for every list: a name that matches nothing has no place and no kind, and no
+-- test holds of it.
 use Rattle.std.specs.Prelude.{ℕ, Bool, false, List, Option, Some, None, bytes_eq, count_by}
-use Rattle.std.specs.List.{list_any}
+use Rattle.std.specs.Prelude.{find}
+use Rattle.std.specs.List.{list_any, position}
 use Rattle.catalog_core.specs.table.Matches.{is_matching}
+use Rattle.catalog_core.specs.declared.table.matching.Matching.{Matching}
 use Rattle.catalog_core.specs.declared.table.matching.Matching.TheVariants.{Several}
 
 -- a name, by its bytes
 abbrev pub Name : Type 0
 Name = List ℕ
 
+-- In a list of elements that have names, by what gives the name of each: how many a name matches
+unfoldable pub matches_among : {X : Type 0} → (X → Name) → List X → Name → ℕ
+matches_among named xs name = count_by (λ x. bytes_eq name (named x)) xs
+
+-- some of the names matches so many
+unfoldable pub some_match_among : {X : Type 0} → (X → Name) → List X → Matching → List Name → Bool
+some_match_among named xs wanted names =
+    list_any (λ name. is_matching wanted (matches_among named xs name)) names
+
+-- the place of the first that a name matches
+unfoldable pub place_among : {X : Type 0} → (X → Name) → List X → Name → Option ℕ
+place_among named xs name = position (λ x. bytes_eq name (named x)) xs
+
+-- the first
+unfoldable pub find_among : {X : Type 0} → (X → Name) → List X → Name → Option X
+find_among named xs name = find (λ x. bytes_eq name (named x)) xs
+
 -- how many of the names a name matches
-unfoldable pub match_count : List Name → Name → ℕ
-match_count names name = count_by (bytes_eq name) names
+abbrev pub match_count : List Name → Name → ℕ
+match_count names name = matches_among (λ (x : Name). x) names name
 
 -- a name stands in the list more than once
 unfoldable pub repeats : List Name → Bool

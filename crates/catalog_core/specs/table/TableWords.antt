@@ -1,19 +1,21 @@
 -- Words on tables: numbers and definitions, what a name matches in one, and its value columns.
 use Rattle.std.specs.Prelude.{◌+◌, ◌==◌, ◌&&◌, ℕ, zero, suc, Bool, true, false, not, List, Option}
-use Rattle.std.specs.Prelude.{None, find, slice_get, map, filter, length, bytes_eq, count_by}
+use Rattle.std.specs.Prelude.{None, slice_get, map, filter, length, bytes_eq}
 use Rattle.std.specs.List.{enumerate_from, list_any, position}
 use Rattle.std.specs.Option.{option_and_then, option_map}
 use Rattle.catalog_core.specs.table.Kinds.{kind_of_column, same_kind}
 use Rattle.catalog_core.specs.table.Matches.{is_matching}
-use Rattle.catalog_core.specs.table.Naming.{Name, passes}
+use Rattle.catalog_core.specs.table.Naming.{Name, find_among, matches_among, passes}
+use Rattle.catalog_core.specs.table.Naming.{place_among}
+use Rattle.catalog_core.specs.table.Naming.{some_match_among}
 use Rattle.catalog_core.specs.declared.table.matching.Matching.{Matching}
 use Rattle.catalog_core.specs.declared.table.matching.Matching.TheVariants.{Several}
 use Rattle.catalog_core.specs.declared.table.Column.{Column}
 use Rattle.catalog_core.specs.declared.table.ColumnKind.{ColumnKind}
 use Rattle.catalog_core.specs.declared.table.ColumnKind.TheVariants.{Integer, Varchar, Date}
 use Rattle.catalog_core.specs.declared.table.ColumnKind.TheVariants.{RowStart, RowEnd}
-use Rattle.catalog_core.specs.declared.table.Kind.{Kind}
-use Rattle.catalog_core.specs.declared.table.Kind.TheVariants as kind
+use Rattle.catalog_core.specs.declared.table.ValueKind.{ValueKind}
+use Rattle.catalog_core.specs.declared.table.ValueKind.TheVariants as kind
 use Rattle.catalog_core.specs.declared.table.TableDef.{TableDef}
 
 -- the number of the table of this name, from 1 in the order of creation
@@ -31,27 +33,27 @@ unfoldable pub table_of_name : List TableDef → Name → Option TableDef
 table_of_name catalog name = option_and_then (table_of catalog) (number_of catalog name)
 
 -- how many of a table's columns a name matches
-unfoldable pub def_matches : TableDef → Name → ℕ
-def_matches t name = count_by (λ (x : Column). bytes_eq name x.name) t.columns
+abbrev pub def_matches : TableDef → Name → ℕ
+def_matches t name = matches_among (λ (x : Column). x.name) t.columns name
 
 -- some of the names matches so many
-unfoldable pub some_def_match : TableDef → Matching → List Name → Bool
-some_def_match t wanted names =
-    list_any (λ name. is_matching wanted (def_matches t name)) names
+abbrev pub some_def_match : TableDef → Matching → List Name → Bool
+some_def_match t wanted names = some_match_among (λ (x : Column). x.name) t.columns wanted names
 
 -- no two columns share a name: none's matches several
 unfoldable pub has_distinct_names : TableDef → Bool
 has_distinct_names t =
     not (list_any (λ (x : Column). is_matching Several (def_matches t x.name)) t.columns)
 
--- the kind, and the place among the declared columns, of the column that a name stands for
-unfoldable pub def_kind : TableDef → Name → Option Kind
+-- the kind of the column that a name stands for
+unfoldable pub def_kind : TableDef → Name → Option ValueKind
 def_kind t name =
     option_map (λ (x : Column). kind_of_column x.kind)
-    (find (λ (x : Column). bytes_eq name x.name) t.columns)
+    (find_among (λ (x : Column). x.name) t.columns name)
 
-unfoldable pub def_place : TableDef → Name → Option ℕ
-def_place t name = position (λ (x : Column). bytes_eq name x.name) t.columns
+-- its place among the declared columns
+abbrev pub def_place : TableDef → Name → Option ℕ
+def_place t name = place_among (λ (x : Column). x.name) t.columns name
 
 -- a system column's kind
 abbrev pub is_system : ColumnKind → Bool

@@ -6,7 +6,7 @@ ghost use Rattle.period_core.specs.declared.value.Value.TheVariants.{Text, Int};
 ghost use Rattle.sql_statements.specs.Names.{is_name};
 ghost use Rattle.catalog_core.specs.bytes.DefinitionEncoding.{is_writable};
 ghost use Rattle.catalog_core.specs.table.IsDefinition.{are_places};
-ghost use Rattle.catalog_core.specs.Limits.{number_limit};
+ghost use Rattle.catalog_core.specs.Limits.{number_limit, table_number_limit};
 ghost use Rattle.catalog_core.specs.bytes.DefinitionValues.{column_values, counted};
 ghost use Rattle.catalog_core.specs.bytes.DefinitionValues.{definition_values};
 ghost use Rattle.catalog_core.specs.bytes.DefinitionValues.{kind_values, number, period_values};
@@ -135,7 +135,7 @@ fn push_reference(values: &mut Vec<Value>, reference: &Reference) -> Result<(), 
     requires keys { are_places number_limit reference.now.keys ≡ true }
     ensures pushed { IfOk result
         (λ _. values.new.items ≡ values.old.items ++ reference_values reference.now) }
-    ensures small { IfOk result (λ _. nat_lt reference.now.parent 256 ≡ true) }
+    ensures small { IfOk result (λ _. nat_lt reference.now.parent table_number_limit ≡ true) }
 {
     push_number(values, usize::from(reference.parent))?;
     push_counted(values, reference.own.as_slice())?;
@@ -149,7 +149,8 @@ fn push_references(values: &mut Vec<Value>, references: &[Reference]) -> Result<
         references.now ≡ true }
     ensures pushed { IfOk result
         (λ _. values.new.items ≡ values.old.items ++ counted reference_values references.now) }
-    ensures small { IfOk result (λ _. list_all (λ r. nat_lt r.parent 256) references.now ≡ true) }
+    ensures small { IfOk result
+        (λ _. list_all (λ r. nat_lt r.parent table_number_limit) references.now ≡ true) }
 {
     push_number(values, references.len())?;
     for reference in references {

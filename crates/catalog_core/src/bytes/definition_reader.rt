@@ -18,12 +18,10 @@ ghost use Rattle.catalog_core.specs.declared.table.ColumnKind.{ColumnKind as Any
 ghost use Rattle.catalog_core.specs.declared.table.TableDef.{TableDef as AnyTable};
 
 use crate::bytes::value_reader::{read_name, read_number, read_place, read_places};
+use crate::limits::{GREATEST_PRECISION, MOST_CODE_POINTS, NUMBER_LIMIT, TABLE_NUMBER_LIMIT};
 use crate::table::{Column, ColumnKind, PeriodColumns, Reference, TableDef};
 use period_core::{DecodeFault, Items, Value};
 use std::alloc::Global;
-
-/// A number in a definition's bytes is below this.
-const NUMBER_LIMIT: usize = 1 << 63;
 
 /// The precision that a number stands for.
 fn precision_of(number: i64) -> Option<Option<u8>>
@@ -33,7 +31,7 @@ fn precision_of(number: i64) -> Option<Option<u8>>
 {
     match number {
         -1 => Some(None),
-        0..=12 => Some(Some(number as u8)),
+        _ if number >= 0 && number <= i64::from(GREATEST_PRECISION) => Some(Some(number as u8)),
         _ => None,
     }
 }
@@ -46,7 +44,9 @@ fn kind_of(kind: i64, number: i64) -> Option<ColumnKind>
 {
     match kind {
         1 if number == 0 => Some(ColumnKind::Integer),
-        2 if number >= 1 && number <= 1000 => Some(ColumnKind::Varchar(number as u16)),
+        2 if number >= 1 && number <= i64::from(MOST_CODE_POINTS) => {
+            Some(ColumnKind::Varchar(number as u16))
+        }
         3 if number == 0 => Some(ColumnKind::Date),
         4 => Some(ColumnKind::RowStart(precision_of(number)?)),
         5 => Some(ColumnKind::RowEnd(precision_of(number)?)),
@@ -86,7 +86,8 @@ fn read_each_column<'a>(
     count: usize,
 ) -> Result<(Vec<Column>, &'a [Value]), DecodeFault>
     ensures found { IfOk result (λ x.
-        IsFront (are_so_many count is_column) (flat_map column_values) values.now x.0.items x.1.now) }
+        IsFront (are_so_many count is_column) (flat_map column_values)
+        values.now x.0.items x.1.now) }
     ensures malformed { IfErr result (λ fault. fault ≡ Malformed →
         HasNoFront (are_so_many count is_column) (flat_map column_values) values.now) }
 {
@@ -160,7 +161,7 @@ fn read_reference(
     ensures malformed { IfErr result (λ fault.
         fault ≡ Malformed → HasNoFront (is_small_reference count) reference_values values.now) }
 {
-    let (parent, after_parent) = read_place(values, 256)?;
+    let (parent, after_parent) = read_place(values, TABLE_NUMBER_LIMIT)?;
     if parent == 0 {
         return Err(DecodeFault::Malformed);
     }

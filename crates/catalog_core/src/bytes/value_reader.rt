@@ -47,7 +47,8 @@ pub fn read_number(values: &[Value]) -> Result<(usize, &[Value]), DecodeFault>
 
 /// A number below a limit, and the values behind it.
 pub fn read_place(values: &[Value], limit: usize) -> Result<(usize, &[Value]), DecodeFault>
-    ensures found { IfOk result (λ x. IsFront (is_below limit) place_values values.now x.0 x.1.now) }
+    ensures found { IfOk result
+        (λ x. IsFront (is_below limit) place_values values.now x.0 x.1.now) }
     ensures malformed { IfErr result
         (λ fault. fault ≡ Malformed → HasNoFront (is_below limit) place_values values.now) }
 {
@@ -66,7 +67,8 @@ pub fn read_places(
     limit: usize,
 ) -> Result<(Vec<usize>, &[Value]), DecodeFault>
     ensures found { IfOk result (λ x.
-        IsFront (are_so_many count (is_below limit)) (flat_map place_values) values.now x.0.items x.1.now) }
+        IsFront (are_so_many count (is_below limit)) (flat_map place_values)
+        values.now x.0.items x.1.now) }
     ensures malformed { IfErr result (λ fault. fault ≡ Malformed →
         HasNoFront (are_so_many count (is_below limit)) (flat_map place_values) values.now) }
 {

@@ -9,8 +9,8 @@ ghost use Rattle.catalog_core.specs.table.TableWords.{def_place, has_distinct_na
 ghost use Rattle.catalog_core.specs.table.TableWords.{some_def_match};
 ghost use Rattle.catalog_core.specs.declared.table.matching.Matching.TheVariants.{Nothing};
 
-use crate::create::building::def_places;
 use crate::table::TableDef;
+use crate::table::columns::def_places;
 use crate::table::kinds::is_system;
 use period_core::Memory;
 use sql_statements::{Name, NonEmpty};

@@ -11,31 +11,12 @@ ghost use Rattle.catalog_core.specs.change.Resolution.{has_empty_row};
 
 use crate::change::given_rows::given_rows;
 use crate::change::insert_places::given_places;
-use crate::change::insertion::insert_fault;
+use crate::change::insertion::{shape_fault, value_fault};
 use crate::change::{Action, Change};
 use crate::table::catalog::Catalog;
-use period_core::{Items, Memory, Refusal};
+use period_core::{Items, Refusal};
 use sql_statements::{InsertRows, Statement, StatementForm};
 use std::alloc::Global;
-
-/// A sound INSERT by numbers.
-fn numbered(alloc: Global, catalog: &Catalog, insert: &InsertRows) -> Result<Change, Memory>
-    requires { NoneApplies (Holds (insert_conditions catalog.now.tables insert.now)) }
-    ensures { IfOk result (λ change. ResolvesInsert catalog.now.tables insert.now change) }
-{
-    let Some(number) = catalog.find(&insert.table) else {
-        unreachable!()
-    };
-    let Some(table) = catalog.def(number) else {
-        unreachable!()
-    };
-    let places = given_places(alloc, table, &insert.columns)?;
-    let rows = given_rows(alloc, table, insert, places.as_slice())?;
-    Ok(Change {
-        table: number,
-        action: Action::Insert(Items::from_vec(rows)),
-    })
-}
 
 /// The change that an INSERT makes. An `Err` is the lowest-numbered of the refusals 23 to 31 that
 /// apply, or out of memory. Whether a row's period ends after its start is not yet judged: `empty`
@@ -54,11 +35,21 @@ pub fn resolve_insert(
     ensures refused { IfErr result
         (MayAnswer (Holds (insert_conditions catalog.now.tables insert.now))) }
 {
-    let fault = insert_fault(alloc, catalog, insert)?;
-    if let Some(fault) = fault {
+    let Some((number, table)) = catalog.find(&insert.table) else {
+        return Err(Refusal::UnknownTable);
+    };
+    if let Some(fault) = shape_fault(table, insert) {
         return Err(fault);
     }
-    Ok(numbered(alloc, catalog, insert)?)
+    let places = given_places(alloc, table, &insert.columns)?;
+    if let Some(fault) = value_fault(table, insert, places.as_slice()) {
+        return Err(fault);
+    }
+    let rows = given_rows(alloc, table, insert, places.as_slice())?;
+    Ok(Change {
+        table: number,
+        action: Action::Insert(Items::from_vec(rows)),
+    })
 }
 
 /// The change that a statement makes, as `resolve_insert` gives it. The statement is an INSERT.

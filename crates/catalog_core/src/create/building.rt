@@ -18,24 +18,18 @@ ghost use Rattle.catalog_core.specs.table.TableWords.{def_place, some_def_match}
 ghost use Rattle.catalog_core.specs.declared.table.matching.Matching.TheVariants.{Nothing};
 
 use crate::table::catalog::Catalog;
-use crate::table::columns::def_place;
+use crate::table::columns::def_places;
+use crate::table::named::{place_among, places_among};
 use crate::table::{Column, ColumnKind, PeriodColumns, Reference, TableDef};
 use period_core::{Items, Memory};
 use sql_statements::{ColumnElement, CreateTable, Generated, Name, ReferenceElement, TypeName};
 use std::alloc::Global;
 
 /// The place of the statement's column that a name stands for.
-#[tactic(auto, unfolding(crate::specs::create::Definition::own_place))]
 fn own_place(create: &CreateTable, name: &Name) -> Option<usize>
     ensures { result ≡ own_place create.now name.now }
 {
-    let columns = create.columns.as_slice();
-    for i in 0..columns.len() {
-        if name.is(&columns[i].name) {
-            return Some(i);
-        }
-    }
-    None
+    place_among(create.columns.as_slice(), name)
 }
 
 /// The places of the statement's columns that the names stand for.
@@ -43,31 +37,7 @@ fn own_places(alloc: Global, create: &CreateTable, names: &[Name]) -> Result<Vec
     requires { some_own_match create.now Nothing names.now ≡ false }
     ensures { IfOk result (λ v. map (own_place create.now) names.now ≡ map (λ i. Some i) v.items) }
 {
-    let mut places = Vec::new(alloc);
-    for name in names {
-        let Some(place) = own_place(create, name) else {
-            unreachable!()
-        };
-        places.push(place)?;
-    }
-    Ok(places)
-}
-
-/// The places of a table's columns that the names stand for.
-pub fn def_places(alloc: Global, table: &TableDef, names: &[Name]) -> Result<Vec<usize>, Memory>
-    requires { some_def_match table.now Nothing names.now ≡ false }
-    ensures value { IfOk result
-        (λ v. map (def_place table.now) names.now ≡ map (λ i. Some i) v.items) }
-    ensures small { IfOk result (λ v. are_places number_limit v.items ≡ true) }
-{
-    let mut places = Vec::new(alloc);
-    for name in names {
-        let Some(place) = def_place(table, name) else {
-            unreachable!()
-        };
-        places.push(place)?;
-    }
-    Ok(places)
+    places_among(alloc, create.columns.as_slice(), names)
 }
 
 /// What a declared column holds.
@@ -130,10 +100,7 @@ fn declared_reference(
         (λ x. declared_reference catalog.now.tables create.now element.now ≡ reference_parts x) }
     ensures kept { IfOk result (λ x. is_reference (length create.now.columns) x ≡ true) }
 {
-    let Some(parent) = catalog.find(&element.parent) else {
-        unreachable!()
-    };
-    let Some(table) = catalog.def(parent) else {
+    let Some((parent, table)) = catalog.find(&element.parent) else {
         unreachable!()
     };
     let own = own_places(alloc, create, element.columns.as_slice())?;

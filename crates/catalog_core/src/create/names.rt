@@ -17,8 +17,9 @@ ghost use Rattle.catalog_core.specs.create.PeriodCounts.{AreCounts};
 ghost use Rattle.catalog_core.specs.declared.table.matching.Matching.TheVariants.{Nothing};
 
 use crate::create::period_counts::count_of;
+use crate::limits::{MOST_COLUMNS, MOST_REFERENCES, MOST_TABLES};
 use crate::table::TableDef;
-use crate::table::catalog::{Catalog, MOST_TABLES};
+use crate::table::catalog::Catalog;
 use crate::table::matching::{
     ColumnSort, Matching, either_matches, has_sort, own_matches, repeats, some_def_match,
     some_own_match,
@@ -26,18 +27,15 @@ use crate::table::matching::{
 use sql_statements::{CreateTable, Name, ReferenceElement};
 use std::collections::BTreeMap;
 
-/// How many columns a table may have.
-const MOST_COLUMNS: usize = 32;
-
-/// How many references a table may have.
-const MOST_REFERENCES: usize = 8;
-
 /// The table that a reference names.
-#[tactic(auto)]
+#[tactic(auto, unfolding(crate::specs::table::TableWords::table_of_name))]
 pub fn parent_of<'a>(catalog: &'a Catalog, reference: &ReferenceElement) -> Option<&'a TableDef>
     ensures { option_copied result ≡ parent_of catalog.now.tables reference.now }
 {
-    catalog.table_named(&reference.parent)
+    match catalog.find(&reference.parent) {
+        Some((_, table)) => Some(table),
+        None => None,
+    }
 }
 
 /// Whether one of the columns that a reference names in its parent matches so many there.

@@ -11,6 +11,7 @@ ghost use Rattle.catalog_core.specs.create.Creation.{names_other_kind, reference
 ghost use Rattle.catalog_core.specs.create.Creation.{references_other_kind};
 
 use crate::create::names::{names_other_period, parent_of};
+use crate::limits::{GREATEST_PRECISION, MOST_CODE_POINTS};
 use crate::table::TableDef;
 use crate::table::catalog::Catalog;
 use crate::table::kinds::{def_kind, differ, own_kind};
@@ -69,9 +70,9 @@ pub fn is_bad_type(kind: TypeName, generated: bool) -> bool
     match kind {
         TypeName::Integer => generated,
         TypeName::Date => generated,
-        TypeName::Varchar(n) => generated || n < 1 || n > 1000,
+        TypeName::Varchar(n) => generated || n < 1 || n > u64::from(MOST_CODE_POINTS),
         TypeName::Timestamp(None) => !generated,
-        TypeName::Timestamp(Some(p)) => !generated || p > 12,
+        TypeName::Timestamp(Some(p)) => !generated || p > u64::from(GREATEST_PRECISION),
     }
 }
 

@@ -1,7 +1,7 @@
 //! A sequenced query: its refusal, or the query with positions in place of names.
 
-ghost use Rattle.std.specs.Prelude.{◌≡◌, IfErr, IfOk, MatchOption, OnOk, false, map};
-ghost use Rattle.period_core.specs.Leasts.{IsLeast, MayAnswer, NoneApplies};
+ghost use Rattle.std.specs.Prelude.{◌≡◌, IfErr, IfOk, OnOk, false, map};
+ghost use Rattle.period_core.specs.Leasts.{MayAnswer, NoneApplies};
 ghost use Rattle.sql_statements.specs.Plain.{plain, plain_query};
 ghost use Rattle.catalog_core.specs.query.SimpleSelects.{simple_select};
 ghost use Rattle.catalog_core.specs.table.TableWords.{some_def_match};
@@ -9,12 +9,14 @@ ghost use Rattle.catalog_core.specs.declared.table.matching.Matching.TheVariants
 ghost use Rattle.catalog_core.specs.Judged.{Holds, first_holding};
 ghost use Rattle.catalog_core.specs.query.Selection.{ResolvesSimple, simple_conditions};
 ghost use Rattle.catalog_core.specs.query.Selection.{IsSequenced, ResolvesQuery, ResolvesSelect};
+ghost use Rattle.catalog_core.specs.query.Selection.{column_conditions, has_many_items};
 ghost use Rattle.catalog_core.specs.query.Selection.{item_parts, query_conditions};
 ghost use Rattle.catalog_core.specs.query.Selection.{select_conditions, selects_no_value};
 ghost use Rattle.catalog_core.specs.query.Selection.{written_item};
 
+use crate::limits::MOST_ITEMS;
 use crate::query::simple_select::{SimpleSelect, simple_select_of};
-use crate::query::{Item, Query, Select};
+use crate::query::{AnswerColumn, Query, Select};
 use crate::table::TableDef;
 use crate::table::catalog::Catalog;
 use crate::table::columns::{names_no_value, value_position};
@@ -23,8 +25,13 @@ use period_core::{Items, Memory, Refusal};
 use sql_statements::{Name, QueryTree, SelectDistinct, Statement, StatementForm};
 use std::alloc::Global;
 
-/// How many items a select may have.
-const MOST_ITEMS: usize = 32;
+/// Whether there are more items than a select may have.
+#[tactic(auto, unfolding(crate::specs::query::Selection::has_many_items))]
+fn has_many_items(select: &SimpleSelect) -> bool
+    ensures { result ≡ has_many_items select.now }
+{
+    select.columns.len() > MOST_ITEMS
+}
 
 /// Whether a period or system column is among the items.
 #[tactic(auto, unfolding(crate::specs::query::Selection::selects_no_value))]
@@ -39,17 +46,10 @@ fn selects_no_value(table: &TableDef, names: &[Name]) -> bool
     false
 }
 
-/// The first refusal whose condition holds.
-#[tactic(auto, unfolding(crate::specs::query::Selection::has_many_items, crate::specs::query::Selection::lacks_source, crate::specs::query::Selection::selects_unknown, crate::specs::query::Selection::selects_ambiguous))]
-fn first_fault(catalog: &Catalog, select: &SimpleSelect) -> Option<Refusal>
-    ensures { result ≡ first_holding (select_conditions catalog.now.tables select.now) }
+/// The first of the refusals 24, 25 and 27 whose condition holds: by the columns.
+fn columns_fault(table: &TableDef, select: &SimpleSelect) -> Option<Refusal>
+    ensures { result ≡ first_holding (column_conditions table.now select.now) }
 {
-    if select.columns.len() > MOST_ITEMS {
-        return Some(Refusal::LimitReached);
-    }
-    let Some(table) = catalog.table_named(&select.table) else {
-        return Some(Refusal::UnknownTable);
-    };
     if some_def_match(table, Matching::Nothing, select.columns.as_slice()) {
         return Some(Refusal::UnknownColumn);
     }
@@ -62,16 +62,12 @@ fn first_fault(catalog: &Catalog, select: &SimpleSelect) -> Option<Refusal>
     None
 }
 
-/// The refusal of a select, if it is refused.
-fn select_fault(catalog: &Catalog, select: &SimpleSelect) -> Option<Refusal>
-    ensures { let holds = Holds (select_conditions catalog.now.tables select.now)
-        in MatchOption result (NoneApplies holds) (IsLeast holds) }
-{
-    first_fault(catalog, select)
-}
-
 /// The items by their positions.
-fn resolve_items(alloc: Global, table: &TableDef, names: &[Name]) -> Result<Vec<Item>, Memory>
+fn resolve_items(
+    alloc: Global,
+    table: &TableDef,
+    names: &[Name],
+) -> Result<Vec<AnswerColumn>, Memory>
     requires there { some_def_match table.now Nothing names.now ≡ false }
     requires values { selects_no_value table.now names.now ≡ false }
     ensures { IfOk result
@@ -82,32 +78,13 @@ fn resolve_items(alloc: Global, table: &TableDef, names: &[Name]) -> Result<Vec<
         let Some(position) = value_position(table, name) else {
             unreachable!()
         };
-        let item = Item {
+        let item = AnswerColumn {
             position,
             name: name.copy(alloc)?,
         };
         items.push(item)?;
     }
     Ok(items)
-}
-
-/// A sound select by numbers.
-#[tactic(auto, unfolding(crate::specs::table::TableWords::table_of_name))]
-fn numbered(alloc: Global, catalog: &Catalog, select: &SimpleSelect) -> Result<Select, Memory>
-    requires { NoneApplies (Holds (select_conditions catalog.now.tables select.now)) }
-    ensures { IfOk result (λ s. ResolvesSelect catalog.now.tables select.now s) }
-{
-    let Some(number) = catalog.find(&select.table) else {
-        unreachable!()
-    };
-    let Some(table) = catalog.def(number) else {
-        unreachable!()
-    };
-    let items = resolve_items(alloc, table, select.columns.as_slice())?;
-    Ok(Select {
-        table: number,
-        items: Items::from_vec(items),
-    })
 }
 
 /// A select by numbers, or its refusal.
@@ -122,10 +99,20 @@ fn resolve_select(
     ensures refused { IfErr result
         (MayAnswer (Holds (select_conditions catalog.now.tables select.now))) }
 {
-    if let Some(fault) = select_fault(catalog, select) {
+    if has_many_items(select) {
+        return Err(Refusal::LimitReached);
+    }
+    let Some((number, table)) = catalog.find(&select.table) else {
+        return Err(Refusal::UnknownTable);
+    };
+    if let Some(fault) = columns_fault(table, select) {
         return Err(fault);
     }
-    Ok(numbered(alloc, catalog, select)?)
+    let items = resolve_items(alloc, table, select.columns.as_slice())?;
+    Ok(Select {
+        table: number,
+        items: Items::from_vec(items),
+    })
 }
 
 /// A sequenced query with positions for names. An `Err` is the lowest-numbered of the refusals that

@@ -1,13 +1,13 @@
 //! The catalog: the tables by their numbers.
 
 ghost use Rattle.std.specs.Prelude.{◌≡◌, ◌↔◌, ◌≤◌, ◌<◌, ◌++◌, ◌∷◌, [], IfOk, IfSome, IsSome, true};
-ghost use Rattle.std.specs.Prelude.{OnErr, length, option_copied};
+ghost use Rattle.std.specs.Prelude.{MatchOption, None, OnErr, Some, length};
 ghost use Rattle.std.specs.List.{list_all};
 ghost use Rattle.catalog_core.specs.Limits.{most_tables};
 ghost use Rattle.catalog_core.specs.table.TableWords.{has_date_period, has_distinct_names};
-ghost use Rattle.catalog_core.specs.table.TableWords.{number_of};
-ghost use Rattle.catalog_core.specs.table.TableWords.{table_of, table_of_name};
+ghost use Rattle.catalog_core.specs.table.TableWords.{number_of, table_of};
 
+use crate::limits::MOST_TABLES;
 use crate::table::TableDef;
 use period_core::{Items, Memory};
 use sql_statements::Name;
@@ -22,9 +22,6 @@ pub struct Catalog {
     pub ghost dated: { list_all has_date_period tables ≡ true },
     pub ghost distinct: { list_all has_distinct_names tables ≡ true },
 }
-
-/// How many tables a catalog may have.
-pub const MOST_TABLES: usize = 64;
 
 /// Whether the application period of each table is over two different DATE columns.
 fn have_date_periods(tables: &[TableDef]) -> bool
@@ -98,38 +95,20 @@ impl Catalog {
         self.tables.len()
     }
 
-    /// The number of the table of this name.
+    /// The number and the definition of the table of this name.
     #[tactic(auto, unfolding(crate::specs::table::TableWords::number_of))]
-    pub fn find(&self, name: &Name) -> Option<u8>
-        ensures { result ≡ number_of self.now.tables name.now }
+    pub fn find(&self, name: &Name) -> Option<(u8, &TableDef)>
+        ensures { MatchOption result (number_of self.now.tables name.now ≡ None)
+            (λ found. (number_of self.now.tables name.now ≡ Some found.0)
+            × (table_of self.now.tables found.0 ≡ Some found.1.now)) }
     {
         let tables = self.tables.as_slice();
         for i in 0..tables.len() {
-            if name.is(&tables[i].name) {
-                return Some(i as u8 + 1);
+            let table = &tables[i];
+            if name.is(&table.name) {
+                return Some((i as u8 + 1, table));
             }
         }
         None
-    }
-
-    /// The definition of the table of this number.
-    pub fn def(&self, number: u8) -> Option<&TableDef>
-        ensures { option_copied result ≡ table_of self.now.tables number }
-    {
-        if number == 0 {
-            return None;
-        }
-        self.tables.as_slice().get(usize::from(number) - 1)
-    }
-
-    /// The definition of the table of this name.
-    #[tactic(auto, unfolding(crate::specs::table::TableWords::table_of_name))]
-    pub fn table_named(&self, name: &Name) -> Option<&TableDef>
-        ensures { option_copied result ≡ table_of_name self.now.tables name.now }
-    {
-        match self.find(name) {
-            Some(number) => self.def(number),
-            None => None,
-        }
     }
 }

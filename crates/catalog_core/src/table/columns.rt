@@ -1,31 +1,41 @@
 //! The places of a table's columns, and which are DATE columns or value columns: all but those of
 //! its application period and its system columns.
 
-ghost use Rattle.std.specs.Prelude.{◌≡◌, ◌&&◌, ◌<◌, IfSome, bytes_eq, not};
+ghost use Rattle.std.specs.Prelude.{◌≡◌, ◌&&◌, ◌<◌, IfOk, IfSome, Some, bytes_eq, false};
+ghost use Rattle.std.specs.Prelude.{map, not, true};
 ghost use Rattle.catalog_core.specs.Limits.{number_limit};
 ghost use Rattle.catalog_core.specs.query.Selection.{names_no_value, value_position};
+ghost use Rattle.catalog_core.specs.table.IsDefinition.{are_places};
 ghost use Rattle.catalog_core.specs.table.TableWords.{def_place, has_date_period};
 ghost use Rattle.catalog_core.specs.table.TableWords.{has_distinct_names};
 ghost use Rattle.catalog_core.specs.table.TableWords.{is_date_column, is_value_column};
+ghost use Rattle.catalog_core.specs.table.TableWords.{some_def_match};
+ghost use Rattle.catalog_core.specs.declared.table.matching.Matching.TheVariants.{Nothing};
 
 use crate::table::kinds::{is_system, kind_of_column, same_kind};
 use crate::table::matching::{Matching, def_matches};
-use crate::table::{Column, Kind, TableDef};
+use crate::table::named::{place_among, places_among};
+use crate::table::{Column, TableDef, ValueKind};
+use period_core::Memory;
 use sql_statements::Name;
+use std::alloc::Global;
 
 /// The place of a table's column that a name stands for.
-#[tactic(auto, unfolding(crate::specs::table::TableWords::def_place))]
 pub fn def_place(table: &TableDef, name: &Name) -> Option<usize>
     ensures value { result ≡ def_place table.now name.now }
     ensures small { IfSome result (λ place. place < number_limit) }
 {
-    let columns = table.columns.as_slice();
-    for i in 0..columns.len() {
-        if name.is(&columns[i].name) {
-            return Some(i);
-        }
-    }
-    None
+    place_among(table.columns.as_slice(), name)
+}
+
+/// The places of a table's columns that the names stand for.
+pub fn def_places(alloc: Global, table: &TableDef, names: &[Name]) -> Result<Vec<usize>, Memory>
+    requires { some_def_match table.now Nothing names.now ≡ false }
+    ensures value { IfOk result
+        (λ v. map (def_place table.now) names.now ≡ map (λ i. Some i) v.items) }
+    ensures small { IfOk result (λ v. are_places number_limit v.items ≡ true) }
+{
+    places_among(alloc, table.columns.as_slice(), names)
 }
 
 /// Whether the column at a place is a DATE column, and its name stands for it.
@@ -39,7 +49,7 @@ pub fn is_date_column(table: &TableDef, place: usize) -> bool
     let Some(named) = def_place(table, &column.name) else {
         return false;
     };
-    same_kind(kind_of_column(column.kind), Kind::Date) && named == place
+    same_kind(kind_of_column(column.kind), ValueKind::Date) && named == place
 }
 
 impl TableDef {
@@ -80,8 +90,8 @@ pub fn is_value_column(table: &TableDef, place: usize, column: &Column) -> bool
 
 /// Whether the column that is declared at a place has this name and is no value column.
 fn is_other_column(table: &TableDef, place: usize, column: &Column, name: &Name) -> bool
-    ensures { result
-        ≡ (bytes_eq name.now column.now.name && not (is_value_column table.now (place, column.now))) }
+    ensures { result ≡ (bytes_eq name.now column.now.name
+        && not (is_value_column table.now (place, column.now))) }
 {
     name.is(&column.name) && !is_value_column(table, place, column)
 }

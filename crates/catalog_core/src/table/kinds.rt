@@ -6,7 +6,8 @@ ghost use Rattle.catalog_core.specs.table.Kinds.{differ, kind_of_column, kind_of
 ghost use Rattle.catalog_core.specs.table.Kinds.{kind_of_value, same_kind};
 ghost use Rattle.catalog_core.specs.table.TableWords.{def_kind, is_system};
 
-use crate::table::{ColumnKind, Kind, TableDef};
+use crate::table::named::find_among;
+use crate::table::{ColumnKind, TableDef, ValueKind};
 use period_core::Value;
 use sql_statements::{CreateTable, Name, TypeName};
 
@@ -25,60 +26,60 @@ pub fn is_system(kind: ColumnKind) -> bool
 
 /// The kind of what a type holds.
 #[tactic(auto, unfolding(crate::specs::table::Kinds::kind_of_type))]
-pub fn kind_of_type(kind: TypeName) -> Kind
+pub fn kind_of_type(kind: TypeName) -> ValueKind
     ensures { result ≡ kind_of_type kind }
 {
     match kind {
-        TypeName::Integer => Kind::Integer,
-        TypeName::Date => Kind::Date,
-        TypeName::Varchar(_) => Kind::Text,
-        TypeName::Timestamp(_) => Kind::Moment,
+        TypeName::Integer => ValueKind::Integer,
+        TypeName::Date => ValueKind::Date,
+        TypeName::Varchar(_) => ValueKind::Text,
+        TypeName::Timestamp(_) => ValueKind::Moment,
     }
 }
 
 /// The kind of what a column holds.
 #[tactic(auto, unfolding(crate::specs::table::Kinds::kind_of_column))]
-pub fn kind_of_column(kind: ColumnKind) -> Kind
+pub fn kind_of_column(kind: ColumnKind) -> ValueKind
     ensures { result ≡ kind_of_column kind }
 {
     match kind {
-        ColumnKind::Integer => Kind::Integer,
-        ColumnKind::Varchar(_) => Kind::Text,
-        ColumnKind::Date => Kind::Date,
-        ColumnKind::RowStart(_) => Kind::Moment,
-        ColumnKind::RowEnd(_) => Kind::Moment,
+        ColumnKind::Integer => ValueKind::Integer,
+        ColumnKind::Varchar(_) => ValueKind::Text,
+        ColumnKind::Date => ValueKind::Date,
+        ColumnKind::RowStart(_) => ValueKind::Moment,
+        ColumnKind::RowEnd(_) => ValueKind::Moment,
     }
 }
 
 /// The kind of a value.
 #[tactic(auto, unfolding(crate::specs::table::Kinds::kind_of_value))]
-pub fn kind_of_value(value: &Value) -> Kind
+pub fn kind_of_value(value: &Value) -> ValueKind
     ensures { result ≡ kind_of_value value.now }
 {
     match value {
-        Value::Int(_) => Kind::Integer,
-        Value::Text(_) => Kind::Text,
-        Value::Date(_) => Kind::Date,
+        Value::Int(_) => ValueKind::Integer,
+        Value::Text(_) => ValueKind::Text,
+        Value::Date(_) => ValueKind::Date,
     }
 }
 
 /// Whether two kinds are the same.
 #[tactic(auto, unfolding(crate::specs::table::Kinds::same_kind))]
-pub fn same_kind(left: Kind, right: Kind) -> bool
+pub fn same_kind(left: ValueKind, right: ValueKind) -> bool
     ensures { result ≡ same_kind left right }
 {
     match (left, right) {
-        (Kind::Integer, Kind::Integer) => true,
-        (Kind::Text, Kind::Text) => true,
-        (Kind::Date, Kind::Date) => true,
-        (Kind::Moment, Kind::Moment) => true,
+        (ValueKind::Integer, ValueKind::Integer) => true,
+        (ValueKind::Text, ValueKind::Text) => true,
+        (ValueKind::Date, ValueKind::Date) => true,
+        (ValueKind::Moment, ValueKind::Moment) => true,
         _ => false,
     }
 }
 
 /// Whether two kinds are both there and differ.
 #[tactic(auto, unfolding(crate::specs::table::Kinds::differ))]
-pub fn differ(left: Option<Kind>, right: Option<Kind>) -> bool
+pub fn differ(left: Option<ValueKind>, right: Option<ValueKind>) -> bool
     ensures { result ≡ differ left right }
 {
     match (left, right) {
@@ -89,26 +90,22 @@ pub fn differ(left: Option<Kind>, right: Option<Kind>) -> bool
 
 /// The kind of the statement's column of this name.
 #[tactic(auto, unfolding(crate::specs::create::Creation::own_kind))]
-pub fn own_kind(create: &CreateTable, name: &Name) -> Option<Kind>
+pub fn own_kind(create: &CreateTable, name: &Name) -> Option<ValueKind>
     ensures { result ≡ own_kind create.now name.now }
 {
-    for x in create.columns.as_slice() {
-        if name.is(&x.name) {
-            return Some(kind_of_type(x.kind));
-        }
+    match find_among(create.columns.as_slice(), name) {
+        Some(x) => Some(kind_of_type(x.kind)),
+        None => None,
     }
-    None
 }
 
 /// The kind of a table's column of this name.
 #[tactic(auto, unfolding(crate::specs::table::TableWords::def_kind))]
-pub fn def_kind(table: &TableDef, name: &Name) -> Option<Kind>
+pub fn def_kind(table: &TableDef, name: &Name) -> Option<ValueKind>
     ensures { result ≡ def_kind table.now name.now }
 {
-    for x in table.columns.as_slice() {
-        if name.is(&x.name) {
-            return Some(kind_of_column(x.kind));
-        }
+    match find_among(table.columns.as_slice(), name) {
+        Some(x) => Some(kind_of_column(x.kind)),
+        None => None,
     }
-    None
 }

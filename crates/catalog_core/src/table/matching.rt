@@ -8,6 +8,7 @@ ghost use Rattle.catalog_core.specs.table.Naming.{match_count, repeats};
 ghost use Rattle.catalog_core.specs.table.TableWords.{def_matches, some_def_match};
 
 use crate::table::TableDef;
+use crate::table::named::{matches_among, some_match_among};
 use sql_statements::{ColumnElement, CreateTable, Generated, Name, TypeName};
 
 /// How many columns a test wants a name to match: none, or more than one.
@@ -68,45 +69,24 @@ impl ColumnSort {
 }
 
 /// How many of the statement's columns a name matches.
-#[tactic(auto, unfolding(crate::specs::create::Creation::own_matches))]
 pub fn own_matches(create: &CreateTable, name: &Name) -> usize
     ensures { result ≡ own_matches create.now name.now }
 {
-    let mut count = 0;
-    for x in create.columns.as_slice() {
-        if name.is(&x.name) {
-            count += 1;
-        }
-    }
-    count
+    matches_among(create.columns.as_slice(), name)
 }
 
 /// How many of a table's columns.
-#[tactic(auto, unfolding(crate::specs::table::TableWords::def_matches))]
 pub fn def_matches(table: &TableDef, name: &Name) -> usize
     ensures { result ≡ def_matches table.now name.now }
 {
-    let mut count = 0;
-    for x in table.columns.as_slice() {
-        if name.is(&x.name) {
-            count += 1;
-        }
-    }
-    count
+    matches_among(table.columns.as_slice(), name)
 }
 
 /// How many of a list of names.
-#[tactic(auto, unfolding(crate::specs::table::Naming::match_count))]
 pub fn match_count(names: &[Name], name: &Name) -> usize
     ensures { result ≡ match_count names.now name.now }
 {
-    let mut count = 0;
-    for x in names {
-        if name.is(x) {
-            count += 1;
-        }
-    }
-    count
+    matches_among(names, name)
 }
 
 /// How many columns are of the sort.
@@ -124,33 +104,21 @@ pub fn sort_count(create: &CreateTable, sort: ColumnSort) -> usize
 }
 
 /// Whether one of the names matches so many of the statement's columns.
-#[tactic(auto, unfolding(crate::specs::create::Creation::some_own_match))]
 pub fn some_own_match(create: &CreateTable, wanted: Matching, names: &[Name]) -> bool
     ensures { result ≡ some_own_match create.now wanted names.now }
 {
-    for x in names {
-        if wanted.takes(own_matches(create, x)) {
-            return true;
-        }
-    }
-    false
+    some_match_among(create.columns.as_slice(), wanted, names)
 }
 
 /// Whether one of the names matches so many of a table's columns.
-#[tactic(auto, unfolding(crate::specs::table::TableWords::some_def_match))]
 pub fn some_def_match(table: &TableDef, wanted: Matching, names: &[Name]) -> bool
     ensures { result ≡ some_def_match table.now wanted names.now }
 {
-    for x in names {
-        if wanted.takes(def_matches(table, x)) {
-            return true;
-        }
-    }
-    false
+    some_match_among(table.columns.as_slice(), wanted, names)
 }
 
 /// Whether one of two names matches so many of the statement's columns.
-#[tactic(auto, unfolding(crate::specs::create::Creation::some_own_match))]
+#[tactic(auto, unfolding(crate::specs::table::Naming::some_match_among))]
 pub fn either_matches(create: &CreateTable, wanted: Matching, start: &Name, end: &Name) -> bool
     ensures { result ≡ some_own_match create.now wanted (start.now ∷ end.now ∷ []) }
 {

@@ -5,11 +5,11 @@ use Rattle.period_core.specs.declared.row.PeriodRow.{PeriodRow}
 use Rattle.period_core.specs.declared.value.Value.{Value}
 use Rattle.period_core.specs.declared.version.VersionRow.{VersionRow}
 use Rattle.history_model.specs.Answers.{read_items}
-use Rattle.catalog_core.specs.declared.query.Item.{Item}
+use Rattle.catalog_core.specs.declared.query.AnswerColumn.{AnswerColumn}
 
 -- the row has a value at the position of each item
-abbrev pub HasItems : List Item → List Value → Type 0
-HasItems items values = All (λ (item : Item). item.position < length values) items
+abbrev pub HasItems : List AnswerColumn → List Value → Type 0
+HasItems items values = All (λ (item : AnswerColumn). item.position < length values) items
 
 -- what a select list reads in a version, over its period
 pub record ReadRow : Type 0 where
@@ -18,7 +18,7 @@ pub record ReadRow : Type 0 where
   pub end : ℤ
 
 -- of a period row
-abbrev pub read_row : List Item → VersionRow → ReadRow
+abbrev pub read_row : List AnswerColumn → VersionRow → ReadRow
 read_row items v =
     record { values = read_items items v.values; start = v.period.start; end = v.period.end }
 

@@ -19,7 +19,7 @@ use Rattle.history_model.specs.Histories.{Advanced, Asked, Changed, Created, Dat
 use Rattle.history_model.specs.Histories.{catalog_of, clock_of, with_event}
 use Rattle.history_model.specs.Represents.{Represents}
 use Rattle.catalog_core.specs.declared.change.Change.{Change}
-use Rattle.catalog_core.specs.declared.query.Item.{Item}
+use Rattle.catalog_core.specs.declared.query.AnswerColumn.{AnswerColumn}
 use Rattle.catalog_core.specs.declared.query.Select.{Select}
 use Rattle.catalog_core.specs.declared.table.TableDef.{TableDef}
 use Rattle.script_engine.specs.Headline.{IsSequencedAnswer}
@@ -77,7 +77,7 @@ pub record Answers
     (new : History) : Type 0 where
   pub query : Select
   pub resolved : ResolvesQuery (catalog_of history) s query
-  pub columns : answer.columns ≡ map (λ (item : Item). item.name) query.items
+  pub columns : answer.columns ≡ map (λ (item : AnswerColumn). item.name) query.items
   pub right : IsSequencedAnswer (InAnswerOn history query) answer
   pub after : new ≡ with_event history Asked
 

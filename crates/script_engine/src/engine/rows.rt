@@ -11,7 +11,7 @@ ghost use Rattle.catalog_core.specs.change.Resolution.{has_empty_row, is_empty_r
 ghost use Rattle.script_engine.specs.engine.Rows.{HasItems, read_row};
 ghost use Rattle.script_engine.specs.engine.Rows.{whole_row};
 
-use catalog_core::{Action, GivenRow, Item};
+use catalog_core::{Action, AnswerColumn, GivenRow};
 use period_core::{
     Items, Memory, Moment, Period, PeriodRow, Refusal, Text, Value, Values, VersionRow,
 };
@@ -59,7 +59,11 @@ fn rows_of_given(
 }
 
 /// The values of a select list.
-fn projected_values(alloc: Global, items: &[Item], values: &[Value]) -> Result<Values, Memory>
+fn projected_values(
+    alloc: Global,
+    items: &[AnswerColumn],
+    values: &[Value],
+) -> Result<Values, Memory>
     requires { HasItems items.now values.now }
     ensures { IfOk result (IsProjection items.now values.now) }
 {
@@ -73,7 +77,7 @@ fn projected_values(alloc: Global, items: &[Item], values: &[Value]) -> Result<V
 /// The rows with the values of a select list, in the same places over the same periods.
 pub fn projected_rows(
     alloc: Global,
-    items: &[Item],
+    items: &[AnswerColumn],
     versions: &[VersionRow],
 ) -> Result<Vec<PeriodRow>, Memory>
     requires { All (λ v. HasItems items.now v.values) versions.now }
@@ -91,7 +95,7 @@ pub fn projected_rows(
 }
 
 /// The names of a select list.
-pub fn column_names(alloc: Global, items: &[Item]) -> Result<Items<Text>, Memory>
+pub fn column_names(alloc: Global, items: &[AnswerColumn]) -> Result<Items<Text>, Memory>
     ensures { IfOk result (λ names. names ≡ map (λ item. item.name) items.now) }
 {
     let mut names = Vec::new(alloc);

@@ -3,7 +3,7 @@ use Rattle.std.specs.List.{All}
 use Rattle.std.proofs.lemmas.Result.{IfErr-weaker, IfOk-weaker, err_from_is_err_and}
 use Rattle.period_core.specs.declared.decoding.DecodeFault.{DecodeFault}
 use Rattle.period_core.specs.declared.decoding.DecodeFault.TheVariants.{Malformed}
-use Rattle.catalog_core.proofs.DefinitionSpelling.{no_values, other_values}
+use Rattle.catalog_core.proofs.lemmas.bytes.DefinitionSpelling.{no_values, other_values}
 use Rattle.catalog_core.specs.bytes.DefinitionEncoding.{EncodesDefinition, IsDefinitionEncoding, is_writable}
 use Rattle.period_core.specs.Encoding.{IsColumnValue, encoded}
 use Rattle.catalog_core.specs.bytes.DefinitionValues.{definition_values}

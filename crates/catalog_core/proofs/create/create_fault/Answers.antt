@@ -1,5 +1,5 @@
 use Rattle.std.proofs.Common.{lit≤}
-use Rattle.catalog_core.proofs.Least.{least_found}
+use Rattle.catalog_core.proofs.lemmas.judged.Least.{least_found}
 use Rattle.catalog_core.specs.create.Creation.{create_conditions}
 use Rattle.catalog_core.proofs.create.create_fault.Goals as goal
 

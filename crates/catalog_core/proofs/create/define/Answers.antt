@@ -1,7 +1,7 @@
-use Rattle.catalog_core.proofs.DatePeriods.{date_period}
-use Rattle.catalog_core.proofs.DistinctDefined.{distinct_defined}
-use Rattle.catalog_core.proofs.Shape.{sound}
-use Rattle.catalog_core.proofs.Sound.{are_false}
+use Rattle.catalog_core.proofs.lemmas.create.DatePeriods.{date_period}
+use Rattle.catalog_core.proofs.lemmas.create.DistinctDefined.{distinct_defined}
+use Rattle.catalog_core.proofs.lemmas.create.Shape.{sound}
+use Rattle.catalog_core.proofs.lemmas.judged.Sound.{are_false}
 use Rattle.catalog_core.specs.create.Creation.{create_conditions}
 use Rattle.catalog_core.proofs.create.define.Goals as goal
 

@@ -1,5 +1,5 @@
 use Rattle.std.proofs.Common.{◌≤◌, ◌&&◌, Bool, ap, arith, length}
-use Rattle.catalog_core.proofs.DefinitionParts.{all_weaker, numbers, parts, places_wider}
+use Rattle.catalog_core.proofs.lemmas.bytes.DefinitionParts.{all_weaker, numbers, parts, places_wider}
 use Rattle.catalog_core.specs.table.IsDefinition.{are_places, is_reference}
 use Rattle.catalog_core.specs.Limits.{number_limit}
 use Rattle.catalog_core.specs.declared.table.Reference.{Reference}

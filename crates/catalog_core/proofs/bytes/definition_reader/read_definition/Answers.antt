@@ -1,6 +1,6 @@
 use Rattle.std.proofs.Common.{◌≡◌, ◌∙◌, [], length, sym, arith}
 use Rattle.std.proofs.lemmas.Result.{err_from_is_err_and}
-use Rattle.catalog_core.proofs.DefinitionFronts.{ReadColumns, all_values, definition_from_read, empty_by, no_columns, no_key, no_period, no_references, some_left, some_not_empty, writable_from_read}
+use Rattle.catalog_core.proofs.lemmas.bytes.DefinitionFronts.{ReadColumns, all_values, definition_from_read, empty_by, no_columns, no_key, no_period, no_references, some_left, some_not_empty, writable_from_read}
 use Rattle.catalog_core.proofs.bytes.definition_reader.read_definition.Goals as goal
 
 pub returns-in_err-columns-clause-malformed : goal.returns-in_err-columns-clause-malformed

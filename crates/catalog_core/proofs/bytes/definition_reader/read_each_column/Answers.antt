@@ -1,5 +1,5 @@
 use Rattle.std.proofs.lemmas.Result.{err_from_is_err_and}
-use Rattle.catalog_core.proofs.Fronts.{column_code, stopped}
+use Rattle.catalog_core.proofs.lemmas.bytes.Fronts.{column_code, stopped}
 use Rattle.catalog_core.specs.bytes.DefinitionReading.{is_column}
 use Rattle.catalog_core.specs.bytes.DefinitionValues.{column_values}
 use Rattle.catalog_core.proofs.bytes.definition_reader.read_each_column.Goals as goal

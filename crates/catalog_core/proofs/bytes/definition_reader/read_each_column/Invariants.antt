@@ -1,4 +1,4 @@
-use Rattle.catalog_core.proofs.Fronts.{SoFar}
+use Rattle.catalog_core.proofs.lemmas.bytes.Fronts.{SoFar}
 use Rattle.catalog_core.specs.bytes.DefinitionReading.{is_column}
 use Rattle.catalog_core.specs.bytes.DefinitionValues.{column_values}
 use Rattle.catalog_core.proofs.bytes.definition_reader.read_each_column.Given as goal

@@ -1,5 +1,5 @@
 use Rattle.std.proofs.lemmas.Result.{err_from_is_err_and}
-use Rattle.catalog_core.proofs.Fronts.{reference_code, stopped}
+use Rattle.catalog_core.proofs.lemmas.bytes.Fronts.{reference_code, stopped}
 use Rattle.catalog_core.specs.bytes.DefinitionReading.{is_small_reference}
 use Rattle.catalog_core.specs.bytes.DefinitionValues.{reference_values}
 use Rattle.catalog_core.proofs.bytes.definition_reader.read_each_reference.Goals as goal

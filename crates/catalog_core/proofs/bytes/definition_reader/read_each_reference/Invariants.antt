@@ -1,4 +1,4 @@
-use Rattle.catalog_core.proofs.Fronts.{SoFar}
+use Rattle.catalog_core.proofs.lemmas.bytes.Fronts.{SoFar}
 use Rattle.catalog_core.specs.bytes.DefinitionReading.{is_small_reference}
 use Rattle.catalog_core.specs.bytes.DefinitionValues.{reference_values}
 use Rattle.catalog_core.proofs.bytes.definition_reader.read_each_reference.Given as goal

@@ -1,6 +1,6 @@
 use Rattle.std.proofs.Common.{◌≡◌, arith, length}
 use Rattle.std.proofs.lemmas.Result.{err_from_is_err_and}
-use Rattle.catalog_core.proofs.Fronts.{no_keys}
+use Rattle.catalog_core.proofs.lemmas.bytes.Fronts.{no_keys}
 use Rattle.catalog_core.proofs.bytes.definition_reader.read_reference.Goals as goal
 
 pub returns-in_err-keys-clause-malformed : goal.returns-in_err-keys-clause-malformed

@@ -1,4 +1,4 @@
-use Rattle.catalog_core.proofs.DefinitionSame.{reads_back}
+use Rattle.catalog_core.proofs.lemmas.bytes.DefinitionSame.{reads_back}
 use Rattle.catalog_core.proofs.bytes.laws.definition_reads_back.Goals as goal
 
 pub returns : goal.returns

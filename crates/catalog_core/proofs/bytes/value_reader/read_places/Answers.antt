@@ -1,5 +1,5 @@
 use Rattle.std.proofs.lemmas.Result.{err_from_is_err_and}
-use Rattle.catalog_core.proofs.Fronts.{place_code, stopped}
+use Rattle.catalog_core.proofs.lemmas.bytes.Fronts.{place_code, stopped}
 use Rattle.catalog_core.specs.bytes.DefinitionReading.{is_below}
 use Rattle.catalog_core.specs.bytes.DefinitionValues.{place_values}
 use Rattle.catalog_core.proofs.bytes.value_reader.read_places.Goals as goal

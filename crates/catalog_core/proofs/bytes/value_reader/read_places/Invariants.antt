@@ -1,4 +1,4 @@
-use Rattle.catalog_core.proofs.Fronts.{SoFar}
+use Rattle.catalog_core.proofs.lemmas.bytes.Fronts.{SoFar}
 use Rattle.catalog_core.specs.bytes.DefinitionReading.{is_below}
 use Rattle.catalog_core.specs.bytes.DefinitionValues.{place_values}
 use Rattle.catalog_core.proofs.bytes.value_reader.read_places.Given as goal

@@ -2,9 +2,9 @@ use Rattle.std.proofs.Common.{◌≡◌, ◌<◌, ◌∙◌, ◌+◌, ◌++◌, 
 use Rattle.std.proofs.lemmas.List.{map-append, take_more}
 use Rattle.period_core.specs.declared.value.Value.{Value}
 use Rattle.sql_statements.specs.declared.statement.InsertRows.{InsertRows}
-use Rattle.catalog_core.proofs.GivenPlaces.{has_date, has_values, period_there, same_row}
-use Rattle.catalog_core.proofs.GivenValues.{date_parts}
-use Rattle.catalog_core.proofs.GivenValues as rows
+use Rattle.catalog_core.proofs.lemmas.change.GivenPlaces.{has_date, has_values, period_there, same_row}
+use Rattle.catalog_core.proofs.lemmas.change.GivenValues.{date_parts}
+use Rattle.catalog_core.proofs.lemmas.change.GivenValues as rows
 use Rattle.catalog_core.specs.change.Insertion.{has_other_count, has_wrong}
 use Rattle.catalog_core.specs.change.Resolution.{RowParts, row_parts, written_row}
 use Rattle.catalog_core.specs.declared.change.insert_values.Wrong.TheVariants as wrong

@@ -3,7 +3,7 @@ use Rattle.std.specs.List.{enumerate_from}
 use Rattle.std.specs.Prelude.{option_copied}
 use Rattle.std.proofs.lemmas.List.{map-append}
 use Rattle.period_core.specs.declared.value.Value.{Value}
-use Rattle.catalog_core.proofs.Numbered.{kept_all, kept_before, kept_with, kept_without}
+use Rattle.catalog_core.proofs.lemmas.table.Numbered.{kept_all, kept_before, kept_with, kept_without}
 use Rattle.catalog_core.specs.change.InsertPlaces.{value_at}
 use Rattle.catalog_core.specs.table.TableWords.{is_value_column}
 use Rattle.catalog_core.specs.declared.table.Column.{Column}

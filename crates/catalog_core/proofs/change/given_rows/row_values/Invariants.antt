@@ -1,6 +1,6 @@
 use Rattle.std.specs.Prelude.{◌≡◌, ℕ, Some, map}
 use Rattle.period_core.specs.declared.value.Value.{Value}
-use Rattle.catalog_core.proofs.Numbered.{kept_before}
+use Rattle.catalog_core.proofs.lemmas.table.Numbered.{kept_before}
 use Rattle.catalog_core.specs.change.InsertPlaces.{value_at}
 use Rattle.catalog_core.specs.table.TableWords.{is_value_column}
 use Rattle.catalog_core.specs.declared.table.Column.{Column}

@@ -1,7 +1,7 @@
 use Rattle.std.proofs.Common.{◌≡◌, ◌<◌, ◌++◌, ◌∷◌, ◌∙◌, ℕ, Bool, true, false, not, List, [], Option, Some, ap, filter, get_or, length, map, subst, sym, take, take_all}
 use Rattle.std.proofs.lemmas.List.{map-append}
-use Rattle.catalog_core.proofs.Distinct.{its_place}
-use Rattle.catalog_core.proofs.Kept.{named_with, named_without}
+use Rattle.catalog_core.proofs.lemmas.table.Distinct.{its_place}
+use Rattle.catalog_core.proofs.lemmas.lists.Kept.{named_with, named_without}
 use Rattle.catalog_core.specs.change.Insertion.{wanted_names}
 use Rattle.catalog_core.specs.table.Naming.{Name}
 use Rattle.catalog_core.specs.table.TableWords.{def_place, is_system}

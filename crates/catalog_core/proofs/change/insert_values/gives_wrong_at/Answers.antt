@@ -1,7 +1,7 @@
 use Rattle.std.proofs.Common.{Bool, ◌<◌, ◌≡◌, ◌∙◌, ℕ, arith, get_or, length, sym}
 use Rattle.std.proofs.lemmas.Grind.{get_or_default_zero}
 use Rattle.period_core.specs.declared.value.Value.{Value}
-use Rattle.catalog_core.proofs.Finds.{any_zip_end, any_zip_found_by, any_zip_more_by}
+use Rattle.catalog_core.proofs.lemmas.lists.Finds.{any_zip_end, any_zip_found_by, any_zip_more_by}
 use Rattle.catalog_core.specs.change.InsertPlaces.{gives_wrong_at, is_wrong_at}
 use Rattle.catalog_core.proofs.change.insert_values.gives_wrong_at.Goals as goal
 

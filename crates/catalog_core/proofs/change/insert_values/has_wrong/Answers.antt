@@ -1,5 +1,5 @@
 use Rattle.std.proofs.Common.{◌∙◌}
-use Rattle.catalog_core.proofs.GivenPlaces.{wrong_rows}
+use Rattle.catalog_core.proofs.lemmas.change.GivenPlaces.{wrong_rows}
 use Rattle.catalog_core.proofs.change.insert_values.has_wrong.Goals as goal
 
 pub returns : goal.returns

@@ -4,7 +4,7 @@ use Rattle.std.specs.Option.{option_map}
 use Rattle.std.proofs.lemmas.Bool.Decides.{nat_tests}
 use Rattle.std.proofs.lemmas.Grind.{get_or_default_zero}
 use Rattle.period_core.specs.declared.value.Value.{Value}
-use Rattle.catalog_core.proofs.Finds.{find_zip_end, find_zip_found, find_zip_more}
+use Rattle.catalog_core.proofs.lemmas.lists.Finds.{find_zip_end, find_zip_found, find_zip_more}
 use Rattle.catalog_core.specs.change.InsertPlaces.{value_at}
 use Rattle.catalog_core.proofs.change.insert_values.value_at.Goals as goal
 

@@ -1,9 +1,9 @@
 use Rattle.std.proofs.Common.{◌≡◌, ◌<◌, ◌∷◌, ◌∙◌, ℕ, Bool, List, [], Option, Some, ap, arith, length, map, nat_lt, rules, sym}
 use Rattle.sql_statements.specs.declared.create.KeyElement.{KeyElement}
 use Rattle.sql_statements.specs.declared.create.PeriodElement.{PeriodElement}
-use Rattle.catalog_core.proofs.Built.{below, columns_kept, mapped_lengths, own_all_within, own_within, some_there}
-use Rattle.catalog_core.proofs.DefinitionParts.{both, definition_kept}
-use Rattle.catalog_core.proofs.Shape.{all_match, end_placed, fails_single, period_parts, single, start_placed}
+use Rattle.catalog_core.proofs.lemmas.create.Built.{below, columns_kept, mapped_lengths, own_all_within, own_within, some_there}
+use Rattle.catalog_core.proofs.lemmas.bytes.DefinitionParts.{both, definition_kept}
+use Rattle.catalog_core.proofs.lemmas.create.Shape.{all_match, end_placed, fails_single, period_parts, single, start_placed}
 use Rattle.catalog_core.specs.create.Creation.{some_own_match}
 use Rattle.catalog_core.specs.create.Definition.{column_parts, declared_column, declared_key, declared_period, own_place}
 use Rattle.catalog_core.specs.table.IsDefinition.{are_places, has_some}

@@ -2,7 +2,7 @@ use Rattle.std.proofs.Common.{◌∙◌, Bool, ap}
 use Rattle.std.specs.Prelude.{is_some}
 use Rattle.std.specs.List.{list_any}
 use Rattle.sql_statements.specs.declared.create.ColumnElement.{ColumnElement}
-use Rattle.catalog_core.proofs.Sound.{fails_at}
+use Rattle.catalog_core.proofs.lemmas.judged.Sound.{fails_at}
 use Rattle.catalog_core.specs.create.Creation.{has_bad_column, is_bad_type}
 use Rattle.catalog_core.proofs.create.building.declared_columns.Goals as goal
 

@@ -3,8 +3,8 @@ use Rattle.std.specs.Prelude.{◌==◌}
 use Rattle.std.specs.Prelude.{is_none}
 use Rattle.std.specs.List.{list_any}
 use Rattle.sql_statements.specs.declared.create.ReferenceElement.{ReferenceElement}
-use Rattle.catalog_core.proofs.Shape.{all_match, is_equal}
-use Rattle.catalog_core.proofs.Sound.{fails_at}
+use Rattle.catalog_core.proofs.lemmas.create.Shape.{all_match, is_equal}
+use Rattle.catalog_core.proofs.lemmas.judged.Sound.{fails_at}
 use Rattle.catalog_core.specs.create.Creation.{has_unequal_lists, lacks_parent, parent_of, some_own_match, some_parent_match}
 use Rattle.catalog_core.specs.declared.table.matching.Matching.TheVariants.{Nothing}
 use Rattle.catalog_core.proofs.create.building.declared_references.Goals as goal

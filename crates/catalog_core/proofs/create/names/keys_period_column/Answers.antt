@@ -1,5 +1,5 @@
 use Rattle.std.proofs.Common.{◌∙◌}
-use Rattle.catalog_core.proofs.KeyedColumns.{keyed_same}
+use Rattle.catalog_core.proofs.lemmas.create.KeyedColumns.{keyed_same}
 use Rattle.catalog_core.proofs.create.names.keys_period_column.Goals as goal
 
 pub returns : goal.returns

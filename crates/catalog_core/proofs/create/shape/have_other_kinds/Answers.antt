@@ -1,5 +1,5 @@
 use Rattle.std.proofs.Common.{Bool, ◌<◌, ◌≡◌, ◌∙◌, arith, length, sym}
-use Rattle.catalog_core.proofs.Finds.{any_zip_end, any_zip_found_by, any_zip_more_by}
+use Rattle.catalog_core.proofs.lemmas.lists.Finds.{any_zip_end, any_zip_found_by, any_zip_more_by}
 use Rattle.catalog_core.specs.table.TableWords.{def_kind}
 use Rattle.catalog_core.specs.create.Creation.{have_other_kinds, own_kind}
 use Rattle.catalog_core.specs.table.Naming.{Name}

@@ -1,6 +1,6 @@
 use Rattle.std.proofs.Common.{◌&&◌, ◌∙◌, ℕ, Bool, List, ap, bytes_eq, not, sym}
 use Rattle.std.specs.List.{enumerate_from, list_any}
-use Rattle.catalog_core.proofs.Numbered.{any_numbered_end, any_numbered_found, any_numbered_more}
+use Rattle.catalog_core.proofs.lemmas.table.Numbered.{any_numbered_end, any_numbered_found, any_numbered_more}
 use Rattle.catalog_core.specs.query.Selection.{names_no_value}
 use Rattle.catalog_core.specs.table.TableWords.{is_value_column}
 use Rattle.catalog_core.specs.declared.table.Column.{Column}

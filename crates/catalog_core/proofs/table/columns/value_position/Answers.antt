@@ -1,6 +1,6 @@
 use Rattle.std.proofs.Common.{◌∙◌, ap, arith, bytes_eq, length, sym}
 use Rattle.std.specs.List.{position_or_len}
-use Rattle.catalog_core.proofs.Numbered.{names_before, names_with, names_without, position_end, position_found, position_more}
+use Rattle.catalog_core.proofs.lemmas.table.Numbered.{names_before, names_with, names_without, position_end, position_found, position_more}
 use Rattle.catalog_core.specs.query.Selection.{value_position}
 use Rattle.catalog_core.proofs.table.columns.value_position.Goals as goal
 use Rattle.catalog_core.proofs.table.columns.value_position.Goals.{then-is_value_column+else-is, else-is_value_column}

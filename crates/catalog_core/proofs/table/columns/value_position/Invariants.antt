@@ -1,6 +1,6 @@
 use Rattle.std.specs.Prelude.{◌≡◌, ◌≤◌, bytes_eq, length}
 use Rattle.std.specs.List.{position_or_len}
-use Rattle.catalog_core.proofs.Numbered.{names_before}
+use Rattle.catalog_core.proofs.lemmas.table.Numbered.{names_before}
 use Rattle.catalog_core.proofs.table.columns.value_position.Given as goal
 
 abbrev pub invariant-loop-i : goal.invariant-loop-i

@@ -10,7 +10,7 @@ use Rattle.sql_statements.specs.Trees as statement
 use Rattle.history_model.specs.Histories.{Database, versions_in}
 use Rattle.catalog_core.specs.Judged.{Holds}
 use Rattle.catalog_core.specs.query.Selection.{ResolvesQuery, query_conditions}
-use Rattle.catalog_core.specs.declared.query.Item.{Item}
+use Rattle.catalog_core.specs.declared.query.AnswerColumn.{AnswerColumn}
 use Rattle.catalog_core.specs.declared.table.TableDef.{TableDef}
 use Rattle.script_engine.specs.engine.Rows.{read_row, whole_row}
 use Rattle.script_engine.specs.engine.Kept.{IsKept}
@@ -40,12 +40,12 @@ returns g c history kept =
     (subst (λ (tables : List TableDef). ResolvesQuery tables (statement.sequenced (plain_query c.args.query.now)) c.in_ok-query.query) same c.in_ok-query.ensures.resolved)
     (record {
       made =
-          subst (λ (items : List Item). map (read_row items) (versions_in c.args.self.now c.in_ok-query.query.table) ≡ map whole_row c.in_ok-rows.rows.items) c.as_slice-items.ensures
+          subst (λ (items : List AnswerColumn). map (read_row items) (versions_in c.args.self.now c.in_ok-query.query.table) ≡ map whole_row c.in_ok-rows.rows.items) c.as_slice-items.ensures
           (subst (λ (rows : List VersionRow). map (read_row c.as_slice-items.result.now) rows ≡ map whole_row c.in_ok-rows.rows.items) c.table_versions.ensures c.in_ok-rows.ensures);
       equivalent = subst (λ (r : List PeriodRow). Equivalent c.in_ok-rows.rows.items r) rows found.equivalent;
       shortest = subst IsShortest rows found.shortest;
       ordered = subst IsInAnswerOrder rows found.ordered;
       certified = subst IsCertified rows found.certified;
       witnesses = c.from_vec-2.ensures ∙ c.in_ok-witnesses.ensures.days ∙ ap (map witness_of) (seen ∙ rows);
-      columns = c.in_ok-column_names.ensures ∙ ap (map (λ (item : Item). item.name)) c.as_slice-items.ensures;
+      columns = c.in_ok-column_names.ensures ∙ ap (map (λ (item : AnswerColumn). item.name)) c.as_slice-items.ensures;
     })

@@ -1,0 +1,5 @@
+pub mod DefinitionParts
+pub mod Fronts
+pub mod DefinitionFronts
+pub mod DefinitionSpelling
+pub mod DefinitionSame

@@ -1,0 +1,4 @@
+pub mod GivenValues
+pub mod GivenPlaces
+pub mod InsertFaults
+pub mod RowFacts

@@ -1,0 +1,69 @@
+-- What the rows of a resolved change are: they have a value for each value column, and the empty ones decide the refusal.
+use Rattle.std.proofs.Common.{◌≡◌, ◌∷◌, ◌++◌, ◌||◌, ◌∙◌, ℕ, Bool, List, [], Option, Some, length, lit≤, map, refl, sym, ap}
+use Rattle.std.specs.List.{All, list_any}
+use Rattle.std.specs.Option.{option_and_then}
+use Rattle.std.proofs.lemmas.List.{length-map}
+use Rattle.std.proofs.lemmas.List.Elements.{All-cons, All-nil}
+use Rattle.period_core.specs.Leasts.{IsLeast}
+use Rattle.period_core.specs.declared.refusal.Refusal.{Refusal}
+use Rattle.period_core.specs.declared.refusal.Refusal.TheVariants.{EmptyPeriod}
+use Rattle.period_core.specs.declared.value.Value.{Value}
+use Rattle.sql_statements.specs.declared.statement.InsertRows.{InsertRows}
+use Rattle.catalog_core.specs.change.Insertion.{gives_empty_row, gives_no_period, has_no_period, insert_conditions, is_no_period}
+use Rattle.catalog_core.proofs.lemmas.judged.Least.{least_stays, within}
+use Rattle.catalog_core.specs.Judged.{Holds}
+use Rattle.catalog_core.specs.table.Naming.{Name, passes}
+use Rattle.catalog_core.specs.change.Resolution.{ResolvesAction, ResolvesInsert, RowParts, has_empty_row, is_empty_row, row_parts, written_row}
+use Rattle.catalog_core.specs.table.TableWords.{number_of, table_of, table_of_name, value_count}
+use Rattle.catalog_core.specs.declared.change.Action.{Action}
+use Rattle.catalog_core.specs.declared.change.Action.TheVariants.{Insert}
+use Rattle.catalog_core.specs.declared.change.Change.{Change}
+use Rattle.catalog_core.specs.declared.change.GivenRow.{GivenRow}
+use Rattle.catalog_core.specs.declared.table.TableDef.{TableDef}
+
+any_map : {X Y : Type 0} (p : Y → Bool) (f : X → Y) (xs : List X) → list_any p (map f xs) ≡ list_any (λ x. p (f x)) xs
+any_map p f [] = refl
+any_map p f (x ∷ xs) = ap (λ b. p (f x) || b) (any_map p f xs)
+
+abbrev no_period : RowParts → Bool
+no_period parts = is_no_period parts.start parts.end
+
+-- the given rows say whether a row is empty
+empty_rows : (t : TableDef) (list : Option (List Name)) (rows : List (List Value)) (given : List GivenRow)
+    → map (written_row t list) rows ≡ map row_parts given → list_any (λ row. gives_no_period t list row) rows ≡ list_any is_empty_row given
+unfolding gives_no_period is_no_period
+empty_rows t list rows given same =
+    sym (any_map no_period (written_row t list) rows) ∙ ap (list_any no_period) same ∙ any_map no_period row_parts given
+
+empty_action : (t : TableDef) (i : InsertRows) (action : Action) → ResolvesAction t i action → has_no_period t i ≡ has_empty_row action
+unfolding has_no_period
+empty_action t i (Insert given) same = empty_rows t i.columns i.rows given same
+
+pub table_named : (catalog : List TableDef) (name : Name) (number : ℕ) (t : TableDef) → number_of catalog name ≡ Some number → table_of catalog number ≡ Some t → table_of_name catalog name ≡ Some t
+unfolding table_of_name
+table_named catalog name number t numbered there = ap (option_and_then (table_of catalog)) numbered ∙ there
+
+pub empty_change : (catalog : List TableDef) (i : InsertRows) (change : Change) → ResolvesInsert catalog i change → gives_empty_row catalog i ≡ has_empty_row change.action
+empty_change catalog i change resolved =
+    ap (passes (λ (t : TableDef). has_no_period t i)) (table_named catalog i.table change.table resolved.definition resolved.number resolved.table)
+    ∙ empty_action resolved.definition i change.action resolved.action
+
+-- each given row has as many values as the table has value columns
+pub row_widths : (t : TableDef) (list : Option (List Name)) (rows : List (List Value)) (given : List GivenRow)
+    → map (written_row t list) rows ≡ map row_parts given → All (λ (g : GivenRow). length g.values ≡ value_count t) given
+row_widths t list [] [] same = All-nil (λ (g : GivenRow). length g.values ≡ value_count t)
+row_widths t list [] (g ∷ given) same = cc
+row_widths t list (row ∷ rows) [] same = cc
+row_widths t list (row ∷ rows) (g ∷ given) same =
+    let first : written_row t list row ≡ row_parts g = cc in
+    let later : map (written_row t list) rows ≡ map row_parts given = cc in
+    let values : map (λ (v : Value). Some v) g.values ≡ (written_row t list row).values = ap (λ (p : RowParts). p.values) (sym first) in
+    let width : length g.values ≡ value_count t = simp length-map at (ap length values) in
+    All-cons (λ (g : GivenRow). length g.values ≡ value_count t) g given width (row_widths t list rows given later)
+
+-- the least refusal of a change stays the least beside an empty period, whether one is given or not
+pub change_least : (catalog : List TableDef) (i : InsertRows) (refusal : Refusal) → IsLeast (Holds (insert_conditions catalog i)) refusal
+    → IsLeast (Holds (insert_conditions catalog i ++ (EmptyPeriod, gives_empty_row catalog i) ∷ [])) refusal
+change_least catalog i refusal said =
+    least_stays (insert_conditions catalog i) (EmptyPeriod, gives_empty_row catalog i) refusal
+    (within 41 (insert_conditions catalog i) (lit≤ tt, (lit≤ tt, (lit≤ tt, (lit≤ tt, (lit≤ tt, (lit≤ tt, (lit≤ tt, (lit≤ tt, tt)))))))) refusal said.applies) said

@@ -1,0 +1,5 @@
+pub mod Shape
+pub mod Built
+pub mod DatePeriods
+pub mod DistinctDefined
+pub mod KeyedColumns

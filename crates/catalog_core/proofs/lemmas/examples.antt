@@ -1,0 +1,6 @@
+pub mod Tables
+pub mod CreateExamples
+pub mod DefinitionExamples
+pub mod InsertExamples
+pub mod SelectExamples
+pub mod TableExamples

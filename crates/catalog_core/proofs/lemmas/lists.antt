@@ -1,0 +1,4 @@
+pub mod AnyTests
+pub mod Finds
+pub mod Kept
+pub mod Places

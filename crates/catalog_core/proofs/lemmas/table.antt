@@ -1,0 +1,3 @@
+pub mod Numbered
+pub mod Positions
+pub mod Distinct

@@ -1,0 +1,123 @@
+//! What has a name: how many elements of a list a name matches, the first of them, and its place.
+
+ghost use Rattle.std.specs.Prelude.{◌≡◌, ◌<◌, ℕ, IfOk, IfSome, List, Some, false, length, map};
+ghost use Rattle.std.specs.Prelude.{option_copied, true};
+ghost use Rattle.catalog_core.specs.table.IsDefinition.{are_places};
+ghost use Rattle.catalog_core.specs.table.Naming.{find_among, matches_among, place_among};
+ghost use Rattle.catalog_core.specs.table.Naming.{some_match_among};
+ghost use Rattle.catalog_core.specs.declared.table.matching.Matching.TheVariants.{Nothing};
+
+use crate::table::Column;
+use crate::table::matching::Matching;
+use period_core::Memory;
+use sql_statements::{ColumnElement, Name};
+use std::alloc::Global;
+
+/// What has a name.
+pub trait Named {
+    ghost named: { Self → List ℕ };
+
+    /// Its name.
+    fn name(&self) -> &Name
+        ensures { result.now ≡ named self.now };
+}
+
+impl Named for Name {
+    ghost named = { λ n. n };
+
+    fn name(&self) -> &Name {
+        self
+    }
+}
+
+impl Named for ColumnElement {
+    ghost named = { λ x. x.name };
+
+    fn name(&self) -> &Name {
+        &self.name
+    }
+}
+
+impl Named for Column {
+    ghost named = { λ x. x.name };
+
+    fn name(&self) -> &Name {
+        &self.name
+    }
+}
+
+/// How many elements a name matches.
+#[tactic(auto, unfolding(crate::specs::table::Naming::matches_among))]
+pub fn matches_among<T: Named>(elements: &[T], name: &Name) -> usize
+    ensures { result ≡ matches_among T.named elements.now name.now }
+{
+    let mut count = 0;
+    for x in elements {
+        if name.is(x.name()) {
+            count += 1;
+        }
+    }
+    count
+}
+
+/// Whether one of the names matches so many.
+#[tactic(auto, unfolding(crate::specs::table::Naming::some_match_among))]
+pub fn some_match_among<T: Named>(elements: &[T], wanted: Matching, names: &[Name]) -> bool
+    ensures { result ≡ some_match_among T.named elements.now wanted names.now }
+{
+    for x in names {
+        if wanted.takes(matches_among(elements, x)) {
+            return true;
+        }
+    }
+    false
+}
+
+/// The first element that a name matches.
+#[tactic(auto, unfolding(crate::specs::table::Naming::find_among))]
+pub fn find_among<'a, T: Named>(elements: &'a [T], name: &Name) -> Option<&'a T>
+    ensures { option_copied result ≡ find_among T.named elements.now name.now }
+{
+    for x in elements {
+        if name.is(x.name()) {
+            return Some(x);
+        }
+    }
+    None
+}
+
+/// The place of the first element that a name matches.
+#[tactic(auto, unfolding(crate::specs::table::Naming::place_among))]
+pub fn place_among<T: Named>(elements: &[T], name: &Name) -> Option<usize>
+    ensures value { result ≡ place_among T.named elements.now name.now }
+    ensures within { IfSome result (λ place. place < length elements.now) }
+{
+    for i in 0..elements.len() {
+        if name.is(elements[i].name()) {
+            return Some(i);
+        }
+    }
+    None
+}
+
+/// The places of the first elements that the names match. Each matches some. The only error is out
+/// of memory.
+pub fn places_among<T: Named>(
+    alloc: Global,
+    elements: &[T],
+    names: &[Name],
+) -> Result<Vec<usize>, Memory>
+    requires { some_match_among T.named elements.now Nothing names.now ≡ false }
+    ensures value { IfOk result
+        (λ v. map (place_among T.named elements.now) names.now ≡ map (λ i. Some i) v.items) }
+    ensures within { IfOk result (λ v. are_places (length elements.now) v.items ≡ true) }
+{
+    let mut places = Vec::new(alloc);
+    for name in names {
+        let Some(place) = place_among(elements, name) else {
+            unreachable!()
+        };
+        places.push(place)?;
+    }
+    Ok(places)
+}
