@@ -48,7 +48,7 @@ Refusals (this version does not give those marked *):
   29 ColumnCount      a row has more or fewer values than columns, or two lists differ in length
   30 TypeMismatch     a value does not have the type of its column, or two types are compared
   31 TextTooLong      a text has more characters than its column takes
-  40 MomentBack       AT names a moment before the clock *
+  40 MomentBack       AT names a moment before the clock
   41 EmptyPeriod      the start of a period is not before its end
   42 KeyOverlap       two rows have one key on one day *
   43 PeriodReference  a child row has no parent row on some day *

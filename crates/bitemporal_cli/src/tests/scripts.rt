@@ -2,6 +2,7 @@
 //! byte.
 
 mod checks;
+mod clock;
 mod column_lists;
 mod first_path;
 mod grammar;

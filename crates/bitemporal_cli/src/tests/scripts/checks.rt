@@ -49,14 +49,16 @@ fn counts(rt: HostRuntime) {
     let script = joined(&rt, &[EMPLOYEES, INTERSECTION]);
     let report = "refused,4,10,Syntax,\nchecked,4,1\n";
     expect_mode(&rt, Mode::Check, script.as_str().as_bytes(), report, 1, "");
+    let report = "done,1,create,0\ndone,2,at,0\ndone,3,insert,1\nrefused,4,10,Syntax,\n";
+    expect_run(&rt, script.as_str().as_bytes(), report, 1, "");
 }
 
 #[test]
-fn not_run(rt: HostRuntime) {
+fn not_run_yet(rt: HostRuntime) {
     // a run refuses what a check takes, and a bad literal before that
     let script = "DELETE FROM T; AT TIMESTAMP '2024-01-01 00:00:00'; SELECT * FROM T;
 UPDATE T SET A = 1; VALIDTIME SELECT DISTINCT A FROM T WHERE A = 1; AT TIMESTAMP ''";
-    let report = "refused,1,10,Syntax,\nrefused,2,10,Syntax,\nrefused,3,10,Syntax,\n\
+    let report = "refused,1,10,Syntax,\ndone,2,at,0\nrefused,3,10,Syntax,\n\
 refused,4,10,Syntax,\nrefused,5,10,Syntax,\nrefused,6,13,BadMoment,\n";
     expect_run(&rt, script.as_bytes(), report, 1, "");
 }
