@@ -39,8 +39,8 @@ VersionsHoldTheStates =
     → (moment day : ℤ) → moment <ℤ forever
     → IsPermutation (values_at versions moment day) (state_at history moment table day)
 
--- where the versions are as a store with this clock may have them, the current ones hold on each day
--- what all of them hold as of the clock, and as of each later moment
+-- where the versions are as a store with this clock may have them, the current ones hold on each
+-- day what all of them hold as of the clock, and as of each later moment
 abbrev pub CurrentVersionsHold : Type 0
 CurrentVersionsHold =
     (clock : ℤ) (versions : List VersionRow) → All (IsRecorded clock) versions

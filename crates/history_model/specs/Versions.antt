@@ -19,7 +19,7 @@ abbrev pub is_seen : Window → ℤ → VersionRow → Bool
 is_seen window day v =
     window_sees window v.from v.to && covers_day v.period.start v.period.end day
 
--- the values of the versions that the window sees and whose period holds the day, version by version
+-- the values of the versions that the window sees and whose period holds the day, one by one
 abbrev pub values_seen : Window → List VersionRow → ℤ → List (List Value)
 values_seen window versions day =
     map (λ (v : VersionRow). v.values) (filter (is_seen window day) versions)

@@ -15,8 +15,8 @@ pub fn openings_are_represented()
     ensures { OpeningsAreRepresented }
 {}
 
-/// The versions that a history leaves, up to their order, hold its state as of every moment on every
-/// day.
+/// The versions that a history leaves, up to their order, hold its state as of every moment on
+/// every day.
 pub fn versions_hold_the_states()
     ensures { VersionsHoldTheStates }
 {}

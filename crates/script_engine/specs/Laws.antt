@@ -1,5 +1,5 @@
--- What follows of two lists with the same snapshots where one is a sequenced answer. Each law is the
--- contract of a function of this crate.
+-- What follows of two lists with the same snapshots where one is a sequenced answer. Each law is
+-- the contract of a function of this crate.
 use Rattle.std.specs.Prelude.{◌≡◌, List}
 use Rattle.period_core.specs.declared.answer.Answer.{Answer}
 use Rattle.period_core.specs.declared.row.PeriodRow.{PeriodRow}

@@ -32,8 +32,8 @@ use sqlite_trees::store::Alter;
 use std::alloc::Global;
 use std::marker::Model;
 
-/// The clock, the tables' definitions and, in the same places, their versions, beside the connection
-/// that it was handed.
+/// The clock, the tables' definitions and, in the same places, their versions, beside the
+/// connection that it was handed.
 #[derive(Drop)]
 pub struct Engine<S: Alter> {
     connection: Connection<S>,
@@ -92,8 +92,8 @@ impl<S: Alter> Engine<S> {
         &self.catalog
     }
 
-    /// Moves the clock to a moment. An `Err` changes nothing: it is 13 for FOREVER, and 40 for a moment
-    /// before the clock. No memory is taken.
+    /// Moves the clock to a moment. An `Err` changes nothing: it is 13 for FOREVER, and 40 for a
+    /// moment before the clock. No memory is taken.
     pub fn at(&mut self, moment: Moment) -> Result<(), Refusal>
         ensures moved { IfOk result (λ _. self.new ≡ record self.old { clock = moment }) }
         ensures later { OnOk result ((self.old.clock ≤ℤ moment) × (moment <ℤ forever)) }

@@ -1,5 +1,5 @@
-//! What follows from the theorem of sequenced answers. Each function does nothing: its contract is a
-//! law.
+//! What follows from the theorem of sequenced answers. Each function does nothing: its contract is
+//! a law.
 
 ghost use Rattle.script_engine.specs.Laws.{AnswersAreUnique, AnswersMapOneToOne};
 ghost use Rattle.script_engine.specs.Laws.{SameSnapshotsSameAnswers};
