@@ -6,8 +6,8 @@ ghost use Rattle.version_tables.specs.Rows.{AreBytesAt, IsNumberAt};
 use sqlite::Row;
 use sqlite::types::ValueRef;
 
-/// The integer at a place of a row: `None` where the row has no such place, or another kind of value
-/// there.
+/// The integer at a place of a row: `None` where the row has no such place, or another kind of
+/// value there.
 pub fn number_at(row: &Row, at: usize) -> Option<i64>
     ensures { MatchOption result
         (¬ ((n : ℤ) × IsNumberAt row.now at n)) (λ n. IsNumberAt row.now at n) }

@@ -68,9 +68,9 @@ fn insert_meta<S: Alter>(
     )
 }
 
-/// Makes the three tables, with this form and this clock (a moment's number), in one transaction. On
-/// `Err` none of them is made, and no transaction is open. What they stand for is said where the
-/// database had no table.
+/// Makes the three tables, with this form and this clock (a moment's number), in one transaction.
+/// On `Err` nothing is changed, and no transaction is open. What the tables stand for is said where
+/// the database had no table at all.
 pub fn create<S: Alter>(connection: &mut Connection<S>, form: i64, clock: i64) -> Result<(), Error>
     requires { connection.old.in_transaction ≡ false }
     ensures made { HasCleanDisk (state S.Store connection.new)

@@ -17,8 +17,8 @@ pub enum Presence {
     Whole,
 }
 
-/// Which of the three tables the database has, by their names. A table that `sqlite` can't use counts
-/// as not there.
+/// Which of the three tables the database has, by their names. A table that `sqlite` can't use
+/// counts as not there.
 pub fn tables_there<S: Alter>(connection: &Connection<S>) -> Presence
     ensures missing { result ≡ Presence.Missing
         ↔ IsNoneThere (state S.Store connection.now).now.schema }

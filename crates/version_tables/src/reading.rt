@@ -11,8 +11,8 @@ ghost use Rattle.version_tables.specs.Steps.{OnlyReads, Tells};
 
 use sqlite::{Alter, Connection, Error, Row, params};
 
-/// The versions of the table of a number, by values, then period start, then system start. A row has
-/// the values' bytes, the two days and the two moments.
+/// The versions of the table of a number, by values, then period start, then system start. A row
+/// has the values' bytes, the two days and the two moments.
 pub fn rows_of<S: Alter>(connection: &mut Connection<S>, table: u32) -> Result<Vec<Row>, Error>
     requires { connection.old.in_transaction ≡ false }
     ensures shows { HasCleanDisk (state S.Store connection.new)

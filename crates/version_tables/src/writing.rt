@@ -8,8 +8,8 @@ ghost use Rattle.version_tables.specs.Steps.{CommitsNothing, Makes, MakesWhere};
 
 use sqlite::{Alter, Error, Transaction, params};
 
-/// Removes the version that has this key, if there is one: the table's number, the values' bytes, the
-/// first day of the period, the first moment of the system time.
+/// Removes the version that has this key, if there is one: the table's number, the values' bytes,
+/// the first day of the period, the first moment of the system time.
 pub fn remove_version<S: Alter>(
     transaction: &mut Transaction<'_, S>,
     table: u32,
@@ -49,8 +49,8 @@ pub fn end_version<S: Alter>(
 }
 
 /// Adds a version: the table's number, the values' bytes, the period from the day `start` on and
-/// before the day `end`, the system time from the moment `from` on and before the moment `to`. It is
-/// refused where a version has its key.
+/// before the day `end`, the system time from the moment `from` on and before the moment `to`. It
+/// is refused where a version has its key.
 pub fn insert_version<S: Alter>(
     transaction: &mut Transaction<'_, S>,
     table: u32,
