@@ -1,0 +1,5 @@
+pub mod Contents
+pub mod Changed
+pub mod Written
+pub mod Kept
+pub mod Steps
