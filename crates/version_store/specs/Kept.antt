@@ -4,10 +4,13 @@ use Rattle.std.specs.Coded.{Coded, code_by, coded×, coded_ℤ}
 use Rattle.catalog_core.specs.contracts.table.catalog.Catalog.{the_row}
 use Rattle.catalog_core.specs.declared.table.catalog.Catalog.{Catalog}
 use Rattle.period_core.specs.declared.refusal.Refusal.{Refusal}
-use Rattle.period_core.specs.declared.refusal.Refusal.TheVariants.{Memory, Store}
+use Rattle.period_core.specs.declared.refusal.Refusal.TheVariants.{BadStore, Memory, Store}
 use Rattle.sqlite.specs.Store.{Ghosts}
 use Rattle.sqlite.specs.State.{HasCleanDisk}
 use Rattle.sqlite.specs.Held.{Held, held_code, state}
+use Rattle.sqlite.specs.Schema.{Schema}
+use Rattle.version_tables.specs.Presence.{AreAllThere}
+use Rattle.version_tables.specs.Tables.{store_schema}
 use Rattle.version_store.specs.Contents.{Contents}
 use Rattle.version_store.specs.Written.{Has}
 
@@ -46,3 +49,12 @@ Changes g old new result change =
 -- out of memory, or another failure of the database
 abbrev pub IsStoreRefusal : Refusal → Type 0
 IsStoreRefusal refusal = (refusal ≡ Memory) ⊎ (refusal ≡ Store)
+
+-- why a store is not opened: it is no good one, or one of those
+abbrev pub IsOpenRefusal : Refusal → Type 0
+IsOpenRefusal refusal = (refusal ≡ BadStore) ⊎ IsStoreRefusal refusal
+
+-- the three tables, where all of them are there, are as the store makes them, and no other is
+-- beside them
+abbrev pub IsOurs : Schema → Type 0
+IsOurs schema = AreAllThere schema → schema ≡ store_schema

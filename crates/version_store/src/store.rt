@@ -1,18 +1,24 @@
 //! The store: what is kept in memory over a connection.
 
-ghost use Rattle.std.specs.Prelude.{◌≡◌, ◌<◌, ◌<ℤ◌, ◌≤ℤ◌, ◌++◌, ◌∷◌, [], List, true, false, length};
-ghost use Rattle.std.specs.Prelude.{IfErr, IfOk};
+ghost use Rattle.std.specs.Prelude.{◌≡◌, ◌≢◌, ◌⊎◌, ◌<◌, ◌<ℤ◌, ◌≤ℤ◌, ◌++◌, ◌∷◌, [], List};
+ghost use Rattle.std.specs.Prelude.{IfErr, IfOk, IsTrue, false, length, true};
 ghost use Rattle.catalog_core.specs.Limits.{most_tables};
 ghost use Rattle.catalog_core.specs.table.TableWords.{has_date_period, has_distinct_names};
 ghost use Rattle.catalog_core.specs.declared.table.TableDef.{TableDef};
 ghost use Rattle.period_core.specs.Moments.{forever};
 ghost use Rattle.sqlite.specs.Held.{state};
+ghost use Rattle.period_core.specs.declared.refusal.Refusal.TheVariants.{BadStore};
+ghost use Rattle.version_tables.specs.Presence.{IsNoneThere};
 ghost use Rattle.version_tables.specs.Steps.{IsAsBefore};
 ghost use Rattle.version_tables.specs.Tables.{no_schema};
 ghost use Rattle.version_store.specs.Changed.{planned, with_clock, with_table};
 ghost use Rattle.version_store.specs.Contents.{AreRowsOf, Contents, empty_contents};
-ghost use Rattle.version_store.specs.Kept.{Changes, IsStoreRefusal, IsUsable, StandsFor};
+ghost use Rattle.version_store.specs.GoodStore.{AreGood, IsGoodStore, NothingMore};
+ghost use Rattle.version_store.specs.Kept.{Changes, IsOpenRefusal, IsOurs, IsStoreRefusal};
+ghost use Rattle.version_store.specs.Kept.{IsUsable, StandsFor};
+ghost use Rattle.version_store.specs.Written.{Has};
 
+use crate::inspecting::inspect;
 use crate::plan::Plan;
 use crate::reading::table_rows;
 use crate::refused::refusal_of;
@@ -24,7 +30,7 @@ use sqlite_trees::store::Alter;
 use std::alloc::Global;
 use std::marker::Model;
 use std::mem;
-use version_tables::create;
+use version_tables::{Presence, create, tables_there};
 
 /// The form of the three tables.
 const FORM: i64 = 1;
@@ -76,6 +82,8 @@ impl<S: Alter> VersionStore<S> {
             → StandsFor S.Store store empty_contents) }
         ensures none { IfErr result (λ failed. IsUsable S.Store failed.1
             → IsAsBefore (state S.Store connection) (state S.Store failed.1)) }
+        ensures was_open { IfErr result (λ failed. IsUsable S.Store failed.1
+            → IsTrue (state S.Store connection).is_open) }
         ensures settled { IfErr result (λ failed. failed.1.in_transaction ≡ false) }
         ensures named { IfErr result (λ failed. IsStoreRefusal failed.0) }
     {
@@ -87,6 +95,65 @@ impl<S: Alter> VersionStore<S> {
             }),
             Err(error) => Err((refusal_of(&error), connection)),
         }
+    }
+
+    /// Opens a store. In a database that has none of the three tables they are made, as by
+    /// `create`. Where all three are there, the store is accepted exactly if it is a good one; what
+    /// it holds is then as it was closed. Of three tables that are not as the store makes them, or
+    /// have other tables beside them, no more is said than that a refusal changes nothing. On `Err`
+    /// nothing is changed, the connection is handed back, and no transaction is open on it.
+    pub fn open(
+        alloc: Global,
+        mut connection: Connection<S>,
+    ) -> Result<VersionStore<S>, (Refusal, Connection<S>)>
+        requires { connection.in_transaction ≡ false }
+        ensures fresh { IfOk result (λ store. IsUsable S.Store store.connection
+            → (state S.Store connection).now.schema ≡ no_schema
+            → StandsFor S.Store store empty_contents) }
+        ensures good { IfOk result (λ store. IsUsable S.Store store.connection
+            → IsOurs (state S.Store connection).now.schema
+            → IsNoneThere (state S.Store connection).now.schema
+            ⊎ ((good : IsGoodStore NothingMore (state S.Store connection).now)
+            × StandsFor S.Store store good.contents)) }
+        ensures same { IfOk result (λ store. IsUsable S.Store store.connection
+            → (c : Contents) → Has (state S.Store connection).now c → StandsFor S.Store store c) }
+        ensures bad { IfErr result (λ failed. IsUsable S.Store failed.1 → failed.0 ≡ BadStore
+            → (¬ IsNoneThere (state S.Store connection).now.schema)
+            × ¬ IsGoodStore NothingMore (state S.Store connection).now) }
+        ensures none { IfErr result (λ failed. IsUsable S.Store failed.1
+            → IsAsBefore (state S.Store connection) (state S.Store failed.1)) }
+        ensures was_open { IfErr result (λ failed. IsUsable S.Store failed.1
+            → IsTrue (state S.Store connection).is_open) }
+        ensures settled { IfErr result (λ failed. failed.1.in_transaction ≡ false) }
+        ensures named { IfErr result (λ failed. IsOpenRefusal failed.0) }
+    {
+        let _settled = connection.is_autocommit();
+        match tables_there(&connection) {
+            Presence::Missing => VersionStore::create(alloc, connection),
+            Presence::Partial => Err((Refusal::BadStore, connection)),
+            Presence::Whole => match inspect(alloc, &mut connection) {
+                Ok((catalog, clock)) => Ok(VersionStore {
+                    connection,
+                    catalog,
+                    clock,
+                }),
+                Err(refusal) => Err((refusal, connection)),
+            },
+        }
+    }
+
+    /// Closes the store and opens it again, with the same tables, clock and versions. A store whose
+    /// contents are good is not refused as a bad one.
+    pub fn reopen(self, alloc: Global) -> Result<VersionStore<S>, (Refusal, Connection<S>)>
+        ensures same { IfOk result (λ store. IsUsable S.Store store.connection
+            → (c : Contents) → StandsFor S.Store self c → StandsFor S.Store store c) }
+        ensures kept { IfErr result (λ failed. IsUsable S.Store failed.1
+            → (c : Contents) → StandsFor S.Store self c → AreGood NothingMore c
+            → failed.0 ≢ BadStore) }
+    {
+        let connection = self.close();
+        let _live = connection.schema();
+        VersionStore::open(alloc, connection)
     }
 
     /// The connection, on which no transaction is open.
