@@ -1,0 +1,209 @@
+-- The points of a store, by the rows that its queries show.
+use Rattle.std.proofs.Common.{◌≡◌, ◌+◌, ◌≤◌, ◌∙◌, ◌∷◌, ◌++◌, ℕ, ℤ, pos, List, [], Result, Ok, Err, ap, arith, false, length, length-append, map, refl, subst, sym, true}
+use Rattle.std.specs.Prelude.{IfErr, IfOk}
+use Rattle.std.specs.List.{All, AllByRecursion}
+use Rattle.std.specs.List.Sorted.{IsPermutation}
+use Rattle.std.proofs.lemmas.List.{length-map}
+use Rattle.std.proofs.lemmas.List.Sorted.{IsPermutation-map, IsPermutation-sym, IsPermutation-trans}
+use Rattle.sqlite_trees.proofs.ListLemmas.{IsPermutation-same, all-map, all-permutation, all_weaker}
+use Rattle.period_core.specs.Encoding.{IsColumnValue}
+use Rattle.period_core.specs.declared.refusal.Refusal.{Refusal}
+use Rattle.period_core.specs.declared.refusal.Refusal.TheVariants.{BadStore}
+use Rattle.catalog_core.specs.declared.table.catalog.Catalog.{Catalog}
+use Rattle.catalog_core.specs.declared.table.TableDef.{TableDef}
+use Rattle.sqlite.proofs.Callers.{one_permutation}
+use Rattle.sqlite.specs.Effect.{Database}
+use Rattle.sqlite.specs.Order.{Row}
+use Rattle.sqlite.specs.Tree.{IsAscending, rowid}
+use Rattle.sqlite.specs.View.{is_int}
+use Rattle.sqlite.specs.declared.types.Value.TheVariants.{Int, Blob}
+use Rattle.version_tables.proofs.Ordered.{defined_table, definitions_in_order, length-defined, same_tables}
+use Rattle.version_tables.specs.Good.{SayClock}
+use Rattle.version_tables.specs.Rows.{InOrder, by_rowid}
+use Rattle.version_tables.specs.Represents.{AreUntied, defined, meta_row, meta_shown, stored, table_shown, version_shown}
+use Rattle.version_tables.specs.Tables.{store_schema}
+use Rattle.version_store.proofs.Judged.{same_written}
+use Rattle.version_store.specs.Contents.{Contents, HaveColumnValues, TableVersion, same_version}
+use Rattle.version_store.specs.GoodStore.{AreLawful, AreTableRows, IsGoodStore, IsGoodVersion, NothingMore, SayRows, SaysVersion, AreGood}
+use Rattle.version_store.specs.Written.{Has, IsReadable, written_table, written_version}
+
+-- ---- definitions
+
+spelled_all : (before : List TableDef) (rows : List Row) (ts : List TableDef) → AreTableRows before rows ts → rows ≡ defined (length before + 1) (map written_table ts)
+spelled_all before [] [] all = refl
+spelled_all before [] (t ∷ ts) all = absurd all
+spelled_all before (row ∷ rows) [] all = absurd all
+spelled_all before (row ∷ rows) (t ∷ ts) all =
+    let long : length (before ++ t ∷ []) + 1 ≡ length before + 1 + 1 = omega (arith, length-append before (t ∷ [])) in
+    let tail : rows ≡ defined (length before + 1 + 1) (map written_table ts) = spelled_all (before ++ t ∷ []) rows ts all.1 ∙ ap (λ n. defined n (map written_table ts)) long in
+    let head = all.0.spelled in
+    cc
+
+all_readable : (before : List TableDef) (rows : List Row) (ts : List TableDef) → AreTableRows before rows ts → AllByRecursion IsReadable ts
+all_readable before [] [] all = tt
+all_readable before [] (t ∷ ts) all = absurd all
+all_readable before (row ∷ rows) [] all = absurd all
+all_readable before (row ∷ rows) (t ∷ ts) all = (all.0.readable, all_readable (before ++ t ∷ []) rows ts all.1)
+
+all_lawful : (before : List TableDef) (rows : List Row) (ts : List TableDef) → AreTableRows before rows ts → AreLawful before ts
+all_lawful before [] [] all = tt
+all_lawful before [] (t ∷ ts) all = absurd all
+all_lawful before (row ∷ rows) [] all = absurd all
+all_lawful before (row ∷ rows) (t ∷ ts) all = (all.0.lawful, all_lawful (before ++ t ∷ []) rows ts all.1)
+
+rows_of_tables : (before ts : List TableDef) → AllByRecursion IsReadable ts → AreLawful before ts → AreTableRows before (defined (length before + 1) (map written_table ts)) ts
+rows_of_tables before [] readable lawful = tt
+rows_of_tables before (t ∷ ts) readable lawful =
+    let long : length (before ++ t ∷ []) + 1 ≡ length before + 1 + 1 = omega (arith, length-append before (t ∷ [])) in
+    let more = rows_of_tables (before ++ t ∷ []) ts readable.1 lawful.1 in
+    (record { spelled = refl; readable = readable.0; lawful = lawful.0 }, subst (λ n. AreTableRows (before ++ t ∷ []) (defined n (map written_table ts)) ts) long more)
+
+-- ---- versions
+
+abbrev pub stored_version : TableVersion → Row
+stored_version v = stored (written_version v)
+
+twice : (vs : List TableVersion) → map stored (map written_version vs) ≡ map stored_version vs
+twice [] = refl
+twice (v ∷ vs) = ap (λ l. stored_version v ∷ l) (twice vs)
+
+says_all : (tables : List TableDef) (clock : ℤ) (rows : List Row) → AllByRecursion (SaysVersion tables clock) rows → (vs : List TableVersion) × (rows ≡ map stored_version vs) × AllByRecursion (IsGoodVersion tables clock) vs
+says_all tables clock [] all = ([], refl, tt)
+says_all tables clock (row ∷ rows) all =
+    let more = says_all tables clock rows all.1 in
+    let head = all.0.1 in
+    let tail = more.1 in
+    (all.0.0 ∷ more.0, cc, (all.0.2, more.2))
+
+-- ---- the points
+
+-- no two rows of bt_version agree in the columns of its key
+abbrev pub KeepsKeys : Database → Type 0
+KeepsKeys db = (vs : List TableVersion) → HaveColumnValues vs → IsPermutation (map stored_version vs) (map version_shown (db.trees 2)) → IsAscending (λ (a b : TableVersion). same_version a b ≡ false) vs
+
+module _ (db : Database) (metas tables versions : List Row) (pm : IsPermutation (map meta_shown (db.trees 0)) metas) (pt : InOrder table_shown by_rowid (db.trees 1) tables) (pv : IsPermutation (map version_shown (db.trees 2)) versions) where
+  pub points_hold : db.schema ≡ store_schema → KeepsKeys db → (known : List TableDef) (clock : ℤ) → SayRows metas tables versions known clock
+      → (good : IsGoodStore NothingMore db) × (good.contents.tables ≡ known) × (good.contents.clock ≡ clock)
+  points_hold there keys known clock says =
+      let all = all-permutation (SaysVersion known clock) _ _ (IsPermutation-sym _ _ pv) says.each in
+      let vs = says_all known clock (map version_shown (db.trees 2)) all in
+      let held : HaveColumnValues vs.0 = all_weaker (IsGoodVersion known clock) (λ (v : TableVersion). All IsColumnValue v.values) (λ v good. good.held) vs.0 vs.2 in
+      let is = spelled_all [] tables known says.defined.each in
+      let long : length known ≡ length tables = sym (length-map known written_table) ∙ sym (length-defined 1 (map written_table known)) ∙ ap length (sym is) in (
+        record {
+          contents = record { tables = known; clock = clock; versions = vs.0 };
+          says = record {
+            meta = one_permutation _ _ (IsPermutation-sym _ _ (subst (IsPermutation (map meta_shown (db.trees 0))) says.meta.0 pm));
+            tables = IsPermutation-sym _ _ (subst (IsPermutation (map table_shown (db.trees 1))) (sym pt.2 ∙ is) (IsPermutation-map table_shown _ _ pt.1));
+            versions = IsPermutation-same _ _ (twice vs.0 ∙ sym vs.1);
+          };
+          tables_there = there;
+          clock = says.meta.1;
+          few = subst (λ n. n ≤ 64) (sym long) says.defined.few;
+          readable = all_readable [] tables known says.defined.each;
+          lawful = all_lawful [] tables known says.defined.each;
+          versions = vs.2;
+          distinct = keys vs.0 held (IsPermutation-same _ _ (sym vs.1));
+          constrained = tt;
+        },
+        refl,
+        refl,
+      )
+
+  pub points_fail : IsGoodStore NothingMore db → ((known : List TableDef) (clock : ℤ) → ¬ SayRows metas tables versions known clock) → ⊥
+  points_fail good none =
+      let c = good.contents in
+      let is : tables ≡ defined 1 (map written_table c.tables) = definitions_in_order (db.trees 1) tables (map written_table c.tables) pt good.says.tables in
+      let long : length tables ≡ length c.tables = ap length is ∙ length-defined 1 (map written_table c.tables) ∙ length-map c.tables written_table in
+      let meta : SayClock metas c.clock = (one_permutation _ _ (subst (λ l. IsPermutation l metas) good.says.meta pm), good.clock) in
+      let each : AllByRecursion (SaysVersion c.tables c.clock) (map stored_version c.versions) = all-map (SaysVersion c.tables c.clock) stored_version c.versions (all_weaker (IsGoodVersion c.tables c.clock) (λ v. SaysVersion c.tables c.clock (stored_version v)) (λ v good. (v, refl, good)) c.versions good.versions) in
+      let shown = all-permutation (SaysVersion c.tables c.clock) _ _ (subst (λ l. IsPermutation l (map version_shown (db.trees 2))) (twice c.versions) good.says.versions) each in
+      none c.tables c.clock (record {
+        meta = meta;
+        defined = record { few = subst (λ n. n ≤ 64) (sym long) good.few; each = subst (λ rows. AreTableRows [] rows c.tables) (sym is) (rows_of_tables [] c.tables good.readable good.lawful) };
+        each = all-permutation (SaysVersion c.tables c.clock) _ _ pv shown;
+      })
+
+  pub judged_good : db.schema ≡ store_schema → KeepsKeys db → (r : Result (Catalog × ℤ) Refusal) → IfOk r (λ found. SayRows metas tables versions found.0.tables found.1)
+      → IfOk r (λ found. (good : IsGoodStore NothingMore db) × (good.contents.tables ≡ found.0.tables) × (good.contents.clock ≡ found.1))
+  judged_good there keys (Err e) says = tt
+  judged_good there keys (Ok found) says = points_hold there keys found.0.tables found.1 says
+
+  pub judged_bad : (r : Result (Catalog × ℤ) Refusal) → IfErr r (λ refusal. refusal ≡ BadStore → (known : List TableDef) (clock : ℤ) → ¬ SayRows metas tables versions known clock)
+      → IfErr r (λ refusal. refusal ≡ BadStore → ¬ IsGoodStore NothingMore db)
+  judged_bad (Ok found) none = tt
+  judged_bad (Err e) none = λ bad good. points_fail good (none bad)
+
+-- a good store has its contents
+pub has_contents : (db : Database) (good : IsGoodStore NothingMore db) → AreUntied (db.trees 2) → AllByRecursion (λ r. is_int (rowid r) ≡ true) (db.trees 2) → Has db good.contents
+has_contents db good untied keyed = record {
+  rows = record { schema = good.tables_there; says = good.says; untied = untied; keyed = keyed };
+  definitions = good.readable;
+  values = all_weaker (IsGoodVersion good.contents.tables good.contents.clock) (λ (v : TableVersion). All IsColumnValue v.values) (λ v fine. fine.held) good.contents.versions good.versions;
+}
+
+pub found_contents : (db : Database) → AreUntied (db.trees 2) → AllByRecursion (λ r. is_int (rowid r) ≡ true) (db.trees 2) → (r : Result (Catalog × ℤ) Refusal)
+    → IfOk r (λ found. (good : IsGoodStore NothingMore db) × (good.contents.tables ≡ found.0.tables) × (good.contents.clock ≡ found.1))
+    → IfOk r (λ found. (good : IsGoodStore NothingMore db) × Has db good.contents × (good.contents.tables ≡ found.0.tables) × (good.contents.clock ≡ found.1))
+found_contents db untied keyed (Err e) says = tt
+found_contents db untied keyed (Ok found) says = (says.0, has_contents db says.0 untied keyed, says.1, says.2)
+
+-- ---- what a database says, it says of one catalog and one clock
+
+one_clock : (a b : ℤ) → meta_row (pos 1) a ∷ [] ≡ meta_row (pos 1) b ∷ [] → a ≡ b
+one_clock a b e = cc
+
+same_written_tables : (ts us : List TableDef) → AllByRecursion IsReadable ts → AllByRecursion IsReadable us → map written_table ts ≡ map written_table us → ts ≡ us
+same_written_tables [] [] rt ru same = refl
+same_written_tables [] (u ∷ us) rt ru same = absurd cc
+same_written_tables (t ∷ ts) [] rt ru same = absurd cc
+same_written_tables (t ∷ ts) (u ∷ us) rt ru same =
+    let parts = list_parts (written_table t) (written_table u) (map written_table ts) (map written_table us) same in
+    let one : t ≡ u = same_written t u rt.0 ru.0 parts.0 in
+    let more : ts ≡ us = same_written_tables ts us rt.1 ru.1 parts.1 in
+    cc
+  where
+    list_parts : (a b : List ℕ) (xs ys : List (List ℕ)) → ◌≡◌ {A = List (List ℕ)} (a ∷ xs) (b ∷ ys) → (a ≡ b) × (xs ≡ ys)
+    list_parts a b xs ys e = (cc, cc)
+
+defined_once : (n : ℕ) (ps qs : List (List ℕ)) → defined n ps ≡ defined n qs → ps ≡ qs
+defined_once n [] [] same = refl
+defined_once n [] (b ∷ qs) same = absurd cc
+defined_once n (a ∷ ps) [] same = absurd cc
+defined_once n (a ∷ ps) (b ∷ qs) same =
+    let head : Int (pos n) ∷ Blob a ∷ [] ≡ Int (pos n) ∷ Blob b ∷ [] = (row_parts _ _ _ _ same).0 in
+    let one : a ≡ b = (same_blobs a b head) in
+    let more : ps ≡ qs = defined_once (n + 1) ps qs (row_parts _ _ _ _ same).1 in
+    cc
+  where
+    row_parts : (a b : Row) (xs ys : List Row) → ◌≡◌ {A = List Row} (a ∷ xs) (b ∷ ys) → (a ≡ b) × (xs ≡ ys)
+    row_parts a b xs ys e = (cc, cc)
+
+    same_blobs : (a b : List ℕ) → Int (pos n) ∷ Blob a ∷ [] ≡ Int (pos n) ∷ Blob b ∷ [] → a ≡ b
+    same_blobs a b e = cc
+
+pub same_contents : (db : Database) (c d : Contents) → Has db c → Has db d → (c.tables ≡ d.tables) × (c.clock ≡ d.clock)
+same_contents db c d hc hd =
+    let same : IsPermutation (defined 1 (map written_table c.tables)) (defined 1 (map written_table d.tables)) = IsPermutation-trans _ _ _ hc.rows.says.tables (IsPermutation-sym _ _ hd.rows.says.tables) in
+    let rows = same_table_rows 1 (map written_table c.tables) (map written_table d.tables) same in (
+      same_written_tables c.tables d.tables hc.definitions hd.definitions (defined_once 1 (map written_table c.tables) (map written_table d.tables) rows),
+      one_clock c.clock d.clock (sym hc.rows.says.meta ∙ hd.rows.says.meta),
+    )
+  where
+    same_table_rows : (n : ℕ) (ps qs : List (List ℕ)) → IsPermutation (defined n ps) (defined n qs) → defined n ps ≡ defined n qs
+    same_table_rows n ps qs same = same_tables (defined n ps) (defined n qs) (defined_table n ps) (defined_table n qs) same
+
+-- a database with good contents is a good store
+pub good_store : (db : Database) (c : Contents) → Has db c → KeepsKeys db → AreGood NothingMore c → IsGoodStore NothingMore db
+good_store db c has keys good = record {
+  contents = c;
+  says = has.rows.says;
+  tables_there = has.rows.schema;
+  clock = good.clock;
+  few = good.few;
+  readable = has.definitions;
+  lawful = good.lawful;
+  versions = good.versions;
+  distinct = keys c.versions has.values (subst (λ (l : List Row). IsPermutation l (map version_shown (db.trees 2))) (twice c.versions) has.rows.says.versions);
+  constrained = good.constrained;
+}

@@ -1,0 +1,46 @@
+-- What a store stands for after a call.
+use Rattle.std.proofs.Common.{◌≡◌, Result, Ok, Err, OnOk, OnErr, sym, subst, ◌∙◌}
+use Rattle.std.proofs.Common.{ℕ, ◌+◌, List, [], ◌∷◌, ◌++◌, map, length, ap}
+use Rattle.std.proofs.lemmas.List.{length-map, map-append}
+use Rattle.std.specs.List.{AllByRecursion}
+use Rattle.sqlite_trees.proofs.ListLemmas.{all-append}
+use Rattle.version_store.specs.Written.{IsReadable}
+use Rattle.catalog_core.specs.declared.table.TableDef.{TableDef}
+use Rattle.sqlite.specs.Store.{Ghosts}
+use Rattle.sqlite.specs.Effect.{Database}
+use Rattle.sqlite.specs.Held.{state}
+use Rattle.version_tables.specs.Represents.{Represents, with_definition}
+use Rattle.version_store.specs.Contents.{Contents, HaveColumnValues}
+use Rattle.version_store.specs.Changed.{with_table}
+use Rattle.version_store.specs.Kept.{Kept, StandsFor}
+use Rattle.version_store.specs.Written.{Has, written, written_table}
+
+pub on_ok : {X E : Type 0} {P Q : Type 0} (r : Result X E) → (P → Q) → OnOk r P → OnOk r Q
+on_ok (Ok x) f h = f h
+on_ok (Err e) f h = tt
+
+pub on_err : {X E : Type 0} {P Q : Type 0} (r : Result X E) → (P → Q) → OnErr r P → OnErr r Q
+on_err (Ok x) f h = tt
+on_err (Err e) f h = f h
+
+-- the database, the catalog and the clock are as they were
+pub stays : {S : Type 0} (g : Ghosts S) (old new : Kept S) (c : Contents) → StandsFor g old c
+    → ((state g new.connection).now ≡ (state g old.connection).now) × ((state g new.connection).committed ≡ (state g old.connection).committed)
+    → new.catalog.tables ≡ old.catalog.tables → new.clock ≡ old.clock → StandsFor g new c
+stays g old new c was same catalog clock = record {
+  now = subst (λ (d : Database). Has d c) (sym same.0) was.now;
+  committed = same.1 ∙ was.committed ∙ sym same.0;
+  catalog = catalog ∙ was.catalog;
+  clock = clock ∙ was.clock;
+}
+
+-- a definition was put
+pub table_put : (new : Database) (c : Contents) (d : TableDef) (bytes : List ℕ) → bytes ≡ written_table d → Represents new (with_definition bytes (written c)) → AllByRecursion IsReadable c.tables → IsReadable d → HaveColumnValues c.versions → Has new (with_table d c)
+table_put new c d bytes is made definitions one held = record {
+  rows = subst (λ (ts : List (List ℕ)). Represents new (record (written c) { tables = ts })) (ap (λ b. map written_table c.tables ++ b ∷ []) is ∙ sym (map-append written_table c.tables (d ∷ []))) made;
+  definitions = all-append IsReadable c.tables (d ∷ []) definitions (one, tt);
+  values = held;
+}
+
+pub next_number : (c : Contents) (tables : List TableDef) (n : ℕ) → tables ≡ c.tables → n ≡ length tables + 1 → n ≡ length (map written_table c.tables) + 1
+next_number c tables n same is = is ∙ ap (λ k. k + 1) (ap length same ∙ sym (length-map c.tables written_table))

@@ -1,0 +1,242 @@
+-- What the changes of version rows are on their bytes, and one after another.
+use Rattle.std.proofs.Common.{◌≡◌, ℕ, ◌+◌, ◌<◌, ℤ, List, [], ◌∷◌, ◌++◌, map, filter, take, get_or, length, Bool, true, false, not, cond, ◌&&◌, ◌||◌, ◌==◌, refl, sym, ap, subst, ◌∙◌, append-nil, append_assoc, Ordering, Less, Equal, Greater}
+use Rattle.std.specs.List.{All, flat_map}
+use Rattle.std.specs.List.Sorted.{IsPermutation}
+use Rattle.std.specs.Ordering.{int_cmp, is_eq}
+use Rattle.std.proofs.Math.Path.{fun_ext}
+use Rattle.std.proofs.lemmas.Bool.{and_parts}
+use Rattle.std.proofs.lemmas.List.Concat.{flat_map-append}
+use Rattle.std.proofs.lemmas.List.Folds.{list_any_more}
+use Rattle.std.proofs.lemmas.List.{map-append, take_more}
+use Rattle.std.proofs.lemmas.List.Sorted.{IsPermutation-refl, IsPermutation-sym, IsPermutation-trans, IsPermutation-cons, IsPermutation-map, IsPermutation-middle, IsPermutation-to_front}
+use Rattle.std.proofs.lemmas.Map.Lookups.{exact_signed}
+use Rattle.std.proofs.lemmas.Cmp.{int_cmp_total, tied_itself}
+use Rattle.sqlite_trees.proofs.ListLemmas.{all-append, all-flat_map, all_weaker}
+use Rattle.sqlite.specs.Effect.{Database}
+use Rattle.period_core.specs.Encoding.{IsColumnValue}
+use Rattle.period_core.proofs.EncodingOrder.{keeps_order}
+use Rattle.period_core.specs.Moments.{forever}
+use Rattle.period_core.specs.Order.{values_cmp}
+use Rattle.period_core.specs.declared.row.PeriodRow.{PeriodRow}
+use Rattle.period_core.specs.declared.version.VersionRow.{VersionRow}
+use Rattle.version_tables.specs.Represents.{Records, Represents, Version, version, same_key, closing, removed, ended, added, stored, with_clock}
+use Rattle.version_store.specs.Contents.{Contents, HaveColumnValues, TableVersion, added_in, same_version, version_in}
+use Rattle.version_store.specs.Changed.{added_at, closed_at, ended_at, is_ended, left_of, with_clock as clock_in}
+use Rattle.version_store.specs.Written.{Has, written, written_version}
+
+-- ---- keys
+
+-- the bytes of two keys are the same exactly where the keys are
+pub same_bytes : (k v : TableVersion) → All IsColumnValue k.values → All IsColumnValue v.values → same_key (written_version k) (written_version v) ≡ same_version k v
+same_bytes k v hk hv =
+    ap (λ o. (v.table == k.table) && (is_eq o && (is_eq (int_cmp v.start k.start) && is_eq (int_cmp v.from k.from)))) (keeps_order v.values k.values hv hk)
+
+equal : (o : Ordering) → is_eq o ≡ true → o ≡ Equal
+equal Less h = absurd cc
+equal Equal h = refl
+equal Greater h = absurd cc
+
+-- the same version began at the same moment
+same_from : (k v : TableVersion) → same_version k v ≡ true → v.from ≡ k.from
+same_from k v h =
+    let values = is_eq (values_cmp v.values k.values) in
+    let start = is_eq (int_cmp v.start k.start) in
+    let from = is_eq (int_cmp v.from k.from) in
+    let rest = and_parts (v.table == k.table) (values && (start && from)) h in
+    let last = and_parts start from (and_parts values (start && from) rest.1).1 in
+    exact_signed v.from k.from (equal (int_cmp v.from k.from) last.1)
+
+-- ---- one row that ends
+
+-- what is left of a version as one row ends
+abbrev pub step : TableVersion → ℤ → TableVersion → List TableVersion
+step k moment v = cond (same_version k v) (closed_at moment v) (v ∷ [])
+
+or_false : (b : Bool) → (b || false) ≡ b
+or_false true = refl
+or_false false = refl
+
+one_row : (table : ℕ) (moment : ℤ) (row : VersionRow) → left_of table moment (row ∷ []) ≡ step (version_in table row) moment
+one_row table moment row = fun_ext (λ v. ap (λ b. cond b (closed_at moment v) (v ∷ [])) (or_false (same_version (version_in table row) v)))
+
+module _ (k : TableVersion) (moment : ℤ) (hk : All IsColumnValue k.values) where
+  began_with : (v : TableVersion) → same_version k v ≡ true → is_eq (int_cmp v.from moment) ≡ is_eq (int_cmp k.from moment)
+  began_with v h = ap (λ m. is_eq (int_cmp m moment)) (same_from k v h)
+
+  taken : is_eq (int_cmp k.from moment) ≡ true → (vs : List TableVersion) → HaveColumnValues vs → map written_version (flat_map (step k moment) vs) ≡ filter (λ v. not (same_key (written_version k) v)) (map written_version vs)
+  taken began [] h = refl
+  taken began (v ∷ vs) h =
+      subst (λ b. map written_version (flat_map (step k moment) (v ∷ vs)) ≡ cond (not b) (written_version v ∷ filter (λ v. not (same_key (written_version k) v)) (map written_version vs)) (filter (λ v. not (same_key (written_version k) v)) (map written_version vs)))
+      (sym (same_bytes k v hk h.0))
+      (go (same_version k v) refl (taken began vs h.1))
+    where
+      go : (b : Bool) → same_version k v ≡ b → map written_version (flat_map (step k moment) vs) ≡ filter (λ v. not (same_key (written_version k) v)) (map written_version vs)
+          → map written_version (cond b (closed_at moment v) (v ∷ []) ++ flat_map (step k moment) vs) ≡ cond (not b) (written_version v ∷ filter (λ v. not (same_key (written_version k) v)) (map written_version vs)) (filter (λ v. not (same_key (written_version k) v)) (map written_version vs))
+      go true e more = rw (began_with v e ∙ began) more
+      go false e more = ap (λ l. written_version v ∷ l) more
+
+  ending : is_eq (int_cmp k.from moment) ≡ false → (vs : List TableVersion) → HaveColumnValues vs
+      → IsPermutation (map (closing moment) (filter (same_key (written_version k)) (map written_version vs)) ++ filter (λ v. not (same_key (written_version k) v)) (map written_version vs)) (map written_version (flat_map (step k moment) vs))
+  ending began [] h = IsPermutation-refl _
+  ending began (v ∷ vs) h =
+      let kept = filter (same_key (written_version k)) (map written_version vs) in
+      let others = filter (λ v. not (same_key (written_version k) v)) (map written_version vs) in
+      subst (λ b. IsPermutation (map (closing moment) (cond b (written_version v ∷ kept) kept) ++ cond (not b) (written_version v ∷ others) others) (map written_version (flat_map (step k moment) (v ∷ vs))))
+      (sym (same_bytes k v hk h.0))
+      (go (same_version k v) refl kept others (ending began vs h.1))
+    where
+      go : (b : Bool) → same_version k v ≡ b → (kept others : List Version) → IsPermutation (map (closing moment) kept ++ others) (map written_version (flat_map (step k moment) vs))
+          → IsPermutation (map (closing moment) (cond b (written_version v ∷ kept) kept) ++ cond (not b) (written_version v ∷ others) others) (map written_version (cond b (closed_at moment v) (v ∷ []) ++ flat_map (step k moment) vs))
+      go true e kept others more = rw (began_with v e ∙ began) (IsPermutation-cons (closing moment (written_version v)) _ _ more)
+      go false e kept others more = IsPermutation-trans _ _ _ (IsPermutation-middle (map (closing moment) kept) (written_version v) others) (IsPermutation-cons (written_version v) _ _ more)
+
+-- ---- values stay values
+
+closed_held : (moment : ℤ) (v : TableVersion) → All IsColumnValue v.values → HaveColumnValues (closed_at moment v)
+closed_held moment v h = go (is_eq (int_cmp v.from moment))
+  where
+    go : (b : Bool) → HaveColumnValues (cond b [] (record v { to = moment } ∷ []))
+    go true = tt
+    go false = (h, tt)
+
+left_held : (table : ℕ) (moment : ℤ) (rows : List VersionRow) (v : TableVersion) → All IsColumnValue v.values → HaveColumnValues (left_of table moment rows v)
+left_held table moment rows v h = go (is_ended table rows v)
+  where
+    go : (b : Bool) → HaveColumnValues (cond b (closed_at moment v) (v ∷ []))
+    go true = closed_held moment v h
+    go false = (h, tt)
+
+pub ended_held : (table : ℕ) (moment : ℤ) (rows : List VersionRow) (vs : List TableVersion) → HaveColumnValues vs → HaveColumnValues (flat_map (left_of table moment rows) vs)
+ended_held table moment rows vs h =
+    all-flat_map (λ (v : TableVersion). All IsColumnValue v.values) (left_of table moment rows) vs (all_weaker (λ (v : TableVersion). All IsColumnValue v.values) (λ v. HaveColumnValues (left_of table moment rows v)) (left_held table moment rows) vs h)
+
+-- ---- the database after one row
+
+-- the order of the versions does not matter
+pub permuted : (db : Database) (m : Records) (vs : List Version) → IsPermutation m.versions vs → Represents db m → Represents db (record m { versions = vs })
+permuted db m vs same was = record {
+  schema = was.schema;
+  says = record {
+    meta = was.says.meta;
+    tables = was.says.tables;
+    versions = IsPermutation-trans _ _ _ (IsPermutation-map stored _ _ (IsPermutation-sym _ _ same)) was.says.versions;
+  };
+  untied = was.untied;
+  keyed = was.keyed;
+}
+
+module _ (old new : Database) (table : ℕ) (moment : ℤ) (row : VersionRow) (values : All IsColumnValue row.values) where
+  abbrev key : TableVersion
+  key = version_in table row
+
+  pub row_taken : is_eq (int_cmp row.from moment) ≡ true → ((m : Records) → Represents old m → Represents new (removed (written_version key) m)) → (c : Contents) → Has old c → Has new (ended_at table moment (row ∷ []) c)
+  row_taken began made c was = record {
+    rows = subst (λ vs. Represents new (record (written c) { versions = vs }))
+        (sym (ap (λ f. map written_version (flat_map f c.versions)) (one_row table moment row) ∙ taken key moment values began c.versions was.values))
+        (made (written c) was.rows);
+    definitions = was.definitions;
+    values = ended_held table moment (row ∷ []) c.versions was.values;
+  }
+
+  pub row_ended : is_eq (int_cmp row.from moment) ≡ false → ((m : Records) → Represents old m → Represents new (ended (written_version key) moment m)) → (c : Contents) → Has old c → Has new (ended_at table moment (row ∷ []) c)
+  row_ended began made c was = record {
+    rows = subst (λ f. Represents new (record (written c) { versions = map written_version (flat_map f c.versions) })) (sym (one_row table moment row))
+        (permuted new (ended (written_version key) moment (written c)) _ (ending key moment values began c.versions was.values) (made (written c) was.rows));
+    definitions = was.definitions;
+    values = ended_held table moment (row ∷ []) c.versions was.values;
+  }
+
+module _ (old new : Database) (table : ℕ) (moment : ℤ) (row : PeriodRow) (values : All IsColumnValue row.values) where
+  abbrev new_version : TableVersion
+  new_version = added_in table moment forever row
+
+  pub row_added : ((m : Records) → Represents old m → Represents new (added (written_version new_version) m)) → (c : Contents) → Has old c → Has new (added_at table moment (row ∷ []) c)
+  row_added made c was = record {
+    rows = subst (λ vs. Represents new (record (written c) { versions = vs })) (sym (map-append written_version c.versions (new_version ∷ [])))
+        (permuted new (added (written_version new_version) (written c)) _ (IsPermutation-sym _ _ (IsPermutation-to_front (map written_version c.versions) (written_version new_version))) (made (written c) was.rows));
+    definitions = was.definitions;
+    values = all-append (λ (v : TableVersion). All IsColumnValue v.values) c.versions (new_version ∷ []) was.values (values, tt);
+  }
+
+-- the moments of a row and of a change
+pub same_moment : (a b : ℤ) → a ≡ b → is_eq (int_cmp a b) ≡ true
+same_moment a b e = rw e (ap is_eq (tied_itself int_cmp_total b))
+
+pub other_moment : (a b : ℤ) → (a ≡ b → ⊥) → is_eq (int_cmp a b) ≡ false
+other_moment a b apart = go (is_eq (int_cmp a b)) refl
+  where
+    go : (t : Bool) → is_eq (int_cmp a b) ≡ t → t ≡ false
+    go true e = absurd (apart (exact_signed a b (equal (int_cmp a b) e)))
+    go false e = refl
+
+-- a row's key by its parts
+module _ (old new : Database) (table : ℕ) (row : VersionRow) (n : ℕ) (bytes : List ℕ) (start from : ℤ) (is_table : n ≡ table) (are_bytes : bytes ≡ (written_version (version_in table row)).values) (is_start : start ≡ row.period.start) (is_from : from ≡ row.from) where
+  pub same_removed : ((m : Records) → Represents old m → Represents new (removed (version n bytes start start from from) m)) → (m : Records) → Represents old m → Represents new (removed (written_version (version_in table row)) m)
+  same_removed made = rw (is_table, are_bytes, is_start, is_from) at made
+
+module _ (old new : Database) (table : ℕ) (moment : ℤ) (row : VersionRow) (n : ℕ) (bytes : List ℕ) (start from to : ℤ) (is_table : n ≡ table) (are_bytes : bytes ≡ (written_version (version_in table row)).values) (is_start : start ≡ row.period.start) (is_from : from ≡ row.from) (is_to : to ≡ moment) where
+  pub same_ended : ((m : Records) → Represents old m → Represents new (ended (version n bytes start start from from) to m)) → (m : Records) → Represents old m → Represents new (ended (written_version (version_in table row)) moment m)
+  same_ended made = rw (is_table, are_bytes, is_start, is_from, is_to) at made
+
+-- the clock goes on
+pub clock_moved : (old new : Database) (moment n : ℤ) → n ≡ moment → ((m : Records) → Represents old m → Represents new (with_clock n m)) → (c : Contents) → Has old c → Has new (clock_in moment c)
+clock_moved old new moment n same made c was =
+    let rows = subst (λ k. (m : Records) → Represents old m → Represents new (with_clock k m)) same made in
+    record { rows = rows (written c) was.rows; definitions = was.definitions; values = was.values }
+
+-- a row's version by its parts
+module _ (old new : Database) (table : ℕ) (moment : ℤ) (row : PeriodRow) (n : ℕ) (bytes : List ℕ) (start end from to : ℤ) (is_table : n ≡ table) (are_bytes : bytes ≡ (written_version (added_in table moment forever row)).values) (is_start : start ≡ row.period.start) (is_end : end ≡ row.period.end) (is_from : from ≡ moment) (is_to : to ≡ forever) where
+  pub same_added : ((m : Records) → Represents old m → Represents new (added (version n bytes start end from to) m)) → (m : Records) → Represents old m → Represents new (added (written_version (added_in table moment forever row)) m)
+  same_added made = rw (is_table, are_bytes, is_start, is_end, is_from, is_to) at made
+
+-- ---- one row after others
+
+flat_twice : {A B C : Type 0} (g : B → List C) (f : A → List B) (xs : List A) → flat_map g (flat_map f xs) ≡ flat_map (λ x. flat_map g (f x)) xs
+flat_twice g f [] = refl
+flat_twice g f (x ∷ xs) = flat_map-append g (f x) (flat_map f xs) ∙ ap (λ l. flat_map g (f x) ++ l) (flat_twice g f xs)
+
+-- what is left of what is left
+left_again : (table : ℕ) (moment : ℤ) (rows : List VersionRow) (row : VersionRow) (v : TableVersion) (a : Bool) → flat_map (left_of table moment (row ∷ [])) (cond a (closed_at moment v) (v ∷ [])) ≡ cond (a || same_version (version_in table row) v) (closed_at moment v) (v ∷ [])
+left_again table moment rows row v true = began (is_eq (int_cmp v.from moment)) refl
+  where
+    ends : (b : Bool) → (cond (b || false) (record v { to = moment } ∷ []) (record v { to = moment } ∷ []) ++ []) ≡ record v { to = moment } ∷ []
+    ends true = refl
+    ends false = refl
+
+    began : (z : Bool) → is_eq (int_cmp v.from moment) ≡ z → flat_map (left_of table moment (row ∷ [])) (cond z [] (record v { to = moment } ∷ [])) ≡ cond z [] (record v { to = moment } ∷ [])
+    began true e = refl
+    began false e = rw e (ends (same_version (version_in table row) v))
+left_again table moment rows row v false = stays (same_version (version_in table row) v)
+  where
+    stays : (b : Bool) → (cond (b || false) (closed_at moment v) (v ∷ []) ++ []) ≡ cond b (closed_at moment v) (v ∷ [])
+    stays true = append-nil _
+    stays false = refl
+
+pub ended_more : (table : ℕ) (moment : ℤ) (rows : List VersionRow) (i : ℕ) (row : VersionRow) → i < length rows → row ≡ get_or rows i row → (c : Contents)
+    → ended_at table moment (row ∷ []) (ended_at table moment (take i rows) c) ≡ ended_at table moment (take (i + 1) rows) c
+ended_more table moment rows i row low is c =
+    ap (λ vs. record c { versions = vs }) (flat_twice (left_of table moment (row ∷ [])) (left_of table moment (take i rows)) c.versions ∙ ap (λ f. flat_map f c.versions) (fun_ext each))
+  where
+    each : (v : TableVersion) → flat_map (left_of table moment (row ∷ [])) (left_of table moment (take i rows) v) ≡ left_of table moment (take (i + 1) rows) v
+    each v =
+        let more = list_any_more (λ row. same_version (version_in table row) v) rows i row low in
+        let same = ap (λ row. same_version (version_in table row) v) is in
+        left_again table moment rows row v (is_ended table (take i rows) v)
+        ∙ ap (λ b. cond b (closed_at moment v) (v ∷ [])) (ap (λ b. is_ended table (take i rows) v || b) same ∙ sym more)
+
+pub added_more : (table : ℕ) (moment : ℤ) (rows : List PeriodRow) (i : ℕ) (row : PeriodRow) → i < length rows → row ≡ get_or rows i row → (c : Contents)
+    → added_at table moment (row ∷ []) (added_at table moment (take i rows) c) ≡ added_at table moment (take (i + 1) rows) c
+added_more table moment rows i row low is c =
+    let f = added_in table moment forever in
+    let more : take (i + 1) rows ≡ take i rows ++ row ∷ [] = take_more rows i row low ∙ ap (λ r. take i rows ++ r ∷ []) (sym is) in
+    ap (λ vs. record c { versions = vs }) (append_assoc c.versions (map f (take i rows)) (f row ∷ []) ∙ ap (λ l. c.versions ++ l) (sym (map-append f (take i rows) (row ∷ [])) ∙ ap (map f) (sym more)))
+
+pub none_ended : (table : ℕ) (moment : ℤ) (c : Contents) → ended_at table moment [] c ≡ c
+none_ended table moment c = ap (λ vs. record c { versions = vs }) (all_stay c.versions)
+  where
+    all_stay : (vs : List TableVersion) → flat_map (left_of table moment []) vs ≡ vs
+    all_stay [] = refl
+    all_stay (v ∷ vs) = ap (λ l. v ∷ l) (all_stay vs)
+
+pub none_added : (table : ℕ) (moment : ℤ) (c : Contents) → added_at table moment [] c ≡ c
+none_added table moment c = ap (λ vs. record c { versions = vs }) (append-nil c.versions)

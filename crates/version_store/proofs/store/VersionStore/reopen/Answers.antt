@@ -1,0 +1,18 @@
+use Rattle.std.proofs.Common.{Result, Ok, Err, sym, subst}
+use Rattle.std.specs.Prelude.{IfErr}
+use Rattle.sqlite.specs.Held.{Held, state}
+use Rattle.version_store.specs.Written.{Has}
+use Rattle.version_store.proofs.Keys.{keys_kept}
+use Rattle.version_store.proofs.Opens.{good_store}
+use Rattle.version_store.proofs.store.VersionStore.reopen.Goals as goal
+
+err_from : {X E : Type 0} (P Q R : E → Type 0) (r : Result X E) → ((e : E) → P e → Q e → R e) → IfErr r P → IfErr r Q → IfErr r R
+err_from P Q R (Ok x) h p q = tt
+err_from P Q R (Err e) h p q = h e p q
+
+pub returns-clause-kept : goal.returns-clause-kept
+returns-clause-kept g c =
+    err_from _ _ _ c.open.result (λ failed bad was usable d stands good is_bad.
+    let has = subst (λ (h : Held _). Has (state g.S.Store h).now d) (sym c.close-connection.ensures.same) stands.now in
+    let keys = keys_kept (state g.S.Store c.close-connection.result).now has.rows.schema (c.schema-live.ensures.live (was usable)).0 has.rows.untied has.rows.keyed in
+    (bad usable is_bad).1 (good_store (state g.S.Store c.close-connection.result).now d has keys good)) c.open.ensures.bad c.open.ensures.was_open

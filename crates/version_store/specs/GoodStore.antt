@@ -1,0 +1,100 @@
+-- Which databases are good stores, point by point.
+use Rattle.std.specs.Prelude.{◌≡◌, ◌≤◌, ◌+◌, ℤ, pos, true, false, List, [], ◌∷◌, ◌++◌}
+use Rattle.std.specs.Prelude.{length, Some}
+use Rattle.std.specs.List.{All, AllByRecursion}
+use Rattle.period_core.specs.Encoding.{IsColumnValue}
+use Rattle.catalog_core.specs.Limits.{most_tables}
+use Rattle.catalog_core.specs.table.TableWords.{table_of}
+use Rattle.catalog_core.specs.declared.table.TableDef.{TableDef}
+use Rattle.sqlite.specs.Effect.{Database}
+use Rattle.sqlite.specs.Order.{Row}
+use Rattle.sqlite.specs.Tree.{IsAscending}
+use Rattle.sqlite.specs.declared.types.Value.TheVariants.{Int, Blob}
+use Rattle.version_tables.specs.Good.{AreDays, AreMoments, IsClock, SayClock}
+use Rattle.version_tables.specs.Represents.{Says, stored}
+use Rattle.version_tables.specs.Tables.{store_schema}
+use Rattle.version_store.specs.Contents.{Contents, TableVersion, same_version}
+use Rattle.version_store.specs.Lawful.{IsLawful}
+use Rattle.version_store.specs.RowValues.{are_row_values}
+use Rattle.version_store.specs.Written.{IsReadable, written, written_table, written_version}
+
+-- the version's table is there, its values are those of a row of it, its period is one of days, its
+-- system time one of moments up to the clock
+pub record IsGoodVersion (tables : List TableDef) (clock : ℤ) (v : TableVersion) : Type 0 where
+  pub definition : TableDef
+  pub table : table_of tables v.table ≡ Some definition
+  pub values : are_row_values definition v.values ≡ true
+  pub held : All IsColumnValue v.values
+  pub days : AreDays v.start v.end
+  pub moments : AreMoments clock v.from v.to
+
+-- each definition is lawful over those before it
+abbrev pub AreLawful : List TableDef → List TableDef → Type 0
+AreLawful before [] = Unit {0}
+AreLawful before (d ∷ more) = IsLawful before d × AreLawful (before ++ d ∷ []) more
+
+-- the points that are judged; what keys and references ask of the contents is handed in
+pub record IsGoodStore (Constrained : Contents → Type 0) (db : Database) : Type 0 where
+  -- what it stands for: the rows of the three tables are those of these contents
+  pub contents : Contents
+  pub says : Says db (written contents)
+  -- 1: the three tables are there, as the store makes them and with no other beside them
+  pub tables_there : db.schema ≡ store_schema
+  -- 2: the one row of bt_meta has form 1, as `written` says, and a clock
+  pub clock : IsClock contents.clock
+  -- 3: the definitions are numbered from 1, as `written` says; they are at most 64, can be read,
+  -- and are lawful
+  pub few : length contents.tables ≤ most_tables
+  pub readable : AllByRecursion IsReadable contents.tables
+  pub lawful : AreLawful [] contents.tables
+  -- 4: each version
+  pub versions : AllByRecursion (IsGoodVersion contents.tables contents.clock) contents.versions
+  -- 5: no two versions have one key: table, values, period start, system start
+  pub distinct : IsAscending (λ (a b : TableVersion). same_version a b ≡ false) contents.versions
+  -- 6: keys and references
+  pub constrained : Constrained contents
+
+-- contents of which the points 2 to 4 and 6 hold: 5 holds of what a database has
+pub record AreGood (Constrained : Contents → Type 0) (c : Contents) : Type 0 where
+  pub clock : IsClock c.clock
+  pub few : length c.tables ≤ most_tables
+  pub lawful : AreLawful [] c.tables
+  pub versions : AllByRecursion (IsGoodVersion c.tables c.clock) c.versions
+  pub constrained : Constrained c
+
+-- no more is asked: the points 1 to 5 alone
+abbrev pub NothingMore : Contents → Type 0
+NothingMore c = Unit {0}
+
+-- ---- the same of the rows that the queries show
+
+-- a row of bt_table: the next number, and the bytes of a definition that may follow those before it
+pub record IsTableRow (before : List TableDef) (row : Row) (d : TableDef) : Type 0 where
+  pub spelled : row ≡ Int (pos (length before + 1)) ∷ Blob (written_table d) ∷ []
+  pub readable : IsReadable d
+  pub lawful : IsLawful before d
+
+-- the rows are those of the definitions, behind those before them
+abbrev pub AreTableRows : List TableDef → List Row → List TableDef → Type 0
+AreTableRows before [] [] = Unit {0}
+AreTableRows before [] (d ∷ more) = ⊥
+AreTableRows before (row ∷ rows) [] = ⊥
+AreTableRows before (row ∷ rows) (d ∷ more) =
+    IsTableRow before row d × AreTableRows (before ++ d ∷ []) rows more
+
+-- the rows of bt_table: those of at most 64 definitions
+pub record AreTables (rows : List Row) (tables : List TableDef) : Type 0 where
+  pub few : length rows ≤ most_tables
+  pub each : AreTableRows [] rows tables
+
+-- a row of bt_version: that of a good version
+abbrev pub SaysVersion : List TableDef → ℤ → Row → Type 0
+SaysVersion tables clock row =
+    (v : TableVersion) × (row ≡ stored (written_version v)) × IsGoodVersion tables clock v
+
+-- the rows of all three
+pub record SayRows (metas tables versions : List Row) (known : List TableDef) (clock : ℤ)
+    : Type 0 where
+  pub meta : SayClock metas clock
+  pub defined : AreTables tables known
+  pub each : AllByRecursion (SaysVersion known clock) versions

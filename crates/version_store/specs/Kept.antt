@@ -1,0 +1,60 @@
+-- What a store keeps in memory, and what it stands for.
+use Rattle.std.specs.Prelude.{◌≡◌, ◌⊎◌, ℤ, IsTrue, OnErr, OnOk, Result, refl}
+use Rattle.std.specs.Coded.{Coded, code_by, coded×, coded_ℤ}
+use Rattle.catalog_core.specs.contracts.table.catalog.Catalog.{the_row}
+use Rattle.catalog_core.specs.declared.table.catalog.Catalog.{Catalog}
+use Rattle.period_core.specs.declared.refusal.Refusal.{Refusal}
+use Rattle.period_core.specs.declared.refusal.Refusal.TheVariants.{BadStore, Memory, Store}
+use Rattle.sqlite.specs.Store.{Ghosts}
+use Rattle.sqlite.specs.State.{HasCleanDisk}
+use Rattle.sqlite.specs.Held.{Held, held_code, state}
+use Rattle.sqlite.specs.Schema.{Schema}
+use Rattle.version_tables.specs.Presence.{AreAllThere}
+use Rattle.version_tables.specs.Tables.{store_schema}
+use Rattle.version_store.specs.Contents.{Contents}
+use Rattle.version_store.specs.Written.{Has}
+
+-- the connection, the tables, the clock
+pub record Kept (S : Type 0) : Type 0 where
+  pub connection : Held S
+  pub catalog : Catalog
+  pub clock : ℤ
+
+abbrev pub kept_code : {S : Type 0} → Coded S → Coded (Kept S)
+kept_code {S} store =
+    code_by (Held S × (Catalog × ℤ)) (coded× (held_code store) (coded× the_row.coded coded_ℤ))
+    (λ k. (k.connection, (k.catalog, k.clock)))
+    (λ p. record { connection = p.0; catalog = p.1.0; clock = p.1.1 })
+    (λ _. refl)
+
+-- so far the disk has returned what was written, and no failure has shut the connection: a store in
+-- memory is always so
+abbrev pub IsUsable : {S : Type 0} → Ghosts S → Held S → Type 0
+IsUsable g connection = HasCleanDisk (state g connection) × IsTrue (state g connection).is_open
+
+-- the database has these contents, as they were last committed, and so has what is kept in memory
+pub record StandsFor {S : Type 0} (g : Ghosts S) (store : Kept S) (c : Contents) : Type 0 where
+  pub now : Has (state g store.connection).now c
+  pub committed : (state g store.connection).committed ≡ (state g store.connection).now
+  pub catalog : store.catalog.tables ≡ c.tables
+  pub clock : store.clock ≡ c.clock
+
+-- whatever the store stood for, it stands for that changed on Ok, and for the same on Err
+abbrev pub Changes : {S X : Type 0} → Ghosts S → Kept S → Kept S → Result X Refusal
+    → (Contents → Contents) → Type 0
+Changes g old new result change =
+    IsUsable g new.connection → (c : Contents) → StandsFor g old c
+    → OnOk result (StandsFor g new (change c)) × OnErr result (StandsFor g new c)
+
+-- out of memory, or another failure of the database
+abbrev pub IsStoreRefusal : Refusal → Type 0
+IsStoreRefusal refusal = (refusal ≡ Memory) ⊎ (refusal ≡ Store)
+
+-- why a store is not opened: it is no good one, or one of those
+abbrev pub IsOpenRefusal : Refusal → Type 0
+IsOpenRefusal refusal = (refusal ≡ BadStore) ⊎ IsStoreRefusal refusal
+
+-- the three tables, where all of them are there, are as the store makes them, and no other is
+-- beside them
+abbrev pub IsOurs : Schema → Type 0
+IsOurs schema = AreAllThere schema → schema ≡ store_schema

@@ -1,0 +1,69 @@
+//! A store that is there, judged.
+
+ghost use Rattle.std.specs.Prelude.{◌≡◌, false, IfErr, IfOk, IsTrue};
+ghost use Rattle.period_core.specs.declared.refusal.Refusal.TheVariants.{BadStore};
+ghost use Rattle.sqlite.specs.Held.{state};
+ghost use Rattle.sqlite.specs.State.{HasCleanDisk};
+ghost use Rattle.version_tables.specs.Steps.{Keeps};
+ghost use Rattle.version_tables.specs.Tables.{store_schema};
+ghost use Rattle.version_store.specs.GoodStore.{IsGoodStore, NothingMore};
+ghost use Rattle.version_store.specs.Kept.{IsOpenRefusal};
+ghost use Rattle.version_store.specs.Written.{Has};
+
+use crate::judging::judge_rows;
+use crate::refused::refusal_of;
+use catalog_core::Catalog;
+use period_core::{Moment, Refusal};
+use sqlite::Connection;
+use sqlite_trees::store::Alter;
+use std::alloc::Global;
+use version_tables::{are_numbered, are_rising, meta_rows, rowids, table_rows, version_rows};
+
+/// Judges a store that is there. On `Ok` it has its tables and its clock.
+pub(crate) fn inspect<S: Alter>(
+    alloc: Global,
+    connection: &mut Connection<S>,
+) -> Result<(Catalog, Moment), Refusal>
+    requires { connection.old.in_transaction ≡ false }
+    ensures good { HasCleanDisk (state S.Store connection.new)
+        → IsTrue (state S.Store connection.new).is_open
+        → (state S.Store connection.old).now.schema ≡ store_schema
+        → IfOk result (λ found.
+        (good : IsGoodStore NothingMore (state S.Store connection.old).now)
+        × Has (state S.Store connection.old).now good.contents
+        × (good.contents.tables ≡ found.0.tables) × (good.contents.clock ≡ found.1)) }
+    ensures bad { HasCleanDisk (state S.Store connection.new)
+        → IsTrue (state S.Store connection.new).is_open
+        → (state S.Store connection.old).now.schema ≡ store_schema
+        → IfErr result (λ refusal. refusal ≡ BadStore
+        → ¬ IsGoodStore NothingMore (state S.Store connection.old).now) }
+    ensures same { HasCleanDisk (state S.Store connection.new)
+        → Keeps (state S.Store connection.old) (state S.Store connection.new) }
+    ensures mode { connection.new.in_transaction ≡ false }
+    ensures named { IfErr result IsOpenRefusal }
+{
+    let _live = connection.schema();
+    let metas = match meta_rows(connection) {
+        Ok(rows) => rows,
+        Err(error) => return Err(refusal_of(&error)),
+    };
+    let tables = match table_rows(connection) {
+        Ok(rows) => rows,
+        Err(error) => return Err(refusal_of(&error)),
+    };
+    let versions = match version_rows(connection) {
+        Ok(rows) => rows,
+        Err(error) => return Err(refusal_of(&error)),
+    };
+    let ids = match rowids(connection) {
+        Ok(rows) => rows,
+        Err(error) => return Err(refusal_of(&error)),
+    };
+    if !are_numbered(&ids) {
+        return Err(Refusal::Store);
+    }
+    if !are_rising(&ids) {
+        return Err(Refusal::Store);
+    }
+    judge_rows(alloc, &metas, &tables, &versions)
+}

@@ -1,0 +1,258 @@
+//! The store: what is kept in memory over a connection.
+
+ghost use Rattle.std.specs.Prelude.{◌≡◌, ◌≢◌, ◌⊎◌, ◌<◌, ◌<ℤ◌, ◌≤ℤ◌, ◌++◌, ◌∷◌, [], List};
+ghost use Rattle.std.specs.Prelude.{IfErr, IfOk, IsTrue, false, length, true};
+ghost use Rattle.catalog_core.specs.Limits.{most_tables};
+ghost use Rattle.catalog_core.specs.table.TableWords.{has_date_period, has_distinct_names};
+ghost use Rattle.catalog_core.specs.declared.table.TableDef.{TableDef};
+ghost use Rattle.period_core.specs.Moments.{forever};
+ghost use Rattle.sqlite.specs.Held.{state};
+ghost use Rattle.period_core.specs.declared.refusal.Refusal.TheVariants.{BadStore};
+ghost use Rattle.version_tables.specs.Presence.{IsNoneThere};
+ghost use Rattle.version_tables.specs.Steps.{IsAsBefore};
+ghost use Rattle.version_tables.specs.Tables.{no_schema};
+ghost use Rattle.version_store.specs.Changed.{planned, with_clock, with_table};
+ghost use Rattle.version_store.specs.Contents.{AreRowsOf, Contents, empty_contents};
+ghost use Rattle.version_store.specs.GoodStore.{AreGood, IsGoodStore, NothingMore};
+ghost use Rattle.version_store.specs.Kept.{Changes, IsOpenRefusal, IsOurs, IsStoreRefusal};
+ghost use Rattle.version_store.specs.Kept.{IsUsable, StandsFor};
+ghost use Rattle.version_store.specs.Written.{Has};
+
+use crate::inspecting::inspect;
+use crate::plan::Plan;
+use crate::reading::table_rows;
+use crate::refused::refusal_of;
+use crate::writing::{write_clock, write_plan, write_table};
+use catalog_core::{Catalog, TableDef, encode_def};
+use period_core::{Items, Moment, Refusal, VersionRow};
+use sqlite::Connection;
+use sqlite_trees::store::Alter;
+use std::alloc::Global;
+use std::marker::Model;
+use std::mem;
+use version_tables::{Presence, create, tables_there};
+
+/// The form of the three tables.
+const FORM: i64 = 1;
+
+/// The tables' definitions, the clock and the version rows in a database. The definitions and the
+/// clock are kept in memory too. No transaction is open on its connection.
+#[derive(Drop)]
+pub struct VersionStore<S: Alter> {
+    connection: Connection<S>,
+    catalog: Catalog,
+    clock: Moment,
+}
+
+impl<S: Alter> Model for VersionStore<S> {
+    ghost use Rattle.std.specs.Prelude.{◌≡◌, false};
+    ghost use Rattle.version_store.specs.Kept.{Kept, kept_code};
+
+    ghost Value = { Kept S };
+
+    ghost coded = { kept_code S.code };
+
+    ghost view = { λ s.
+        record { connection = s.connection; catalog = s.catalog; clock = s.clock } };
+
+    ghost invariant = { λ s. s.connection.in_transaction ≡ false };
+}
+
+/// Removes the last table of a catalog.
+fn take_last(alloc: Global, catalog: &mut Catalog)
+    ensures { (tables : List TableDef) (last : TableDef)
+        → catalog.old.tables ≡ tables ++ last ∷ [] → catalog.new.tables ≡ tables }
+{
+    let mut tables = mem::replace(&mut catalog.tables, Items::empty(alloc)).into_vec();
+    let _last = tables.pop();
+    catalog.tables = Items::from_vec(tables);
+}
+
+impl<S: Alter> VersionStore<S> {
+    /// Makes the store's tables in a database that has none of them, in one transaction: a store
+    /// without tables, whose clock is the first moment. On `Err` nothing is changed, the connection
+    /// is handed back, and no transaction is open on it.
+    pub fn create(
+        alloc: Global,
+        mut connection: Connection<S>,
+    ) -> Result<VersionStore<S>, (Refusal, Connection<S>)>
+        requires { connection.in_transaction ≡ false }
+        ensures fresh { IfOk result (λ store. IsUsable S.Store store.connection
+            → (state S.Store connection).now.schema ≡ no_schema
+            → StandsFor S.Store store empty_contents) }
+        ensures none { IfErr result (λ failed. IsUsable S.Store failed.1
+            → IsAsBefore (state S.Store connection) (state S.Store failed.1)) }
+        ensures was_open { IfErr result (λ failed. IsUsable S.Store failed.1
+            → IsTrue (state S.Store connection).is_open) }
+        ensures settled { IfErr result (λ failed. failed.1.in_transaction ≡ false) }
+        ensures named { IfErr result (λ failed. IsStoreRefusal failed.0) }
+    {
+        match create(&mut connection, FORM, Moment::first().number()) {
+            Ok(()) => Ok(VersionStore {
+                connection,
+                catalog: Catalog::new(alloc),
+                clock: Moment::first(),
+            }),
+            Err(error) => Err((refusal_of(&error), connection)),
+        }
+    }
+
+    /// Opens a store. In a database that has none of the three tables they are made, as by
+    /// `create`. Where all three are there, the store is accepted exactly if it is a good one; what
+    /// it holds is then as it was closed. Of three tables that are not as the store makes them, or
+    /// have other tables beside them, no more is said than that a refusal changes nothing. On `Err`
+    /// nothing is changed, the connection is handed back, and no transaction is open on it.
+    pub fn open(
+        alloc: Global,
+        mut connection: Connection<S>,
+    ) -> Result<VersionStore<S>, (Refusal, Connection<S>)>
+        requires { connection.in_transaction ≡ false }
+        ensures fresh { IfOk result (λ store. IsUsable S.Store store.connection
+            → (state S.Store connection).now.schema ≡ no_schema
+            → StandsFor S.Store store empty_contents) }
+        ensures good { IfOk result (λ store. IsUsable S.Store store.connection
+            → IsOurs (state S.Store connection).now.schema
+            → IsNoneThere (state S.Store connection).now.schema
+            ⊎ ((good : IsGoodStore NothingMore (state S.Store connection).now)
+            × StandsFor S.Store store good.contents)) }
+        ensures same { IfOk result (λ store. IsUsable S.Store store.connection
+            → (c : Contents) → Has (state S.Store connection).now c → StandsFor S.Store store c) }
+        ensures bad { IfErr result (λ failed. IsUsable S.Store failed.1 → failed.0 ≡ BadStore
+            → (¬ IsNoneThere (state S.Store connection).now.schema)
+            × ¬ IsGoodStore NothingMore (state S.Store connection).now) }
+        ensures none { IfErr result (λ failed. IsUsable S.Store failed.1
+            → IsAsBefore (state S.Store connection) (state S.Store failed.1)) }
+        ensures was_open { IfErr result (λ failed. IsUsable S.Store failed.1
+            → IsTrue (state S.Store connection).is_open) }
+        ensures settled { IfErr result (λ failed. failed.1.in_transaction ≡ false) }
+        ensures named { IfErr result (λ failed. IsOpenRefusal failed.0) }
+    {
+        let _settled = connection.is_autocommit();
+        match tables_there(&connection) {
+            Presence::Missing => VersionStore::create(alloc, connection),
+            Presence::Partial => Err((Refusal::BadStore, connection)),
+            Presence::Whole => match inspect(alloc, &mut connection) {
+                Ok((catalog, clock)) => Ok(VersionStore {
+                    connection,
+                    catalog,
+                    clock,
+                }),
+                Err(refusal) => Err((refusal, connection)),
+            },
+        }
+    }
+
+    /// Closes the store and opens it again, with the same tables, clock and versions. A store whose
+    /// contents are good is not refused as a bad one.
+    pub fn reopen(self, alloc: Global) -> Result<VersionStore<S>, (Refusal, Connection<S>)>
+        ensures same { IfOk result (λ store. IsUsable S.Store store.connection
+            → (c : Contents) → StandsFor S.Store self c → StandsFor S.Store store c) }
+        ensures kept { IfErr result (λ failed. IsUsable S.Store failed.1
+            → (c : Contents) → StandsFor S.Store self c → AreGood NothingMore c
+            → failed.0 ≢ BadStore) }
+    {
+        let connection = self.close();
+        let _live = connection.schema();
+        VersionStore::open(alloc, connection)
+    }
+
+    /// The connection, on which no transaction is open.
+    pub fn close(self) -> Connection<S>
+        ensures same { result ≡ self.connection }
+        ensures settled { result.in_transaction ≡ false }
+    {
+        let VersionStore {
+            connection,
+            catalog: _,
+            clock: _,
+        } = self;
+        connection
+    }
+
+    /// The tables.
+    pub fn catalog(&self) -> &Catalog
+        ensures { result.now ≡ self.now.catalog }
+    {
+        &self.catalog
+    }
+
+    /// The clock: the moment of the last change, or of its last advance.
+    pub fn clock(&self) -> Moment
+        ensures { result ≡ self.now.clock }
+    {
+        self.clock
+    }
+
+    /// Adds a table to fewer than 64; its number is then the number of tables. Its application
+    /// period is over two different DATE columns, and no two of its columns share a name. On `Err`
+    /// nothing is changed.
+    pub fn add_table(&mut self, alloc: Global, definition: TableDef) -> Result<(), Refusal>
+        requires room { length self.old.catalog.tables < most_tables }
+        requires dated { has_date_period definition ≡ true }
+        requires distinct { has_distinct_names definition ≡ true }
+        ensures changes { Changes S.Store self.old self.new result (with_table definition) }
+        ensures named { IfErr result IsStoreRefusal }
+    {
+        let Ok(bytes) = encode_def(alloc, &definition) else {
+            return Err(Refusal::Memory);
+        };
+        let number = self.catalog.len() as u32 + 1;
+        let Ok(()) = self.catalog.push(definition) else {
+            return Err(Refusal::Memory);
+        };
+        match write_table(&mut self.connection, number, bytes.as_slice()) {
+            Ok(()) => Ok(()),
+            Err(refusal) => {
+                take_last(alloc, &mut self.catalog);
+                Err(refusal)
+            }
+        }
+    }
+
+    /// Sets the clock to a moment that is not before it, and before FOREVER. On `Err` nothing is
+    /// changed.
+    pub fn advance(&mut self, moment: Moment) -> Result<(), Refusal>
+        requires later { self.old.clock ≤ℤ moment }
+        requires before_the_end { moment <ℤ forever }
+        ensures changes { Changes S.Store self.old self.new result (with_clock moment) }
+        ensures named { IfErr result IsStoreRefusal }
+    {
+        match write_clock(&mut self.connection, moment) {
+            Ok(()) => {
+                self.clock = moment;
+                Ok(())
+            }
+            Err(refusal) => Err(refusal),
+        }
+    }
+
+    /// Makes what a plan says of the table of a number at a moment: its ended rows are closed then,
+    /// or removed where they began then, and its added rows are recorded from then on. On `Err`
+    /// nothing is changed.
+    pub fn apply(
+        &mut self,
+        alloc: Global,
+        table: u8,
+        moment: Moment,
+        plan: &Plan,
+    ) -> Result<(), Refusal>
+        ensures changes { Changes S.Store self.old self.new result
+            (planned table moment plan.now.ended.items plan.now.added.items) }
+        ensures named { IfErr result IsStoreRefusal }
+    {
+        write_plan(alloc, &mut self.connection, table, moment, plan)
+    }
+
+    /// The version rows of the table of a number, by values, then period start, then system start.
+    /// Nothing is changed.
+    pub fn rows(&mut self, alloc: Global, table: u8) -> Result<Vec<VersionRow>, Refusal>
+        ensures rows { IsUsable S.Store self.new.connection
+            → (c : Contents) → StandsFor S.Store self.old c
+            → IfOk result (λ rows. AreRowsOf c table rows.items) }
+        ensures same { IsUsable S.Store self.new.connection
+            → (c : Contents) → StandsFor S.Store self.old c → StandsFor S.Store self.new c }
+        ensures named { IfErr result IsStoreRefusal }
+    {
+        table_rows(alloc, &mut self.connection, table)
+    }
+}

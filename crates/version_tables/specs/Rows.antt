@@ -1,0 +1,38 @@
+-- What the rows that a query answers are read as.
+use Rattle.std.specs.Prelude.{◌≡◌, true, ℕ, ◌<◌, ℤ, List, [], ◌+◌, map, length, slice_index_or}
+use Rattle.std.specs.Prelude.{IsPermutation, IsSorted}
+use Rattle.std.specs.declared.cmp.Ordering.{Ordering}
+use Rattle.std.specs.declared.cmp.Ordering.TheVariants.{Less}
+use Rattle.sqlite.specs.View.{is_int}
+use Rattle.sqlite_value.specs.Order.{column, value_cmp}
+use Rattle.sqlite.specs.Tree.{rowid}
+use Rattle.sqlite.specs.declared.types.Value.TheVariants.{Int, Blob}
+use Rattle.sqlite.specs.Order.{Row}
+
+-- the row has this integer at the place
+abbrev pub IsNumberAt : Row → ℕ → ℤ → Type 0
+IsNumberAt row at n = (at < length row) × (column row at ≡ Int n)
+
+-- the row has these bytes at the place
+abbrev pub AreBytesAt : Row → ℕ → List ℕ → Type 0
+AreBytesAt row at b = (at < length row) × (column row at ≡ Blob b)
+
+-- what is shown of a table's rows, each once, in an order that ORDER BY allows
+abbrev pub InOrder : (Row → Row) → (Row → Row → Ordering) → List Row → List Row → Type 0
+InOrder show cmp tree rows =
+    (to : List Row) × IsPermutation tree to × (rows ≡ map show to) × IsSorted cmp to
+
+-- by the rowid, which is a row's first value
+abbrev pub by_rowid : Row → Row → Ordering
+by_rowid a b = value_cmp (rowid a) (rowid b)
+
+-- each row begins with an integer
+abbrev pub AreNumbered : List Row → Type 0
+AreNumbered rows =
+    (k : ℕ) → k < length rows → is_int (rowid (slice_index_or rows k [])) ≡ true
+
+-- each row begins with a greater value than the row before it
+abbrev pub AreRising : List Row → Type 0
+AreRising rows =
+    (k : ℕ) → k + 1 < length rows
+    → by_rowid (slice_index_or rows k []) (slice_index_or rows (k + 1) []) ≡ Less

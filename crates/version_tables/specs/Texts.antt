@@ -1,0 +1,58 @@
+-- The texts that the store runs. The numbers ?1, ?2, .. are their parameters.
+use Rattle.std.specs.Prelude.{◌++◌, ℕ, List, codes}
+
+-- ---- the three tables, and the row of bt_meta
+
+abbrev pub meta_text : List ℕ
+meta_text =
+    codes "CREATE TABLE bt_meta (id INTEGER PRIMARY KEY, form INTEGER NOT NULL, "
+    ++ codes "clock INTEGER NOT NULL) STRICT"
+
+abbrev pub table_text : List ℕ
+table_text = codes "CREATE TABLE bt_table (id INTEGER PRIMARY KEY, def BLOB NOT NULL) STRICT"
+
+abbrev pub version_text : List ℕ
+version_text =
+    codes "CREATE TABLE bt_version (tab INTEGER NOT NULL, vals BLOB NOT NULL, "
+    ++ codes "s INTEGER NOT NULL, e INTEGER NOT NULL, ss INTEGER NOT NULL, "
+    ++ codes "se INTEGER NOT NULL, PRIMARY KEY (tab, vals, s, ss)) STRICT"
+
+abbrev pub begin_text : List ℕ
+begin_text = codes "INSERT INTO bt_meta (id, form, clock) VALUES (1, ?1, ?2)"
+
+-- ---- the changes
+
+abbrev pub insert_text : List ℕ
+insert_text =
+    codes "INSERT INTO bt_version (tab, vals, s, e, ss, se) VALUES (?1, ?2, ?3, ?4, ?5, ?6)"
+
+abbrev pub delete_text : List ℕ
+delete_text = codes "DELETE FROM bt_version WHERE tab = ?1 AND vals = ?2 AND s = ?3 AND ss = ?4"
+
+abbrev pub update_text : List ℕ
+update_text =
+    codes "UPDATE bt_version SET se = ?5 WHERE tab = ?1 AND vals = ?2 AND s = ?3 AND ss = ?4"
+
+abbrev pub define_text : List ℕ
+define_text = codes "INSERT INTO bt_table (id, def) VALUES (?1, ?2)"
+
+abbrev pub clock_text : List ℕ
+clock_text = codes "UPDATE bt_meta SET clock = ?1"
+
+-- ---- the queries
+
+abbrev pub select_text : List ℕ
+select_text = codes "SELECT vals, s, e, ss, se FROM bt_version WHERE tab = ?1 ORDER BY vals, s, ss"
+
+abbrev pub meta_rows_text : List ℕ
+meta_rows_text = codes "SELECT id, form, clock FROM bt_meta ORDER BY id"
+
+abbrev pub table_rows_text : List ℕ
+table_rows_text = codes "SELECT id, def FROM bt_table ORDER BY id"
+
+abbrev pub version_rows_text : List ℕ
+version_rows_text =
+    codes "SELECT tab, vals, s, e, ss, se FROM bt_version ORDER BY tab, vals, s, ss"
+
+abbrev pub rowids_text : List ℕ
+rowids_text = codes "SELECT rowid FROM bt_version ORDER BY rowid"

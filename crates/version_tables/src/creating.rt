@@ -1,0 +1,95 @@
+//! The three tables and the row of bt_meta, made in one transaction.
+
+ghost use Rattle.std.specs.Prelude.{◌≡◌, false, IsTrue, OnErr, OnOk};
+ghost use Rattle.sqlite.specs.State.{HasCleanDisk};
+ghost use Rattle.sqlite.specs.Held.{state};
+ghost use Rattle.version_tables.specs.Represents.{HasTables, Represents, begun};
+ghost use Rattle.version_tables.specs.Steps.{CommitsNothing, IsAsBefore, Turns};
+ghost use Rattle.version_tables.specs.Tables.{def_schema, meta_schema, no_schema, store_schema};
+
+use sqlite::{Alter, Connection, Error, Transaction, params};
+
+/// Makes the table of the form and the clock.
+fn create_meta<S: Alter>(transaction: &mut Transaction<'_, S>) -> Result<usize, Error>
+    ensures same_reference { transaction.new.conn.ghost_name ≡ transaction.old.conn.ghost_name }
+    ensures made { Turns S.Store transaction.old.conn.now transaction.new.conn.now result
+        (HasTables no_schema 0) (HasTables meta_schema 1) }
+    ensures inside { CommitsNothing S.Store transaction.old.conn.now transaction.new.conn.now }
+{
+    transaction.execute(
+        "CREATE TABLE bt_meta (id INTEGER PRIMARY KEY, form INTEGER NOT NULL, \
+         clock INTEGER NOT NULL) STRICT",
+        &[],
+    )
+}
+
+/// Makes the table of the definitions.
+fn create_defs<S: Alter>(transaction: &mut Transaction<'_, S>) -> Result<usize, Error>
+    ensures same_reference { transaction.new.conn.ghost_name ≡ transaction.old.conn.ghost_name }
+    ensures made { Turns S.Store transaction.old.conn.now transaction.new.conn.now result
+        (HasTables meta_schema 1) (HasTables def_schema 2) }
+    ensures inside { CommitsNothing S.Store transaction.old.conn.now transaction.new.conn.now }
+{
+    transaction.execute(
+        "CREATE TABLE bt_table (id INTEGER PRIMARY KEY, def BLOB NOT NULL) STRICT",
+        &[],
+    )
+}
+
+/// Makes the table of the versions.
+fn create_versions<S: Alter>(transaction: &mut Transaction<'_, S>) -> Result<usize, Error>
+    ensures same_reference { transaction.new.conn.ghost_name ≡ transaction.old.conn.ghost_name }
+    ensures made { Turns S.Store transaction.old.conn.now transaction.new.conn.now result
+        (HasTables def_schema 2) (HasTables store_schema 3) }
+    ensures inside { CommitsNothing S.Store transaction.old.conn.now transaction.new.conn.now }
+{
+    transaction.execute(
+        "CREATE TABLE bt_version (tab INTEGER NOT NULL, vals BLOB NOT NULL, \
+         s INTEGER NOT NULL, e INTEGER NOT NULL, ss INTEGER NOT NULL, \
+         se INTEGER NOT NULL, PRIMARY KEY (tab, vals, s, ss)) STRICT",
+        &[],
+    )
+}
+
+/// Adds the row of the form and the clock.
+fn insert_meta<S: Alter>(
+    transaction: &mut Transaction<'_, S>,
+    form: i64,
+    clock: i64,
+) -> Result<usize, Error>
+    ensures same_reference { transaction.new.conn.ghost_name ≡ transaction.old.conn.ghost_name }
+    ensures made { Turns S.Store transaction.old.conn.now transaction.new.conn.now result
+        (HasTables store_schema 3) (λ db. Represents db (begun form clock)) }
+    ensures inside { CommitsNothing S.Store transaction.old.conn.now transaction.new.conn.now }
+{
+    transaction.execute(
+        "INSERT INTO bt_meta (id, form, clock) VALUES (1, ?1, ?2)",
+        params![form, clock],
+    )
+}
+
+/// Makes the three tables, with this form and this clock (a moment's number), in one transaction.
+/// On `Err` nothing is changed, and no transaction is open. What the tables stand for is said where
+/// the database had no table at all.
+pub fn create<S: Alter>(connection: &mut Connection<S>, form: i64, clock: i64) -> Result<(), Error>
+    requires { connection.old.in_transaction ≡ false }
+    ensures made { HasCleanDisk (state S.Store connection.new)
+        → (state S.Store connection.old).now.schema ≡ no_schema
+        → OnOk result (Represents (state S.Store connection.new).now (begun form clock)
+        × ((state S.Store connection.new).committed ≡ (state S.Store connection.new).now)) }
+    ensures none { HasCleanDisk (state S.Store connection.new)
+        → IsTrue (state S.Store connection.new).is_open
+        → OnErr result (IsAsBefore (state S.Store connection.old) (state S.Store connection.new)) }
+    ensures was_open { HasCleanDisk (state S.Store connection.new)
+        → IsTrue (state S.Store connection.new).is_open
+        → OnErr result (IsTrue (state S.Store connection.old).is_open) }
+    ensures mode { connection.new.in_transaction ≡ false }
+{
+    let _settled = connection.is_autocommit();
+    let mut transaction = connection.transaction();
+    create_meta(&mut transaction)?;
+    create_defs(&mut transaction)?;
+    create_versions(&mut transaction)?;
+    insert_meta(&mut transaction, form, clock)?;
+    transaction.commit()
+}

@@ -1,0 +1,184 @@
+//! The tests of the rows that the queries answer: by their kinds and numbers, and not by what their
+//! bytes are.
+
+ghost use Rattle.std.specs.Prelude.{◌≡◌, ◌↔◌, ◌∷◌, [], ℤ, IsTrue, MatchOption};
+ghost use Rattle.std.specs.declared.cmp.Ordering.{Ordering};
+ghost use Rattle.period_core.specs.Calendar.{IsDayNumber};
+ghost use Rattle.period_core.specs.Moments.{IsMomentNumber};
+ghost use Rattle.version_tables.specs.Good.{AreDays, AreMoments, IsClock, IsDefinition, IsKnown};
+ghost use Rattle.version_tables.specs.Good.{IsPast, SayClock, SaysVersion};
+ghost use Rattle.version_tables.specs.Rows.{AreNumbered, AreRising, by_rowid};
+
+use crate::columns::{bytes_at, number_at};
+use period_core::{Day, Moment};
+use sqlite::Row;
+
+fn is_clock(moment: i64) -> bool
+    ensures { IsTrue result ↔ IsClock moment }
+{
+    moment >= Moment::first().number() && moment < Moment::forever().number()
+}
+
+/// The clock, if the row is one of bt_meta with form 1 and a clock.
+fn clock_in(row: &Row) -> Option<i64>
+    ensures { MatchOption result
+        (¬ ((clock : ℤ) × SayClock (row.now ∷ []) clock)) (SayClock (row.now ∷ [])) }
+{
+    if row.column_count() != 3 {
+        return None;
+    }
+    let id = number_at(row, 0)?;
+    let form = number_at(row, 1)?;
+    let clock = number_at(row, 2)?;
+    if id == 1 && form == 1 && is_clock(clock) {
+        Some(clock)
+    } else {
+        None
+    }
+}
+
+/// The clock, a moment's number, if the rows are those of a good bt_meta: one row, whose number and
+/// form are 1 and whose clock is a moment below FOREVER.
+pub fn clock_of(rows: &[Row]) -> Option<i64>
+    ensures { MatchOption result
+        (¬ ((clock : ℤ) × SayClock rows.now clock)) (SayClock rows.now) }
+{
+    match rows {
+        [row] => clock_in(row),
+        _ => None,
+    }
+}
+
+/// Whether the row is one of bt_table with this number and some bytes.
+pub fn is_definition(row: &Row, id: u32) -> bool
+    ensures { IsTrue result ↔ IsDefinition id row.now }
+{
+    if row.column_count() != 2 {
+        return false;
+    }
+    let Some(number) = number_at(row, 0) else {
+        return false;
+    };
+    let Some(_bytes) = bytes_at(row, 1) else {
+        return false;
+    };
+    number == i64::from(id)
+}
+
+fn is_known(table: i64, tables: u32) -> bool
+    ensures { IsTrue result ↔ IsKnown tables table }
+{
+    table > 0 && table <= i64::from(tables)
+}
+
+fn is_day(number: i64) -> bool
+    ensures { IsTrue result ↔ IsDayNumber number }
+{
+    match i32::try_from(number) {
+        Ok(number) => Day::new(number).is_some(),
+        Err(_) => false,
+    }
+}
+
+fn are_days(start: i64, end: i64) -> bool
+    ensures { IsTrue result ↔ AreDays start end }
+{
+    is_day(start) && is_day(end) && start < end
+}
+
+fn is_moment(number: i64) -> bool
+    ensures { IsTrue result ↔ IsMomentNumber number }
+{
+    Moment::new(number).is_some()
+}
+
+fn is_past(from: i64, to: i64, clock: i64) -> bool
+    ensures { IsTrue result ↔ IsPast clock from to }
+{
+    from <= clock && (to <= clock || to == Moment::forever().number())
+}
+
+fn are_moments(from: i64, to: i64, clock: i64) -> bool
+    ensures { IsTrue result ↔ AreMoments clock from to }
+{
+    if !is_moment(from) {
+        return false;
+    }
+    if !is_moment(to) {
+        return false;
+    }
+    from < to && is_past(from, to, clock)
+}
+
+/// Whether the row is one of bt_version with numbers that a version may have, where the clock is at
+/// this moment and there are so many tables: a table that is there, a period of days, a system time
+/// that begins up to the clock and ends up to it or at FOREVER.
+pub fn is_version(row: &Row, clock: i64, tables: u32) -> bool
+    ensures { IsTrue result ↔ SaysVersion clock tables row.now }
+{
+    if row.column_count() != 6 {
+        return false;
+    }
+    let Some(table) = number_at(row, 0) else {
+        return false;
+    };
+    let Some(_values) = bytes_at(row, 1) else {
+        return false;
+    };
+    let Some(start) = number_at(row, 2) else {
+        return false;
+    };
+    let Some(end) = number_at(row, 3) else {
+        return false;
+    };
+    let Some(from) = number_at(row, 4) else {
+        return false;
+    };
+    let Some(to) = number_at(row, 5) else {
+        return false;
+    };
+    if !is_known(table, tables) {
+        return false;
+    }
+    if !are_days(start, end) {
+        return false;
+    }
+    are_moments(from, to, clock)
+}
+
+/// Whether each row begins with an integer.
+pub fn are_numbered(rows: &[Row]) -> bool
+    ensures { IsTrue result → AreNumbered rows.now }
+{
+    for row in rows {
+        if number_at(row, 0).is_none() {
+            return false;
+        }
+    }
+    true
+}
+
+/// Whether both rows begin with integers, and the second with the greater one.
+fn rises(first: &Row, second: &Row) -> bool
+    ensures { IsTrue result → by_rowid first.now second.now ≡ Ordering.Less }
+{
+    let Some(low) = number_at(first, 0) else {
+        return false;
+    };
+    let Some(high) = number_at(second, 0) else {
+        return false;
+    };
+    low < high
+}
+
+/// Whether each row begins with an integer that is greater than that of the row before it.
+pub fn are_rising(rows: &[Row]) -> bool
+    ensures { IsTrue result → AreRising rows.now }
+{
+    for at in 1..rows.len() {
+        if !rises(&rows[at - 1], &rows[at]) {
+            return false;
+        }
+    }
+    true
+}

@@ -1,0 +1,82 @@
+//! The queries. Each is run outside a transaction, and answers all its rows at once.
+
+ghost use Rattle.std.specs.Prelude.{◌≡◌, false, map, IfOk, IsPermutation, List};
+ghost use Rattle.sqlite.specs.Held.{state};
+ghost use Rattle.sqlite.specs.State.{HasCleanDisk};
+ghost use Rattle.version_tables.specs.Represents.{AreOfTable, Records, Represents, Version};
+ghost use Rattle.version_tables.specs.Represents.{meta_shown, rowid_shown, shown, table_shown};
+ghost use Rattle.version_tables.specs.Represents.{version_shown};
+ghost use Rattle.version_tables.specs.Rows.{InOrder, by_rowid};
+ghost use Rattle.version_tables.specs.Steps.{OnlyReads, Tells};
+
+use sqlite::{Alter, Connection, Error, Row, params};
+
+/// The versions of the table of a number, by values, then period start, then system start. A row
+/// has the values' bytes, the two days and the two moments.
+pub fn rows_of<S: Alter>(connection: &mut Connection<S>, table: u32) -> Result<Vec<Row>, Error>
+    requires { connection.old.in_transaction ≡ false }
+    ensures shows { HasCleanDisk (state S.Store connection.new)
+        → (records : Records) → Represents (state S.Store connection.old).now records
+        → IfOk result (λ rows. (found : List Version)
+        × (rows.items ≡ map shown found) × AreOfTable records table found) }
+    ensures reads { OnlyReads S.Store connection.old connection.new result }
+    ensures mode { connection.new.in_transaction ≡ false }
+{
+    let _settled = connection.is_autocommit();
+    connection.query_all(
+        "SELECT vals, s, e, ss, se FROM bt_version WHERE tab = ?1 ORDER BY vals, s, ss",
+        params![table],
+    )
+}
+
+/// The rows of bt_meta: each has the number, the form and the clock.
+pub fn meta_rows<S: Alter>(connection: &mut Connection<S>) -> Result<Vec<Row>, Error>
+    requires { connection.old.in_transaction ≡ false }
+    ensures shows { Tells S.Store connection.old connection.new result
+        (λ db rows. IsPermutation (map meta_shown (db.trees 0)) rows) }
+    ensures reads { OnlyReads S.Store connection.old connection.new result }
+    ensures mode { connection.new.in_transaction ≡ false }
+{
+    let _settled = connection.is_autocommit();
+    connection.query_all("SELECT id, form, clock FROM bt_meta ORDER BY id", &[])
+}
+
+/// The rows of bt_table by their numbers: each has the number and the definition's bytes.
+pub fn table_rows<S: Alter>(connection: &mut Connection<S>) -> Result<Vec<Row>, Error>
+    requires { connection.old.in_transaction ≡ false }
+    ensures shows { Tells S.Store connection.old connection.new result
+        (λ db rows. InOrder table_shown by_rowid (db.trees 1) rows) }
+    ensures reads { OnlyReads S.Store connection.old connection.new result }
+    ensures mode { connection.new.in_transaction ≡ false }
+{
+    let _settled = connection.is_autocommit();
+    connection.query_all("SELECT id, def FROM bt_table ORDER BY id", &[])
+}
+
+/// The rows of bt_version: each has the table's number, the values' bytes, the two days and the two
+/// moments.
+pub fn version_rows<S: Alter>(connection: &mut Connection<S>) -> Result<Vec<Row>, Error>
+    requires { connection.old.in_transaction ≡ false }
+    ensures shows { Tells S.Store connection.old connection.new result
+        (λ db rows. IsPermutation (map version_shown (db.trees 2)) rows) }
+    ensures reads { OnlyReads S.Store connection.old connection.new result }
+    ensures mode { connection.new.in_transaction ≡ false }
+{
+    let _settled = connection.is_autocommit();
+    connection.query_all(
+        "SELECT tab, vals, s, e, ss, se FROM bt_version ORDER BY tab, vals, s, ss",
+        &[],
+    )
+}
+
+/// The rowids of bt_version, in ascending order where no two are the same.
+pub fn rowids<S: Alter>(connection: &mut Connection<S>) -> Result<Vec<Row>, Error>
+    requires { connection.old.in_transaction ≡ false }
+    ensures shows { Tells S.Store connection.old connection.new result
+        (λ db rows. IsPermutation (map rowid_shown (db.trees 2)) rows) }
+    ensures reads { OnlyReads S.Store connection.old connection.new result }
+    ensures mode { connection.new.in_transaction ≡ false }
+{
+    let _settled = connection.is_autocommit();
+    connection.query_all("SELECT rowid FROM bt_version ORDER BY rowid", &[])
+}

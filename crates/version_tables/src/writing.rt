@@ -1,0 +1,100 @@
+//! The changes, each one statement inside a transaction that the caller opens and commits. Days and
+//! moments are numbers of the calendar.
+
+ghost use Rattle.std.specs.Prelude.{◌≡◌, ◌+◌, length};
+ghost use Rattle.version_tables.specs.Represents.{added, ended, key_of, removed, version};
+ghost use Rattle.version_tables.specs.Represents.{with_clock, with_definition};
+ghost use Rattle.version_tables.specs.Steps.{CommitsNothing, Makes, MakesWhere};
+
+use sqlite::{Alter, Error, Transaction, params};
+
+/// Removes the version that has this key, if there is one: the table's number, the values' bytes,
+/// the first day of the period, the first moment of the system time.
+pub fn remove_version<S: Alter>(
+    transaction: &mut Transaction<'_, S>,
+    table: u32,
+    values: &[u8],
+    start: i64,
+    from: i64,
+) -> Result<usize, Error>
+    ensures same_reference { transaction.new.conn.ghost_name ≡ transaction.old.conn.ghost_name }
+    ensures made { Makes S.Store transaction.old.conn.now transaction.new.conn.now result
+        (removed (key_of table values.now start from)) }
+    ensures inside { CommitsNothing S.Store transaction.old.conn.now transaction.new.conn.now }
+{
+    transaction.execute(
+        "DELETE FROM bt_version WHERE tab = ?1 AND vals = ?2 AND s = ?3 AND ss = ?4",
+        params![table, values, start, from],
+    )
+}
+
+/// Ends the system time of the version that has this key, if there is one, at the moment `to`.
+pub fn end_version<S: Alter>(
+    transaction: &mut Transaction<'_, S>,
+    table: u32,
+    values: &[u8],
+    start: i64,
+    from: i64,
+    to: i64,
+) -> Result<usize, Error>
+    ensures same_reference { transaction.new.conn.ghost_name ≡ transaction.old.conn.ghost_name }
+    ensures made { Makes S.Store transaction.old.conn.now transaction.new.conn.now result
+        (ended (key_of table values.now start from) to) }
+    ensures inside { CommitsNothing S.Store transaction.old.conn.now transaction.new.conn.now }
+{
+    transaction.execute(
+        "UPDATE bt_version SET se = ?5 WHERE tab = ?1 AND vals = ?2 AND s = ?3 AND ss = ?4",
+        params![table, values, start, from, to],
+    )
+}
+
+/// Adds a version: the table's number, the values' bytes, the period from the day `start` on and
+/// before the day `end`, the system time from the moment `from` on and before the moment `to`. It
+/// is refused where a version has its key.
+pub fn insert_version<S: Alter>(
+    transaction: &mut Transaction<'_, S>,
+    table: u32,
+    values: &[u8],
+    start: i64,
+    end: i64,
+    from: i64,
+    to: i64,
+) -> Result<usize, Error>
+    ensures same_reference { transaction.new.conn.ghost_name ≡ transaction.old.conn.ghost_name }
+    ensures made { Makes S.Store transaction.old.conn.now transaction.new.conn.now result
+        (added (version table values.now start end from to)) }
+    ensures inside { CommitsNothing S.Store transaction.old.conn.now transaction.new.conn.now }
+{
+    transaction.execute(
+        "INSERT INTO bt_version (tab, vals, s, e, ss, se) VALUES (?1, ?2, ?3, ?4, ?5, ?6)",
+        params![table, values, start, end, from, to],
+    )
+}
+
+/// Adds the bytes of a definition under this number. The contract says what that makes where the
+/// number follows those of the others.
+pub fn insert_definition<S: Alter>(
+    transaction: &mut Transaction<'_, S>,
+    id: u32,
+    definition: &[u8],
+) -> Result<usize, Error>
+    ensures same_reference { transaction.new.conn.ghost_name ≡ transaction.old.conn.ghost_name }
+    ensures made { MakesWhere S.Store transaction.old.conn.now transaction.new.conn.now result
+        (λ records. id ≡ length records.tables + 1) (with_definition definition.now) }
+    ensures inside { CommitsNothing S.Store transaction.old.conn.now transaction.new.conn.now }
+{
+    transaction.execute(
+        "INSERT INTO bt_table (id, def) VALUES (?1, ?2)",
+        params![id, definition],
+    )
+}
+
+/// Sets the clock to a moment.
+pub fn set_clock<S: Alter>(transaction: &mut Transaction<'_, S>, clock: i64) -> Result<usize, Error>
+    ensures same_reference { transaction.new.conn.ghost_name ≡ transaction.old.conn.ghost_name }
+    ensures made { Makes S.Store transaction.old.conn.now transaction.new.conn.now result
+        (with_clock clock) }
+    ensures inside { CommitsNothing S.Store transaction.old.conn.now transaction.new.conn.now }
+{
+    transaction.execute("UPDATE bt_meta SET clock = ?1", params![clock])
+}
