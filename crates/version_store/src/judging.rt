@@ -2,11 +2,12 @@
 
 ghost use Rattle.std.specs.Prelude.{◌≡◌, ◌⊎◌, ◌≤◌, ℤ, List, IfErr, IfOk, true, length};
 ghost use Rattle.std.specs.List.{AllByRecursion};
+ghost use Rattle.catalog_core.specs.Limits.{most_tables};
 ghost use Rattle.catalog_core.specs.table.TableWords.{has_date_period, has_distinct_names};
 ghost use Rattle.catalog_core.specs.declared.table.TableDef.{TableDef as AnyTable};
 ghost use Rattle.period_core.specs.declared.refusal.Refusal.TheVariants.{BadStore};
 ghost use Rattle.version_store.specs.GoodStore.{AreTables, IsTableRow, SayRows, SaysVersion};
-ghost use Rattle.version_store.specs.Kept.{IsOpenRefusal};
+ghost use Rattle.version_store.specs.StoreState.{IsOpenRefusal};
 
 use crate::lawful::lawful;
 use crate::row_values::are_row_values;
@@ -21,7 +22,7 @@ const MOST_TABLES: usize = 64;
 
 /// The definition that a row has behind those of the catalog.
 fn read_table(alloc: Global, catalog: &Catalog, row: &Row) -> Result<TableDef, Refusal>
-    requires { length catalog.now.tables ≤ 64 }
+    requires { length catalog.now.tables ≤ most_tables }
     ensures good { IfOk result (IsTableRow catalog.now.tables row.now) }
     ensures dated { IfOk result (λ d. has_date_period d ≡ true) }
     ensures distinct { IfOk result (λ d. has_distinct_names d ≡ true) }
