@@ -12,7 +12,7 @@ use Rattle.sqlite.specs.Held.{state}
 use Rattle.version_tables.specs.Represents.{Represents, with_definition}
 use Rattle.version_store.specs.Contents.{Contents, HaveColumnValues}
 use Rattle.version_store.specs.Changed.{with_table}
-use Rattle.version_store.specs.Kept.{Kept, StandsFor}
+use Rattle.version_store.specs.StoreState.{StoreState, StoreRepresents}
 use Rattle.version_store.specs.Written.{Has, written, written_table}
 
 pub on_ok : {X E : Type 0} {P Q : Type 0} (r : Result X E) → (P → Q) → OnOk r P → OnOk r Q
@@ -24,9 +24,9 @@ on_err (Ok x) f h = tt
 on_err (Err e) f h = f h
 
 -- the database, the catalog and the clock are as they were
-pub stays : {S : Type 0} (g : Ghosts S) (old new : Kept S) (c : Contents) → StandsFor g old c
+pub stays : {S : Type 0} (g : Ghosts S) (old new : StoreState S) (c : Contents) → StoreRepresents g old c
     → ((state g new.connection).now ≡ (state g old.connection).now) × ((state g new.connection).committed ≡ (state g old.connection).committed)
-    → new.catalog.tables ≡ old.catalog.tables → new.clock ≡ old.clock → StandsFor g new c
+    → new.catalog.tables ≡ old.catalog.tables → new.clock ≡ old.clock → StoreRepresents g new c
 stays g old new c was same catalog clock = record {
   now = subst (λ (d : Database). Has d c) (sym same.0) was.now;
   committed = same.1 ∙ was.committed ∙ sym same.0;

@@ -1,7 +1,7 @@
 pub mod Contents
 pub mod Changed
 pub mod Written
-pub mod Kept
+pub mod StoreState
 pub mod Steps
 pub mod RowValues
 pub mod Lawful

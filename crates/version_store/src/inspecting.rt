@@ -7,7 +7,7 @@ ghost use Rattle.sqlite.specs.State.{HasCleanDisk};
 ghost use Rattle.version_tables.specs.Steps.{Keeps};
 ghost use Rattle.version_tables.specs.Tables.{store_schema};
 ghost use Rattle.version_store.specs.GoodStore.{IsGoodStore, NothingMore};
-ghost use Rattle.version_store.specs.Kept.{IsOpenRefusal};
+ghost use Rattle.version_store.specs.StoreState.{IsOpenRefusal};
 ghost use Rattle.version_store.specs.Written.{Has};
 
 use crate::judging::judge_rows;

@@ -1,12 +1,15 @@
 //! The rows of the three tables, judged.
 
 ghost use Rattle.std.specs.Prelude.{◌≡◌, ◌⊎◌, ◌≤◌, ℤ, List, IfErr, IfOk, true, length};
+ghost use Rattle.std.specs.Prelude.{option_copied};
 ghost use Rattle.std.specs.List.{AllByRecursion};
+ghost use Rattle.catalog_core.specs.Limits.{most_tables};
 ghost use Rattle.catalog_core.specs.table.TableWords.{has_date_period, has_distinct_names};
+ghost use Rattle.catalog_core.specs.table.TableWords.{table_of};
 ghost use Rattle.catalog_core.specs.declared.table.TableDef.{TableDef as AnyTable};
 ghost use Rattle.period_core.specs.declared.refusal.Refusal.TheVariants.{BadStore};
 ghost use Rattle.version_store.specs.GoodStore.{AreTables, IsTableRow, SayRows, SaysVersion};
-ghost use Rattle.version_store.specs.Kept.{IsOpenRefusal};
+ghost use Rattle.version_store.specs.StoreState.{IsOpenRefusal};
 
 use crate::lawful::lawful;
 use crate::row_values::are_row_values;
@@ -21,7 +24,7 @@ const MOST_TABLES: usize = 64;
 
 /// The definition that a row has behind those of the catalog.
 fn read_table(alloc: Global, catalog: &Catalog, row: &Row) -> Result<TableDef, Refusal>
-    requires { length catalog.now.tables ≤ 64 }
+    requires { length catalog.now.tables ≤ most_tables }
     ensures good { IfOk result (IsTableRow catalog.now.tables row.now) }
     ensures dated { IfOk result (λ d. has_date_period d ≡ true) }
     ensures distinct { IfOk result (λ d. has_distinct_names d ≡ true) }
@@ -71,6 +74,16 @@ fn read_tables(alloc: Global, rows: &[Row]) -> Result<Catalog, Refusal>
     Ok(catalog)
 }
 
+/// The definition of the table of this number.
+fn definition_of(catalog: &Catalog, number: u8) -> Option<&TableDef>
+    ensures { option_copied result ≡ table_of catalog.now.tables number }
+{
+    if number == 0 {
+        return None;
+    }
+    catalog.tables.as_slice().get(usize::from(number) - 1)
+}
+
 /// Judges the row of a version, by the tables and the clock.
 fn judge_version(alloc: Global, catalog: &Catalog, clock: i64, row: &Row) -> Result<(), Refusal>
     ensures good { IfOk result (λ _. SaysVersion catalog.now.tables clock row.now) }
@@ -90,7 +103,7 @@ fn judge_version(alloc: Global, catalog: &Catalog, clock: i64, row: &Row) -> Res
     let Ok(number) = u8::try_from(number) else {
         return Err(Refusal::BadStore);
     };
-    let Some(definition) = catalog.def(number) else {
+    let Some(definition) = definition_of(catalog, number) else {
         return Err(Refusal::BadStore);
     };
     match decode_values(alloc, bytes) {

@@ -9,7 +9,7 @@ ghost use Rattle.version_tables.specs.Represents.{shown};
 ghost use Rattle.version_tables.specs.Rows.{IsNumberAt};
 ghost use Rattle.version_tables.specs.Steps.{Keeps};
 ghost use Rattle.version_store.specs.Contents.{AreRowsOf, Contents, version_in};
-ghost use Rattle.version_store.specs.Kept.{IsStoreRefusal};
+ghost use Rattle.version_store.specs.StoreState.{IsStoreRefusal};
 ghost use Rattle.version_store.specs.Written.{Has, written_version};
 
 use crate::refused::refusal_of;

@@ -1,6 +1,6 @@
 //! Errors of the database as refusals.
 
-ghost use Rattle.version_store.specs.Kept.{IsStoreRefusal};
+ghost use Rattle.version_store.specs.StoreState.{IsStoreRefusal};
 
 use period_core::Refusal;
 use sqlite::{Error, ErrorCode};

@@ -14,8 +14,8 @@ ghost use Rattle.version_tables.specs.Tables.{no_schema};
 ghost use Rattle.version_store.specs.Changed.{planned, with_clock, with_table};
 ghost use Rattle.version_store.specs.Contents.{AreRowsOf, Contents, empty_contents};
 ghost use Rattle.version_store.specs.GoodStore.{AreGood, IsGoodStore, NothingMore};
-ghost use Rattle.version_store.specs.Kept.{Changes, IsOpenRefusal, IsOurs, IsStoreRefusal};
-ghost use Rattle.version_store.specs.Kept.{IsUsable, StandsFor};
+ghost use Rattle.version_store.specs.StoreState.{Changes, IsOpenRefusal, IsOurs, IsStoreRefusal};
+ghost use Rattle.version_store.specs.StoreState.{IsUsable, StoreRepresents};
 ghost use Rattle.version_store.specs.Written.{Has};
 
 use crate::inspecting::inspect;
@@ -46,11 +46,11 @@ pub struct VersionStore<S: Alter> {
 
 impl<S: Alter> Model for VersionStore<S> {
     ghost use Rattle.std.specs.Prelude.{◌≡◌, false};
-    ghost use Rattle.version_store.specs.Kept.{Kept, kept_code};
+    ghost use Rattle.version_store.specs.StoreState.{StoreState, store_state_code};
 
-    ghost Value = { Kept S };
+    ghost Value = { StoreState S };
 
-    ghost coded = { kept_code S.code };
+    ghost coded = { store_state_code S.code };
 
     ghost view = { λ s.
         record { connection = s.connection; catalog = s.catalog; clock = s.clock } };
@@ -79,7 +79,7 @@ impl<S: Alter> VersionStore<S> {
         requires { connection.in_transaction ≡ false }
         ensures fresh { IfOk result (λ store. IsUsable S.Store store.connection
             → (state S.Store connection).now.schema ≡ no_schema
-            → StandsFor S.Store store empty_contents) }
+            → StoreRepresents S.Store store empty_contents) }
         ensures none { IfErr result (λ failed. IsUsable S.Store failed.1
             → IsAsBefore (state S.Store connection) (state S.Store failed.1)) }
         ensures was_open { IfErr result (λ failed. IsUsable S.Store failed.1
@@ -109,14 +109,15 @@ impl<S: Alter> VersionStore<S> {
         requires { connection.in_transaction ≡ false }
         ensures fresh { IfOk result (λ store. IsUsable S.Store store.connection
             → (state S.Store connection).now.schema ≡ no_schema
-            → StandsFor S.Store store empty_contents) }
+            → StoreRepresents S.Store store empty_contents) }
         ensures good { IfOk result (λ store. IsUsable S.Store store.connection
             → IsOurs (state S.Store connection).now.schema
             → IsNoneThere (state S.Store connection).now.schema
             ⊎ ((good : IsGoodStore NothingMore (state S.Store connection).now)
-            × StandsFor S.Store store good.contents)) }
+            × StoreRepresents S.Store store good.contents)) }
         ensures same { IfOk result (λ store. IsUsable S.Store store.connection
-            → (c : Contents) → Has (state S.Store connection).now c → StandsFor S.Store store c) }
+            → (c : Contents) → Has (state S.Store connection).now c
+            → StoreRepresents S.Store store c) }
         ensures bad { IfErr result (λ failed. IsUsable S.Store failed.1 → failed.0 ≡ BadStore
             → (¬ IsNoneThere (state S.Store connection).now.schema)
             × ¬ IsGoodStore NothingMore (state S.Store connection).now) }
@@ -146,9 +147,9 @@ impl<S: Alter> VersionStore<S> {
     /// contents are good is not refused as a bad one.
     pub fn reopen(self, alloc: Global) -> Result<VersionStore<S>, (Refusal, Connection<S>)>
         ensures same { IfOk result (λ store. IsUsable S.Store store.connection
-            → (c : Contents) → StandsFor S.Store self c → StandsFor S.Store store c) }
+            → (c : Contents) → StoreRepresents S.Store self c → StoreRepresents S.Store store c) }
         ensures kept { IfErr result (λ failed. IsUsable S.Store failed.1
-            → (c : Contents) → StandsFor S.Store self c → AreGood NothingMore c
+            → (c : Contents) → StoreRepresents S.Store self c → AreGood NothingMore c
             → failed.0 ≢ BadStore) }
     {
         let connection = self.close();
@@ -247,10 +248,11 @@ impl<S: Alter> VersionStore<S> {
     /// Nothing is changed.
     pub fn rows(&mut self, alloc: Global, table: u8) -> Result<Vec<VersionRow>, Refusal>
         ensures rows { IsUsable S.Store self.new.connection
-            → (c : Contents) → StandsFor S.Store self.old c
+            → (c : Contents) → StoreRepresents S.Store self.old c
             → IfOk result (λ rows. AreRowsOf c table rows.items) }
         ensures same { IsUsable S.Store self.new.connection
-            → (c : Contents) → StandsFor S.Store self.old c → StandsFor S.Store self.new c }
+            → (c : Contents) → StoreRepresents S.Store self.old c
+            → StoreRepresents S.Store self.new c }
         ensures named { IfErr result IsStoreRefusal }
     {
         table_rows(alloc, &mut self.connection, table)

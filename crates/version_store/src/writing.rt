@@ -3,9 +3,9 @@
 ghost use Rattle.std.specs.Prelude.{◌≡◌, ◌+◌, ◌∷◌, [], false, length, IfErr};
 ghost use Rattle.version_tables.specs.Represents.{with_definition};
 ghost use Rattle.version_store.specs.Changed.{added_at, ended_at, planned, with_clock};
-ghost use Rattle.version_store.specs.Kept.{IsStoreRefusal};
+ghost use Rattle.version_store.specs.StoreState.{IsStoreRefusal};
 ghost use Rattle.version_store.specs.Steps.{Carries, Commits, CommitsWhere, Undoes};
-ghost use Rattle.version_tables.specs.Steps.{CommitsNothing, MakesWhere};
+ghost use Rattle.version_tables.specs.Steps.{CommitsNothing, ChangesWhere};
 
 use crate::plan::Plan;
 use crate::refused::refusal_of;
@@ -176,7 +176,7 @@ fn put_table<S: Alter>(
     definition: &[u8],
 ) -> Result<(), Refusal>
     ensures same_reference { transaction.new.conn.ghost_name ≡ transaction.old.conn.ghost_name }
-    ensures made { MakesWhere S.Store transaction.old.conn.now transaction.new.conn.now result
+    ensures made { ChangesWhere S.Store transaction.old.conn.now transaction.new.conn.now result
         (λ records. number ≡ length records.tables + 1) (with_definition definition.now) }
     ensures inside { CommitsNothing S.Store transaction.old.conn.now transaction.new.conn.now }
     ensures named { IfErr result IsStoreRefusal }

@@ -4,15 +4,16 @@ ghost use Rattle.std.specs.Prelude.{◌≡◌, false, IsTrue, OnErr, OnOk};
 ghost use Rattle.sqlite.specs.State.{HasCleanDisk};
 ghost use Rattle.sqlite.specs.Held.{state};
 ghost use Rattle.version_tables.specs.Represents.{HasTables, Represents, begun};
-ghost use Rattle.version_tables.specs.Steps.{CommitsNothing, IsAsBefore, Turns};
-ghost use Rattle.version_tables.specs.Tables.{def_schema, meta_schema, no_schema, store_schema};
+ghost use Rattle.version_tables.specs.Steps.{CommitsNothing, IsAsBefore, LeadsTo};
+ghost use Rattle.version_tables.specs.Tables.{definition_schema, meta_schema, no_schema};
+ghost use Rattle.version_tables.specs.Tables.{store_schema};
 
 use sqlite::{Alter, Connection, Error, Transaction, params};
 
 /// Makes the table of the form and the clock.
 fn create_meta<S: Alter>(transaction: &mut Transaction<'_, S>) -> Result<usize, Error>
     ensures same_reference { transaction.new.conn.ghost_name ≡ transaction.old.conn.ghost_name }
-    ensures made { Turns S.Store transaction.old.conn.now transaction.new.conn.now result
+    ensures made { LeadsTo S.Store transaction.old.conn.now transaction.new.conn.now result
         (HasTables no_schema 0) (HasTables meta_schema 1) }
     ensures inside { CommitsNothing S.Store transaction.old.conn.now transaction.new.conn.now }
 {
@@ -24,10 +25,10 @@ fn create_meta<S: Alter>(transaction: &mut Transaction<'_, S>) -> Result<usize, 
 }
 
 /// Makes the table of the definitions.
-fn create_defs<S: Alter>(transaction: &mut Transaction<'_, S>) -> Result<usize, Error>
+fn create_definitions<S: Alter>(transaction: &mut Transaction<'_, S>) -> Result<usize, Error>
     ensures same_reference { transaction.new.conn.ghost_name ≡ transaction.old.conn.ghost_name }
-    ensures made { Turns S.Store transaction.old.conn.now transaction.new.conn.now result
-        (HasTables meta_schema 1) (HasTables def_schema 2) }
+    ensures made { LeadsTo S.Store transaction.old.conn.now transaction.new.conn.now result
+        (HasTables meta_schema 1) (HasTables definition_schema 2) }
     ensures inside { CommitsNothing S.Store transaction.old.conn.now transaction.new.conn.now }
 {
     transaction.execute(
@@ -39,8 +40,8 @@ fn create_defs<S: Alter>(transaction: &mut Transaction<'_, S>) -> Result<usize, 
 /// Makes the table of the versions.
 fn create_versions<S: Alter>(transaction: &mut Transaction<'_, S>) -> Result<usize, Error>
     ensures same_reference { transaction.new.conn.ghost_name ≡ transaction.old.conn.ghost_name }
-    ensures made { Turns S.Store transaction.old.conn.now transaction.new.conn.now result
-        (HasTables def_schema 2) (HasTables store_schema 3) }
+    ensures made { LeadsTo S.Store transaction.old.conn.now transaction.new.conn.now result
+        (HasTables definition_schema 2) (HasTables store_schema 3) }
     ensures inside { CommitsNothing S.Store transaction.old.conn.now transaction.new.conn.now }
 {
     transaction.execute(
@@ -58,7 +59,7 @@ fn insert_meta<S: Alter>(
     clock: i64,
 ) -> Result<usize, Error>
     ensures same_reference { transaction.new.conn.ghost_name ≡ transaction.old.conn.ghost_name }
-    ensures made { Turns S.Store transaction.old.conn.now transaction.new.conn.now result
+    ensures made { LeadsTo S.Store transaction.old.conn.now transaction.new.conn.now result
         (HasTables store_schema 3) (λ db. Represents db (begun form clock)) }
     ensures inside { CommitsNothing S.Store transaction.old.conn.now transaction.new.conn.now }
 {
@@ -88,7 +89,7 @@ pub fn create<S: Alter>(connection: &mut Connection<S>, form: i64, clock: i64) -
     let _settled = connection.is_autocommit();
     let mut transaction = connection.transaction();
     create_meta(&mut transaction)?;
-    create_defs(&mut transaction)?;
+    create_definitions(&mut transaction)?;
     create_versions(&mut transaction)?;
     insert_meta(&mut transaction, form, clock)?;
     transaction.commit()

@@ -4,7 +4,7 @@
 ghost use Rattle.std.specs.Prelude.{◌≡◌, ◌+◌, length};
 ghost use Rattle.version_tables.specs.Represents.{added, ended, key_of, removed, version};
 ghost use Rattle.version_tables.specs.Represents.{with_clock, with_definition};
-ghost use Rattle.version_tables.specs.Steps.{CommitsNothing, Makes, MakesWhere};
+ghost use Rattle.version_tables.specs.Steps.{CommitsNothing, ChangesRecords, ChangesWhere};
 
 use sqlite::{Alter, Error, Transaction, params};
 
@@ -18,7 +18,7 @@ pub fn remove_version<S: Alter>(
     from: i64,
 ) -> Result<usize, Error>
     ensures same_reference { transaction.new.conn.ghost_name ≡ transaction.old.conn.ghost_name }
-    ensures made { Makes S.Store transaction.old.conn.now transaction.new.conn.now result
+    ensures made { ChangesRecords S.Store transaction.old.conn.now transaction.new.conn.now result
         (removed (key_of table values.now start from)) }
     ensures inside { CommitsNothing S.Store transaction.old.conn.now transaction.new.conn.now }
 {
@@ -38,7 +38,7 @@ pub fn end_version<S: Alter>(
     to: i64,
 ) -> Result<usize, Error>
     ensures same_reference { transaction.new.conn.ghost_name ≡ transaction.old.conn.ghost_name }
-    ensures made { Makes S.Store transaction.old.conn.now transaction.new.conn.now result
+    ensures made { ChangesRecords S.Store transaction.old.conn.now transaction.new.conn.now result
         (ended (key_of table values.now start from) to) }
     ensures inside { CommitsNothing S.Store transaction.old.conn.now transaction.new.conn.now }
 {
@@ -61,7 +61,7 @@ pub fn insert_version<S: Alter>(
     to: i64,
 ) -> Result<usize, Error>
     ensures same_reference { transaction.new.conn.ghost_name ≡ transaction.old.conn.ghost_name }
-    ensures made { Makes S.Store transaction.old.conn.now transaction.new.conn.now result
+    ensures made { ChangesRecords S.Store transaction.old.conn.now transaction.new.conn.now result
         (added (version table values.now start end from to)) }
     ensures inside { CommitsNothing S.Store transaction.old.conn.now transaction.new.conn.now }
 {
@@ -79,7 +79,7 @@ pub fn insert_definition<S: Alter>(
     definition: &[u8],
 ) -> Result<usize, Error>
     ensures same_reference { transaction.new.conn.ghost_name ≡ transaction.old.conn.ghost_name }
-    ensures made { MakesWhere S.Store transaction.old.conn.now transaction.new.conn.now result
+    ensures made { ChangesWhere S.Store transaction.old.conn.now transaction.new.conn.now result
         (λ records. id ≡ length records.tables + 1) (with_definition definition.now) }
     ensures inside { CommitsNothing S.Store transaction.old.conn.now transaction.new.conn.now }
 {
@@ -92,7 +92,7 @@ pub fn insert_definition<S: Alter>(
 /// Sets the clock to a moment.
 pub fn set_clock<S: Alter>(transaction: &mut Transaction<'_, S>, clock: i64) -> Result<usize, Error>
     ensures same_reference { transaction.new.conn.ghost_name ≡ transaction.old.conn.ghost_name }
-    ensures made { Makes S.Store transaction.old.conn.now transaction.new.conn.now result
+    ensures made { ChangesRecords S.Store transaction.old.conn.now transaction.new.conn.now result
         (with_clock clock) }
     ensures inside { CommitsNothing S.Store transaction.old.conn.now transaction.new.conn.now }
 {

@@ -1,14 +1,14 @@
 use Rattle.std.proofs.Common.{refl, ◌+◌, ◌++◌, ◌∷◌, [], List, ap, sym, subst, ◌∙◌}
 use Rattle.catalog_core.specs.declared.table.TableDef.{TableDef}
 use Rattle.sqlite.specs.Held.{state}
-use Rattle.version_store.specs.Kept.{StandsFor}
+use Rattle.version_store.specs.StoreState.{StoreRepresents}
 use Rattle.version_store.specs.Written.{written}
 use Rattle.version_store.proofs.Standing.{table_put, next_number}
 use Rattle.version_store.proofs.store.VersionStore.add_table.Goals as goal
 
 pub returns-in-Ok-write_table-clause-changes : goal.returns-in-Ok-write_table-clause-changes
 returns-in-Ok-write_table-clause-changes g k usable c stands =
-    let was = subst (λ s. StandsFor g.S.Store s c) (sym k.self.view_is) stands in
+    let was = subst (λ s. StoreRepresents g.S.Store s c) (sym k.self.view_is) stands in
     let new = (state g.S.Store k.write_table.new.connection).now in
     let made = k.in-Ok-write_table.ensures.made usable.0 (written c) (next_number c k.self.inside.catalog.tables (k.len.result + 1) was.catalog (ap (λ n. n + 1) k.len.ensures)) was.now.rows in (
       record {

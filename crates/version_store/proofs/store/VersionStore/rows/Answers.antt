@@ -1,15 +1,15 @@
 use Rattle.std.proofs.Common.{sym, subst, refl}
-use Rattle.version_store.specs.Kept.{StandsFor}
+use Rattle.version_store.specs.StoreState.{StoreRepresents}
 use Rattle.version_store.proofs.Standing.{stays}
 use Rattle.version_store.proofs.store.VersionStore.rows.Goals as goal
 
 pub returns-clause-rows : goal.returns-clause-rows
 returns-clause-rows g k usable c stands =
-    let was = subst (λ s. StandsFor g.S.Store s c) (sym k.self.view_is) stands in
+    let was = subst (λ s. StoreRepresents g.S.Store s c) (sym k.self.view_is) stands in
     k.table_rows.ensures.rows usable.0 c was.now
 
 pub returns-clause-same : goal.returns-clause-same
 returns-clause-same g k usable c stands =
-    let was = subst (λ s. StandsFor g.S.Store s c) (sym k.self.view_is) stands in
+    let was = subst (λ s. StoreRepresents g.S.Store s c) (sym k.self.view_is) stands in
     let same = k.table_rows.ensures.same usable.0 in
     stays g.S.Store _ _ c was (same.now usable.1, same.committed usable.1) refl refl

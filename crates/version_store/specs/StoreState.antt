@@ -1,4 +1,4 @@
--- What a store keeps in memory, and what it stands for.
+-- What a store keeps in memory, and which contents it represents.
 use Rattle.std.specs.Prelude.{◌≡◌, ◌⊎◌, ℤ, IsTrue, OnErr, OnOk, Result, refl}
 use Rattle.std.specs.Coded.{Coded, code_by, coded×, coded_ℤ}
 use Rattle.catalog_core.specs.contracts.table.catalog.Catalog.{the_row}
@@ -8,6 +8,8 @@ use Rattle.period_core.specs.declared.refusal.Refusal.TheVariants.{BadStore, Mem
 use Rattle.sqlite.specs.Store.{Ghosts}
 use Rattle.sqlite.specs.State.{HasCleanDisk}
 use Rattle.sqlite.specs.Held.{Held, held_code, state}
+use Rattle.sqlite.specs.Steps.{over_memory}
+use Rattle.sqlite_trees.specs.declared.memory.MemStore.{MemStore}
 use Rattle.sqlite.specs.Schema.{Schema}
 use Rattle.version_tables.specs.Presence.{AreAllThere}
 use Rattle.version_tables.specs.Tables.{store_schema}
@@ -15,36 +17,41 @@ use Rattle.version_store.specs.Contents.{Contents}
 use Rattle.version_store.specs.Written.{Has}
 
 -- the connection, the tables, the clock
-pub record Kept (S : Type 0) : Type 0 where
+pub record StoreState (S : Type 0) : Type 0 where
   pub connection : Held S
   pub catalog : Catalog
   pub clock : ℤ
 
-abbrev pub kept_code : {S : Type 0} → Coded S → Coded (Kept S)
-kept_code {S} store =
+-- its form for the model: the three, one behind the other
+abbrev pub store_state_code : {S : Type 0} → Coded S → Coded (StoreState S)
+store_state_code {S} store =
     code_by (Held S × (Catalog × ℤ)) (coded× (held_code store) (coded× the_row.coded coded_ℤ))
     (λ k. (k.connection, (k.catalog, k.clock)))
     (λ p. record { connection = p.0; catalog = p.1.0; clock = p.1.1 })
     (λ _. refl)
 
--- so far the disk has returned what was written, and no failure has shut the connection: a store in
--- memory is always so
+-- so far the disk has returned what was written, and no failure has shut the connection
 abbrev pub IsUsable : {S : Type 0} → Ghosts S → Held S → Type 0
 IsUsable g connection = HasCleanDisk (state g connection) × IsTrue (state g connection).is_open
 
+-- a store in memory is always so
+abbrev pub MemoryIsUsable : Type 0
+MemoryIsUsable = (connection : Held MemStore) → IsUsable over_memory connection
+
 -- the database has these contents, as they were last committed, and so has what is kept in memory
-pub record StandsFor {S : Type 0} (g : Ghosts S) (store : Kept S) (c : Contents) : Type 0 where
+pub record StoreRepresents {S : Type 0} (g : Ghosts S) (store : StoreState S) (c : Contents)
+    : Type 0 where
   pub now : Has (state g store.connection).now c
   pub committed : (state g store.connection).committed ≡ (state g store.connection).now
   pub catalog : store.catalog.tables ≡ c.tables
   pub clock : store.clock ≡ c.clock
 
--- whatever the store stood for, it stands for that changed on Ok, and for the same on Err
-abbrev pub Changes : {S X : Type 0} → Ghosts S → Kept S → Kept S → Result X Refusal
+-- whatever the store represented, it represents that changed on Ok, and the same on Err
+abbrev pub Changes : {S X : Type 0} → Ghosts S → StoreState S → StoreState S → Result X Refusal
     → (Contents → Contents) → Type 0
 Changes g old new result change =
-    IsUsable g new.connection → (c : Contents) → StandsFor g old c
-    → OnOk result (StandsFor g new (change c)) × OnErr result (StandsFor g new c)
+    IsUsable g new.connection → (c : Contents) → StoreRepresents g old c
+    → OnOk result (StoreRepresents g new (change c)) × OnErr result (StoreRepresents g new c)
 
 -- out of memory, or another failure of the database
 abbrev pub IsStoreRefusal : Refusal → Type 0
