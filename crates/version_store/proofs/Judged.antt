@@ -7,7 +7,7 @@ use Rattle.std.proofs.lemmas.List.{append-nil}
 use Rattle.period_core.proofs.EncodingOrder.{reads_back}
 use Rattle.period_core.specs.Encoding.{IsColumnValue, IsEncoding, encoded}
 use Rattle.period_core.specs.declared.value.Value.{Value}
-use Rattle.catalog_core.proofs.DefinitionSame.{reads_back as same_definition}
+use Rattle.catalog_core.proofs.lemmas.bytes.DefinitionSame.{reads_back as same_definition}
 use Rattle.catalog_core.specs.bytes.DefinitionEncoding.{IsDefinitionEncoding}
 use Rattle.catalog_core.specs.table.TableWords.{table_of}
 use Rattle.catalog_core.specs.declared.table.TableDef.{TableDef}
