@@ -8,9 +8,11 @@ ghost use Rattle.catalog_core.specs.Judged.{Holds, first_holding};
 ghost use Rattle.catalog_core.specs.table.TableWords.{has_date_period, has_distinct_names};
 
 pub mod building;
+pub mod lawful;
 pub mod names;
 pub mod period_counts;
 pub mod shape;
+pub mod spelling;
 
 use crate::create::building::build;
 use crate::create::names::{

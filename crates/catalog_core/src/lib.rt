@@ -7,8 +7,8 @@
 //! - a condition of a statement: the list of its conditions (`create_conditions`,
 //!   `insert_conditions`, `select_conditions`), and the function that judges them (`first_fault`,
 //!   `shape_fault`, `value_fault`, `columns_fault`), both in ascending order;
-//! - a column type: `ColumnKind` and `ValueKind`, `specs/table/Kinds`, `create/building.rt`, and
-//!   its number in `bytes/`.
+//! - a column type: `ColumnKind` and `ValueKind`, `specs/table/Kinds`, `create/building.rt` and
+//!   `create/spelling.rt`, and its number in `bytes/`.
 #![tactic(auto)]
 
 mod bytes;
@@ -23,6 +23,7 @@ pub use bytes::{decode_def, encode_def};
 pub use change::resolution::{resolve_change, resolve_insert};
 pub use change::{Action, Change, GivenRow};
 pub use create::define;
+pub use create::lawful::lawful;
 pub use query::selection::{resolve_query, resolve_sequenced};
 pub use query::{AnswerColumn, Query, Select};
 pub use table::catalog::Catalog;

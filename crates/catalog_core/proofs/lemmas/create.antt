@@ -3,3 +3,6 @@ pub mod Built
 pub mod DatePeriods
 pub mod DistinctDefined
 pub mod KeyedColumns
+pub mod OneDefinition
+pub mod SpelledParts
+pub mod Spelled

@@ -4,3 +4,4 @@ pub mod DefinitionExamples
 pub mod InsertExamples
 pub mod SelectExamples
 pub mod TableExamples
+pub mod LawfulExamples
