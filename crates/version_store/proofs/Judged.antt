@@ -20,7 +20,7 @@ use Rattle.version_tables.specs.Good as raw
 use Rattle.version_tables.specs.Represents.{Version, meta_row, stored}
 use Rattle.version_store.specs.Contents.{TableVersion}
 use Rattle.version_store.specs.GoodStore.{AreTableRows, IsTableRow, SayRows, SaysVersion}
-use Rattle.version_store.specs.Lawful.{IsLawful}
+use Rattle.catalog_core.specs.create.Lawful.{IsLawful}
 use Rattle.version_store.specs.RowValues.{are_row_values}
 use Rattle.version_store.specs.Written.{IsReadable, written_table, written_version}
 

@@ -14,7 +14,7 @@ use Rattle.version_tables.specs.Good.{AreDays, AreMoments, IsClock, SayClock}
 use Rattle.version_tables.specs.Represents.{Says, stored}
 use Rattle.version_tables.specs.Tables.{store_schema}
 use Rattle.version_store.specs.Contents.{Contents, TableVersion, same_version}
-use Rattle.version_store.specs.Lawful.{IsLawful}
+use Rattle.catalog_core.specs.create.Lawful.{IsLawful}
 use Rattle.version_store.specs.RowValues.{are_row_values}
 use Rattle.version_store.specs.Written.{IsReadable, written, written_table, written_version}
 
@@ -28,7 +28,7 @@ pub record IsGoodVersion (tables : List TableDef) (clock : ℤ) (v : TableVersio
   pub days : AreDays v.start v.end
   pub moments : AreMoments clock v.from v.to
 
--- each definition is lawful over those before it
+-- each definition is one that CREATE gives over those before it
 abbrev pub AreLawful : List TableDef → List TableDef → Type 0
 AreLawful before [] = Unit {0}
 AreLawful before (d ∷ more) = IsLawful before d × AreLawful (before ++ d ∷ []) more

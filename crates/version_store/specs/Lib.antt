@@ -4,5 +4,4 @@ pub mod Written
 pub mod StoreState
 pub mod Steps
 pub mod RowValues
-pub mod Lawful
 pub mod GoodStore

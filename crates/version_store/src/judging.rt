@@ -11,9 +11,8 @@ ghost use Rattle.period_core.specs.declared.refusal.Refusal.TheVariants.{BadStor
 ghost use Rattle.version_store.specs.GoodStore.{AreTables, IsTableRow, SayRows, SaysVersion};
 ghost use Rattle.version_store.specs.StoreState.{IsOpenRefusal};
 
-use crate::lawful::lawful;
 use crate::row_values::are_row_values;
-use catalog_core::{Catalog, TableDef, decode_def};
+use catalog_core::{Catalog, TableDef, decode_def, lawful};
 use period_core::{DecodeFault, Moment, Refusal, decode_values};
 use sqlite::Row;
 use std::alloc::Global;
@@ -39,12 +38,11 @@ fn read_table(alloc: Global, catalog: &Catalog, row: &Row) -> Result<TableDef, R
         return Err(Refusal::BadStore);
     };
     match decode_def(alloc, bytes) {
-        Ok(definition) => {
-            if !lawful(catalog, &definition) {
-                return Err(Refusal::BadStore);
-            }
-            Ok(definition)
-        }
+        Ok(definition) => match lawful(alloc, catalog, &definition) {
+            Ok(true) => Ok(definition),
+            Ok(false) => Err(Refusal::BadStore),
+            Err(_) => Err(Refusal::Memory),
+        },
         Err(DecodeFault::Memory) => Err(Refusal::Memory),
         Err(DecodeFault::Malformed) => Err(Refusal::BadStore),
     }

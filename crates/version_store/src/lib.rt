@@ -6,7 +6,6 @@
 
 mod inspecting;
 mod judging;
-mod lawful;
 pub mod laws;
 mod plan;
 mod reading;
