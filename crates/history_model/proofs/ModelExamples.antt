@@ -1,7 +1,11 @@
 -- Worked rows of the model: what an INSERT makes of a day, the last state, the ordinary query on a day.
 use Rattle.std.proofs.Common.{◌≡◌, pos, neg_ℤ, List, [], ◌∷◌, codes, refl, arith}
+use Rattle.period_core.proofs.Periods.{period_over}
+use Rattle.period_core.specs.Moments.{forever}
 use Rattle.period_core.specs.declared.value.Value.{Value}
 use Rattle.period_core.specs.declared.value.Value.TheVariants.{Int}
+use Rattle.period_core.specs.declared.version.VersionRow.{VersionRow}
+use Rattle.history_model.specs.Versions.{current, values_at}
 use Rattle.history_model.specs.Answers.{InAnswerOn, IsProjection}
 use Rattle.history_model.specs.Effects.{Given, Kept, effect, traced}
 use Rattle.history_model.specs.Histories.{Advanced, Asked, Changed, History, catalog_of, clock_of, last_state, new_database, opened, state_at, versions_in, with_event}
@@ -76,6 +80,29 @@ moment_before = refl
 
 at_its_moment : state_at later (pos 5) 1 (pos 15) ≡ worker ∷ []
 at_its_moment = refl
+
+-- a version that began at the moment 2 and ended at 4 is held as of 2 and 3 alone, on its days alone
+abbrev ended : VersionRow
+ended = record { values = worker; period = period_over (pos 10) (pos 20) refl; from = pos 2; to = pos 4 }
+
+not_begun : values_at (ended ∷ []) (pos 1) (pos 15) ≡ []
+not_begun = refl
+
+as_it_begins : values_at (ended ∷ []) (pos 2) (pos 15) ≡ worker ∷ []
+as_it_begins = refl
+
+before_it_ends : values_at (ended ∷ []) (pos 3) (pos 19) ≡ worker ∷ []
+before_it_ends = refl
+
+as_it_ends : values_at (ended ∷ []) (pos 4) (pos 15) ≡ []
+as_it_ends = refl
+
+after_its_days : values_at (ended ∷ []) (pos 3) (pos 20) ≡ []
+after_its_days = refl
+
+-- and it is not current
+not_current : current (ended ∷ record ended { to = forever } ∷ []) ≡ record ended { to = forever } ∷ []
+not_current = refl
 
 -- the department and then the employee
 abbrev query : Select
