@@ -14,7 +14,7 @@ use Rattle.sql_statements.specs.Trees as statement
 use Rattle.catalog_core.specs.Judged.{Holds}
 use Rattle.catalog_core.specs.change.Resolution.{IsChange, ResolvesChange, change_conditions, empty_period, has_empty_row}
 use Rattle.history_model.specs.Effects.{Traced, effect, given_of, traced}
-use Rattle.history_model.specs.Histories.{Changed, Database, History, catalog_of, clock_of, state_at, versions_in, with_event}
+use Rattle.history_model.specs.Histories.{Changed, Database, History, catalog_of, state_at, versions_in, with_event}
 use Rattle.history_model.specs.Represents.{Represents}
 use Rattle.history_model.specs.Versions.{AreBegun, values_at}
 use Rattle.history_model.proofs.HistoryLemmas.{catalog_of-event, clock_of-event, state_at-changed_earlier, state_at-changed_later}

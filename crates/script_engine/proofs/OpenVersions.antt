@@ -1,6 +1,5 @@
 -- Versions that have not ended hold on each day what their rows hold, from the clock on.
-use Rattle.std.proofs.Common.{◌≡◌, ◌∷◌, ◌<ℤ◌, ◌≤ℤ◌, ℤ, Bool, true, List, [], cond, map, refl, ap, ap₂, ◌∙◌, inl, arith}
-use Rattle.std.specs.Prelude.{filter}
+use Rattle.std.proofs.Common.{◌≡◌, ◌∷◌, ◌<ℤ◌, ◌≤ℤ◌, ℤ, Bool, true, List, [], cond, map, refl, ap, ◌∙◌, inl, arith}
 use Rattle.std.specs.List.{All}
 use Rattle.std.specs.Ordering.{int_eq}
 use Rattle.std.proofs.lemmas.Int.{ints}

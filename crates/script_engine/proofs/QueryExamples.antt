@@ -12,7 +12,7 @@ use Rattle.period_core.specs.declared.row.PeriodRow.{PeriodRow}
 use Rattle.period_core.specs.Moments.{first_moment, forever}
 use Rattle.period_core.specs.declared.value.Value.{Value}
 use Rattle.period_core.specs.declared.version.VersionRow.{VersionRow}
-use Rattle.temporal_model.specs.Snapshot.{InSnapshot, covers_day, values_on}
+use Rattle.temporal_model.specs.Snapshot.{covers_day, values_on}
 use Rattle.temporal_model.proofs.Members.{Contains-cons_cases, Contains-here, Contains-nil, Contains-one, Contains-there}
 use Rattle.temporal_model.proofs.Snapshots.{CoversDay, held, in_snapshot}
 use Rattle.sql_statements.specs.Trees as statement

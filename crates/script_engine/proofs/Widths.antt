@@ -28,7 +28,7 @@ use Rattle.catalog_core.proofs.lemmas.change.RowFacts.{row_widths}
 use Rattle.sql_statements.specs.declared.statement.InsertRows.{InsertRows}
 use Rattle.history_model.specs.Versions.{AreBegun, PlainVersion, plain_begun, plain_version}
 use Rattle.script_engine.specs.engine.Rows.{HasItems}
-use Rattle.script_engine.specs.engine.Kept.{FitCatalog, HaveWidth, IsKept, IsOpen}
+use Rattle.script_engine.specs.engine.Kept.{FitCatalog, HaveWidth, IsOpen}
 
 pub fit_lengths : (catalog : List TableDef) (rows : List (List VersionRow)) → FitCatalog catalog rows → length rows ≡ length catalog
 fit_lengths catalog rows fit = AllZip-long HaveWidth catalog rows fit

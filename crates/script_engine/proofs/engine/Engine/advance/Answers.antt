@@ -1,5 +1,4 @@
 use Rattle.std.proofs.Common.{◌≡◌, ◌≤ℤ◌, ℤ, subst}
-use Rattle.history_model.specs.Histories.{Database}
 use Rattle.script_engine.proofs.Steps.{advanced_step}
 use Rattle.script_engine.proofs.engine.Engine.advance.Goals as goal
 
