@@ -1,6 +1,8 @@
 pub mod Calendar
 pub mod Moments
 pub mod TextReading
+pub mod PeriodPredicates
+pub mod DaySets
 pub mod Windows
 pub mod Order
 pub mod Codes

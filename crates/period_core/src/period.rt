@@ -1,7 +1,7 @@
 //! Periods of days, closed at their start and open at their end, as those of application time in
 //! ISO/IEC 9075-2:2011.
 
-ghost use Rattle.std.specs.Prelude.{◌≡◌, ◌↔◌, ◌<ℤ◌, ◌≤ℤ◌, IsSome, IfSome, IsTrue};
+ghost use Rattle.std.specs.Prelude.{◌≡◌, ◌↔◌, ◌<ℤ◌, IsSome, IfSome};
 ghost use Rattle.period_core.specs.Calendar.{IsDayNumber};
 
 use crate::day::Day;
@@ -45,12 +45,5 @@ impl Period {
         ensures { result ≡ self.end }
     {
         self.end
-    }
-
-    /// Whether the day lies in the period.
-    pub fn contains_day(self, day: Day) -> bool
-        ensures { IsTrue result ↔ ((self.start ≤ℤ day) × (day <ℤ self.end)) }
-    {
-        self.start <= day && day < self.end
     }
 }

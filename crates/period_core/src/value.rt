@@ -71,7 +71,7 @@ impl Values {
     pub fn copy(&self, alloc: Global) -> Result<Values, Memory>
         ensures { IfOk result (λ v. v ≡ self.now) }
     {
-        let mut items = Vec::new(alloc);
+        let mut items = Vec::with_capacity(alloc, self.items.len())?;
         for value in self.as_slice() {
             items.push(value.copy(alloc)?)?;
         }

@@ -1,13 +1,10 @@
 -- What a list of period rows holds on a day. A day is its number.
-use Rattle.std.specs.Prelude.{◌&&◌, ◌↔◌, ◌≤ℤ◌, ◌<ℤ◌, ℤ, Bool, int_le, int_lt}
+use Rattle.std.specs.Prelude.{◌↔◌, ◌≤ℤ◌, ◌<ℤ◌, ℤ}
 use Rattle.std.specs.Prelude.{List, Contains, filter, map}
 use Rattle.period_core.specs.Calendar.{first_day, last_day}
+pub use Rattle.period_core.specs.PeriodPredicates.{covers_day}
 use Rattle.period_core.specs.declared.value.Value.{Value}
 use Rattle.period_core.specs.declared.row.PeriodRow.{PeriodRow}
-
--- the day lies in the period from start to end, which is closed at its start and open at its end
-abbrev pub covers_day : ℤ → ℤ → ℤ → Bool
-covers_day start end day = int_le start day && int_lt day end
 
 -- the values of the rows that hold on the day, row by row
 abbrev pub values_on : List PeriodRow → ℤ → List (List Value)
