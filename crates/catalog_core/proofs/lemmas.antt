@@ -1,8 +1,10 @@
 pub mod lists
 pub mod judged
+pub mod conditions
 pub mod table
 pub mod create
 pub mod change
 pub mod query
+pub mod stored
 pub mod bytes
 pub mod examples

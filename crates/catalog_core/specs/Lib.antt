@@ -1,7 +1,13 @@
 pub mod Limits
 pub mod Judged
+pub mod Conditions
 pub mod table
 pub mod create
 pub mod change
 pub mod query
+pub mod Flaws
+pub mod Numbering
+pub mod Placing
+pub mod SystemWindows
+pub mod stored
 pub mod bytes

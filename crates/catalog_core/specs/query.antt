@@ -1,2 +1,5 @@
+pub mod Scopes
+pub mod QueryParts
+pub mod Refusals
 pub mod SimpleSelects
 pub mod Selection

@@ -5,9 +5,11 @@ pub mod insert_names;
 pub mod insert_places;
 pub mod insert_values;
 pub mod insertion;
+pub mod portion_changes;
 pub mod resolution;
 
-use period_core::{Day, Items, Values};
+use crate::condition::Cond;
+use period_core::{Day, Items, Period, PeriodRow, Value, Values, VersionRow};
 
 /// A row of INSERT: its values in the order of the value columns, and the start and the end of its
 /// period. Its end may be at or before its start: then the change is refused.
@@ -18,10 +20,22 @@ pub struct GivenRow {
     pub end: Day,
 }
 
-/// What a change does.
+/// A position among a row's values, and the value that is set there.
+#[derive(Drop, Debug)]
+pub struct Assignment {
+    pub position: usize,
+    pub value: Value,
+}
+
+/// What a change does. Without a portion it acts on every day, without a condition on every row.
 #[derive(Drop, Debug)]
 pub enum Action {
+    /// Adds the rows.
     Insert(Items<GivenRow>),
+    /// In the portion, sets these values in the rows that meet the condition.
+    Update(Option<Period>, Items<Assignment>, Option<Cond>),
+    /// In the portion, removes the rows that meet the condition.
+    Delete(Option<Period>, Option<Cond>),
 }
 
 /// A change of a table, by its number.
@@ -29,4 +43,13 @@ pub enum Action {
 pub struct Change {
     pub table: u8,
     pub action: Action,
+}
+
+/// What a change does to the rows of a table.
+#[derive(Drop, Debug)]
+pub struct Plan {
+    /// The rows that end: each is told by its values, period start and system start.
+    pub ended: Items<VersionRow>,
+    /// The rows that are added.
+    pub added: Items<PeriodRow>,
 }

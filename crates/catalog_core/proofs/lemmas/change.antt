@@ -2,3 +2,4 @@ pub mod GivenValues
 pub mod GivenPlaces
 pub mod InsertFaults
 pub mod RowFacts
+pub mod PortionFaults

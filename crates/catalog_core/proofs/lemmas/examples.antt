@@ -5,3 +5,5 @@ pub mod InsertExamples
 pub mod SelectExamples
 pub mod TableExamples
 pub mod LawfulExamples
+pub mod UpdateExamples
+pub mod StoredExamples

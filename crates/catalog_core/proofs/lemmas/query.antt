@@ -1,1 +1,3 @@
+pub mod SeenColumns
+pub mod SimpleFacts
 pub mod SelectFaults

@@ -1,5 +1,5 @@
--- A change with positions for names: its table by its number, and its rows by their value columns
--- and their period.
+-- A change with positions for names: its table by its number, and of INSERT its rows by their value
+-- columns and their period.
 use Rattle.std.specs.Prelude.{◌≡◌, Bool, false, List, [], Option, Some, int_le, map}
 use Rattle.std.specs.List.{list_any}
 use Rattle.period_core.specs.declared.refusal.Refusal.TheVariants.{EmptyPeriod}
@@ -10,27 +10,33 @@ use Rattle.sql_statements.specs.Trees.{Statement}
 use Rattle.sql_statements.specs.Trees as statement
 use Rattle.catalog_core.specs.change.Insertion.{given_value, gives_empty_row, insert_conditions}
 use Rattle.catalog_core.specs.change.Insertion.{value_for}
+use Rattle.catalog_core.specs.change.PortionChanges.{ResolvesDelete, ResolvesUpdate}
+use Rattle.catalog_core.specs.change.PortionChanges.{delete_conditions, update_conditions}
 use Rattle.catalog_core.specs.Judged.{Judged}
 use Rattle.catalog_core.specs.table.Naming.{Name}
 use Rattle.catalog_core.specs.table.TableWords.{number_of, table_of, value_names}
 use Rattle.catalog_core.specs.declared.change.Action.{Action}
-use Rattle.catalog_core.specs.declared.change.Action.TheVariants.{Insert}
+use Rattle.catalog_core.specs.declared.change.Action.TheVariants.{Insert, Update, Delete}
 use Rattle.catalog_core.specs.declared.change.Change.{Change}
 use Rattle.catalog_core.specs.declared.change.GivenRow.{GivenRow}
 use Rattle.catalog_core.specs.declared.table.TableDef.{TableDef}
 
--- the statement is an INSERT, the one change that runs so far
+-- the statement is a change
 abbrev pub IsChange : Statement → Type 0
 IsChange (statement.insert i) = Unit {0}
+IsChange (statement.update u) = Unit {0}
+IsChange (statement.delete d) = Unit {0}
 IsChange _ = ⊥
 
 -- the refusals that a change may get by its statement and the catalog, each with its condition, but
--- for an empty period; other statements have none
+-- for an empty row of INSERT; other statements have none
 abbrev pub change_conditions : List TableDef → Statement → List Judged
 change_conditions catalog (statement.insert i) = insert_conditions catalog i
+change_conditions catalog (statement.update u) = update_conditions catalog u
+change_conditions catalog (statement.delete d) = delete_conditions catalog d
 change_conditions catalog _ = []
 
--- the one more: a period that does not end after its start
+-- the one more: a row of INSERT whose period does not end after its start
 abbrev pub empty_period : List TableDef → Statement → Judged
 empty_period catalog (statement.insert i) = (EmptyPeriod, gives_empty_row catalog i)
 empty_period catalog _ = (EmptyPeriod, false)
@@ -63,6 +69,7 @@ row_parts given =
 -- the same rows
 abbrev pub ResolvesAction : TableDef → InsertRows → Action → Type 0
 ResolvesAction t i (Insert given) = map (written_row t i.columns) i.rows ≡ map row_parts given
+ResolvesAction t i _ = ⊥
 
 -- the same change of the table that it names
 pub record ResolvesInsert (catalog : List TableDef) (i : InsertRows) (change : Change) : Type 0
@@ -75,6 +82,8 @@ pub record ResolvesInsert (catalog : List TableDef) (i : InsertRows) (change : C
 -- the same change as the statement makes; other statements make none
 abbrev pub ResolvesChange : List TableDef → Statement → Change → Type 0
 ResolvesChange catalog (statement.insert i) change = ResolvesInsert catalog i change
+ResolvesChange catalog (statement.update u) change = ResolvesUpdate catalog u change
+ResolvesChange catalog (statement.delete d) change = ResolvesDelete catalog d change
 ResolvesChange catalog _ change = ⊥
 
 -- the given row ends at or before its start
@@ -84,3 +93,5 @@ is_empty_row given = int_le given.end given.start
 -- the change gives such a row
 abbrev pub has_empty_row : Action → Bool
 has_empty_row (Insert given) = list_any is_empty_row given
+has_empty_row (Update portion assignments condition) = false
+has_empty_row (Delete portion condition) = false

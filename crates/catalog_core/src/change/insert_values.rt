@@ -45,7 +45,7 @@ impl Wrong {
 
 /// Whether a value is a text that its column does not take.
 #[tactic(auto, unfolding(crate::specs::change::Insertion::is_longer))]
-fn is_longer(kind: ColumnKind, value: &Value) -> bool
+pub fn is_longer(kind: ColumnKind, value: &Value) -> bool
     ensures { result ≡ is_longer kind value.now }
 {
     match (kind, value) {

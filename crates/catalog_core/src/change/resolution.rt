@@ -12,6 +12,7 @@ ghost use Rattle.catalog_core.specs.change.Resolution.{has_empty_row};
 use crate::change::given_rows::given_rows;
 use crate::change::insert_places::given_places;
 use crate::change::insertion::{shape_fault, value_fault};
+use crate::change::portion_changes::{resolve_delete, resolve_update};
 use crate::change::{Action, Change};
 use crate::table::catalog::Catalog;
 use period_core::{Items, Refusal};
@@ -52,7 +53,8 @@ pub fn resolve_insert(
     })
 }
 
-/// The change that a statement makes, as `resolve_insert` gives it. The statement is an INSERT.
+/// The change that a statement makes: an INSERT as `resolve_insert` gives it, an UPDATE as
+/// `resolve_update`, a DELETE as `resolve_delete`. The statement is one of them.
 pub fn resolve_change(
     alloc: Global,
     catalog: &Catalog,
@@ -68,8 +70,10 @@ pub fn resolve_change(
     ensures refused { IfErr result
         (MayAnswer (Holds (change_conditions catalog.now.tables (plain statement.now)))) }
 {
-    let StatementForm::Insert(insert) = statement.form() else {
-        unreachable!()
-    };
-    resolve_insert(alloc, catalog, insert)
+    match statement.form() {
+        StatementForm::Insert(insert) => resolve_insert(alloc, catalog, insert),
+        StatementForm::Update(update) => resolve_update(alloc, catalog, update),
+        StatementForm::Delete(delete) => resolve_delete(alloc, catalog, delete),
+        _ => unreachable!(),
+    }
 }

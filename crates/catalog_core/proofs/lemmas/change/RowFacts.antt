@@ -16,7 +16,7 @@ use Rattle.catalog_core.specs.table.Naming.{Name, passes}
 use Rattle.catalog_core.specs.change.Resolution.{ResolvesAction, ResolvesInsert, RowParts, has_empty_row, is_empty_row, row_parts, written_row}
 use Rattle.catalog_core.specs.table.TableWords.{number_of, table_of, table_of_name, value_count}
 use Rattle.catalog_core.specs.declared.change.Action.{Action}
-use Rattle.catalog_core.specs.declared.change.Action.TheVariants.{Insert}
+use Rattle.catalog_core.specs.declared.change.Action.TheVariants.{Delete, Insert, Update}
 use Rattle.catalog_core.specs.declared.change.Change.{Change}
 use Rattle.catalog_core.specs.declared.change.GivenRow.{GivenRow}
 use Rattle.catalog_core.specs.declared.table.TableDef.{TableDef}
@@ -38,6 +38,8 @@ empty_rows t list rows given same =
 empty_action : (t : TableDef) (i : InsertRows) (action : Action) → ResolvesAction t i action → has_no_period t i ≡ has_empty_row action
 unfolding has_no_period
 empty_action t i (Insert given) same = empty_rows t i.columns i.rows given same
+empty_action t i (Update portion assignments condition) same = absurd same
+empty_action t i (Delete portion condition) same = absurd same
 
 pub table_named : (catalog : List TableDef) (name : Name) (number : ℕ) (t : TableDef) → number_of catalog name ≡ Some number → table_of catalog number ≡ Some t → table_of_name catalog name ≡ Some t
 unfolding table_of_name

@@ -1,22 +1,21 @@
 use Rattle.std.proofs.Common.{◌≡◌, ◌∙◌, Bool, None, sym}
-use Rattle.catalog_core.proofs.lemmas.table.Positions.{positioned}
+use Rattle.sql_statements.specs.declared.statement.SelectItem.{SelectItem}
+use Rattle.catalog_core.proofs.lemmas.query.SeenColumns.{placed_in}
 use Rattle.catalog_core.proofs.lemmas.judged.Sound.{fails_at}
-use Rattle.catalog_core.specs.table.Matches.{is_matching}
-use Rattle.catalog_core.specs.table.Naming.{Name}
-use Rattle.catalog_core.specs.query.Selection.{names_no_value, selects_no_value, value_position}
-use Rattle.catalog_core.specs.table.TableWords.{def_matches}
+use Rattle.catalog_core.specs.query.Refusals.{are_matching, are_of_period}
+use Rattle.catalog_core.specs.query.Scopes.{matches_in}
+use Rattle.catalog_core.specs.query.Selection.{value_position}
 use Rattle.catalog_core.specs.declared.table.matching.Matching.TheVariants.{Nothing}
 use Rattle.catalog_core.proofs.query.selection.resolve_items.Goals as goal
-use Rattle.catalog_core.specs.table.Naming.{some_match_among}
 
 pub unreachable-requires : goal.unreachable-requires
-unfolding some_match_among selects_no_value
 unreachable-requires c =
+    let known = c.args.known.now in
     let t = c.args.table.now in
-    let some : Name → Bool = λ name. is_matching Nothing (def_matches t name) in
-    let other : Name → Bool = λ name. names_no_value t name in
-    let none : value_position t c.name-item.result ≡ None = sym c.value_position.ensures ∙ c.in_default.is in
-    positioned t c.name-item.result
-    (fails_at some c.args.names.now c.loop-name.name-index c.name-item.result c.loop-name-test.true c.name-item.is c.requires.there)
-    (fails_at other c.args.names.now c.loop-name.name-index c.name-item.result c.loop-name-test.true c.name-item.is c.requires.values)
+    let unknown : SelectItem → Bool = λ item. are_matching Nothing (matches_in known t item.column) in
+    let other : SelectItem → Bool = λ item. are_of_period (matches_in known t item.column) in
+    let none : value_position t c.item-item.result.column.name ≡ None = sym c.value_position.ensures ∙ c.in_default.is in
+    placed_in known t c.item-item.result.column
+    (fails_at unknown c.args.items.now c.loop-item.item-index c.item-item.result c.loop-item-test.true c.item-item.is c.requires.there)
+    (fails_at other c.args.items.now c.loop-item.item-index c.item-item.result c.loop-item-test.true c.item-item.is c.requires.values)
     none

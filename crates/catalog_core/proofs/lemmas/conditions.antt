@@ -1,0 +1,3 @@
+pub mod Truth
+pub mod Parts
+pub mod Numbers

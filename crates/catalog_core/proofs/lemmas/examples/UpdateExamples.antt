@@ -1,0 +1,84 @@
+-- Worked examples: which refusal an UPDATE gets.
+use Rattle.std.proofs.Common.{◌≡◌, ◌∷◌, ℕ, pos, true, false, List, [], Option, Some, None, refl}
+use Rattle.std.specs.Prelude.{codes}
+use Rattle.std.specs.Str.{chars}
+use Rattle.period_core.specs.declared.refusal.Refusal.{Refusal}
+use Rattle.period_core.specs.declared.refusal.Refusal.TheVariants.{UnknownTable, UnknownColumn, DuplicateName, PeriodColumn, TypeMismatch, TextTooLong, EmptyPeriod}
+use Rattle.period_core.specs.declared.value.Value.{Value}
+use Rattle.period_core.specs.declared.value.Value.TheVariants.{Int, Text}
+use Rattle.sql_statements.specs.Trees.{Condition, Update, test, negated}
+use Rattle.sql_statements.specs.declared.statement.Assignment.{Assignment}
+use Rattle.sql_statements.specs.declared.statement.Compare.{Compare}
+use Rattle.sql_statements.specs.declared.statement.Comparison.TheVariants.{Equal}
+use Rattle.sql_statements.specs.declared.statement.Operand.TheVariants.{Column, Literal}
+use Rattle.sql_statements.specs.declared.statement.Portion.{Portion}
+use Rattle.catalog_core.proofs.lemmas.examples.Tables.{dep}
+use Rattle.catalog_core.specs.Flaws.{is_flawed_column, is_flawed_compare, is_flawed_portion, is_flawed_set, is_set_again, sets_twice}
+use Rattle.catalog_core.specs.change.Insertion.{is_longer, is_of_other_kind, is_too_long}
+use Rattle.catalog_core.specs.Judged.{first_holding}
+use Rattle.catalog_core.specs.table.Kinds.{kind_of_column, same_kind, differ}
+use Rattle.catalog_core.specs.table.Matches.{is_matching}
+use Rattle.catalog_core.specs.table.Naming.{Name, find_among, matches_among}
+use Rattle.catalog_core.specs.change.PortionChanges.{is_flawed_update, lacks_named, update_conditions}
+use Rattle.catalog_core.specs.query.Selection.{names_no_value}
+use Rattle.catalog_core.specs.table.TableWords.{def_kind, is_value_column, number_of, table_of_name}
+
+abbrev set : Name → Value → Assignment
+set name value = record { column = name; value = value }
+
+abbrev equal : Option Name → Name → Value → Condition Compare
+equal qualifier name value = test (record { left = Column (record { qualifier = qualifier; name = name }); comparison = Equal; right = Literal value })
+
+abbrev update : Name → Option Portion → List Assignment → Option (Condition Compare) → Update
+update table portion assignments condition = record { table = table; portion = portion; assignments = assignments; condition = condition }
+
+abbrev refusal : Update → Option Refusal
+refusal u = first_holding (update_conditions (dep ∷ []) u)
+
+abbrev named : Assignment
+named = set (codes "NAME") (Text (codes "AB"))
+
+abbrev over : Name → ℕ → ℕ → Option Portion
+over name from to = Some (record { period = name; from = pos from; to = pos to })
+
+abbrev of_dep : List Assignment → Option (Condition Compare) → Update
+of_dep assignments condition = update (codes "DEP") (over (codes "DP") 1 2) assignments condition
+
+record Updates : Type 0 where
+  accepted : refusal (of_dep (named ∷ []) (Some (equal (Some (codes "DEP")) (codes "DNO") (Int (pos 5))))) ≡ None
+  unknown_table : refusal (update (codes "EMP") None (named ∷ named ∷ []) None) ≡ Some UnknownTable
+  -- a qualifier that is not the table's name, under NOT
+  other_qualifier : refusal (of_dep (named ∷ []) (Some (negated (equal (Some (codes "D")) (codes "DNO") (Int (pos 5)))))) ≡ Some UnknownColumn
+  -- a period that is not the table's; the period in the place of a column
+  other_period : refusal (update (codes "DEP") (over (codes "S") 1 2) (named ∷ []) None) ≡ Some UnknownColumn
+  period_compared : refusal (of_dep (named ∷ []) (Some (equal None (codes "DP") (Int (pos 5))))) ≡ Some UnknownColumn
+  set_twice : refusal (of_dep (named ∷ named ∷ []) None) ≡ Some DuplicateName
+  -- a column of the period in a condition, before its kind
+  start_compared : refusal (of_dep (named ∷ []) (Some (equal None (codes "S") (Int (pos 5))))) ≡ Some PeriodColumn
+  mixed : refusal (of_dep (named ∷ []) (Some (equal None (codes "DNO") (Text [])))) ≡ Some TypeMismatch
+  -- a text is too long where it is set, and not where it is compared
+  long_set : refusal (of_dep (set (codes "NAME") (Text (codes "ABC")) ∷ []) None) ≡ Some TextTooLong
+  long_compared : refusal (of_dep (named ∷ []) (Some (equal None (codes "NAME") (Text (codes "ABC"))))) ≡ None
+  -- an unknown column, set twice, with a text too long, over a portion without a day
+  several : refusal (update (codes "DEP") (over (codes "DP") 2 2) (set (codes "A") (Text (codes "ABC")) ∷ set (codes "A") (Text []) ∷ []) None) ≡ Some UnknownColumn
+  -- under another qualifier a name that would match is unknown, and no period column
+  other_table : refusal (of_dep (named ∷ []) (Some (equal (Some (codes "EMP")) (codes "S") (Int (pos 5))))) ≡ Some UnknownColumn
+  empty_portion : refusal (update (codes "DEP") (over (codes "DP") 2 2) (named ∷ []) None) ≡ Some EmptyPeriod
+
+updates : Updates
+unfolding is_flawed_column is_flawed_compare is_flawed_portion is_flawed_set is_set_again sets_twice is_longer is_of_other_kind is_too_long kind_of_column same_kind differ is_matching is_flawed_update lacks_named names_no_value def_kind find_among matches_among is_value_column number_of table_of_name chars
+updates = record {
+  accepted = refl;
+  unknown_table = refl;
+  other_qualifier = refl;
+  other_period = refl;
+  period_compared = refl;
+  set_twice = refl;
+  start_compared = refl;
+  mixed = refl;
+  long_set = refl;
+  long_compared = refl;
+  several = refl;
+  other_table = refl;
+  empty_portion = refl;
+}

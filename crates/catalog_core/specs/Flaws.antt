@@ -1,0 +1,124 @@
+-- What may be wrong with the parts of an UPDATE, a DELETE or a stored query, judged against their
+-- table. A column or a period is named by its own name, with or without the table's name before it.
+use Rattle.std.specs.Prelude.{◌&&◌, ◌||◌, Bool, false, not, List, Option, Some, None}
+use Rattle.std.specs.Prelude.{bytes_eq, count_by, int_le}
+use Rattle.std.specs.List.{list_any}
+use Rattle.sql_statements.specs.Trees.{Condition, Conditions, any, all, negated, test, none, more}
+use Rattle.sql_statements.specs.declared.statement.Assignment.{Assignment}
+use Rattle.sql_statements.specs.declared.statement.ColumnReference.{ColumnReference}
+use Rattle.sql_statements.specs.declared.statement.Compare.{Compare}
+use Rattle.sql_statements.specs.declared.statement.Operand.{Operand}
+use Rattle.sql_statements.specs.declared.statement.Operand.TheVariants.{Column, Literal}
+use Rattle.sql_statements.specs.declared.statement.PeriodOperand.{PeriodOperand}
+use Rattle.sql_statements.specs.declared.statement.PeriodOperand.TheVariants.{Named, Dates}
+use Rattle.sql_statements.specs.declared.statement.Portion.{Portion}
+use Rattle.sql_statements.specs.declared.statement.StoredTest.{StoredTest}
+use Rattle.sql_statements.specs.declared.statement.StoredTest.TheVariants.{Values, Periods}
+use Rattle.sql_statements.specs.declared.statement.StoredTest.TheVariants.{ContainsDay}
+use Rattle.catalog_core.specs.change.Insertion.{is_of_other_kind, is_too_long}
+use Rattle.catalog_core.specs.query.Refusals.{are_matching, are_of_period}
+use Rattle.catalog_core.specs.query.Scopes.{is_qualified, matches_in}
+use Rattle.catalog_core.specs.query.Selection.{names_no_value}
+use Rattle.catalog_core.specs.table.Kinds.{differ, kind_of_value}
+use Rattle.catalog_core.specs.table.Matches.{is_matching}
+use Rattle.catalog_core.specs.table.TableWords.{def_kind, def_matches}
+use Rattle.catalog_core.specs.declared.flaw.Flaw.{Flaw}
+use Rattle.catalog_core.specs.declared.flaw.Flaw.TheVariants.{Unknown, Ambiguous, NoValue}
+use Rattle.catalog_core.specs.declared.flaw.Flaw.TheVariants.{OtherKind, TooLong, Empty}
+use Rattle.catalog_core.specs.declared.table.matching.Matching.TheVariants.{Nothing, Several}
+use Rattle.catalog_core.specs.declared.table.ValueKind.{ValueKind}
+use Rattle.catalog_core.specs.declared.table.TableDef.{TableDef}
+
+-- ==== columns ====
+
+-- a column that the table lacks, one that several match, one that is no value column; under
+-- another qualifier than the table's name, a name matches nothing
+unfoldable pub is_flawed_column : Flaw → TableDef → ColumnReference → Bool
+is_flawed_column Unknown t r = are_matching Nothing (matches_in t.name t r)
+is_flawed_column Ambiguous t r = are_matching Several (matches_in t.name t r)
+is_flawed_column NoValue t r = are_of_period (matches_in t.name t r)
+is_flawed_column _ t r = false
+
+-- ==== SET ====
+
+-- a column that is set, and its value: also one of another kind, or a longer text than the column
+-- takes
+unfoldable pub is_flawed_set : Flaw → TableDef → Assignment → Bool
+is_flawed_set Unknown t a = is_matching Nothing (def_matches t a.column)
+is_flawed_set Ambiguous t a = is_matching Several (def_matches t a.column)
+is_flawed_set NoValue t a = names_no_value t a.column
+is_flawed_set OtherKind t a = is_of_other_kind t (a.column, a.value)
+is_flawed_set TooLong t a = is_too_long t (a.column, a.value)
+is_flawed_set Empty t a = false
+
+-- a column that is set more than once
+unfoldable pub is_set_again : List Assignment → Assignment → Bool
+is_set_again assignments a =
+    is_matching Several
+    (count_by (λ (other : Assignment). bytes_eq a.column other.column) assignments)
+
+unfoldable pub sets_twice : List Assignment → Bool
+sets_twice assignments = list_any (λ (a : Assignment). is_set_again assignments a) assignments
+
+-- ==== FOR PORTION OF ====
+
+-- a period that is not the table's, and a portion without a day
+unfoldable pub is_flawed_portion : Flaw → TableDef → Option Portion → Bool
+is_flawed_portion Unknown t (Some portion) = not (bytes_eq portion.period t.period.name)
+is_flawed_portion Empty t (Some portion) = int_le portion.to portion.from
+is_flawed_portion _ t _ = false
+
+-- ==== comparisons ====
+
+abbrev pub is_flawed_side : Flaw → TableDef → Operand → Bool
+is_flawed_side flaw t (Column r) = is_flawed_column flaw t r
+is_flawed_side flaw t (Literal value) = false
+
+-- the kind of a side: a column's, by its name, or a literal's
+abbrev pub side_kind : TableDef → Operand → Option ValueKind
+side_kind t (Column r) = def_kind t r.name
+side_kind t (Literal value) = Some (kind_of_value value)
+
+-- the two sides are of two kinds
+abbrev pub is_of_two_kinds : Flaw → TableDef → Compare → Bool
+is_of_two_kinds OtherKind t c = differ (side_kind t c.left) (side_kind t c.right)
+is_of_two_kinds _ t c = false
+
+unfoldable pub is_flawed_compare : Flaw → TableDef → Compare → Bool
+is_flawed_compare flaw t c =
+    is_flawed_side flaw t c.left || (is_flawed_side flaw t c.right || is_of_two_kinds flaw t c)
+
+-- ==== period predicates ====
+
+-- a period that is not the table's, and a constructor without a day
+unfoldable pub is_flawed_period : Flaw → TableDef → PeriodOperand → Bool
+is_flawed_period Unknown t (Named r) =
+    not (is_qualified r.qualifier t.name && bytes_eq r.name t.period.name)
+is_flawed_period Empty t (Dates start end) = int_le end start
+is_flawed_period _ t _ = false
+
+-- a test of a stored query
+unfoldable pub is_flawed_test : Flaw → TableDef → StoredTest → Bool
+is_flawed_test flaw t (Values c) = is_flawed_compare flaw t c
+is_flawed_test flaw t (Periods left predicate right) =
+    is_flawed_period flaw t left || is_flawed_period flaw t right
+is_flawed_test flaw t (ContainsDay period day) = is_flawed_period flaw t period
+
+-- ==== conditions ====
+
+-- some test of the condition passes, wherever it is
+abbrev mutual
+  pub some_test : {T : Type 0} → (T → Bool) → Condition T → Bool
+  some_test p (any parts) = some_tests p parts
+  some_test p (all parts) = some_tests p parts
+  some_test p (negated part) = some_test p part
+  some_test p (test leaf) = p leaf
+
+  pub some_tests : {T : Type 0} → (T → Bool) → Conditions T → Bool
+  some_tests p none = false
+  some_tests p (more part parts) = some_test p part || some_tests p parts
+
+-- the same of a condition that may be absent
+abbrev pub has_test : {T : Type 0} → (T → Bool) → Option (Condition T) → Bool
+has_test p None = false
+has_test p (Some condition) = some_test p condition

@@ -1,0 +1,170 @@
+-- Names in a select: which tables its conditions and its select list see, and which columns a name
+-- matches there.
+use Rattle.std.specs.Prelude.{◌++◌, ◌&&◌, ℕ, Bool, true, List, [], ◌∷◌, Option, Some, None}
+use Rattle.std.specs.Prelude.{bytes_eq, filter, flat_map, map, slice_get}
+use Rattle.std.specs.List.{enumerate_from}
+use Rattle.std.specs.Option.{option_map}
+use Rattle.sql_statements.specs.Trees.{Condition, Conditions, Join, JoinChain, Select}
+use Rattle.sql_statements.specs.Trees.{any, all, more, negated, none, test}
+use Rattle.sql_statements.specs.declared.statement.ColumnReference.{ColumnReference}
+use Rattle.sql_statements.specs.declared.statement.Compare.{Compare}
+use Rattle.sql_statements.specs.declared.statement.Operand.{Operand}
+use Rattle.sql_statements.specs.declared.statement.Operand.TheVariants as operand
+use Rattle.sql_statements.specs.declared.statement.SelectItem.{SelectItem}
+use Rattle.sql_statements.specs.declared.statement.TableReference.{TableReference}
+use Rattle.catalog_core.specs.table.Kinds.{kind_of_column, kind_of_value}
+use Rattle.catalog_core.specs.table.Naming.{Name}
+use Rattle.catalog_core.specs.table.TableWords.{is_value_column, table_of_name}
+use Rattle.catalog_core.specs.declared.table.Column.{Column}
+use Rattle.catalog_core.specs.declared.table.TableDef.{TableDef}
+use Rattle.catalog_core.specs.declared.table.ValueKind.{ValueKind}
+
+-- ---- what is seen
+
+-- the tables of a chain and of a select, in the order of the text
+abbrev pub chain_tables : JoinChain → List TableReference
+chain_tables chain = chain.first ∷ map (λ (join : Join). join.reference) chain.joins
+
+abbrev pub tables_of : Select → List TableReference
+tables_of select = flat_map chain_tables select.chains
+
+-- a new name, or else the old one
+abbrev pub name_or : Option Name → Name → Name
+name_or None name = name
+name_or (Some new) name = new
+
+-- the name by which a reference is known: a new name hides the table's
+abbrev pub known_name : TableReference → Name
+known_name reference = name_or reference.new_name reference.table
+
+-- what is seen: these tables, which come after others of the same select
+pub record Scope : Type 0 where
+  pub before : List TableReference
+  pub seen : List TableReference
+
+-- WHERE and the select list see all tables
+abbrev pub whole_scope : Select → Scope
+whole_scope select = record { before = []; seen = tables_of select }
+
+-- a condition with what it sees
+abbrev pub ScopedCondition : Type 0
+ScopedCondition = Scope × Condition Compare
+
+-- ON sees the tables of its own chain up to its right side
+abbrev pub chain_conditions
+    : List TableReference → List TableReference → List Join → List ScopedCondition
+chain_conditions before seen [] = []
+chain_conditions before seen (join ∷ joins) =
+    (record { before = before; seen = seen ++ join.reference ∷ [] }, join.condition)
+    ∷ chain_conditions before (seen ++ join.reference ∷ []) joins
+
+abbrev pub on_conditions : List TableReference → List JoinChain → List ScopedCondition
+on_conditions before [] = []
+on_conditions before (chain ∷ chains) =
+    chain_conditions before (chain.first ∷ []) chain.joins
+    ++ on_conditions (before ++ chain_tables chain) chains
+
+abbrev pub where_conditions : Scope → Option (Condition Compare) → List ScopedCondition
+where_conditions scope None = []
+where_conditions scope (Some condition) = (scope, condition) ∷ []
+
+-- the conditions of a select: those of ON, then that of WHERE
+abbrev pub conditions_in : Select → List ScopedCondition
+conditions_in select =
+    on_conditions [] select.chains ++ where_conditions (whole_scope select) select.condition
+
+-- ---- what is named
+
+-- the comparisons of a condition
+abbrev mutual
+  pub tests_of : Condition Compare → List Compare
+  tests_of (any parts) = tests_among parts
+  tests_of (all parts) = tests_among parts
+  tests_of (negated part) = tests_of part
+  tests_of (test compare) = compare ∷ []
+
+  pub tests_among : Conditions Compare → List Compare
+  tests_among none = []
+  tests_among (more part parts) = tests_of part ++ tests_among parts
+
+-- those of a select, each with what it sees
+abbrev pub tests_in : Select → List (Scope × Compare)
+tests_in select =
+    flat_map (λ (c : ScopedCondition). map (λ (t : Compare). (c.0, t)) (tests_of c.1))
+    (conditions_in select)
+
+abbrev pub side_columns : Operand → List ColumnReference
+side_columns (operand.Column column) = column ∷ []
+side_columns (operand.Literal value) = []
+
+abbrev pub test_columns : Compare → List ColumnReference
+test_columns t = side_columns t.left ++ side_columns t.right
+
+-- the columns that a select names, each with what is seen there: those of the conditions, then
+-- those of the select list
+abbrev pub columns_in : Select → List (Scope × ColumnReference)
+columns_in select =
+    flat_map
+    (λ (t : Scope × Compare). map (λ (c : ColumnReference). (t.0, c)) (test_columns t.1))
+    (tests_in select)
+    ++ map (λ (item : SelectItem). (whole_scope select, item.column)) select.items
+
+-- ---- what a name matches
+
+-- a declared column of a table that is seen, with its place in the table
+pub record SeenColumn : Type 0 where
+  pub known_as : Name
+  pub table : TableDef
+  pub place : ℕ
+  pub column : Column
+
+-- the columns of a table that is known by a name; of one that is not there none
+abbrev pub declared_columns : Name → Option TableDef → List SeenColumn
+declared_columns name None = []
+declared_columns name (Some table) =
+    map
+    (λ (c : ℕ × Column).
+    record { known_as = name; table = table; place = c.0; column = c.1 })
+    (enumerate_from 0 table.columns)
+
+-- the columns of these tables
+abbrev pub seen_columns : List TableDef → List TableReference → List SeenColumn
+seen_columns catalog tables =
+    flat_map
+    (λ (r : TableReference). declared_columns (known_name r) (table_of_name catalog r.table))
+    tables
+
+-- the name before a column is that by which its table is known
+abbrev pub is_qualified : Option Name → Name → Bool
+is_qualified None name = true
+is_qualified (Some qualifier) name = bytes_eq qualifier name
+
+-- a reference names a column
+abbrev pub names_column : ColumnReference → SeenColumn → Bool
+names_column reference seen =
+    is_qualified reference.qualifier seen.known_as && bytes_eq reference.name seen.column.name
+
+-- the columns that a reference names in a table that is known by a name
+abbrev pub matches_in : Name → TableDef → ColumnReference → List SeenColumn
+matches_in name table reference =
+    filter (names_column reference) (declared_columns name (Some table))
+
+-- all columns that a reference names, the period and system columns too
+abbrev pub matches_of : List TableDef → Scope → ColumnReference → List SeenColumn
+matches_of catalog scope reference =
+    filter (names_column reference) (seen_columns catalog scope.seen)
+
+-- the kind of the column that a name stands for
+abbrev pub column_kind : List TableDef → Scope → ColumnReference → Option ValueKind
+column_kind catalog scope reference =
+    option_map (λ (seen : SeenColumn). kind_of_column seen.column.kind)
+    (slice_get (matches_of catalog scope reference) 0)
+
+-- the kind of a side of a comparison
+abbrev pub side_kind : List TableDef → Scope → Operand → Option ValueKind
+side_kind catalog scope (operand.Column column) = column_kind catalog scope column
+side_kind catalog scope (operand.Literal value) = Some (kind_of_value value)
+
+-- a column that rows have a value for
+abbrev pub has_value : SeenColumn → Bool
+has_value seen = is_value_column seen.table (seen.place, seen.column)

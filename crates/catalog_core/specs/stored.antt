@@ -1,0 +1,3 @@
+pub mod StoredAnswers
+pub mod StoredQueries
+pub mod StoredPlacing

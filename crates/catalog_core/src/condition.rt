@@ -1,0 +1,96 @@
+//! Conditions over a row's values.
+
+ghost use Rattle.std.specs.Prelude.{◌≡◌};
+ghost use Rattle.std.specs.Option.{option_copied};
+ghost use Rattle.catalog_core.specs.Conditions.{allows, compares, meets, side_value};
+
+use period_core::Value;
+use sql_statements::{Comparison, Tree};
+use std::cmp::Ordering;
+
+/// A side of a comparison: the row's value at a position, or a literal.
+#[derive(Drop, Debug)]
+pub enum Comparand {
+    Position(usize),
+    Literal(Value),
+}
+
+/// Two sides compared.
+#[derive(Drop, Debug)]
+pub struct CompareValues {
+    pub left: Comparand,
+    pub comparison: Comparison,
+    pub right: Comparand,
+}
+
+/// A condition over a row's values.
+pub type Cond = Tree<CompareValues>;
+
+/// Whether the comparison holds of two values that are in this order.
+fn is_allowed(comparison: Comparison, order: Ordering) -> bool
+    ensures { result ≡ allows comparison order }
+{
+    match comparison {
+        Comparison::Equal => order == Ordering::Equal,
+        Comparison::NotEqual => order != Ordering::Equal,
+        Comparison::Less => order == Ordering::Less,
+        Comparison::LessOrEqual => order != Ordering::Greater,
+        Comparison::Greater => order == Ordering::Greater,
+        Comparison::GreaterOrEqual => order != Ordering::Less,
+    }
+}
+
+/// The value of a side in a row: `None` where the row has none at its position.
+fn value_of<'a>(side: &'a Comparand, values: &'a [Value]) -> Option<&'a Value>
+    ensures { option_copied result ≡ side_value side.now values.now }
+{
+    match side {
+        Comparand::Position(position) => values.get(*position),
+        Comparand::Literal(value) => Some(value),
+    }
+}
+
+/// Whether the comparison holds of the row's values.
+pub fn compares(test: &CompareValues, values: &[Value]) -> bool
+    ensures { result ≡ compares values.now test.now }
+{
+    let Some(left) = value_of(&test.left, values) else {
+        return false;
+    };
+    let Some(right) = value_of(&test.right, values) else {
+        return false;
+    };
+    is_allowed(test.comparison, left.cmp(right))
+}
+
+/// Whether the condition holds of the row's values. It takes no memory.
+pub fn holds(condition: &Cond, values: &[Value]) -> bool
+    ensures { result ≡ meets condition.now values.now }
+{
+    match condition {
+        Tree::Or(first, others) => {
+            if holds(first, values) {
+                return true;
+            }
+            for part in others {
+                if holds(part, values) {
+                    return true;
+                }
+            }
+            false
+        }
+        Tree::And(first, others) => {
+            if !holds(first, values) {
+                return false;
+            }
+            for part in others {
+                if !holds(part, values) {
+                    return false;
+                }
+            }
+            true
+        }
+        Tree::Not(part) => !holds(part, values),
+        Tree::Test(test) => compares(test, values),
+    }
+}

@@ -1,0 +1,163 @@
+//! Conditions, assignments and portions of accepted statements, with positions in place of names.
+//! The only error is out of memory.
+
+ghost use Rattle.std.specs.Prelude.{◌≡◌, IfOk, Some, false, map};
+ghost use Rattle.std.specs.List.{list_any};
+ghost use Rattle.std.specs.Option.{option_map};
+ghost use Rattle.sql_statements.specs.Plain.{plain_condition};
+ghost use Rattle.catalog_core.specs.Flaws.{has_test, is_flawed_compare, is_flawed_portion};
+ghost use Rattle.catalog_core.specs.Flaws.{is_flawed_set};
+ghost use Rattle.catalog_core.specs.Numbering.{ResolvesWhere, map_condition, numbered_compare};
+ghost use Rattle.catalog_core.specs.Numbering.{numbered_set, period_days, portion_days};
+ghost use Rattle.catalog_core.specs.Placing.{or_zero, placed_compare, placed_side};
+ghost use Rattle.catalog_core.specs.query.Selection.{value_position};
+ghost use Rattle.catalog_core.specs.declared.flaw.Flaw.TheVariants.{Empty, NoValue, Unknown};
+
+use crate::change::Assignment;
+use crate::condition::{Comparand, CompareValues, Cond};
+use crate::table::TableDef;
+use crate::table::columns::value_position;
+use period_core::{Items, Memory, Period};
+use sql_statements::{ColumnReference, Compare, Operand, Portion, Tree};
+use std::alloc::Global;
+
+/// The position of a named column: 0 where it has none, which no accepted statement names.
+fn column_position(table: &TableDef, column: &ColumnReference) -> usize
+    ensures { result ≡ or_zero (value_position table.now column.now.name) }
+{
+    match value_position(table, &column.name) {
+        Some(position) => position,
+        None => 0,
+    }
+}
+
+/// A side of a comparison.
+fn number_side(alloc: Global, table: &TableDef, side: &Operand) -> Result<Comparand, Memory>
+    ensures { IfOk result (λ numbered. numbered ≡ placed_side table.now side.now) }
+{
+    match side {
+        Operand::Column(column) => Ok(Comparand::Position(column_position(table, column))),
+        Operand::Literal(value) => Ok(Comparand::Literal(value.copy(alloc)?)),
+    }
+}
+
+/// A comparison.
+pub fn number_compare(
+    alloc: Global,
+    table: &TableDef,
+    compare: &Compare,
+) -> Result<CompareValues, Memory>
+    ensures { IfOk result (λ numbered. numbered ≡ placed_compare table.now compare.now) }
+{
+    let left = number_side(alloc, table, &compare.left)?;
+    let right = number_side(alloc, table, &compare.right)?;
+    Ok(CompareValues {
+        left,
+        comparison: compare.comparison,
+        right,
+    })
+}
+
+/// A condition.
+fn number_condition(
+    alloc: Global,
+    table: &TableDef,
+    condition: &Tree<Compare>,
+) -> Result<Cond, Memory>
+    ensures { IfOk result (λ numbered.
+        map_condition (λ leaf. Some (placed_compare table.now leaf)) (plain_condition condition.now)
+        ≡ map_condition (λ leaf. Some leaf) (plain_condition numbered)) }
+{
+    match condition {
+        Tree::Or(first, others) => {
+            let mut numbered = Vec::new(alloc);
+            for part in others {
+                numbered.push(number_condition(alloc, table, part)?)?;
+            }
+            let first = number_condition(alloc, table, first)?;
+            Ok(Tree::Or(Box::new(alloc, first)?, numbered))
+        }
+        Tree::And(first, others) => {
+            let mut numbered = Vec::new(alloc);
+            for part in others {
+                numbered.push(number_condition(alloc, table, part)?)?;
+            }
+            let first = number_condition(alloc, table, first)?;
+            Ok(Tree::And(Box::new(alloc, first)?, numbered))
+        }
+        Tree::Not(part) => {
+            let part = number_condition(alloc, table, part)?;
+            Ok(Tree::Not(Box::new(alloc, part)?))
+        }
+        Tree::Test(compare) => Ok(Tree::Test(number_compare(alloc, table, compare)?)),
+    }
+}
+
+/// The condition of WHERE, if there is one.
+pub fn number_where(
+    alloc: Global,
+    table: &TableDef,
+    condition: &Option<Tree<Compare>>,
+) -> Result<Option<Cond>, Memory>
+    requires there { has_test (is_flawed_compare Unknown table.now)
+        (option_map plain_condition condition.now) ≡ false }
+    requires value { has_test (is_flawed_compare NoValue table.now)
+        (option_map plain_condition condition.now) ≡ false }
+    ensures { IfOk result (λ numbered. ResolvesWhere (numbered_compare table.now)
+        (option_map plain_condition condition.now) numbered) }
+{
+    match condition {
+        Some(condition) => Ok(Some(number_condition(alloc, table, condition)?)),
+        None => Ok(None),
+    }
+}
+
+/// An assignment.
+fn number_set(
+    alloc: Global,
+    table: &TableDef,
+    set: &sql_statements::Assignment,
+) -> Result<Assignment, Memory>
+    requires there { is_flawed_set Unknown table.now set.now ≡ false }
+    requires value { is_flawed_set NoValue table.now set.now ≡ false }
+    ensures { IfOk result (λ numbered. numbered_set table.now set.now ≡ Some numbered) }
+{
+    let Some(position) = value_position(table, &set.column) else {
+        unreachable!()
+    };
+    let value = set.value.copy(alloc)?;
+    Ok(Assignment { position, value })
+}
+
+/// The assignments of SET.
+pub fn number_sets(
+    alloc: Global,
+    table: &TableDef,
+    assignments: &[sql_statements::Assignment],
+) -> Result<Items<Assignment>, Memory>
+    requires there { list_any (λ a. is_flawed_set Unknown table.now a) assignments.now ≡ false }
+    requires value { list_any (λ a. is_flawed_set NoValue table.now a) assignments.now ≡ false }
+    ensures { IfOk result (λ numbered.
+        map (numbered_set table.now) assignments.now ≡ map (λ a. Some a) numbered) }
+{
+    let mut numbered = Vec::with_capacity(alloc, assignments.len())?;
+    for set in assignments {
+        numbered.push(number_set(alloc, table, set)?)?;
+    }
+    Ok(Items::from_vec(numbered))
+}
+
+/// The period of FOR PORTION OF, if there is one.
+#[tactic(auto, unfolding(crate::specs::Flaws::is_flawed_portion))]
+pub fn portion_period(table: &TableDef, portion: &Option<Portion>) -> Option<Period>
+    requires { is_flawed_portion Empty table.now portion.now ≡ false }
+    ensures { portion_days portion.now ≡ period_days result }
+{
+    let Some(portion) = portion else {
+        return None;
+    };
+    let Some(period) = Period::new(portion.from, portion.to) else {
+        unreachable!()
+    };
+    Some(period)
+}
