@@ -1,4 +1,10 @@
+pub mod Lists
 pub mod HistoryLemmas
 pub mod VersionFacts
+pub mod Days
+pub mod Moments
 pub mod LeftFacts
+pub mod Changes
+pub mod Shown
 pub mod ModelExamples
+pub mod ChangeExamples

@@ -1,4 +1,5 @@
 -- Worked rows of the model: what an INSERT makes of a day, the last state, the ordinary query on a day.
+-- Those of UPDATE and DELETE are in ChangeExamples.
 use Rattle.std.proofs.Common.{◌≡◌, pos, neg_ℤ, List, [], ◌∷◌, codes, refl, arith}
 use Rattle.period_core.proofs.Periods.{period_over}
 use Rattle.period_core.specs.Moments.{forever}

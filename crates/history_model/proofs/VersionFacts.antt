@@ -36,7 +36,7 @@ values_at-permutation xs ys moment day p =
 
 -- ---- numbers and tests
 
-same_number : (a b : ℤ) → int_eq a b ≡ true → a ≡ b
+pub same_number : (a b : ℤ) → int_eq a b ≡ true → a ≡ b
 same_number a b h = go (int_cmp a b) refl h
   where
     go : (r : Ordering) → r ≡ int_cmp a b → is_eq r ≡ true → a ≡ b
@@ -44,23 +44,23 @@ same_number a b h = go (int_cmp a b) refl h
     go Equal e h = int_ranked a b Equal e
     go Greater e h = cc
 
-not_true : (b : Bool) → (b ≡ true → ⊥) → b ≡ false
+pub not_true : (b : Bool) → (b ≡ true → ⊥) → b ≡ false
 not_true true h = absurd (h refl)
 not_true false h = refl
 
-both : (a b : Bool) → a ≡ true → b ≡ true → (a && b) ≡ true
+pub both : (a b : Bool) → a ≡ true → b ≡ true → (a && b) ≡ true
 both true b h k = k
 both false b h k = cc
 
-second_false : (a b : Bool) → b ≡ false → (a && b) ≡ false
+pub second_false : (a b : Bool) → b ≡ false → (a && b) ≡ false
 second_false true b h = h
 second_false false b h = refl
 
-first_false : (a b : Bool) → a ≡ false → (a && b) ≡ false
+pub first_false : (a b : Bool) → a ≡ false → (a && b) ≡ false
 first_false true b h = cc
 first_false false b h = refl
 
-itself : (a : ℤ) → int_eq a a ≡ true
+pub itself : (a : ℤ) → int_eq a a ≡ true
 itself a = go (int_eq a a) refl
   where
     go : (b : Bool) → int_eq a a ≡ b → b ≡ true
@@ -143,7 +143,7 @@ rows_of-inserted given rows day =
 -- ---- the last moment
 
 -- from the clock on a version is seen where it has not ended
-sees_later : (clock moment : ℤ) (v : VersionRow) → IsRecorded clock v → clock ≤ℤ moment → moment <ℤ forever → window_sees (AsOf moment) v.from v.to ≡ window_sees Now v.from v.to
+pub sees_later : (clock moment : ℤ) (v : VersionRow) → IsRecorded clock v → clock ≤ℤ moment → moment <ℤ forever → window_sees (AsOf moment) v.from v.to ≡ window_sees Now v.from v.to
 sees_later clock moment v r late before = elim r.ended [ inl e ↦ sees_on e | inr e ↦ sees_off e ]
   where
     sees_on : v.to ≡ forever → window_sees (AsOf moment) v.from v.to ≡ window_sees Now v.from v.to

@@ -1,13 +1,14 @@
 -- What the tables held at each moment: an opening, and what was done since.
-use Rattle.std.specs.Prelude.{◌++◌, ◌∷◌, ℕ, zero, suc, ℤ, List, [], Option, Some}
+use Rattle.std.specs.Prelude.{◌≡◌, ◌++◌, ◌∷◌, ◌<ℤ◌, ◌≤ℤ◌, ℕ, zero, suc, ℤ, List, [], Option, Some}
 use Rattle.std.specs.Prelude.{None, filter_map, fold, int_le, slice_index_or, cond}
-use Rattle.period_core.specs.Moments.{first_moment}
+use Rattle.std.specs.List.{All}
+use Rattle.period_core.specs.Moments.{first_moment, forever}
 use Rattle.period_core.specs.declared.value.Value.{Value}
 use Rattle.period_core.specs.declared.version.VersionRow.{VersionRow}
 use Rattle.catalog_core.specs.declared.change.Change.{Change}
 use Rattle.catalog_core.specs.declared.table.TableDef.{TableDef}
 use Rattle.history_model.specs.Effects.{effect}
-use Rattle.history_model.specs.Versions.{last_moment, values_at}
+use Rattle.history_model.specs.Versions.{IsRecorded, last_moment, values_at}
 
 -- what is kept: the clock, the tables' definitions in the order of their creation, and in the same
 -- places their versions
@@ -90,3 +91,22 @@ state_at history moment table day =
 -- the last state: that at the last moment
 abbrev pub last_state : History → State
 last_state history = state_at history last_moment
+
+-- ---- histories in order
+
+-- from a clock on, AT goes to no earlier moment and to none from FOREVER on, and each change is
+-- made at the clock
+abbrev pub AreInOrder : ℤ → List Event → Type 0
+AreInOrder clock [] = Unit {0}
+AreInOrder clock (Advanced moment ∷ events) =
+    (clock ≤ℤ moment) × (moment <ℤ forever) × AreInOrder moment events
+AreInOrder clock (Created definition ∷ events) = AreInOrder clock events
+AreInOrder clock (Changed moment change ∷ events) = (moment ≡ clock) × AreInOrder clock events
+AreInOrder clock (Asked ∷ events) = AreInOrder clock events
+
+-- a history as statements make it, over an opening as a store may have it
+pub record IsInOrder (history : History) : Type 0 where
+  pub before : history.opening.clock <ℤ forever
+  pub recorded : (table : ℕ)
+      → All (IsRecorded history.opening.clock) (versions_in history.opening table)
+  pub events : AreInOrder history.opening.clock history.events

@@ -1,18 +1,22 @@
 -- What one more event makes of a history. Each law is the contract of a function of this crate.
-use Rattle.std.specs.Prelude.{◌≡◌, ◌++◌, ◌∷◌, ◌≤ℤ◌, ◌<ℤ◌, [], ℕ, ℤ, List, IsPermutation, map}
+use Rattle.std.specs.Prelude.{◌≡◌, ◌↔◌, ◌++◌, ◌∷◌, ◌≤ℤ◌, ◌<ℤ◌, [], ℕ, ℤ, List, Contains}
+use Rattle.std.specs.Prelude.{IsPermutation, map}
 use Rattle.std.specs.List.{All}
 use Rattle.period_core.specs.Moments.{forever}
+use Rattle.period_core.specs.declared.value.Value.{Value}
 use Rattle.period_core.specs.declared.version.VersionRow.{VersionRow}
+use Rattle.period_core.specs.declared.window.Window.{Window}
 use Rattle.temporal_model.specs.Snapshot.{values_on}
 use Rattle.catalog_core.specs.declared.change.Change.{Change}
 use Rattle.catalog_core.specs.declared.table.TableDef.{TableDef}
 use Rattle.history_model.specs.Effects.{effect}
 use Rattle.history_model.specs.Histories.{Advanced, Asked, Changed, Created, Database, Event}
-use Rattle.history_model.specs.Histories.{History, catalog_of, clock_of, opened, state_at}
-use Rattle.history_model.specs.Histories.{with_event}
+use Rattle.history_model.specs.Histories.{History, IsInOrder, catalog_of, clock_of, opened}
+use Rattle.history_model.specs.Histories.{state_at, versions_in, with_event}
 use Rattle.history_model.specs.Left.{AreLeftBy}
-use Rattle.history_model.specs.Represents.{Represents}
-use Rattle.history_model.specs.Versions.{IsRecorded, current, row_of, values_at}
+use Rattle.history_model.specs.Represents.{IsChangedBy, IsLeftBy, IsRecord, Represents}
+use Rattle.history_model.specs.SystemWindows.{SeesThrough}
+use Rattle.history_model.specs.Versions.{IsRecorded, current, row_of, values_at, values_seen}
 
 -- the clock is the same after one more event
 abbrev pub KeepsClock : History → Event → Type 0
@@ -32,12 +36,37 @@ KeepsStates history event =
 abbrev pub OpeningsAreRepresented : Type 0
 OpeningsAreRepresented = (database : Database) → Represents (opened database) database
 
+-- what is kept represents the history with one more change, as of every moment; it is as a store
+-- may have it, and what the history leaves
+abbrev pub ChangesAreRepresented : Type 0
+ChangesAreRepresented =
+    (history : History) (old new : Database) (change : Change) → IsChangedBy change old new
+    → (IsRecord old → Represents history old
+    → Represents (with_event history (Changed old.clock change)) new × IsRecord new)
+    × (IsLeftBy history old → IsLeftBy (with_event history (Changed old.clock change)) new)
+
 -- the versions that a history leaves of a table hold its state as of every moment on every day
 abbrev pub VersionsHoldTheStates : Type 0
 VersionsHoldTheStates =
-    (history : History) (table : ℕ) (versions : List VersionRow) → AreLeftBy history table versions
-    → (moment day : ℤ) → moment <ℤ forever
+    (history : History) (table : ℕ) (versions : List VersionRow) → IsInOrder history
+    → AreLeftBy history table versions → (moment day : ℤ) → moment <ℤ forever
     → IsPermutation (values_at versions moment day) (state_at history moment table day)
+
+-- a history leaves one list of versions of a table, up to its order
+abbrev pub HistoriesLeaveOneList : Type 0
+HistoriesLeaveOneList =
+    (history : History) (table : ℕ) (versions others : List VersionRow)
+    → AreLeftBy history table versions → AreLeftBy history table others
+    → IsPermutation versions others
+
+-- what a reference sees through a window, of the versions that are kept, is each row of the states
+-- that the window looks at, and nothing else
+abbrev pub WindowsSeeStates : Type 0
+WindowsSeeStates =
+    (history : History) (database : Database) → IsRecord database → Represents history database
+    → (window : Window) (table : ℕ) (day : ℤ) (values : List Value)
+    → (Contains (values_seen window (versions_in database table) day) values
+    ↔ SeesThrough history window day table values)
 
 -- where the versions are as a store with this clock may have them, the current ones hold on each
 -- day what all of them hold as of the clock, and as of each later moment

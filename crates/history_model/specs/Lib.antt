@@ -1,7 +1,9 @@
 pub mod Effects
+pub mod Portions
 pub mod Versions
 pub mod Histories
+pub mod SystemWindows
 pub mod Answers
-pub mod Represents
 pub mod Left
+pub mod Represents
 pub mod Laws

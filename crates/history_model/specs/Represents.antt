@@ -1,9 +1,12 @@
--- When what is kept is what a history says.
-use Rattle.std.specs.Prelude.{◌≡◌, ◌<ℤ◌, ℕ, ℤ, IsPermutation}
+-- When what is kept is what a history says, and what a change makes of it.
+use Rattle.std.specs.Prelude.{◌≡◌, ◌==◌, ◌<ℤ◌, ℕ, ℤ, IsPermutation, length}
+use Rattle.std.specs.List.{All}
 use Rattle.period_core.specs.Moments.{forever}
+use Rattle.catalog_core.specs.declared.change.Change.{Change}
 use Rattle.history_model.specs.Histories.{Database, History, catalog_of, clock_of, state_at}
 use Rattle.history_model.specs.Histories.{versions_in}
-use Rattle.history_model.specs.Versions.{values_at}
+use Rattle.history_model.specs.Left.{AreLeftBy, MakesIf}
+use Rattle.history_model.specs.Versions.{IsRecorded, values_at}
 
 -- what is kept is what the history says: its clock, its tables, and as of each moment on each day
 -- the rows of each table, each as often
@@ -13,3 +16,23 @@ pub record Represents (history : History) (database : Database) : Type 0 where
   pub daily : (table : ℕ) (moment day : ℤ) → moment <ℤ forever
       → IsPermutation
       (values_at (versions_in database table) moment day) (state_at history moment table day)
+
+-- what is kept of each table is what the history leaves of it, up to its order
+abbrev pub IsLeftBy : History → Database → Type 0
+IsLeftBy history database = (table : ℕ) → AreLeftBy history table (versions_in database table)
+
+-- the clock is before FOREVER, each table has its versions, and each version is as a store with
+-- this clock may have it
+pub record IsRecord (database : Database) : Type 0 where
+  pub before : database.clock <ℤ forever
+  pub lists : length database.versions ≡ length database.catalog
+  pub recorded : (table : ℕ) → All (IsRecorded database.clock) (versions_in database table)
+
+-- a change is made at the clock: it makes its table's versions, and nothing else is other
+pub record IsChangedBy (change : Change) (old new : Database) : Type 0 where
+  pub clock : new.clock ≡ old.clock
+  pub catalog : new.catalog ≡ old.catalog
+  pub lists : length new.versions ≡ length old.versions
+  pub versions : (table : ℕ)
+      → MakesIf (table == change.table) old.clock change.action
+      (versions_in old table) (versions_in new table)

@@ -1,13 +1,16 @@
-//! What the tables held at each moment: what a change makes of a day, the histories of a store and
-//! their states, versions, and the ordinary query on a day. The definitions are in `specs/`; each
-//! function here does nothing, and its contract is a law over them. A new form of change gets its
-//! clause in `specs/Effects`, a new form of query its clause in `specs/Answers`.
+//! What the tables held at each moment: what a change makes of a day and of versions, the histories
+//! of a store and their states, what windows see, and the ordinary query on a day. The definitions
+//! are in `specs/`; each function here does nothing, and its contract is a law over them. A new form
+//! of change gets its clauses in `specs/Effects` and `specs/Portions`, a new form of query its clause
+//! in `specs/Answers`.
 #![tactic(auto)]
 
-ghost use Rattle.history_model.specs.Laws.{AdvancesMoveTheClock, ChangesTakeEffect};
-ghost use Rattle.history_model.specs.Laws.{CreationsAddTables, CurrentVersionsHold};
-ghost use Rattle.history_model.specs.Laws.{EarlierStatesStay, VersionsHoldTheStates};
-ghost use Rattle.history_model.specs.Laws.{OpeningsAreRepresented, QueriesChangeNothing};
+ghost use Rattle.history_model.specs.Laws.{AdvancesMoveTheClock, ChangesAreRepresented};
+ghost use Rattle.history_model.specs.Laws.{ChangesTakeEffect, CreationsAddTables};
+ghost use Rattle.history_model.specs.Laws.{CurrentVersionsHold, EarlierStatesStay};
+ghost use Rattle.history_model.specs.Laws.{HistoriesLeaveOneList, OpeningsAreRepresented};
+ghost use Rattle.history_model.specs.Laws.{QueriesChangeNothing, VersionsHoldTheStates};
+ghost use Rattle.history_model.specs.Laws.{WindowsSeeStates};
 
 /// Whatever a store keeps, it represents the history that opens with it. So what is said of each
 /// history that a store represents is said of one at the least.
@@ -15,10 +18,28 @@ pub fn openings_are_represented()
     ensures { OpeningsAreRepresented }
 {}
 
-/// The versions that a history leaves, up to their order, hold its state as of every moment on
-/// every day.
+/// Where a change is made, what is kept represents the history with one more change. The
+/// versions stay as a store may have them, and those that the history leaves.
+pub fn changes_are_represented()
+    ensures { ChangesAreRepresented }
+{}
+
+/// The versions that a history in order leaves, up to their order, hold its state as of every
+/// moment on every day.
 pub fn versions_hold_the_states()
     ensures { VersionsHoldTheStates }
+{}
+
+/// A history leaves one list of versions of each table, up to its order.
+pub fn histories_leave_one_list()
+    ensures { HistoriesLeaveOneList }
+{}
+
+/// What a table reference sees through its FOR SYSTEM_TIME is what its table had at the moments
+/// that the window looks at. Without FOR SYSTEM_TIME that is the last moment, the one before
+/// FOREVER.
+pub fn windows_see_states()
+    ensures { WindowsSeeStates }
 {}
 
 /// From the clock on the versions of a store hold what the current ones hold.

@@ -1,0 +1,5 @@
+use Rattle.history_model.proofs.LeftFacts.{one_list}
+use Rattle.history_model.proofs.histories_leave_one_list.Goals as goal
+
+pub returns : goal.returns
+returns c = one_list

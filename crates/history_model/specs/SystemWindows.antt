@@ -1,0 +1,22 @@
+-- What a table reference sees through its FOR SYSTEM_TIME, in a history's states.
+use Rattle.std.specs.Prelude.{◌≡◌, ◌≤ℤ◌, ◌<ℤ◌, ℕ, ℤ, List, Contains}
+use Rattle.period_core.specs.Moments.{forever}
+use Rattle.period_core.specs.declared.value.Value.{Value}
+use Rattle.period_core.specs.declared.window.Window.{Window}
+use Rattle.period_core.specs.declared.window.Window.TheVariants.{AsOf, Between, FromTo, Now}
+use Rattle.history_model.specs.Histories.{History, state_at}
+use Rattle.history_model.specs.Versions.{last_moment}
+
+-- the moments that a window looks at; without FOR SYSTEM_TIME it is the last one
+abbrev pub LooksAt : Window → ℤ → Type 0
+LooksAt Now moment = moment ≡ last_moment
+LooksAt (AsOf at) moment = moment ≡ at
+LooksAt (FromTo start end) moment = (start ≤ℤ moment) × (moment <ℤ end)
+LooksAt (Between start last) moment = (start ≤ℤ moment) × (moment ≤ℤ last)
+
+-- what a reference sees through a window on a day: each row that its table had on it at some
+-- moment, before FOREVER, that the window looks at
+abbrev pub SeesThrough : History → Window → ℤ → ℕ → List Value → Type 0
+SeesThrough history window day table values =
+    (moment : ℤ) × (moment <ℤ forever) × LooksAt window moment
+    × Contains (state_at history moment table day) values
