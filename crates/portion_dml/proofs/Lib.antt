@@ -1,0 +1,5 @@
+pub mod Daily
+pub mod Planned
+pub mod Ending
+pub mod Applied
+pub mod PlainCases

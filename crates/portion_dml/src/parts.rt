@@ -1,0 +1,170 @@
+//! Which versions a change touches, and the rows that begin in the place of one.
+
+ghost use Rattle.std.specs.Prelude.{◌≡◌, ◌++◌, IfOk, OnOk, map};
+ghost use Rattle.std.specs.Int.{int_max, int_min};
+ghost use Rattle.catalog_core.specs.Conditions.{meets_any};
+ghost use Rattle.history_model.specs.Effects.{with_set};
+ghost use Rattle.history_model.specs.Portions.{leftovers, meets_portion, part, plain_row};
+ghost use Rattle.history_model.specs.Portions.{replacements, touches, within};
+ghost use Rattle.portion_dml.specs.Plans.{version_row};
+
+use catalog_core::{Action, Assignment, Cond, holds};
+use period_core::{Day, Memory, Period, PeriodRow, Value, Values, VersionRow};
+use std::alloc::Global;
+
+/// The earlier of two days.
+fn earlier(day: Day, other: Day) -> Day
+    ensures { result ≡ int_min day other }
+{
+    if other < day { other } else { day }
+}
+
+/// The later of two days.
+fn later(day: Day, other: Day) -> Day
+    ensures { result ≡ int_max day other }
+{
+    if other < day { day } else { other }
+}
+
+/// Whether the action touches the version.
+pub fn touched(action: &Action, row: &VersionRow) -> bool
+    ensures { result ≡ touches action.now (version_row row.now) }
+{
+    match action {
+        Action::Insert(_) => false,
+        Action::Update(portion, _, condition) | Action::Delete(portion, condition) => {
+            reaches(portion, row) && is_met_by(condition, row)
+        }
+    }
+}
+
+/// Whether the portion and the version's period share a day.
+fn reaches(portion: &Option<Period>, row: &VersionRow) -> bool
+    ensures { result ≡ meets_portion portion.now (version_row row.now) }
+{
+    match portion {
+        None => true,
+        Some(portion) => row.period.start < portion.end && portion.start < row.period.end,
+    }
+}
+
+/// Whether the condition holds of the version's values. Without one it does.
+fn is_met_by(condition: &Option<Cond>, row: &VersionRow) -> bool
+    ensures { result ≡ meets_any condition.now row.now.values }
+{
+    match condition {
+        None => true,
+        Some(condition) => holds(condition, row.values.as_slice()),
+    }
+}
+
+/// Adds a row of these values from a day on and before an end, where there is such a day.
+fn push_part(
+    alloc: Global,
+    rows: &mut Vec<PeriodRow>,
+    values: &Values,
+    start: Day,
+    end: Day,
+) -> Result<(), Memory>
+    ensures { OnOk result
+        (map plain_row rows.new.items ≡ map plain_row rows.old.items
+        ++ part values.now start end) }
+{
+    if let Some(period) = Period::new(start, end) {
+        rows.push(PeriodRow {
+            values: values.copy(alloc)?,
+            period,
+        })?;
+    }
+    Ok(())
+}
+
+/// Adds the old values before the portion, and from its end on.
+fn push_leftovers(
+    alloc: Global,
+    rows: &mut Vec<PeriodRow>,
+    portion: &Option<Period>,
+    row: &VersionRow,
+) -> Result<(), Memory>
+    ensures { OnOk result
+        (map plain_row rows.new.items ≡ map plain_row rows.old.items
+        ++ leftovers portion.now (version_row row.now)) }
+{
+    if let Some(portion) = portion {
+        let Period { start, end } = row.period;
+        push_part(alloc, rows, &row.values, start, earlier(end, portion.start))?;
+        push_part(alloc, rows, &row.values, later(start, portion.end), end)?;
+    }
+    Ok(())
+}
+
+/// Adds a row of these values on the version's days in the portion.
+fn push_within(
+    alloc: Global,
+    rows: &mut Vec<PeriodRow>,
+    portion: &Option<Period>,
+    values: &Values,
+    row: &VersionRow,
+) -> Result<(), Memory>
+    ensures { OnOk result
+        (map plain_row rows.new.items ≡ map plain_row rows.old.items
+        ++ within portion.now values.now (version_row row.now)) }
+{
+    let Period { start, end } = row.period;
+    match portion {
+        None => push_part(alloc, rows, values, start, end),
+        Some(portion) => push_part(
+            alloc,
+            rows,
+            values,
+            later(start, portion.start),
+            earlier(end, portion.end),
+        ),
+    }
+}
+
+/// A copy of the values.
+fn copied(alloc: Global, values: &[Value]) -> Result<Vec<Value>, Memory>
+    ensures { IfOk result (λ copies. copies.items ≡ values.now) }
+{
+    let mut copies = Vec::new(alloc);
+    for value in values {
+        copies.push(value.copy(alloc)?)?;
+    }
+    Ok(copies)
+}
+
+/// The values with those that SET gives.
+fn set_values(alloc: Global, values: &Values, assignments: &[Assignment]) -> Result<Values, Memory>
+    ensures { IfOk result (λ set. set ≡ with_set assignments.now values.now) }
+{
+    let mut changed = copied(alloc, values.as_slice())?;
+    for set in assignments {
+        if set.position < changed.len() {
+            changed[set.position] = set.value.copy(alloc)?;
+        }
+    }
+    Ok(Values::from_vec(changed))
+}
+
+/// Adds the rows that begin in the place of a version that the action touches.
+pub fn push_replacements(
+    alloc: Global,
+    rows: &mut Vec<PeriodRow>,
+    action: &Action,
+    row: &VersionRow,
+) -> Result<(), Memory>
+    ensures { OnOk result
+        (map plain_row rows.new.items ≡ map plain_row rows.old.items
+        ++ replacements action.now (version_row row.now)) }
+{
+    match action {
+        Action::Insert(_) => Ok(()),
+        Action::Update(portion, assignments, _) => {
+            push_leftovers(alloc, rows, portion, row)?;
+            let values = set_values(alloc, &row.values, assignments.as_slice())?;
+            push_within(alloc, rows, portion, &values, row)
+        }
+        Action::Delete(portion, _) => push_leftovers(alloc, rows, portion, row),
+    }
+}
