@@ -18,7 +18,7 @@ use Rattle.version_tables.specs.Represents as raw
 use Rattle.version_store.specs.Contents.{AreRowsOf, Contents, HaveColumnValues, TableVersion, of_table, version_cmp, version_in}
 use Rattle.version_store.specs.Written.{written, written_version}
 
-passes : {A : Type 0} (p : A → Bool) (xs : List A) → AllByRecursion (λ x. p x ≡ true) (filter p xs)
+pub passes : {A : Type 0} (p : A → Bool) (xs : List A) → AllByRecursion (λ x. p x ≡ true) (filter p xs)
 passes p [] = tt
 passes p (x ∷ xs) = go (p x) refl (passes p xs)
   where
@@ -40,7 +40,7 @@ of_shown f w table at e =
 heads : (a b : Row) (xs ys : List Row) → ◌≡◌ {A = List Row} (a ∷ xs) (b ∷ ys) → (a ≡ b) × (xs ≡ ys)
 heads a b xs ys e = (cc, cc)
 
-found_are : (table : ℕ) (found : List Version) (rows : List VersionRow) → AllByRecursion (λ (v : Version). (v.table == table) ≡ true) found → map shown found ≡ map (λ (v : VersionRow). shown (written_version (version_in 0 v))) rows → found ≡ map written_version (map (version_in table) rows)
+pub found_are : (table : ℕ) (found : List Version) (rows : List VersionRow) → AllByRecursion (λ (v : Version). (v.table == table) ≡ true) found → map shown found ≡ map (λ (v : VersionRow). shown (written_version (version_in 0 v))) rows → found ≡ map written_version (map (version_in table) rows)
 found_are table [] [] all e = refl
 found_are table [] (r ∷ rows) all e = absurd cc
 found_are table (f ∷ found) [] all e = absurd cc
@@ -84,7 +84,7 @@ same_order xs ys hx hy same =
 cmp_same : (a b : TableVersion) → All IsColumnValue a.values → All IsColumnValue b.values → raw.version_cmp (written_version a) (written_version b) ≡ version_cmp a b
 cmp_same a b ha hb = ap (λ o. ordering_then o (ordering_then (int_cmp a.start b.start) (int_cmp a.from b.from))) (keeps_order a.values b.values ha hb)
 
-sorted_values : (xs : List TableVersion) → HaveColumnValues xs → IsSorted raw.version_cmp (map written_version xs) → IsSorted version_cmp xs
+pub sorted_values : (xs : List TableVersion) → HaveColumnValues xs → IsSorted raw.version_cmp (map written_version xs) → IsSorted version_cmp xs
 sorted_values xs held h k e low high =
     let long = length-map xs written_version in
     let first = all-get_or (λ (v : TableVersion). All IsColumnValue v.values) xs k e held (omega arith) in

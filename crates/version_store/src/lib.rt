@@ -7,13 +7,14 @@
 mod inspecting;
 mod judging;
 pub mod laws;
-mod plan;
 mod reading;
 mod refused;
 mod row_values;
+mod scanning;
 mod store;
+mod visitor;
 mod writing;
 
-pub use laws::memory_is_usable;
-pub use plan::Plan;
+pub use laws::{memory_is_usable, others_stay, plans_leave_other_tables};
 pub use store::VersionStore;
+pub use visitor::{KeptRows, RowVisitor};

@@ -46,7 +46,7 @@ fn period_at(row: &Row, start: usize, end: usize) -> Option<Period>
 }
 
 /// The version row that a row of the query shows: its values as bytes, its period, its moments.
-fn read_version(alloc: Global, row: &Row) -> Result<VersionRow, Refusal>
+pub(crate) fn read_version(alloc: Global, row: &Row) -> Result<VersionRow, Refusal>
     ensures shown { IfOk result
         (λ version. row.now ≡ shown (written_version (version_in 0 version))) }
     ensures values { IfOk result (λ version. All IsColumnValue version.values) }

@@ -14,17 +14,19 @@ ghost use Rattle.version_tables.specs.Tables.{no_schema};
 ghost use Rattle.version_store.specs.Changed.{planned, with_clock, with_table};
 ghost use Rattle.version_store.specs.Contents.{AreRowsOf, Contents, empty_contents};
 ghost use Rattle.version_store.specs.GoodStore.{AreGood, IsGoodStore, NothingMore};
+ghost use Rattle.version_store.specs.Scans.{Visits};
 ghost use Rattle.version_store.specs.StoreState.{Changes, IsOpenRefusal, IsOurs, IsStoreRefusal};
 ghost use Rattle.version_store.specs.StoreState.{IsUsable, StoreRepresents};
 ghost use Rattle.version_store.specs.Written.{Has};
 
 use crate::inspecting::inspect;
-use crate::plan::Plan;
 use crate::reading::table_rows;
 use crate::refused::refusal_of;
+use crate::scanning::scan_rows;
+use crate::visitor::RowVisitor;
 use crate::writing::{write_clock, write_plan, write_table};
-use catalog_core::{Catalog, TableDef, encode_def};
-use period_core::{Items, Moment, Refusal, VersionRow};
+use catalog_core::{Catalog, Plan, TableDef, encode_def};
+use period_core::{Items, Moment, Refusal, VersionRow, Window};
 use sqlite::Connection;
 use sqlite_trees::store::Alter;
 use std::alloc::Global;
@@ -238,7 +240,7 @@ impl<S: Alter> VersionStore<S> {
         plan: &Plan,
     ) -> Result<(), Refusal>
         ensures changes { Changes S.Store self.old self.new result
-            (planned table moment plan.now.ended.items plan.now.added.items) }
+            (planned table moment plan.now.ended plan.now.added) }
         ensures named { IfErr result IsStoreRefusal }
     {
         write_plan(alloc, &mut self.connection, table, moment, plan)
@@ -256,5 +258,27 @@ impl<S: Alter> VersionStore<S> {
         ensures named { IfErr result IsStoreRefusal }
     {
         table_rows(alloc, &mut self.connection, table)
+    }
+
+    /// Hands the version rows of the table of a number that the window sees over to the visitor,
+    /// one at a time: by values, then period start, then system start. A refusal of the visitor
+    /// ends the scan and is answered. On `Err` the visitor has been handed some of the first rows.
+    /// Nothing is changed.
+    pub fn scan<V: RowVisitor>(
+        &mut self,
+        alloc: Global,
+        table: u8,
+        window: Window,
+        visitor: &mut V,
+    ) -> Result<(), Refusal>
+        ensures visited { IsUsable S.Store self.new.connection
+            → (c : Contents) → StoreRepresents S.Store self.old c
+            → Visits V.next c table window (V.meaning visitor.old) (V.meaning visitor.new) result }
+        ensures same { IsUsable S.Store self.new.connection
+            → (c : Contents) → StoreRepresents S.Store self.old c
+            → StoreRepresents S.Store self.new c }
+        ensures named { IfErr result (λ refusal. IsStoreRefusal refusal ⊎ V.may_refuse refusal) }
+    {
+        scan_rows(alloc, &mut self.connection, table, window, visitor)
     }
 }

@@ -7,8 +7,8 @@ ghost use Rattle.version_store.specs.StoreState.{IsStoreRefusal};
 ghost use Rattle.version_store.specs.Steps.{Carries, Commits, CommitsWhere, Undoes};
 ghost use Rattle.version_tables.specs.Steps.{CommitsNothing, ChangesWhere};
 
-use crate::plan::Plan;
 use crate::refused::refusal_of;
+use catalog_core::Plan;
 use period_core::{Moment, PeriodRow, Refusal, VersionRow, encode_values};
 use sqlite::{Connection, Transaction};
 use sqlite_trees::store::Alter;
@@ -137,7 +137,7 @@ fn put_plan<S: Alter>(
 ) -> Result<(), Refusal>
     ensures same_reference { transaction.new.conn.ghost_name ≡ transaction.old.conn.ghost_name }
     ensures made { Carries S.Store transaction.old.conn.now transaction.new.conn.now result
-        (planned table moment plan.now.ended.items plan.now.added.items) }
+        (planned table moment plan.now.ended plan.now.added) }
     ensures inside { CommitsNothing S.Store transaction.old.conn.now transaction.new.conn.now }
     ensures named { IfErr result IsStoreRefusal }
 {
@@ -155,7 +155,7 @@ pub(crate) fn write_plan<S: Alter>(
 ) -> Result<(), Refusal>
     requires { connection.old.in_transaction ≡ false }
     ensures made { Commits S.Store connection.old connection.new result
-        (planned table moment plan.now.ended.items plan.now.added.items) }
+        (planned table moment plan.now.ended plan.now.added) }
     ensures none { Undoes S.Store connection.old connection.new result }
     ensures mode { connection.new.in_transaction ≡ false }
     ensures named { IfErr result IsStoreRefusal }

@@ -1,0 +1,96 @@
+//! Version rows handed over to a visitor, one at a time.
+
+ghost use Rattle.std.specs.Prelude.{◌≡◌, ◌⊎◌, ℕ, List, false, filter, fold, length, map, take};
+ghost use Rattle.std.specs.Prelude.{◌∷◌, [], IfErr, OnErr, OnOk};
+ghost use Rattle.std.specs.List.{All, AllByRecursion};
+ghost use Rattle.period_core.specs.Encoding.{IsColumnValue};
+ghost use Rattle.period_core.specs.Windows.{window_sees};
+ghost use Rattle.period_core.specs.declared.version.VersionRow.{VersionRow as AnyRow};
+ghost use Rattle.sqlite.specs.Held.{state};
+ghost use Rattle.sqlite.specs.State.{HasCleanDisk};
+ghost use Rattle.version_tables.specs.Represents.{shown};
+ghost use Rattle.version_tables.specs.Steps.{Keeps};
+ghost use Rattle.version_store.specs.Contents.{Contents, version_in};
+ghost use Rattle.version_store.specs.Scans.{Visits};
+ghost use Rattle.version_store.specs.StoreState.{IsStoreRefusal};
+ghost use Rattle.version_store.specs.Written.{Has, written_version};
+
+use crate::reading::read_version;
+use crate::refused::refusal_of;
+use crate::visitor::RowVisitor;
+use period_core::{Refusal, VersionRow, Window};
+use sqlite::{Connection, Row};
+use sqlite_trees::store::Alter;
+use std::alloc::Global;
+use version_tables::rows_of;
+
+/// Hands the version row over to the visitor, if the window sees it.
+fn visit_seen<V: RowVisitor>(
+    version: VersionRow,
+    window: &Window,
+    visitor: &mut V,
+) -> Result<(), Refusal>
+    ensures seen { OnOk result (V.meaning visitor.new ≡ fold V.next (V.meaning visitor.old)
+        (filter (λ (v : AnyRow). window_sees window.now v.from v.to) (version ∷ []))) }
+    ensures refused { OnErr result (V.meaning visitor.new ≡ V.meaning visitor.old) }
+    ensures named { IfErr result V.may_refuse }
+{
+    if window.sees(version.from, version.to) {
+        return visitor.visit(version);
+    }
+    Ok(())
+}
+
+/// Hands the version rows that the window sees over to the visitor, as the rows of the query show
+/// them.
+fn visit_rows<V: RowVisitor>(
+    alloc: Global,
+    rows: &[Row],
+    window: &Window,
+    visitor: &mut V,
+) -> Result<(), Refusal>
+    ensures visited { (versions : List AnyRow) × (n : ℕ)
+        × (take n rows.now
+        ≡ map (λ (v : AnyRow). shown (written_version (version_in 0 v))) versions)
+        × AllByRecursion (λ (v : AnyRow). All IsColumnValue v.values) versions
+        × (V.meaning visitor.new ≡ fold V.next (V.meaning visitor.old)
+        (filter (λ (v : AnyRow). window_sees window.now v.from v.to) versions))
+        × OnOk result (n ≡ length rows.now) }
+    ensures named { IfErr result (λ refusal. IsStoreRefusal refusal ⊎ V.may_refuse refusal) }
+{
+    for row in rows {
+        let version = match read_version(alloc, row) {
+            Ok(version) => version,
+            Err(refusal) => return Err(refusal),
+        };
+        match visit_seen(version, window, visitor) {
+            Ok(()) => {}
+            Err(refusal) => return Err(refusal),
+        }
+    }
+    Ok(())
+}
+
+/// Hands the version rows of the table of a number that the window sees over to the visitor, in
+/// order.
+pub(crate) fn scan_rows<S: Alter, V: RowVisitor>(
+    alloc: Global,
+    connection: &mut Connection<S>,
+    table: u8,
+    window: Window,
+    visitor: &mut V,
+) -> Result<(), Refusal>
+    requires { connection.old.in_transaction ≡ false }
+    ensures visited { HasCleanDisk (state S.Store connection.new)
+        → (c : Contents) → Has (state S.Store connection.old).now c
+        → Visits V.next c table window (V.meaning visitor.old) (V.meaning visitor.new) result }
+    ensures same { HasCleanDisk (state S.Store connection.new)
+        → Keeps (state S.Store connection.old) (state S.Store connection.new) }
+    ensures mode { connection.new.in_transaction ≡ false }
+    ensures named { IfErr result (λ refusal. IsStoreRefusal refusal ⊎ V.may_refuse refusal) }
+{
+    match rows_of(connection, u32::from(table)) {
+        Ok(rows) => visit_rows(alloc, rows.as_slice(), &window, visitor),
+        Err(error) => Err(refusal_of(&error)),
+    }
+}

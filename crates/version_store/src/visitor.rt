@@ -1,0 +1,67 @@
+//! Who is handed the rows of a scan.
+
+ghost use Rattle.std.specs.Prelude.{◌≡◌, ◌++◌, ◌∷◌, [], List, OnErr, OnOk, IfErr};
+ghost use Rattle.period_core.specs.declared.refusal.Refusal.{Refusal as AnyRefusal};
+ghost use Rattle.period_core.specs.declared.refusal.Refusal.TheVariants.{Memory};
+ghost use Rattle.period_core.specs.declared.version.VersionRow.{VersionRow as AnyRow};
+
+use period_core::{Refusal, VersionRow};
+use std::alloc::Global;
+
+/// One who is handed version rows, one at a time. What it makes of them is its meaning: each row
+/// that it takes leads from one meaning to the next.
+pub trait RowVisitor {
+    /// What it can mean.
+    ghost Meaning: { Type 0 };
+
+    /// What it means.
+    ghost meaning: { Self → Meaning };
+
+    /// What it means with one row more.
+    ghost next: { Meaning → AnyRow → Meaning };
+
+    /// Which refusals it may answer.
+    ghost may_refuse: { AnyRefusal → Type 0 };
+
+    /// Takes a row, or refuses it. A refused row leaves the meaning.
+    fn visit(&mut self, row: VersionRow) -> Result<(), Refusal>
+        ensures taken { OnOk result (meaning self.new ≡ next (meaning self.old) row) }
+        ensures refused { OnErr result (meaning self.new ≡ meaning self.old) }
+        ensures named { IfErr result may_refuse };
+}
+
+/// A visitor that keeps all rows, in the order in which it is handed them.
+#[derive(Drop, Debug)]
+pub struct KeptRows {
+    /// The rows so far.
+    pub rows: Vec<VersionRow>,
+}
+
+impl KeptRows {
+    /// No rows so far.
+    pub fn new(alloc: Global) -> KeptRows
+        ensures { result.rows.items ≡ [] }
+    {
+        KeptRows {
+            rows: Vec::new(alloc),
+        }
+    }
+}
+
+// A row is refused where there is no memory for it.
+impl RowVisitor for KeptRows {
+    ghost Meaning = { List AnyRow };
+
+    ghost meaning = { λ kept. kept.rows.items };
+
+    ghost next = { λ rows row. rows ++ row ∷ [] };
+
+    ghost may_refuse = { λ refusal. refusal ≡ Memory };
+
+    fn visit(&mut self, row: VersionRow) -> Result<(), Refusal> {
+        match self.rows.push(row) {
+            Ok(()) => Ok(()),
+            Err(_) => Err(Refusal::Memory),
+        }
+    }
+}
