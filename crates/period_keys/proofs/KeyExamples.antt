@@ -1,0 +1,80 @@
+-- Worked rows: two rows that meet share no day of their key, two that overlap by a day share it; a child is uncovered on the day after its parent's last.
+use Rattle.std.proofs.Common.{◌≡◌, ◌<ℤ◌, ◌≤ℤ◌, zero, suc, ℤ, pos, true, Some, None, map, [], ◌∷◌, refl, ap, arith}
+use Rattle.std.proofs.lemmas.Int.{ints}
+use Rattle.period_core.specs.declared.value.Value.TheVariants.{Int}
+use Rattle.period_core.specs.declared.row.PeriodRow.{PeriodRow}
+use Rattle.period_core.proofs.Periods.{are_ends, period_over}
+use Rattle.temporal_model.proofs.Members.{Contains-here, Contains-one}
+use Rattle.period_core.specs.declared.period.Period.{Period}
+use Rattle.period_keys.specs.Keys.{key_values, ShareKeyOn, IsKeyClash, IsUncovered}
+use Rattle.period_keys.specs.Index.{earlier, periods_of_key}
+use Rattle.period_keys.specs.Repeats.{key_row}
+
+-- key 1 with the department, over a period
+abbrev row_over : (department start end : ℤ) → are_ends start end ≡ true → PeriodRow
+row_over department start end ends = record { values = Int (pos 1) ∷ Int department ∷ []; period = period_over start end ends }
+
+abbrev first : PeriodRow
+first = row_over (pos 3) (pos 1) (pos 32) refl
+
+abbrev meeting : PeriodRow
+meeting = row_over (pos 4) (pos 32) (pos 60) refl
+
+abbrev overlapping : PeriodRow
+overlapping = row_over (pos 4) (pos 31) (pos 60) refl
+
+key-first : key_values (0 ∷ []) first ≡ Int (pos 1) ∷ []
+key-first = refl
+
+-- positions stand in any order
+key-turned : key_values (1 ∷ 0 ∷ []) first ≡ Int (pos 3) ∷ Int (pos 1) ∷ []
+key-turned = refl
+
+overlap-clashes : IsKeyClash (0 ∷ []) (first ∷ overlapping ∷ []) (pos 31)
+overlap-clashes = (0, 1, omega arith, omega arith, λ d. (refl, ((omega (arith, ints), omega (arith, ints)), (omega (arith, ints), omega (arith, ints)))))
+
+-- an equal row at another place is another entry
+twice-clashes : IsKeyClash (0 ∷ []) (first ∷ first ∷ []) (pos 1)
+twice-clashes = (0, 1, omega arith, omega arith, λ d. (refl, ((omega (arith, ints), omega (arith, ints)), (omega (arith, ints), omega (arith, ints)))))
+
+meeting-no_clash : (day : ℤ) → IsKeyClash (0 ∷ []) (first ∷ meeting ∷ []) day → ⊥
+meeting-no_clash day (zero, zero, lt, below, both) = omega arith
+meeting-no_clash day (zero, suc zero, lt, below, both) =
+    let pair : ShareKeyOn (0 ∷ []) day first meeting = both first in
+    let ends : day <ℤ pos 32 = pair.1.0.1 in
+    let starts : pos 32 ≤ℤ day = pair.1.1.0 in
+    omega (arith, ints)
+meeting-no_clash day (zero, suc (suc j), lt, below, both) = omega arith
+meeting-no_clash day (suc i, j, lt, below, both) = omega arith
+
+-- the parent's key is the child's second column
+uncovered-after_end : IsUncovered (1 ∷ []) (row_over (pos 1) (pos 10) (pos 40) refl ∷ []) (0 ∷ []) (first ∷ []) (pos 32)
+uncovered-after_end = (
+  row_over (pos 1) (pos 10) (pos 40) refl,
+  Contains-here (row_over (pos 1) (pos 10) (pos 40) refl) [],
+  (omega (arith, ints), omega (arith, ints)),
+  λ (parent, there, same, (from, to)).
+      let end : pos 32 ≡ parent.period.end = ap (λ (r : PeriodRow). r.period.end) (Contains-one first parent there) in omega (arith, ints),
+)
+
+-- of two days that may be there the earlier is answered
+first-of_two : earlier (Some (pos 45)) (Some (pos 31)) ≡ Some (pos 31)
+first-of_two = refl
+
+first-of_one : earlier None (Some (pos 31)) ≡ Some (pos 31)
+first-of_one = refl
+
+-- a row of keys alone, by the second column
+key-row : (key_row (1 ∷ []) first).values ≡ Int (pos 3) ∷ []
+key-row = refl
+
+-- a position past the last value gives none
+key-past : key_values (0 ∷ 7 ∷ []) first ≡ Int (pos 1) ∷ []
+key-past = refl
+
+-- of the rows of a key the periods, in any order of the rows
+periods-of_key : map (λ (period : Period). period.start) (periods_of_key (0 ∷ []) (overlapping ∷ first ∷ []) (Int (pos 1) ∷ [])) ≡ pos 31 ∷ pos 1 ∷ []
+periods-of_key = refl
+
+periods-of_none : periods_of_key (0 ∷ []) (overlapping ∷ first ∷ []) (Int (pos 2) ∷ []) ≡ []
+periods-of_none = refl

@@ -1,0 +1,61 @@
+-- The least of days: of those of either kind, and of the same days.
+use Rattle.std.proofs.Common.{◌≡◌, ◌↔◌, ◌⊎◌, ◌≤ℤ◌, ◌<ℤ◌, ◌<◌, ◌+◌, ◌++◌, ◌∷◌, [], ◌∙◌, ℕ, ℤ, List, length, take, get_or, Option, Some, None, sym, ap, subst, inl, inr, arith}
+use Rattle.std.proofs.lemmas.Int.{ints, by_lt_z}
+use Rattle.std.specs.Prelude.{int_lt, if◌then◌else◌}
+use Rattle.std.specs.List.{Any}
+use Rattle.std.proofs.lemmas.List.{take_more}
+use Rattle.period_keys.proofs.Members.{Any-append, Any-one, Any-nil}
+use Rattle.period_keys.specs.Keys.{IsLeastDay, IsLeastOf}
+use Rattle.period_keys.specs.Index.{earlier}
+
+pub IsLeastOf-same : (P Q : ℤ → Type 0) → ((day : ℤ) → (P day ↔ Q day)) → (found : Option ℤ) → IsLeastOf P found → IsLeastOf Q found
+IsLeastOf-same P Q same None h = λ day q. h day ((same day).1 q)
+IsLeastOf-same P Q same (Some day) h = record { faulty = (same day).0 h.faulty; least = λ other q. h.least other ((same other).1 q) }
+
+-- of two days the test takes the earlier one
+lesser : (day next : ℤ) → (((if int_lt next day then next else day) ≡ next) × (next <ℤ day)) ⊎ (((if int_lt next day then next else day) ≡ day) × (day ≤ℤ next))
+lesser day next =
+    by_lt_z {P = (((if int_lt next day then next else day) ≡ next) × (next <ℤ day)) ⊎ (((if int_lt next day then next else day) ≡ day) × (day ≤ℤ next))} next day
+    (λ less. inl (grind (arith, ints), less))
+    (λ ge. inr (grind (arith, ints), ge))
+
+-- the least of both kinds is the earlier of the two leasts
+pub IsLeastOf-either : (P Q : ℤ → Type 0) (one other : Option ℤ) → IsLeastOf P one → IsLeastOf Q other → IsLeastOf (λ day. P day ⊎ Q day) (earlier one other)
+IsLeastOf-either P Q None None p q = λ day h. elim h [ inl x ↦ p day x | inr y ↦ q day y ]
+IsLeastOf-either P Q None (Some next) p q = record {
+  faulty = inr q.faulty;
+  least = λ day h. elim h [ inl x ↦ absurd (p day x) | inr y ↦ q.least day y ];
+}
+IsLeastOf-either P Q (Some day) None p q = record {
+  faulty = inl p.faulty;
+  least = λ other h. elim h [ inl x ↦ p.least other x | inr y ↦ absurd (q other y) ];
+}
+IsLeastOf-either P Q (Some day) (Some next) p q =
+    elim (lesser day next) [
+      | inl (is, less) ↦ subst (IsLeastDay (λ day. P day ⊎ Q day)) (sym is) (record {
+        faulty = inr q.faulty;
+        least = λ other h. elim h [ inl x ↦ (let le : day ≤ℤ other = p.least other x in omega (arith, ints)) | inr y ↦ q.least other y ];
+      })
+      | inr (is, le) ↦ subst (IsLeastDay (λ day. P day ⊎ Q day)) (sym is) (record {
+        faulty = inl p.faulty;
+        least = λ other h. elim h [ inl x ↦ p.least other x | inr y ↦ (let ge : next ≤ℤ other = q.least other y in omega (arith, ints)) ];
+      })
+    ]
+
+-- a loop's step: the least of what the first elements give, with that of the next
+pub least_more : {X : Type 0} (P : X → ℤ → Type 0) (xs : List X) (i : ℕ) (x : X) (found more new : Option ℤ) → i < length xs → x ≡ get_or xs i x
+    → IsLeastOf (λ day. Any (λ y. P y day) (take i xs)) found → IsLeastOf (P x) more → new ≡ earlier found more
+    → IsLeastOf (λ day. Any (λ y. P y day) (take (i + 1) xs)) new
+least_more {X} P xs i x found more new below is so_far one new_is =
+    let list : take (i + 1) xs ≡ take i xs ++ x ∷ [] = take_more xs i x below ∙ ap (λ y. take i xs ++ y ∷ []) (sym is) in
+    let Q : ℤ → Type 0 = λ day. Any (λ y. P y day) (take i xs) ⊎ P x day in
+    let both : IsLeastOf Q new = subst (IsLeastOf Q) (sym new_is) (IsLeastOf-either (λ day. Any (λ y. P y day) (take i xs)) (P x) found more so_far one) in
+    let joined : (day : ℤ) → (Q day ↔ Any (λ y. P y day) (take i xs ++ x ∷ [])) = λ day. (
+      λ h. (Any-append (λ y. P y day) (take i xs) (x ∷ [])).1 (elim h [ inl l ↦ inl l | inr r ↦ inr ((Any-one (λ y. P y day) x).1 r) ]),
+      λ h. elim ((Any-append (λ y. P y day) (take i xs) (x ∷ [])).0 h) [ inl l ↦ inl l | inr r ↦ inr ((Any-one (λ y. P y day) x).0 r) ],
+    ) in
+    subst (λ (ys : List X). IsLeastOf (λ day. Any (λ y. P y day) ys) new) (sym list) (IsLeastOf-same Q (λ day. Any (λ y. P y day) (take i xs ++ x ∷ [])) joined new both)
+
+-- of no elements there is no day
+pub least_none : {X : Type 0} (P : X → ℤ → Type 0) → IsLeastOf (λ day. Any (λ y. P y day) []) None
+least_none P = λ day h. Any-nil (λ y. P y day) h

@@ -1,0 +1,64 @@
+-- An index read at a key after a change at one key.
+use Rattle.std.proofs.Common.{◌≡◌, Bool, true, false, cond, Some, None, List, [], ◌++◌, refl, sym, ◌∙◌, ap, subst}
+use Rattle.std.specs.List.Sorted.{IsPermutation}
+use Rattle.std.proofs.lemmas.List.Sorted.{IsPermutation-refl}
+use Rattle.std.specs.Option.{option_map_or}
+use Rattle.std.specs.Ordering.{eq_by_cmp}
+use Rattle.std.specs.BTreeMap.{BTreeMap, get, Updates, is_at}
+use Rattle.std.specs.Map.{lookup}
+use Rattle.period_core.specs.Order.{values_cmp}
+use Rattle.period_core.specs.OrderLaws.{values_eq}
+use Rattle.period_core.specs.declared.value.Value.{Value}
+use Rattle.period_core.specs.declared.period.Period.{Period}
+
+-- what a map of lists has at a key
+abbrev pub read : {V : Type 0} → (V → List Period) → BTreeMap (List Value) V → List Value → List Period
+read items m key = option_map_or items (get values_cmp m key) []
+
+-- after a write at one key, which makes this list of the old one
+pub read_changed : {V : Type 0} (items : V → List Period) (m n : BTreeMap (List Value) V) (key : List Value) (w : V)
+    (more : List Period → List Period) → Updates values_cmp m n key (Some w) → items w ≡ more (read items m key)
+    → (other : List Value) → read items n other ≡ cond (eq_by_cmp values_cmp key other) (more (read items m other)) (read items m other)
+read_changed items m n key w more u is other =
+    ap (λ o. option_map_or items o []) (u.0 other) ∙ by_test (eq_by_cmp values_cmp key other) refl
+  where
+    by_test :
+        (b : Bool) → eq_by_cmp values_cmp key other ≡ b
+        → option_map_or items (cond b (Some w) (get values_cmp m other)) [] ≡ cond b (more (read items m other)) (read items m other)
+    by_test true e = is ∙ ap (λ k. more (read items m k)) ((values_eq key other).0 e)
+    by_test false e = refl
+
+-- after a write at one key, which adds these to its list, in some order
+pub read_moved : {V : Type 0} (items : V → List Period) (m n : BTreeMap (List Value) V) (key : List Value) (w : V) (more : List Period)
+    → Updates values_cmp m n key (Some w) → IsPermutation (items w) (read items m key ++ more)
+    → (other : List Value) → IsPermutation (read items n other) (cond (eq_by_cmp values_cmp key other) (read items m other ++ more) (read items m other))
+read_moved items m n key w more u moved other =
+    subst (λ (xs : List Period). IsPermutation xs (cond (eq_by_cmp values_cmp key other) (read items m other ++ more) (read items m other))) (sym (ap (λ o. option_map_or items o []) (u.0 other)))
+    (by_test (eq_by_cmp values_cmp key other) refl)
+  where
+    by_test : (b : Bool) → eq_by_cmp values_cmp key other ≡ b → IsPermutation (option_map_or items (cond b (Some w) (get values_cmp m other)) []) (cond b (read items m other ++ more) (read items m other))
+    by_test true e = subst (λ (k : List Value). IsPermutation (items w) (read items m k ++ more)) ((values_eq key other).0 e) moved
+    by_test false e = IsPermutation-refl (read items m other)
+
+-- what a look-up found
+pub read_there : {V : Type 0} (items : V → List Period) (m : BTreeMap (List Value) V) (key : List Value) (v : V) → Some v ≡ get values_cmp m key → read items m key ≡ items v
+read_there items m key v e = ap (λ o. option_map_or items o []) (sym e)
+
+pub read_absent : {V : Type 0} (items : V → List Period) (m : BTreeMap (List Value) V) (key : List Value) → get values_cmp m key ≡ None → read items m key ≡ []
+read_absent items m key e = ap (λ o. option_map_or items o []) e
+
+pub read_entries : {V : Type 0} (items : V → List Period) (m n : BTreeMap (List Value) V) (key : List Value) → n.entries ≡ m.entries → read items n key ≡ read items m key
+read_entries items m n key e = ap (λ es. option_map_or items (lookup (is_at (values_cmp key)) es) []) e
+
+pub cond_same : {X : Type 0} (b : Bool) (x : X) → cond b x x ≡ x
+cond_same true x = refl
+cond_same false x = refl
+
+-- at other keys than the one that is written
+pub read_apart : {V : Type 0} (items : V → List Period) (m n : BTreeMap (List Value) V) (key : List Value) (w : V) → Updates values_cmp m n key (Some w)
+    → (other : List Value) → (key ≡ other → ⊥) → read items n other ≡ read items m other
+read_apart items m n key w u other apart = ap (λ o. option_map_or items o []) (u.0 other ∙ by_test (eq_by_cmp values_cmp key other) refl)
+  where
+    by_test : (b : Bool) → eq_by_cmp values_cmp key other ≡ b → cond b (Some w) (get values_cmp m other) ≡ get values_cmp m other
+    by_test true e = absurd (apart ((values_eq key other).0 e))
+    by_test false e = refl

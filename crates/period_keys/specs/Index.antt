@@ -1,0 +1,59 @@
+-- Periods by their keys, and of which rows they are.
+use Rattle.std.specs.Prelude.{◌⊎◌, Contains, [], ℕ, ℤ, Bool, Option, Some, None, List, int_lt}
+use Rattle.std.specs.Prelude.{if◌then◌else◌, map, filter, Any, IsPermutation}
+use Rattle.std.specs.Ordering.{eq_by_cmp}
+use Rattle.std.specs.Option.{option_map_or}
+use Rattle.std.specs.BTreeMap.{get}
+use Rattle.period_core.specs.Order.{values_cmp}
+use Rattle.period_core.specs.declared.value.Value.{Value}
+use Rattle.period_core.specs.declared.period.Period.{Period}
+use Rattle.period_core.specs.declared.row.PeriodRow.{PeriodRow}
+use Rattle.period_keys.specs.declared.keyed_periods.KeyedPeriods.{KeyedPeriods}
+use Rattle.period_keys.specs.Keys.{BothHold, IsKeyClash, key_values}
+use Rattle.period_keys.specs.Ordered.{AreApart}
+
+-- the periods of a key
+abbrev pub periods_at : KeyedPeriods → List Value → List Period
+periods_at index key =
+    option_map_or (λ periods. periods.items.items) (get values_cmp index.entries key) []
+
+-- the row has this key
+abbrev pub has_key : List ℕ → List Value → PeriodRow → Bool
+has_key positions key row = eq_by_cmp values_cmp key (key_values positions row)
+
+-- the periods of the rows with this key, row by row
+abbrev pub periods_of_key : List ℕ → List PeriodRow → List Value → List Period
+periods_of_key positions rows key =
+    map (λ (row : PeriodRow). row.period) (filter (has_key positions key) rows)
+
+-- for each key the periods are those of its rows, in some order
+abbrev pub IsIndexOf : List ℕ → List PeriodRow → KeyedPeriods → Type 0
+IsIndexOf positions rows index =
+    (key : List Value) → IsPermutation (periods_at index key) (periods_of_key positions rows key)
+
+-- the earlier of two days that may be there
+abbrev pub earlier : Option ℤ → Option ℤ → Option ℤ
+earlier None other = other
+earlier (Some day) None = Some day
+earlier (Some day) (Some next) = Some (if int_lt next day then next else day)
+
+-- the period and one that is kept, since it is not among those that go, both hold the day
+abbrev pub SharesDayOfKept : List Period → List Period → Period → ℤ → Type 0
+SharesDayOfKept periods gone period day =
+    Any (λ other. BothHold day period other × (Contains gone other → ⊥)) periods
+
+-- the added row and a row of its key that is kept both hold on the day
+abbrev pub MeetsKept : List ℕ → KeyedPeriods → List PeriodRow → ℤ → PeriodRow → Type 0
+MeetsKept positions index ended day row =
+    SharesDayOfKept (periods_at index (key_values positions row))
+    (periods_of_key positions ended (key_values positions row)) row.period day
+
+-- an added row clashes with a row that is kept, or with another added one
+abbrev pub AddsClash : List ℕ → KeyedPeriods → List PeriodRow → List PeriodRow → ℤ
+    → Type 0
+AddsClash positions index ended added day =
+    Any (MeetsKept positions index ended day) added ⊎ IsKeyClash positions added day
+
+-- the periods of each key are apart
+abbrev pub IsApart : KeyedPeriods → Type 0
+IsApart index = (key : List Value) → AreApart (periods_at index key)

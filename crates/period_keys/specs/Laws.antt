@@ -1,0 +1,32 @@
+-- The laws of keys and references. Each is the contract of a function of this crate.
+use Rattle.std.specs.Prelude.{◌↔◌, ◌++◌, ℕ, ℤ, List, IsPermutation}
+use Rattle.period_core.specs.declared.row.PeriodRow.{PeriodRow}
+use Rattle.temporal_model.specs.Snapshot.{values_on}
+use Rattle.period_keys.specs.declared.keyed_periods.KeyedPeriods.{KeyedPeriods}
+use Rattle.period_keys.specs.Keys.{HasNoClash, IsKeyClash, IsUncovered}
+use Rattle.period_keys.specs.Days.{LacksParent, ShareKey}
+use Rattle.period_keys.specs.Index.{IsIndexOf, AddsClash}
+
+-- period rows clash on a day where two of the rows that hold on it have equal keys
+abbrev pub ClashesAreOfDays : Type 0
+ClashesAreOfDays =
+    (positions : List ℕ) (rows : List PeriodRow) (day : ℤ)
+    → (IsKeyClash positions rows day ↔ ShareKey positions (values_on rows day))
+
+-- a child is uncovered on a day where one that holds on it has no parent among those that do
+abbrev pub UncoveredAreOfDays : Type 0
+UncoveredAreOfDays =
+    (own : List ℕ) (children : List PeriodRow) (keys : List ℕ) (parents : List PeriodRow)
+    (day : ℤ)
+    → (IsUncovered own children keys parents day
+    ↔ LacksParent own (values_on children day) keys (values_on parents day))
+
+-- given no clash before, the clashes after a change are those that its added rows make
+abbrev pub ClashesAfterChange : Type 0
+ClashesAfterChange =
+    (positions : List ℕ) (index : KeyedPeriods) (before ended stay added : List PeriodRow)
+    → IsIndexOf positions before index
+    → HasNoClash positions before
+    → IsPermutation before (ended ++ stay)
+    → (day : ℤ)
+    → (AddsClash positions index ended added day ↔ IsKeyClash positions (stay ++ added) day)

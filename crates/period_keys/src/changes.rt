@@ -1,0 +1,104 @@
+//! An index follows a change of its rows.
+
+ghost use Rattle.std.specs.Prelude.{◌≡◌, ◌≤◌, ◌++◌, ℕ, IfOk, IsPermutation, List, OnErr, OnOk};
+ghost use Rattle.std.specs.Prelude.{length, map, take};
+ghost use Rattle.period_core.specs.declared.row.PeriodRow.{PeriodRow as Row};
+ghost use Rattle.period_keys.specs.Keys.{key_values};
+ghost use Rattle.period_keys.specs.Index.{IsIndexOf};
+
+use crate::keyed_periods::KeyedPeriods;
+use crate::keys::key_of;
+use period_core::{Memory, PeriodRow, Values};
+use std::alloc::Global;
+
+/// Makes of an index of rows that of the rows after a change: the ended ones are among them and go,
+/// the added ones come. The only error is out of memory: then it is an index of the same rows as
+/// before.
+pub fn apply_change(
+    alloc: Global,
+    positions: &[usize],
+    index: &mut KeyedPeriods,
+    ended: &[PeriodRow],
+    added: &[PeriodRow],
+) -> Result<(), Memory>
+    ensures ok { OnOk result ((before stay : List Row)
+        → IsIndexOf positions.now before index.old
+        → IsPermutation before (ended.now ++ stay)
+        → IsIndexOf positions.now (stay ++ added.now) index.new) }
+    ensures err { OnErr result ((before : List Row)
+        → IsIndexOf positions.now before index.old → IsIndexOf positions.now before index.new) }
+{
+    let going = keys_of(alloc, positions, ended)?;
+    let coming = keys_of(alloc, positions, added)?;
+    if let Err(refused) = add_rows(alloc, index, coming.as_slice(), added) {
+        return Err(refused);
+    }
+    take_first(index, going.as_slice(), ended, ended.len());
+    Ok(())
+}
+
+/// The keys of the rows, row by row. The only error is out of memory.
+pub fn keys_of(
+    alloc: Global,
+    positions: &[usize],
+    rows: &[PeriodRow],
+) -> Result<Vec<Values>, Memory>
+    ensures { IfOk result (λ keys. keys.items ≡ map (key_values positions.now) rows.now) }
+{
+    let mut keys = Vec::new(alloc);
+    for row in rows {
+        keys.push(key_of(alloc, positions, row)?)?;
+    }
+    Ok(keys)
+}
+
+/// Adds the rows, whose keys are handed in, or none of them. The only error is out of memory.
+pub fn add_rows(
+    alloc: Global,
+    index: &mut KeyedPeriods,
+    keys: &[Values],
+    rows: &[PeriodRow],
+) -> Result<(), Memory>
+    requires { length keys.now ≡ length rows.now }
+    ensures ok { OnOk result ((positions : List ℕ) (before : List Row)
+        → keys.now ≡ map (key_values positions) rows.now
+        → IsIndexOf positions before index.old
+        → IsIndexOf positions (before ++ rows.now) index.new) }
+    ensures err { OnErr result ((positions : List ℕ) (before : List Row)
+        → keys.now ≡ map (key_values positions) rows.now
+        → IsIndexOf positions before index.old → IsIndexOf positions before index.new) }
+{
+    for i in 0..rows.len() {
+        if let Err(refused) = index.add(alloc, &keys[i], rows[i].period) {
+            take_first(index, keys, rows, i);
+            return Err(refused);
+        }
+    }
+    Ok(())
+}
+
+/// Takes out the rows, whose keys are handed in. It takes no memory: so where several indexes follow
+/// one change, the rows that were added to some can be taken out again once another was refused.
+pub fn take_rows(index: &mut KeyedPeriods, keys: &[Values], rows: &[PeriodRow])
+    requires { length keys.now ≡ length rows.now }
+    ensures { (positions : List ℕ) (rest : List Row)
+        → keys.now ≡ map (key_values positions) rows.now
+        → IsIndexOf positions (rows.now ++ rest) index.old
+        → IsIndexOf positions rest index.new }
+{
+    take_first(index, keys, rows, rows.len());
+}
+
+// Takes out the first rows, whose keys are handed in.
+fn take_first(index: &mut KeyedPeriods, keys: &[Values], rows: &[PeriodRow], count: usize)
+    requires keys { length keys.now ≡ length rows.now }
+    requires count { count ≤ length rows.now }
+    ensures { (positions : List ℕ) (rest : List Row)
+        → keys.now ≡ map (key_values positions) rows.now
+        → IsIndexOf positions (take count rows.now ++ rest) index.old
+        → IsIndexOf positions rest index.new }
+{
+    for i in 0..count {
+        index.take_out(&keys[i], &rows[i].period);
+    }
+}

@@ -1,0 +1,81 @@
+//! Periods by their keys.
+
+ghost use Rattle.std.specs.Prelude.{◌≡◌, ◌++◌, ◌∷◌, [], Contains, IsPermutation, List};
+ghost use Rattle.std.specs.Prelude.{OnErr, OnOk, if◌then◌else◌};
+ghost use Rattle.std.specs.Bool.{OnFalse, OnTrue};
+ghost use Rattle.std.specs.Ordering.{eq_by_cmp};
+ghost use Rattle.period_core.specs.Order.{values_cmp};
+ghost use Rattle.period_core.specs.declared.value.Value.{Value as ColumnValue};
+ghost use Rattle.period_keys.specs.Index.{periods_at};
+ghost use Rattle.period_keys.specs.Ordered.{AreInOrder};
+
+use crate::ordered_periods::OrderedPeriods;
+use period_core::{Memory, Period, Values};
+use std::alloc::Global;
+use std::collections::BTreeMap;
+
+/// For each key its periods, in the order of their starts. Contracts read them by `periods_at`.
+#[derive(Drop)]
+pub struct KeyedPeriods {
+    entries: BTreeMap<Values, OrderedPeriods>,
+}
+
+impl KeyedPeriods {
+    /// No periods.
+    pub fn new(alloc: Global) -> KeyedPeriods
+        ensures { (key : List ColumnValue) → periods_at result key ≡ [] }
+    {
+        KeyedPeriods {
+            entries: BTreeMap::new(alloc),
+        }
+    }
+
+    /// The periods of a key.
+    pub fn of_key(&self, key: &Values) -> &[Period]
+        ensures value { result.now ≡ periods_at self.now key.now }
+        ensures ordered { AreInOrder result.now }
+    {
+        match self.entries.get(key) {
+            Some(periods) => periods.as_slice(),
+            None => &[],
+        }
+    }
+
+    /// Adds a period to those of a key. The only error is out of memory, and changes nothing.
+    pub fn add(&mut self, alloc: Global, key: &Values, period: Period) -> Result<(), Memory>
+        ensures ok { OnOk result ((other : List ColumnValue)
+            → IsPermutation (periods_at self.new other)
+            (if eq_by_cmp values_cmp key.now other
+            then periods_at self.old other ++ period ∷ []
+            else periods_at self.old other)) }
+        ensures err { OnErr result ((other : List ColumnValue)
+            → periods_at self.new other ≡ periods_at self.old other) }
+    {
+        if let Some(periods) = self.entries.get_mut(key) {
+            periods.add(period)?;
+            return Ok(());
+        }
+        let mut periods = OrderedPeriods::new(alloc);
+        periods.add(period)?;
+        self.entries.insert(key.copy(alloc)?, periods)?;
+        Ok(())
+    }
+
+    /// Takes one such period out of those of a key, and says whether it was there.
+    pub fn take_out(&mut self, key: &Values, period: &Period) -> bool
+        ensures taken { OnTrue result
+            (IsPermutation (periods_at self.old key.now)
+            (period.now ∷ periods_at self.new key.now)) }
+        ensures absent { OnFalse result
+            (Contains (periods_at self.old key.now) period.now → ⊥) }
+        ensures kept { OnFalse result ((other : List ColumnValue)
+            → periods_at self.new other ≡ periods_at self.old other) }
+        ensures others { (other : List ColumnValue) → (key.now ≡ other → ⊥)
+            → periods_at self.new other ≡ periods_at self.old other }
+    {
+        let Some(periods) = self.entries.get_mut(key) else {
+            return false;
+        };
+        periods.take_one(period)
+    }
+}

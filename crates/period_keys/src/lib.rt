@@ -1,0 +1,28 @@
+//! Temporal keys and references: the least day on which two rows of a table share its key, or on
+//! which a child row has no parent row. Whole lists are judged by a table's definition (`tables`),
+//! and a change by the rows that it touches, with an index of the rows that were there (`clashes`,
+//! `references`), which follows each change (`changes`). The laws that make this right, and those
+//! that say it of the rows of a day, are in `key_laws`.
+#![tactic(auto)]
+
+mod changes;
+mod clashes;
+mod gaps;
+mod key_laws;
+mod keyed_periods;
+mod keys;
+mod ordered_periods;
+mod positions;
+mod references;
+mod shared_days;
+mod sweep;
+mod tables;
+
+pub use changes::{add_rows, apply_change, keys_of, take_rows};
+pub use clashes::{index_of, key_clash_after};
+pub use key_laws::{clashes_after_change, clashes_are_of_days, uncovered_are_of_days};
+pub use keyed_periods::KeyedPeriods;
+pub use keys::key_of;
+pub use positions::positions_of;
+pub use references::{uncovered_by_children, uncovered_by_parents};
+pub use tables::{key_clash, uncovered};
