@@ -1,0 +1,84 @@
+-- The steps of a selection.
+use Rattle.std.proofs.Common.{◌≡◌, ◌↔◌, ◌++◌, ℕ, ℤ, true, false, List, [], ◌∷◌, refl, sym, subst, inl, inr, ◌⊎◌}
+use Rattle.catalog_core.specs.Conditions.{meets}
+use Rattle.period_core.specs.DaySets.{InPeriod}
+use Rattle.period_core.specs.declared.value.Value.{Value}
+use Rattle.period_core.specs.declared.row.PeriodRow.{PeriodRow}
+use Rattle.period_core.proofs.PeriodEnds.{days_from, days_to, day_in}
+use Rattle.temporal_model.specs.Snapshot.{InSnapshot}
+use Rattle.sequenced_ops.specs.Operations.{Cond, InProjection, InSelection, IsSelectedOn, ReadsColumns}
+use Rattle.sequenced_ops.specs.Sweeping.{RowHolds}
+use Rattle.sequenced_ops.proofs.Standing.{holds-cons, holds-nil, holds-push}
+
+-- what is kept already, and the selection of what is left, are the selection of all
+abbrev pub SelectionLeft : Cond → List PeriodRow → List PeriodRow → List PeriodRow → Type 0
+SelectionLeft condition rows kept rest =
+    (day : ℤ) (vs : List Value) → ((InSnapshot kept day vs ⊎ InSelection condition rest day vs) ↔ InSelection condition rows day vs)
+
+-- the next row meets the condition
+pub row_accepted :
+    (condition : Cond) (row : PeriodRow) (rest : List PeriodRow) → meets condition row.values ≡ true → (day : ℤ) (vs : List Value)
+    → (InSelection condition (row ∷ rest) day vs ↔ (RowHolds row day vs ⊎ InSelection condition rest day vs))
+row_accepted condition row rest met day vs = (
+  λ (there, its). elim ((holds-cons row rest day vs).0 there) [ inl here ↦ inl here | inr more ↦ inr (more, its) ],
+  λ h. elim h [
+    | inl here ↦ ((holds-cons row rest day vs).1 (inl here), subst (λ v. meets condition v ≡ true) here.0 met)
+    | inr more ↦ ((holds-cons row rest day vs).1 (inr more.0), more.1)
+  ],
+)
+
+-- the next row does not
+pub row_refused :
+    (condition : Cond) (row : PeriodRow) (rest : List PeriodRow) → meets condition row.values ≡ false → (day : ℤ) (vs : List Value)
+    → (InSelection condition (row ∷ rest) day vs ↔ InSelection condition rest day vs)
+row_refused condition row rest not day vs = (
+  λ (there, met). elim ((holds-cons row rest day vs).0 there) [
+    | inl here ↦ absurd (let refused : meets condition vs ≡ false = subst (λ v. meets condition v ≡ false) here.0 not in cc)
+    | inr more ↦ (more, met)
+  ],
+  λ (there, met). ((holds-cons row rest day vs).1 (inr there), met),
+)
+
+-- ---- selections that are projected
+
+-- what is selected already is the projection of the selection of what is done
+abbrev pub SelectedSoFar : Cond → List ℕ → List PeriodRow → List PeriodRow → Type 0
+SelectedSoFar condition columns selected done =
+    (day : ℤ) (vs : List Value) → (InSnapshot selected day vs ↔ InProjection columns (InSelection condition done) day vs)
+
+pub selected_none : (condition : Cond) (columns : List ℕ) → SelectedSoFar condition columns [] []
+selected_none condition columns day vs = (
+  λ h. absurd (holds-nil day vs h),
+  λ (values, (there, met), reads). absurd (holds-nil day values there),
+)
+
+pub selected_next :
+    (condition : Cond) (columns : List ℕ) (selected more done : List PeriodRow) (row : PeriodRow) → SelectedSoFar condition columns selected done
+    → ((day : ℤ) (vs : List Value) → (InSnapshot more day vs ↔ (InSnapshot selected day vs ⊎ IsSelectedOn condition columns row day vs)))
+    → SelectedSoFar condition columns more (done ++ row ∷ [])
+selected_next condition columns selected more done row before step day vs = (
+  λ h. elim ((step day vs).0 h) [
+    | inl old ↦ let (values, (there, met), reads) = (before day vs).0 old in
+        (values, ((holds-push done row day values).1 (inl there), met), reads)
+    | inr (inside, met, reads) ↦
+        (row.values, ((holds-push done row day row.values).1 (inr (refl, days_from row.period day inside, days_to row.period day inside)), met), reads)
+  ],
+  λ (values, (there, met), reads). (step day vs).1 (elim ((holds-push done row day values).0 there) [
+    | inl old ↦ inl ((before day vs).1 (values, (old, met), reads))
+    | inr (same, from, to) ↦ inr (
+      day_in row.period day from to,
+      subst (λ v. meets condition v ≡ true) (sym same) met,
+      subst (λ v. ReadsColumns columns v vs) (sym same) reads,
+    )
+  ]),
+)
+
+-- a row that meets the condition, projected
+pub projected_selected :
+    (condition : Cond) (columns : List ℕ) (old new : List PeriodRow) (row : PeriodRow) → meets condition row.values ≡ true
+    → ((day : ℤ) (vs : List Value) → (InSnapshot new day vs ↔ (InSnapshot old day vs ⊎ (ReadsColumns columns row.values vs × InPeriod row.period day))))
+    → (day : ℤ) (vs : List Value) → (InSnapshot new day vs ↔ (InSnapshot old day vs ⊎ IsSelectedOn condition columns row day vs))
+projected_selected condition columns old new row met step day vs = (
+  λ h. elim ((step day vs).0 h) [ inl was ↦ inl was | inr (reads, inside) ↦ inr (inside, met, reads) ],
+  λ h. (step day vs).1 (elim h [ inl was ↦ inl was | inr (inside, its, reads) ↦ inr (reads, inside) ]),
+)

@@ -1,0 +1,15 @@
+use Rattle.std.proofs.Common.{List, Option, subst}
+use Rattle.std.specs.Prelude.{MatchOption}
+use Rattle.period_core.specs.declared.value.Value.{Value}
+use Rattle.sequenced_ops.specs.Operations.{ReadsColumns}
+use Rattle.sequenced_ops.proofs.Projections.{projection_pushed}
+use Rattle.sequenced_ops.proofs.projecting.project_into.Goals as goal
+
+pub returns-in_ok-push-clause-added : goal.returns-in_ok-push-clause-added
+returns-in_ok-push-clause-added c = λ day vs.
+    let columns = c.args.columns.now in
+    let row = c.args.row.now in
+    let found = subst (λ (l : List Value). MatchOption c.in_ok-values.field-0 ((r : List Value) → ReadsColumns columns l r → ⊥) (ReadsColumns columns l)) c.as_slice.ensures c.in_ok-values.ensures in
+    let its : ReadsColumns columns row.values c.in-Some.values =
+    subst (λ (o : Option (List Value)). MatchOption o ((r : List Value) → ReadsColumns columns row.values r → ⊥) (ReadsColumns columns row.values)) c.in-Some.is found in
+    rw c.in_ok-push.ensures.items (projection_pushed columns row c.in-Some.values c.args.rows.now.items its day vs)

@@ -1,0 +1,81 @@
+-- Rows with the keys by which they are joined, and how a sweep over them finds their pairs.
+use Rattle.std.specs.Prelude.{◌≡◌, ◌++◌, ◌≤ℤ◌, ℕ, ℤ, List, [], ◌∷◌, pos, map, Contains, false}
+use Rattle.std.specs.Ordering.{int_cmp, is_lt, ordering_then}
+use Rattle.std.specs.declared.cmp.Ordering.{Ordering}
+use Rattle.period_core.specs.DaySets.{InPeriod}
+use Rattle.period_core.specs.Order.{values_cmp}
+use Rattle.period_core.specs.declared.value.Value.{Value}
+use Rattle.period_core.specs.declared.value.Value.TheVariants.{Int, Text, Date}
+use Rattle.period_core.specs.declared.row.PeriodRow.{PeriodRow}
+use Rattle.sequenced_ops.specs.declared.equalities.Equality.{Equality}
+use Rattle.sequenced_ops.specs.declared.keyed.Key.{Key}
+use Rattle.sequenced_ops.specs.declared.keyed.KeyedRow.{KeyedRow}
+use Rattle.sequenced_ops.specs.declared.keyed.Side.{Side}
+use Rattle.sequenced_ops.specs.declared.keyed.Side.TheVariants.{Left, Right}
+use Rattle.sequenced_ops.specs.Operations.{ReadsColumns}
+
+-- ---- keys
+
+-- the column of this side that an equality names
+abbrev pub column_on : Side → Equality → ℕ
+column_on Left equality = equality.left
+column_on Right equality = equality.right
+
+-- the columns of this side, equality by equality
+abbrev pub columns_on : Side → List Equality → List ℕ
+columns_on side equalities = map (column_on side) equalities
+
+-- how values are kept as a key: a first integer stands apart, and a first date has its number
+-- there too; of values of one length no two have the same key
+abbrev pub key_of : List Value → Key
+key_of [] = record { lead = pos 0; rest = [] }
+key_of (Int number ∷ values) = record { lead = number; rest = values }
+key_of (Text text ∷ values) = record { lead = pos 0; rest = Text text ∷ values }
+key_of (Date day ∷ values) = record { lead = day; rest = Date day ∷ values }
+
+-- by the lead, then by the rest
+abbrev pub key_cmp : Key → Key → Ordering
+key_cmp a b = ordering_then (int_cmp a.lead b.lead) (values_cmp a.rest b.rest)
+
+-- the row has this key on this side
+pub record IsKeyed (origin : Side) (columns : List ℕ) (row : PeriodRow) (keyed : KeyedRow)
+    : Type 0 where
+  pub key : (read : List Value) × ReadsColumns columns row.values read × (key_of read ≡ keyed.key)
+  pub period : row.period ≡ keyed.period
+  pub side : keyed.side ≡ origin
+  pub values : row.values ≡ keyed.values.now
+
+-- ---- pairs
+
+-- the two rows have the same key, both hold on the day, and these are their values
+abbrev pub PairHolds : KeyedRow → KeyedRow → ℤ → List Value → Type 0
+PairHolds first second day values =
+    (first.key ≡ second.key) × InPeriod first.period day × InPeriod second.period day
+    × (first.values.now ++ second.values.now ≡ values)
+
+-- the same of a row of this side and another, that of the left side first
+abbrev pub SidedPair : Side → KeyedRow → KeyedRow → ℤ → List Value → Type 0
+SidedPair Left row other day values = PairHolds row other day values
+SidedPair Right row other day values = PairHolds other row day values
+
+-- the values of a pair of the row and one of the others
+abbrev pub InPairsWith : KeyedRow → List KeyedRow → ℤ → List Value → Type 0
+InPairsWith row others day values =
+    (other : KeyedRow) × Contains others other × SidedPair row.side row other day values
+
+-- the values of a pair of a left and a right row of the list
+abbrev pub InPairs : List KeyedRow → ℤ → List Value → Type 0
+InPairs rows day values =
+    (first : KeyedRow) × (second : KeyedRow) × Contains rows first × Contains rows second
+    × (first.side ≡ Left) × (second.side ≡ Right) × PairHolds first second day values
+
+-- ---- the order of a sweep
+
+-- b does not come before a by their keys, nor by their first days where their keys are the same
+abbrev pub Follows : KeyedRow → KeyedRow → Type 0
+Follows a b =
+    (is_lt (key_cmp b.key a.key) ≡ false) × (a.key ≡ b.key → a.period.start ≤ℤ b.period.start)
+
+-- the first row has another key than the second, or ends before that begins
+abbrev pub IsGone : KeyedRow → KeyedRow → Type 0
+IsGone other row = other.key ≡ row.key → other.period.end ≤ℤ row.period.start

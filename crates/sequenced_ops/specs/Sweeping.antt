@@ -1,0 +1,43 @@
+-- Where one row lies from another in a sweep over ordered rows without overlaps.
+use Rattle.std.specs.Prelude.{◌≡◌, ◌↔◌, ◌⊎◌, ◌≤ℤ◌, ◌<ℤ◌, ℤ, List, AllPairs}
+use Rattle.std.specs.declared.cmp.Ordering.TheVariants.{Less}
+use Rattle.period_core.specs.Order.{values_cmp}
+use Rattle.period_core.specs.declared.value.Value.{Value}
+use Rattle.period_core.specs.declared.row.PeriodRow.{PeriodRow}
+use Rattle.temporal_model.specs.Snapshot.{InSnapshot}
+use Rattle.sequenced_ops.specs.declared.places.Place.{Place}
+use Rattle.sequenced_ops.specs.declared.places.Place.TheVariants.{Before, After, Overlapping}
+
+-- the row holds the values on the day
+abbrev pub RowHolds : PeriodRow → ℤ → List Value → Type 0
+RowHolds row day values =
+    (row.values ≡ values) × (row.period.start ≤ℤ day) × (day <ℤ row.period.end)
+
+-- the first row has lesser values, or the same values and ends before the second begins
+abbrev pub Precedes : PeriodRow → PeriodRow → Type 0
+Precedes a b =
+    (values_cmp a.values b.values ≡ Less)
+    ⊎ ((a.values ≡ b.values) × (a.period.end ≤ℤ b.period.start))
+
+-- in order, and without overlaps of value-equivalent rows
+abbrev pub IsDisjoint : List PeriodRow → Type 0
+IsDisjoint = AllPairs Precedes
+
+-- the two rows have the same values, and a day
+abbrev pub Overlaps : PeriodRow → PeriodRow → Type 0
+Overlaps a b =
+    (a.values ≡ b.values)
+    × (a.period.start <ℤ b.period.end) × (b.period.start <ℤ a.period.end)
+
+-- the place is that of the first row from the second
+abbrev pub IsPlace : Place → PeriodRow → PeriodRow → Type 0
+IsPlace Before row other = Precedes row other
+IsPlace After row other = Precedes other row
+IsPlace Overlapping row other = Overlaps row other
+
+-- what is left of a list holds what the list does of each row that this one precedes, on its days
+abbrev pub KeepsLater : PeriodRow → List PeriodRow → List PeriodRow → Type 0
+KeepsLater row others left =
+    (later : PeriodRow) → Precedes row later
+    → (day : ℤ) (values : List Value) → RowHolds later day values
+    → (InSnapshot others day values ↔ InSnapshot left day values)

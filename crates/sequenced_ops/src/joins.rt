@@ -1,0 +1,173 @@
+//! Joins: a sweep over the rows of both sides in the order of their keys and first days.
+
+ghost use Rattle.std.specs.Prelude.{◌≡◌, ◌↔◌, ◌⊎◌, ◌++◌, ◌<ℤ◌, ℤ, List, Contains, AllPairs};
+ghost use Rattle.std.specs.Prelude.{IfOk, OnOk, IsTrue};
+ghost use Rattle.period_core.specs.declared.value.Value.{Value};
+ghost use Rattle.temporal_model.specs.Snapshot.{InSnapshot};
+ghost use Rattle.sequenced_ops.specs.declared.keyed.KeyedRow.{KeyedRow};
+ghost use Rattle.sequenced_ops.specs.Operations.{InJoin, SnapshotsAre};
+ghost use Rattle.sequenced_ops.specs.Joining.{Follows, InPairs, InPairsWith, IsGone};
+ghost use Rattle.sequenced_ops.specs.Joining.{PairHolds, SidedPair};
+
+use crate::equalities::{Equality, columns_of};
+use crate::keyed::{KeyedRow, Side, push_keyed};
+use period_core::{Memory, PeriodRow, Values};
+use std::alloc::Global;
+
+// The values of both, one after the other.
+fn joined(alloc: Global, first: &Values, second: &Values) -> Result<Values, Memory>
+    ensures { IfOk result (λ both. both ≡ first.now ++ second.now) }
+{
+    let length = first
+        .as_slice()
+        .len()
+        .saturating_add(second.as_slice().len());
+    let mut both = Vec::with_capacity(alloc, length)?;
+    for value in first.as_slice() {
+        both.push(value.copy(alloc)?)?;
+    }
+    for value in second.as_slice() {
+        both.push(value.copy(alloc)?)?;
+    }
+    Ok(Values::from_vec(both))
+}
+
+// Adds the pair of two rows of the same key on the days of both.
+fn push_joined(
+    alloc: Global,
+    rows: &mut Vec<PeriodRow>,
+    first: &KeyedRow,
+    second: &KeyedRow,
+) -> Result<(), Memory>
+    requires { first.now.key ≡ second.now.key }
+    ensures { OnOk result ((day : ℤ) (values : List Value) →
+        (InSnapshot rows.new.items day values
+        ↔ (InSnapshot rows.old.items day values
+        ⊎ PairHolds first.now second.now day values))) }
+{
+    if let Some(period) = first.period.intersect(second.period) {
+        rows.push(PeriodRow {
+            values: joined(alloc, first.values, second.values)?,
+            period,
+        })?;
+    }
+    Ok(())
+}
+
+// Adds the pair of the row and one of the other side, that of the left side first.
+fn push_pair(
+    alloc: Global,
+    rows: &mut Vec<PeriodRow>,
+    row: &KeyedRow,
+    other: &KeyedRow,
+) -> Result<(), Memory>
+    requires { other.now.key ≡ row.now.key }
+    ensures { OnOk result ((day : ℤ) (values : List Value) →
+        (InSnapshot rows.new.items day values
+        ↔ (InSnapshot rows.old.items day values
+        ⊎ SidedPair row.now.side row.now other.now day values))) }
+{
+    match row.side {
+        Side::Left => push_joined(alloc, rows, row, other),
+        Side::Right => push_joined(alloc, rows, other, row),
+    }
+}
+
+// Whether the other row has the row's key.
+fn has_key_of(other: &KeyedRow, row: &KeyedRow) -> bool
+    ensures { IsTrue result ↔ (other.now.key ≡ row.now.key) }
+{
+    other.key.lead == row.key.lead && other.key.rest == row.key.rest
+}
+
+// Whether the other row has the row's key, and days from the row's first day on.
+fn goes_on(other: &KeyedRow, row: &KeyedRow) -> bool
+    ensures { IsTrue result
+        ↔ ((other.now.key ≡ row.now.key) × (row.now.period.start <ℤ other.now.period.end)) }
+{
+    has_key_of(other, row) && row.period.start < other.period.end
+}
+
+// Adds the row's pairs with the active rows of the other side. What it gives are those that a later
+// row can meet.
+fn meet<'a>(
+    alloc: Global,
+    rows: &mut Vec<PeriodRow>,
+    row: &KeyedRow<'a>,
+    active: Vec<KeyedRow<'a>>,
+) -> Result<Vec<KeyedRow<'a>>, Memory>
+    ensures rows { OnOk result ((day : ℤ) (values : List Value) →
+        (InSnapshot rows.new.items day values
+        ↔ (InSnapshot rows.old.items day values
+        ⊎ InPairsWith row.now active.entry.items day values))) }
+    ensures kept { IfOk result (λ left. (other : KeyedRow) →
+        Contains left.items other → Contains active.entry.items other) }
+    ensures gone { IfOk result (λ left. (other : KeyedRow) →
+        Contains active.entry.items other → (Contains left.items other ⊎ IsGone other row.now)) }
+{
+    let mut left = Vec::new(alloc);
+    for other in active {
+        if goes_on(&other, row) {
+            push_pair(alloc, rows, row, &other)?;
+            left.push(other)?;
+        }
+    }
+    Ok(left)
+}
+
+// The pairs of rows of both sides that have the same key and a day, where none comes before an
+// earlier one.
+fn pairs_of(alloc: Global, sorted: Vec<KeyedRow>) -> Result<Vec<PeriodRow>, Memory>
+    requires { AllPairs Follows sorted.items }
+    ensures { IfOk result (λ rows. SnapshotsAre (InPairs sorted.entry.items) rows.items) }
+{
+    let mut rows = Vec::new(alloc);
+    let mut lefts = Vec::new(alloc);
+    let mut rights = Vec::new(alloc);
+    for row in sorted {
+        match row.side {
+            Side::Left => {
+                rights = meet(alloc, &mut rows, &row, rights)?;
+                lefts.push(row)?;
+            }
+            Side::Right => {
+                lefts = meet(alloc, &mut rows, &row, lefts)?;
+                rights.push(row)?;
+            }
+        }
+    }
+    Ok(rows)
+}
+
+/// On each day the values of a left row and behind them those of a right row, for all pairs of rows
+/// that have the same values at the columns of each equality; without equalities, for all pairs.
+/// The only error is out of memory.
+pub fn join(
+    alloc: Global,
+    left: &[PeriodRow],
+    right: &[PeriodRow],
+    equalities: &[Equality],
+) -> Result<Vec<PeriodRow>, Memory>
+    ensures { IfOk result (λ rows.
+        SnapshotsAre (InJoin equalities.now left.now right.now) rows.items) }
+{
+    let left_columns = columns_of(alloc, equalities, &Side::Left)?;
+    let right_columns = columns_of(alloc, equalities, &Side::Right)?;
+    let mut sorted = Vec::new(alloc);
+    push_keyed(
+        alloc,
+        &mut sorted,
+        left,
+        left_columns.as_slice(),
+        Side::Left,
+    )?;
+    push_keyed(
+        alloc,
+        &mut sorted,
+        right,
+        right_columns.as_slice(),
+        Side::Right,
+    )?;
+    sorted.sort()?;
+    pairs_of(alloc, sorted)
+}

@@ -1,0 +1,52 @@
+//! Selections: the rows that meet a condition, projected to given positions.
+
+ghost use Rattle.std.specs.Prelude.{◌≡◌, ◌↔◌, ◌⊎◌, ℤ, List, IfOk, OnErr, OnOk};
+ghost use Rattle.period_core.specs.declared.value.Value.{Value};
+ghost use Rattle.temporal_model.specs.Snapshot.{InSnapshot};
+ghost use Rattle.sequenced_ops.specs.Operations.{InProjection, InSelection, IsSelectedOn};
+ghost use Rattle.sequenced_ops.specs.Operations.{SnapshotsAre};
+
+use crate::projecting::project_into;
+use catalog_core::{Cond, holds};
+use period_core::{Memory, PeriodRow};
+use std::alloc::Global;
+
+/// Adds the row's values at these positions, over its period, if the row meets the condition and
+/// has a value at each. The only error is out of memory, which leaves the rows as they were.
+pub fn select_into(
+    alloc: Global,
+    rows: &mut Vec<PeriodRow>,
+    row: &PeriodRow,
+    condition: &Cond,
+    columns: &[usize],
+) -> Result<(), Memory>
+    ensures added { OnOk result ((day : ℤ) (values : List Value) →
+        (InSnapshot rows.new.items day values
+        ↔ (InSnapshot rows.old.items day values
+        ⊎ IsSelectedOn condition.now columns.now row.now day values))) }
+    ensures kept { OnErr result (rows.new.items ≡ rows.old.items) }
+{
+    if holds(condition, row.values.as_slice()) {
+        return project_into(alloc, rows, row, columns);
+    }
+    Ok(())
+}
+
+/// On each day the values at these positions of the rows that meet the condition. The only error is
+/// out of memory.
+pub fn select(
+    alloc: Global,
+    rows: &[PeriodRow],
+    condition: &Cond,
+    columns: &[usize],
+) -> Result<Vec<PeriodRow>, Memory>
+    ensures { IfOk result (λ selected.
+        SnapshotsAre (InProjection columns.now (InSelection condition.now rows.now))
+        selected.items) }
+{
+    let mut selected = Vec::new(alloc);
+    for row in rows {
+        select_into(alloc, &mut selected, row, condition, columns)?;
+    }
+    Ok(selected)
+}
