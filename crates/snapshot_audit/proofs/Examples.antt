@@ -1,0 +1,211 @@
+-- Worked rows: the value 7 over a few days, faults of witnesses, change days, a first difference.
+use Rattle.std.proofs.Common.{◌≡◌, ◌<ℤ◌, true, zero, suc, ℤ, pos, Some, None, List, [], ◌∷◌, ap, refl, sym, ◌∙◌, subst, inl, inr, arith}
+use Rattle.std.specs.List.{AllPairs, Contains}
+use Rattle.std.proofs.lemmas.Int.{ints}
+use Rattle.std.proofs.lemmas.Option.{same_Some}
+use Rattle.period_core.proofs.Periods.{are_ends, period_over}
+use Rattle.period_core.specs.Calendar.{first_day}
+use Rattle.period_core.specs.declared.value.Value.{Value}
+use Rattle.period_core.specs.declared.value.Value.TheVariants.{Int}
+use Rattle.period_core.specs.declared.row.PeriodRow.{PeriodRow}
+use Rattle.period_core.specs.declared.answer.Witness.{Witness}
+use Rattle.temporal_model.specs.Snapshot.{InSnapshot}
+use Rattle.temporal_model.specs.Witness.{witness_of}
+use Rattle.temporal_model.proofs.Members.{Contains-here, Contains-there, Contains-nil, Contains-one, Contains-cons_cases}
+use Rattle.temporal_model.proofs.Snapshots.{held, in_snapshot}
+use Rattle.snapshot_audit.specs.ChangeDays.{AreChangeDays, IsChangeDay}
+use Rattle.snapshot_audit.specs.Faults.{IsSound, SoundBelow, IsFirstFault, IsFaultless}
+use Rattle.snapshot_audit.specs.Gaps.{HasGaps}
+use Rattle.snapshot_audit.specs.OrdinaryQueries.{seen_on}
+use Rattle.snapshot_audit.specs.Sets.{ListsSet}
+use Rattle.snapshot_audit.specs.Verdicts.{IsFirstDifference}
+use Rattle.snapshot_audit.proofs.Sound.{sound_more}
+
+abbrev seven : List Value
+seven = Int (pos 7) ∷ []
+
+abbrev seven_over : (start end : ℤ) → are_ends start end ≡ true → PeriodRow
+seven_over start end ends = record { values = seven; period = period_over start end ends }
+
+-- from day 1 to day 3, from day 3 to day 5, from day 1 to day 5, from day 1 to day 9
+abbrev early : PeriodRow
+early = seven_over (pos 1) (pos 3) refl
+
+abbrev late : PeriodRow
+late = seven_over (pos 3) (pos 5) refl
+
+abbrev whole : PeriodRow
+whole = seven_over (pos 1) (pos 5) refl
+
+abbrev long : PeriodRow
+long = seven_over (pos 1) (pos 9) refl
+
+-- ---- faults
+
+nothing_below : (rows : List PeriodRow) (ws : List Witness) → SoundBelow rows ws 0
+nothing_below rows ws k r h is = absurd (omega arith)
+
+-- the first row is sound: nothing is held on day 0
+whole-sound : (ws : List Witness) → IsSound (whole ∷ []) (witness_of whole ∷ ws) 0 whole
+whole-sound ws = record {
+  witness = refl;
+  anew = record {
+    absent_before = λ h. Contains-nil seven h;
+    first = λ h. Contains-nil h.0 h.1;
+  };
+}
+
+one-faultless : IsFaultless (whole ∷ []) (witness_of whole ∷ [])
+one-faultless = record {
+  sound = sound_more (whole ∷ []) (witness_of whole ∷ []) 0 whole refl (whole-sound []) (nothing_below (whole ∷ []) (witness_of whole ∷ []));
+  spare = omega arith;
+}
+
+-- with one witness more the number is the number of rows plus 1
+spare-counted : IsFirstFault (whole ∷ []) (witness_of whole ∷ witness_of whole ∷ []) 2
+spare-counted = record {
+  place = 1;
+  counted = refl;
+  before = sound_more (whole ∷ []) (witness_of whole ∷ witness_of whole ∷ []) 0 whole refl (whole-sound (witness_of whole ∷ [])) (nothing_below (whole ∷ []) (witness_of whole ∷ witness_of whole ∷ []));
+  fault = inr (refl, omega arith);
+}
+
+-- without a witness it is that of the row
+none-counted : IsFirstFault (whole ∷ []) [] 1
+none-counted = record {
+  place = 0;
+  counted = refl;
+  before = nothing_below (whole ∷ []) [];
+  fault = inl (whole, refl, λ sound. (let none : None ≡ Some (witness_of whole) = sound.witness in cc));
+}
+
+-- and so with a witness that has no day before
+wrong-counted : IsFirstFault (whole ∷ []) (record { held = pos 1; absent = None } ∷ []) 1
+wrong-counted = record {
+  place = 0;
+  counted = refl;
+  before = nothing_below (whole ∷ []) (record { held = pos 1; absent = None } ∷ []);
+  fault = inl (
+    whole,
+    refl,
+    λ sound. (let same : record { held = pos 1; absent = None } ≡ witness_of whole = same_Some (record { held = pos 1; absent = None }) (witness_of whole) sound.witness in
+        let none : None ≡ Some (pos 0) = ap (λ (w : Witness). w.absent) same in cc),
+  );
+}
+
+early-sound : (other : PeriodRow) → (InSnapshot (early ∷ other ∷ []) (pos 0) seven → ⊥)
+    → IsSound (early ∷ other ∷ []) (witness_of early ∷ witness_of other ∷ []) 0 early
+early-sound other none = record {
+  witness = refl;
+  anew = record {
+    absent_before = none;
+    first = λ h. Contains-nil h.0 h.1;
+  };
+}
+
+-- two rows that begin on one day: the second is at fault
+begin_together-counted : IsFirstFault (early ∷ whole ∷ []) (witness_of early ∷ witness_of whole ∷ []) 2
+begin_together-counted = record {
+  place = 1;
+  counted = refl;
+  before = sound_more (early ∷ whole ∷ []) (witness_of early ∷ witness_of whole ∷ []) 0 early refl (early-sound whole (λ h. Contains-nil seven h)) (nothing_below (early ∷ whole ∷ []) (witness_of early ∷ witness_of whole ∷ []));
+  fault = inl (whole, refl, λ sound. sound.anew.first (early, Contains-here early [], (refl, refl)));
+}
+
+-- two rows that meet: the values of the second are held on the day before it
+meeting-counted : IsFirstFault (early ∷ late ∷ []) (witness_of early ∷ witness_of late ∷ []) 2
+meeting-counted = record {
+  place = 1;
+  counted = refl;
+  before = sound_more (early ∷ late ∷ []) (witness_of early ∷ witness_of late ∷ []) 0 early refl (early-sound late (λ h. Contains-nil seven h)) (nothing_below (early ∷ late ∷ []) (witness_of early ∷ witness_of late ∷ []));
+  fault = inl (late, refl, λ sound. sound.anew.absent_before (Contains-here seven []));
+}
+
+meeting-no_gap : HasGaps (early ∷ late ∷ []) → ⊥
+meeting-no_gap gaps = let gap : pos 3 <ℤ pos 3 = (gaps 0 1 early (omega arith) (omega arith)).1 refl in omega (arith, ints)
+
+-- ---- sets
+
+-- what two rows hold is there once in the set
+held_twice-once : ListsSet (InSnapshot (early ∷ whole ∷ []) (pos 2)) (seven ∷ [])
+held_twice-once = record {
+  ascending = λ i j d lt below. absurd (omega arith);
+  members = λ values. (
+    λ h. Contains-there seven (seven ∷ []) values h,
+    λ h. elim (Contains-cons_cases seven (seven ∷ []) values h) [
+      | inl is ↦ subst (Contains (seven ∷ [])) is (Contains-here seven [])
+      | inr more ↦ more
+    ],
+  );
+}
+
+-- what two tables show on day 4
+seen-day_four : seen_on ((early ∷ []) ∷ (late ∷ whole ∷ []) ∷ []) (pos 4) ≡ [] ∷ (seven ∷ seven ∷ []) ∷ []
+seen-day_four = refl
+
+-- ---- days
+
+-- the audit of the row over a table that has it looks at three days
+three-change_days : AreChangeDays ((whole ∷ []) ∷ (whole ∷ []) ∷ []) (first_day ∷ pos 1 ∷ pos 5 ∷ [])
+three-change_days = record {
+  ascending = λ i j d lt below. up i j d lt below;
+  members = λ day. (there day, back day);
+} where
+  lists : List (List PeriodRow)
+  lists = (whole ∷ []) ∷ (whole ∷ []) ∷ []
+
+  up : AllPairs (λ a b. a <ℤ b) (first_day ∷ pos 1 ∷ pos 5 ∷ [])
+  up zero zero d lt below = absurd (omega arith)
+  up zero (suc zero) d lt below = omega (arith, ints)
+  up zero (suc (suc zero)) d lt below = omega (arith, ints)
+  up zero (suc (suc (suc j))) d lt below = absurd (omega arith)
+  up (suc i) zero d lt below = absurd (omega arith)
+  up (suc zero) (suc zero) d lt below = absurd (omega arith)
+  up (suc zero) (suc (suc zero)) d lt below = omega (arith, ints)
+  up (suc zero) (suc (suc (suc j))) d lt below = absurd (omega arith)
+  up (suc (suc i)) (suc j) d lt below = absurd (omega arith)
+
+  there : (day : ℤ) → Contains (first_day ∷ pos 1 ∷ pos 5 ∷ []) day → IsChangeDay lists day
+  there day h = elim (Contains-cons_cases first_day (pos 1 ∷ pos 5 ∷ []) day h) [
+    | inl is ↦ inl is
+    | inr more ↦ elim (Contains-cons_cases (pos 1) (pos 5 ∷ []) day more) [
+      | inl is ↦ inr (whole ∷ [], Contains-here (whole ∷ []) ((whole ∷ []) ∷ []), (whole, Contains-here whole [], inl is))
+      | inr last ↦ inr (whole ∷ [], Contains-here (whole ∷ []) ((whole ∷ []) ∷ []), (whole, Contains-here whole [], inr (Contains-one (pos 5) day last)))
+    ]
+  ]
+
+  listed : (rows : List PeriodRow) → Contains lists rows → whole ∷ [] ≡ rows
+  listed rows c = elim (Contains-cons_cases (whole ∷ []) ((whole ∷ []) ∷ []) rows c) [
+    | inl is ↦ is
+    | inr more ↦ Contains-one (whole ∷ []) rows more
+  ]
+
+  back : (day : ℤ) → IsChangeDay lists day → Contains (first_day ∷ pos 1 ∷ pos 5 ∷ []) day
+  back day (inl is) = subst (Contains (first_day ∷ pos 1 ∷ pos 5 ∷ [])) is (Contains-here first_day (pos 1 ∷ pos 5 ∷ []))
+  back day (inr (rows, c, (row, inside, ends))) =
+      let one : whole ≡ row = Contains-one whole row (subst (λ l. Contains l row) (sym (listed rows c)) inside) in
+      elim ends [
+        | inl is ↦ subst (Contains (first_day ∷ pos 1 ∷ pos 5 ∷ [])) (ap (λ (r : PeriodRow). r.period.start) one ∙ is)
+            (Contains-there first_day (pos 1 ∷ pos 5 ∷ []) (pos 1) (Contains-here (pos 1) (pos 5 ∷ [])))
+        | inr is ↦ subst (Contains (first_day ∷ pos 1 ∷ pos 5 ∷ [])) (ap (λ (r : PeriodRow). r.period.end) one ∙ is)
+            (Contains-there first_day (pos 1 ∷ pos 5 ∷ []) (pos 5) (Contains-there (pos 1) (pos 5 ∷ []) (pos 5) (Contains-here (pos 5) [])))
+      ]
+
+-- an answer that goes on for four days more than the table differs first on day 5
+long-differs : IsFirstDifference (InSnapshot (whole ∷ [])) (long ∷ []) (pos 5)
+long-differs = record {
+  is_day = (omega (arith, ints), omega (arith, ints));
+  differs = λ agrees. Contains-nil seven ((agrees seven).0 (Contains-here seven []));
+  before = λ earlier is_day less values. (
+    λ h.
+        let (row, c, v, (from, to)) = held (long ∷ []) earlier values h in
+        let one : long ≡ row = Contains-one long row c in
+        let starts : pos 1 ≡ row.period.start = ap (λ (r : PeriodRow). r.period.start) one in
+        in_snapshot (whole ∷ []) earlier values (whole, Contains-here whole [], ap (λ (r : PeriodRow). r.values) one ∙ v, (omega (arith, ints), less)),
+    λ h.
+        let (row, c, v, (from, to)) = held (whole ∷ []) earlier values h in
+        let one : whole ≡ row = Contains-one whole row c in
+        let starts : pos 1 ≡ row.period.start = ap (λ (r : PeriodRow). r.period.start) one in
+        in_snapshot (long ∷ []) earlier values (long, Contains-here long [], ap (λ (r : PeriodRow). r.values) one ∙ v, (omega (arith, ints), omega (arith, ints))),
+  );
+}

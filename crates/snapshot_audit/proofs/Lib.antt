@@ -1,0 +1,7 @@
+pub mod Sound
+pub mod Neighbours
+pub mod Once
+pub mod Changes
+pub mod SameSets
+pub mod Verdicts
+mod Examples

@@ -1,0 +1,6 @@
+pub mod Sets
+pub mod Faults
+pub mod Gaps
+pub mod ChangeDays
+pub mod OrdinaryQueries
+pub mod Verdicts

@@ -1,0 +1,17 @@
+-- Sets of rows as lists.
+use Rattle.std.specs.Prelude.{◌≡◌, ◌↔◌, List, AllPairs, Contains}
+use Rattle.std.specs.declared.cmp.Ordering.{Ordering}
+use Rattle.std.specs.declared.cmp.Ordering.TheVariants.{Less}
+use Rattle.std.specs.FinMap.{IsAntisymmetric}
+use Rattle.period_core.specs.Order.{values_cmp}
+use Rattle.period_core.specs.declared.value.Value.{Value}
+
+-- the list has the members of the set and no others, in ascending order, each once
+pub record ListsSet (InSet : List Value → Type 0) (list : List (List Value)) : Type 0 where
+  pub ascending : AllPairs (λ a b. values_cmp a b ≡ Less) list
+  pub members : (values : List Value) → (Contains list values ↔ InSet values)
+
+-- the elements of a list in ascending order, each once, where only equal elements tie
+pub record IsSortedOnce {X : Type 0} (cmp : X → X → Ordering) (items once : List X) : Type 0 where
+  pub ascending : AllPairs (λ a b. cmp a b ≡ Less) once
+  pub members : IsAntisymmetric cmp → (x : X) → (Contains once x ↔ Contains items x)

@@ -1,0 +1,38 @@
+//! What rows hold on a day.
+
+ghost use Rattle.std.specs.Prelude.{◌↔◌, IsTrue, IfOk};
+ghost use Rattle.temporal_model.specs.Snapshot.{InSnapshot};
+ghost use Rattle.snapshot_audit.specs.Sets.{ListsSet};
+
+use crate::sets::sorted_once;
+use period_core::{Day, Memory, PeriodRow, Values};
+use std::alloc::Global;
+
+/// Whether some row holds the values on the day with this number.
+pub(crate) fn is_held_on(rows: &[PeriodRow], values: &Values, day: i32) -> bool
+    ensures { IsTrue result ↔ InSnapshot rows.now day values.now }
+{
+    for row in rows {
+        if row.values == *values
+            && row.period.start.number() <= day
+            && day < row.period.end.number()
+        {
+            return true;
+        }
+    }
+    false
+}
+
+/// The snapshot of the rows on a day, in ascending order, each list of values once. The only error
+/// is out of memory.
+pub fn rows_on(alloc: Global, rows: &[PeriodRow], day: Day) -> Result<Vec<Values>, Memory>
+    ensures { IfOk result (λ set. ListsSet (InSnapshot rows.now day) set.items) }
+{
+    let mut held = Vec::new(alloc);
+    for row in rows {
+        if row.period.contains_day(day) {
+            held.push(row.values.copy(alloc)?)?;
+        }
+    }
+    sorted_once(held)
+}
