@@ -1,59 +1,100 @@
 -- An answer is right in the histories that the engine represents.
-use Rattle.std.proofs.Common.{◌≡◌, ◌↔◌, ◌≤ℤ◌, ℕ, ℤ, List, Option, Some, map, Ok, Err, refl, sym, ◌∙◌, append-nil, subst, arith}
+use Rattle.std.proofs.Common.{◌≡◌, ◌↔◌, ◌==◌, ◌≤ℤ◌, ◌<ℤ◌, ◌&&◌, ◌⊎◌, ℕ, ℤ, Bool, List, Option, Some, filter, map, Ok, Err, refl, sym, ◌∙◌, ap, subst, subst₂, inl, inr, arith}
+use Rattle.std.specs.List.{All, AllByRecursion, Contains}
 use Rattle.std.specs.List.Sorted.{IsPermutation}
 use Rattle.std.proofs.lemmas.Int.{ints}
-use Rattle.std.proofs.lemmas.List.Sorted.{Contains-permutation, IsPermutation-sym}
-use Rattle.std.specs.List.{Contains}
+use Rattle.std.proofs.lemmas.List.Elements.{All-from_recursion}
+use Rattle.std.proofs.lemmas.List.Sorted.{Contains-permutation, IsPermutation-map, IsPermutation-sym, IsPermutation-trans}
+use Rattle.sqlite.specs.Store.{Ghosts}
+use Rattle.sqlite_trees.proofs.ListLemmas.{all-filter, all-permutation, all_from_map, all_weaker, filter-map, map-map}
 use Rattle.period_core.specs.Leasts.{MayAnswer, NoneApplies}
+use Rattle.period_core.specs.Moments.{forever}
+use Rattle.period_core.specs.Windows.{window_sees}
 use Rattle.period_core.specs.declared.answer.Answer.{Answer}
 use Rattle.period_core.specs.declared.refusal.Refusal.{Refusal}
 use Rattle.period_core.specs.declared.row.PeriodRow.{PeriodRow}
 use Rattle.period_core.specs.declared.value.Value.{Value}
-use Rattle.temporal_model.specs.Snapshot.{InSnapshot, Equivalent, values_on}
-use Rattle.temporal_model.specs.Answer.{IsCertified, IsInAnswerOrder, IsShortest}
-use Rattle.temporal_model.specs.Witness.{WitnessEachRow, witness_of}
+use Rattle.period_core.specs.declared.version.VersionRow.{VersionRow}
+use Rattle.period_core.specs.declared.window.Window.TheVariants.{AsOf}
+use Rattle.temporal_model.specs.Snapshot.{InSnapshot, covers_day, values_on}
+use Rattle.temporal_model.specs.Witness.{WitnessEachRow}
+use Rattle.temporal_model.proofs.Rearranged.{IsPermutation-filter}
 use Rattle.temporal_model.proofs.Witnesses.{witnessed_by_sets}
-use Rattle.sql_statements.specs.Trees.{Statement}
+use Rattle.sql_statements.specs.Trees.{Query, Statement}
 use Rattle.sql_statements.specs.Trees as statement
 use Rattle.catalog_core.specs.Judged.{Holds}
 use Rattle.catalog_core.specs.query.Selection.{IsSequenced, ResolvesQuery, query_conditions}
-use Rattle.history_model.specs.Versions.{last_moment, row_of}
-use Rattle.script_engine.proofs.OpenVersions.{open_hold}
-use Rattle.script_engine.specs.engine.Kept.{IsKept}
-use Rattle.script_engine.proofs.Widths.{open-versions}
-use Rattle.history_model.specs.Answers.{InAnswerOn, read_items}
-use Rattle.history_model.specs.Histories.{Asked, Database, History, catalog_of, last_state, state_at, versions_in, with_event}
-use Rattle.history_model.proofs.HistoryLemmas.{catalog_of-event, clock_of-event, state_at-event}
-use Rattle.catalog_core.specs.declared.query.AnswerColumn.{AnswerColumn}
 use Rattle.catalog_core.specs.declared.query.Select.{Select}
+use Rattle.catalog_core.specs.declared.table.TableDef.{TableDef}
+use Rattle.version_tables.specs.Good.{AreMoments}
+use Rattle.version_store.specs.Contents.{AreRowsOf, Contents, TableVersion, of_table, version_in}
+use Rattle.version_store.specs.StoreState.{IsStoreRefusal, StoreRepresents, StoreState}
+use Rattle.history_model.specs.Answers.{InAnswerOn, read_items}
+use Rattle.history_model.specs.Histories.{Asked, History, last_state, state_at, with_event}
+use Rattle.history_model.specs.Versions.{IsRecorded, current, is_seen, last_moment, row_of, values_at}
+use Rattle.history_model.proofs.LeftFacts.{left_hold}
+use Rattle.history_model.proofs.VersionFacts.{current_hold}
 use Rattle.script_engine.specs.Headline.{IsSequencedAnswer}
-use Rattle.script_engine.specs.engine.Rows.{read_row, whole_row}
-use Rattle.history_model.specs.Represents.{Represents}
-use Rattle.script_engine.specs.engine.Runs.{StepsTo}
+use Rattle.script_engine.specs.engine.Projected.{IsAnswerTo, read_row, whole_row}
+use Rattle.script_engine.specs.engine.Runs.{StatementApplies, StepsTo}
+use Rattle.script_engine.specs.engine.Stored.{AreOfHistory, EngineRepresents}
 use Rattle.script_engine.specs.declared.engine.outcome.Outcome.TheVariants.{Answer as Answered}
-use Rattle.script_engine.proofs.Images.{image_from, image_of}
+use Rattle.script_engine.proofs.Contents.{recorded_rows, said-asked}
 use Rattle.script_engine.proofs.Given.{same_values, values_on-read}
-use Rattle.script_engine.proofs.Steps.{carried, refused_step}
+use Rattle.script_engine.proofs.Images.{image_from, image_of}
+use Rattle.script_engine.proofs.Steps.{failed_step, refused_step, tables_of}
 
--- the versions hold on each day what the last state has, where none has ended
-held_last : (history : History) (database : Database) (table : ℕ) (day : ℤ) → Represents history database → IsKept database →
-    IsPermutation (values_on (map row_of (versions_in database table)) day) (last_state history table day)
-held_last history database table day kept sound =
-    let versions = versions_in database table in
-    let unended = open-versions database table sound.unended in
-    let before = sound.before in
-    let late : database.clock ≤ℤ last_moment = omega (arith, ints) in
-    subst (λ (l : List (List Value)). IsPermutation l (last_state history table day)) (open_hold database.clock last_moment day late (omega (arith, ints)) before versions unended)
-    (kept.daily table last_moment day (omega (arith, ints)))
+-- a version of a table is seen as of the moment, and holds on the day
+abbrev is_shown : ℤ → ℤ → TableVersion → Bool
+is_shown moment day v = window_sees (AsOf moment) v.from v.to && covers_day v.start v.end day
 
--- a projection of a table's versions has on each day the set of the query
-projection_daily : (history : History) (database : Database) (query : Select) (projections : List PeriodRow) → Represents history database → IsKept database →
-    map (read_row query.items) (versions_in database query.table) ≡ map whole_row projections →
+abbrev shown_values : ℤ → ℤ → List TableVersion → List (List Value)
+shown_values moment day versions = map (λ (v : TableVersion). v.values) (filter (is_shown moment day) versions)
+
+-- version rows hold what they hold as versions of a table
+values_shown : (table : ℕ) (rows : List VersionRow) (moment day : ℤ) → shown_values moment day (map (version_in table) rows) ≡ values_at rows moment day
+values_shown table rows moment day =
+    ap (map (λ (v : TableVersion). v.values)) (filter-map (is_shown moment day) (version_in table) rows)
+    ∙ map-map (λ (v : TableVersion). v.values) (version_in table) (filter (is_seen (AsOf moment) day) rows)
+
+-- the rows of a store hold as of each moment on each day the state of the history
+pub rows_hold : (history : History) (c : Contents) (table : ℕ) (rows : List VersionRow) → AreOfHistory history c → AreRowsOf c table rows → (moment day : ℤ) → moment <ℤ forever →
+    IsPermutation (values_at rows moment day) (state_at history moment table day)
+rows_hold history c table rows said are moment day before =
+    let holds = said.versions table in
+    let shown = λ (versions : List TableVersion). shown_values moment day versions in
+    let ours = map (version_in table) rows in
+    let its = map (version_in table) holds.rows in
+    let same : IsPermutation ours its = IsPermutation-trans ours (of_table table c.versions) its (IsPermutation-sym (of_table table c.versions) ours are.all) holds.all in
+    let values : IsPermutation (shown ours) (shown its) =
+    IsPermutation-map (λ (v : TableVersion). v.values) (filter (is_shown moment day) ours) (filter (is_shown moment day) its) (IsPermutation-filter (is_shown moment day) ours its same) in
+    IsPermutation-trans (values_at rows moment day) (values_at holds.rows moment day) (state_at history moment table day)
+    (subst₂ (λ (a b : List (List Value)). IsPermutation a b) (values_shown table rows moment day) (values_shown table holds.rows moment day) values)
+    (left_hold history table holds.rows said.order holds.left moment day before)
+
+-- the rows of a store are recorded up to its clock
+rows_recorded : (history : History) (c : Contents) (table : ℕ) (rows : List VersionRow) → AreOfHistory history c → AreRowsOf c table rows → All (IsRecorded c.clock) rows
+rows_recorded history c table rows said are = recorded_rows c table rows said.recorded are.all
+
+-- the current rows hold on each day what the last state has
+held_last : (history : History) (c : Contents) (table : ℕ) (rows : List VersionRow) (day : ℤ) → AreOfHistory history c → AreRowsOf c table rows →
+    IsPermutation (values_on (map row_of (current rows)) day) (last_state history table day)
+held_last history c table rows day said are =
+    let before : c.clock <ℤ forever = said.is_clock.1 in
+    let late : c.clock ≤ℤ last_moment = omega (arith, ints) in
+    let last : last_moment <ℤ forever = omega (arith, ints) in
+    subst (λ (l : List (List Value)). IsPermutation l (last_state history table day))
+    (current_hold c.clock last_moment day late last rows (rows_recorded history c table rows said are))
+    (rows_hold history c table rows said are last_moment day last)
+
+-- a projection of a table's current rows has on each day the set of the query
+projection_daily : (history : History) (c : Contents) (query : Select) (found : List VersionRow) (projections : List PeriodRow) → AreOfHistory history c → AreRowsOf c query.table found →
+    map (read_row query.items) (current found) ≡ map whole_row projections →
     (day : ℤ) (values : List Value) → (InSnapshot projections day values ↔ InAnswerOn history query day values)
-projection_daily history database query projections kept sound made day values =
-    let versions = versions_in database query.table in
+projection_daily history c query found projections said are made day values =
+    let versions = current found in
     let rows = map row_of versions in
-    let held = held_last history database query.table day kept sound in
+    let held = held_last history c query.table found day said are in
     let read : map (read_items query.items) (values_on rows day) ≡ map (map Some) (values_on projections day) = values_on-read query.items versions projections day made in (
       λ snapshot.
           let shown = image_of (map Some) (values_on projections day) values snapshot in
@@ -68,23 +109,13 @@ projection_daily history database query projections kept sound made day values =
           subst (λ (v : List Value). Contains (values_on projections day) v) same held_too,
     )
 
--- what the calls of an answer give: the projections, their shortest list, and its witnesses
-pub record Finds (database : Database) (query : Select) (projections : List PeriodRow) (answer : Answer) : Type 0 where
-  pub made : map (read_row query.items) (versions_in database query.table) ≡ map whole_row projections
-  pub equivalent : Equivalent projections answer.rows
-  pub shortest : IsShortest answer.rows
-  pub ordered : IsInAnswerOrder answer.rows
-  pub certified : IsCertified answer.rows
-  pub witnesses : answer.witnesses ≡ map witness_of answer.rows
-  pub columns : answer.columns ≡ map (λ (item : AnswerColumn). item.name) query.items
-
-answer_right : (history : History) (database : Database) (query : Select) (projections : List PeriodRow) (answer : Answer) → Represents history database → IsKept database → Finds database query projections answer →
+answer_right : (history : History) (c : Contents) (query : Select) (found : List VersionRow) (answer : Answer) → AreOfHistory history c → AreRowsOf c query.table found → IsAnswerTo query.items found answer →
     IsSequencedAnswer (InAnswerOn history query) answer
-answer_right history database query projections answer kept sound finds =
+answer_right history c query found answer said are finds =
     let daily : (day : ℤ) (values : List Value) → (InSnapshot answer.rows day values ↔ InAnswerOn history query day values) =
     λ day values.
-    let found = projection_daily history database query projections kept sound finds.made day values in
-    (λ h. found.0 ((finds.equivalent day values).1 h), λ h. (finds.equivalent day values).0 (found.1 h)) in
+    let same = projection_daily history c query found finds.projections said are finds.made day values in
+    (λ h. same.0 ((finds.equivalent day values).1 h), λ h. (finds.equivalent day values).0 (same.1 h)) in
     record {
       daily = daily;
       shortest = finds.shortest;
@@ -92,38 +123,37 @@ answer_right history database query projections answer kept sound finds =
       witnessed = subst (WitnessEachRow (InAnswerOn history query) answer.rows) (sym finds.witnesses) (witnessed_by_sets (InAnswerOn history query) answer.rows finds.certified daily);
     }
 
-pub answered_step : (history : History) (database : Database) (s : Statement) (query : Select) (projections : List PeriodRow) (answer : Answer) → IsSequenced s → Represents history database → IsKept database →
-    NoneApplies (Holds (query_conditions database.catalog s)) → ResolvesQuery database.catalog s query → Finds database query projections answer →
-    StepsTo history s (Ok (Answered answer)) database
-answered_step history database (statement.sequenced select) query projections answer form kept keeps sound resolved finds = (
-  with_event history Asked,
-  (
-    subst (λ c. NoneApplies (Holds (query_conditions c (statement.sequenced select)))) kept.catalog sound,
-    (
-      answer,
-      refl,
-      record {
-        query = query;
-        resolved = subst (λ c. ResolvesQuery c (statement.sequenced select) query) kept.catalog resolved;
-        columns = finds.columns;
-        right = answer_right history database query projections answer kept keeps finds;
-        after = refl;
-      },
-    ),
-  ),
-  record {
-    clock = kept.clock ∙ sym (clock_of-event history Asked);
-    catalog = kept.catalog ∙ sym (catalog_of-event history Asked ∙ append-nil (catalog_of history));
-    daily = λ table moment day before.
-        carried (versions_in database table) (versions_in database table) (state_at history moment table day) (state_at (with_event history Asked) moment table day) moment day refl
-        (state_at-event history Asked moment table day) (kept.daily table moment day before);
-  },
-)
-answered_step history database other query projections answer form kept keeps sound resolved finds = absurd form
+module _ {S : Type 0} (g : Ghosts S) (history : History) (old : StoreState S) (asked : Query) (kept : EngineRepresents g history old) where
+  abbrev s : Statement
+  s = statement.sequenced asked
 
-pub unanswered_step : (history : History) (database : Database) (s : Statement) (refusal : Refusal) → IsSequenced s → Represents history database →
-    MayAnswer (Holds (query_conditions database.catalog s)) refusal → StepsTo history s (Err refusal) database
-unanswered_step history database (statement.sequenced select) refusal form kept may =
-    refused_step history database (statement.sequenced select) refusal kept
-    (subst (λ c. MayAnswer (Holds (query_conditions c (statement.sequenced select))) refusal) kept.catalog may)
-unanswered_step history database other refusal form kept may = absurd form
+  pub unanswered_step : (refusal : Refusal) → MayAnswer (Holds (query_conditions old.catalog.tables s)) refusal → StepsTo g history s (Err refusal) old
+  unanswered_step refusal may =
+      refused_step g history old s refusal kept
+      (inl (subst (λ (tables : List TableDef). MayAnswer (Holds (query_conditions tables s)) refusal) (tables_of g history old kept) may))
+
+  pub failed_answer : (new : StoreState S) (refusal : Refusal) → NoneApplies (Holds (query_conditions old.catalog.tables s)) → StoreRepresents g new kept.contents → IsStoreRefusal refusal → StepsTo g history s (Err refusal) new
+  failed_answer new refusal sound stored failure =
+      failed_step g history old new s refusal kept stored failure
+      (subst (λ (tables : List TableDef). NoneApplies (Holds (query_conditions tables s))) (tables_of g history old kept) sound)
+
+  pub answered_step : (new : StoreState S) (query : Select) (found : List VersionRow) (answer : Answer) → NoneApplies (Holds (query_conditions old.catalog.tables s)) → ResolvesQuery old.catalog.tables s query →
+      StoreRepresents g new kept.contents → AreRowsOf kept.contents query.table found → IsAnswerTo query.items found answer → StepsTo g history s (Ok (Answered answer)) new
+  answered_step new query found answer sound resolved stored are finds = (
+    with_event history Asked,
+    (
+      subst (λ (tables : List TableDef). NoneApplies (Holds (query_conditions tables s))) (tables_of g history old kept) sound,
+      (
+        answer,
+        refl,
+        record {
+          query = query;
+          resolved = subst (λ (tables : List TableDef). ResolvesQuery tables s query) (tables_of g history old kept) resolved;
+          columns = finds.columns;
+          right = answer_right history kept.contents query found answer kept.said are finds;
+          after = refl;
+        },
+      ),
+    ),
+    record { contents = kept.contents; stored = stored; said = said-asked history kept.contents kept.said },
+  )

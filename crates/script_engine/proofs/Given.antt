@@ -2,7 +2,6 @@
 use Rattle.std.proofs.Common.{◌≡◌, ◌<◌, ◌+◌, ◌++◌, ◌∷◌, ℕ, ℤ, Bool, true, false, List, [], Option, Some, get_or, length, map, take, refl, sym, ap, ap₂, ◌∙◌}
 use Rattle.std.specs.List.{slice_get}
 use Rattle.std.proofs.lemmas.List.{map_more, map_push}
-use Rattle.std.proofs.lemmas.Option.{slice_get_read}
 use Rattle.period_core.specs.declared.row.PeriodRow.{PeriodRow}
 use Rattle.period_core.specs.declared.value.Value.{Value}
 use Rattle.period_core.specs.declared.version.VersionRow.{VersionRow}
@@ -10,7 +9,7 @@ use Rattle.temporal_model.specs.Snapshot.{covers_day, values_on}
 use Rattle.history_model.specs.Answers.{IsProjection, read_items}
 use Rattle.history_model.specs.Versions.{row_of}
 use Rattle.catalog_core.specs.declared.query.AnswerColumn.{AnswerColumn}
-use Rattle.script_engine.specs.engine.Rows.{ReadRow, read_row, whole_row}
+use Rattle.script_engine.specs.engine.Projected.{ReadRow, read_row, whole_row}
 
 -- the row, as a period row or one that is read, holds on the day
 abbrev row_covers : ℤ → PeriodRow → Bool
@@ -49,10 +48,10 @@ same_values (value ∷ values) (other ∷ others) e =
 
 -- one item more
 pub projected_more : (items : List AnswerColumn) (values row : List Value) (place : ℕ) (item : AnswerColumn) (value : Value) → place < length items → item ≡ get_or items place item →
-    item.position < length values → value ≡ get_or values item.position value → IsProjection (take place items) values row → IsProjection (take (place + 1) items) values (row ++ value ∷ [])
-projected_more items values row place item value inside its within read so_far =
+    slice_get values item.position ≡ Some value → IsProjection (take place items) values row → IsProjection (take (place + 1) items) values (row ++ value ∷ [])
+projected_more items values row place item value inside its read so_far =
     let at : AnswerColumn → Option Value = λ (i : AnswerColumn). slice_get values i.position in
-    let here : at (get_or items place item) ≡ Some value = ap at (sym its) ∙ slice_get_read values (length values) item.position value refl within read in
+    let here : at (get_or items place item) ≡ Some value = ap at (sym its) ∙ read in
     map_more at items place item inside
     ∙ ap₂ (λ (a : List (Option Value)) (b : Option Value). a ++ b ∷ []) so_far here
     ∙ sym (map_push (λ (v : Value). Some v) row value)

@@ -3,7 +3,6 @@ mod Answered
 mod Changed
 mod CheckSteps
 mod Given
-mod InsertRefused
 mod PieceFacts
 mod PieceSteps
 mod Refused
@@ -11,8 +10,10 @@ mod ScriptFacts
 mod Images
 mod Steps
 mod TableNumbers
-mod Widths
-mod OpenVersions
+mod Contents
+mod LeftSteps
+mod NewStore
+mod Openings
 pub mod AppendFacts
 pub mod BufferFacts
 pub mod CheckExamples

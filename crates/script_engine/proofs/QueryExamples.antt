@@ -4,7 +4,8 @@ use Rattle.std.specs.List.Sorted.{IsPermutation}
 use Rattle.std.proofs.lemmas.List.Sorted.{Contains-permutation, IsPermutation-refl, IsPermutation-sym}
 use Rattle.std.proofs.Common.{◌≡◌, ◌==◌, ◌∷◌, ◌↔◌, ◌<ℤ◌, fold, filter_map, [], ℕ, zero, suc, ℤ, pos, Bool, true, false, List, Option, None, Some, Ok, map, codes, refl, sym, ap, ap₂, ◌∙◌, subst, inl, inr, arith}
 use Rattle.std.proofs.lemmas.Int.{by_lt_z, ints}
-use Rattle.std.specs.List.{Contains}
+use Rattle.std.specs.List.{All, Contains}
+use Rattle.std.proofs.lemmas.List.Elements.{All-nil}
 use Rattle.period_core.specs.Leasts.{NoneApplies}
 use Rattle.period_core.proofs.Periods.{period_over}
 use Rattle.period_core.specs.declared.answer.Answer.{Answer}
@@ -16,37 +17,51 @@ use Rattle.temporal_model.specs.Snapshot.{covers_day, values_on}
 use Rattle.temporal_model.proofs.Members.{Contains-cons_cases, Contains-here, Contains-nil, Contains-one, Contains-there}
 use Rattle.temporal_model.proofs.Snapshots.{CoversDay, held, in_snapshot}
 use Rattle.sql_statements.specs.Trees as statement
+use Rattle.sql_statements.specs.declared.statement.SelectItem.{SelectItem}
+use Rattle.sql_statements.specs.declared.statement.TableReference.{TableReference}
 use Rattle.sql_statements.specs.Trees.{Query, combined, last, simple}
 use Rattle.history_model.specs.Effects.{effect}
-use Rattle.history_model.specs.Versions.{values_at}
+use Rattle.history_model.specs.Versions.{IsRecorded, plain_version, values_at}
 use Rattle.history_model.specs.Answers.{InAnswerOn, IsProjection, read_items}
-use Rattle.history_model.specs.Histories.{Asked, Changed, Created, Database, History, changed_until, last_state, state_at, versions_in, with_event}
+use Rattle.history_model.specs.Histories.{Asked, Changed, Created, Database, History, IsInOrder, changed_until, last_state, state_at, versions_in, with_event}
 use Rattle.catalog_core.specs.Judged.{Holds}
 use Rattle.catalog_core.specs.table.Matches.{is_matching}
 use Rattle.catalog_core.specs.table.Naming.{Name}
-use Rattle.catalog_core.specs.query.Selection.{ResolvesQuery, has_many_items, item_parts, lacks_source, names_no_value, query_conditions, selects_no_value, value_position, written_item}
+use Rattle.catalog_core.specs.query.Refusals.{compares_kinds, is_too_long, lacks_table, names_period, names_twice, some_column_matches}
+use Rattle.catalog_core.specs.query.Selection.{ResolvesQuery, item_parts, query_conditions, value_position, written_item}
 use Rattle.catalog_core.specs.table.TableWords.{is_value_column, number_of, table_of, table_of_name}
 use Rattle.catalog_core.specs.declared.query.AnswerColumn.{AnswerColumn}
 use Rattle.catalog_core.specs.declared.query.Select.{Select}
 use Rattle.catalog_core.specs.declared.table.TableDef.{TableDef}
 use Rattle.script_engine.specs.Headline.{IsSequencedAnswer}
-use Rattle.history_model.specs.Represents.{Represents}
+use Rattle.history_model.specs.Left.{AreLeftBy}
+use Rattle.history_model.proofs.LeftFacts.{left_hold}
+use Rattle.version_store.specs.Contents.{Contents, TableVersion, of_table, version_in}
+use Rattle.script_engine.specs.engine.Stored.{AreOfHistory, HoldsTable}
 use Rattle.script_engine.specs.engine.Runs.{Step}
 use Rattle.script_engine.specs.declared.engine.outcome.Outcome.TheVariants.{Answer as Answered}
 use Rattle.script_engine.proofs.Given.{same_values}
 use Rattle.script_engine.proofs.StepExamples.{colleague, emp, inserted_row, none_if_no_first, with_row, with_rows, worker}
 use Rattle.script_engine.proofs.RunExamples.{Sets, is_answer, one_row, seven, two_rows, whole}
-use Rattle.catalog_core.specs.table.Naming.{matches_among, some_match_among}
+use Rattle.catalog_core.specs.table.Naming.{matches_among, repeats}
 
 -- ---- the query
+
+-- the column DEPT
+abbrev department : SelectItem
+department = record { column = record { qualifier = None; name = codes "DEPT" }; new_name = None }
+
+-- EMP
+abbrev workers : TableReference
+workers = record { table = codes "EMP"; window = None; new_name = None }
 
 -- VALIDTIME SELECT DISTINCT DEPT FROM EMP
 abbrev pub question : Query
 question =
     combined
     (simple (record {
-      items = record { column = record { qualifier = None; name = codes "DEPT" }; new_name = None } ∷ [];
-      chains = record { first = record { table = codes "EMP"; window = None; new_name = None }; joins = [] } ∷ [];
+      items = department ∷ [];
+      chains = record { first = workers; joins = [] } ∷ [];
       condition = None;
     }))
     last
@@ -61,7 +76,7 @@ answer = record one_row { columns = codes "DEPT" ∷ [] }
 
 -- no condition of a refusal holds for it where EMP is the one table
 question_is_sound : NoneApplies (Holds (query_conditions (emp ∷ []) (statement.sequenced question)))
-unfolding matches_among some_match_among is_matching number_of table_of_name has_many_items lacks_source names_no_value selects_no_value value_position is_value_column
+unfolding matches_among repeats is_matching number_of table_of_name is_too_long lacks_table some_column_matches names_twice names_period compares_kinds is_value_column
 question_is_sound = none_if_no_first (query_conditions (emp ∷ []) (statement.sequenced question)) refl
 
 -- the row that the table holds
@@ -129,7 +144,7 @@ asked = (
     refl,
     record {
       query = departments;
-      resolved = record { definition = emp; number = refl; table = refl; items = refl };
+      resolved = record { reference = workers; alone = refl; definition = emp; number = refl; table = refl; items = refl };
       columns = refl;
       right = right_by (InAnswerOn with_row departments) daily;
       after = refl;
@@ -159,11 +174,13 @@ one_item (item ∷ other ∷ more) e = cc
 same_query : (query : Select) → ResolvesQuery (emp ∷ []) (statement.sequenced question) query → query ≡ departments
 unfolding number_of value_position is_value_column
 same_query query resolved =
-    let number = resolved.number in
+    let own : workers ∷ [] ≡ resolved.reference ∷ [] = resolved.alone in
+    let it : workers ≡ resolved.reference = cc in
+    let number : number_of (emp ∷ []) workers.table ≡ Some query.table = ap (λ (r : TableReference). number_of (emp ∷ []) r.table) it ∙ resolved.number in
     let table : query.table ≡ 1 = cc in
     let there : table_of (emp ∷ []) 1 ≡ Some resolved.definition = subst (λ (n : ℕ). table_of (emp ∷ []) n ≡ Some resolved.definition) table resolved.table in
     let its : emp ≡ resolved.definition = cc in
-    let items : map (written_item emp) (codes "DEPT" ∷ []) ≡ map item_parts query.items = subst (λ (d : TableDef). map (written_item d) (codes "DEPT" ∷ []) ≡ map item_parts query.items) (sym its) resolved.items in
+    let items : map (written_item emp) (department ∷ []) ≡ map item_parts query.items = subst (λ (d : TableDef). map (written_item d) (department ∷ []) ≡ map item_parts query.items) (sym its) resolved.items in
     same_select query table (one_item query.items items)
 
 -- the row cut in two is no answer of it: the day before the second is one on which department 7 is there
@@ -181,39 +198,72 @@ not_cut_in_two new (sound, (given, same, answers)) =
 abbrev kept_version : VersionRow
 kept_version = record { values = worker; period = kept_row.period; from = first_moment; to = forever }
 
-abbrev kept_database : Database
-kept_database = record { clock = first_moment; catalog = emp ∷ []; versions = (kept_version ∷ []) ∷ [] }
+abbrev kept_contents : Contents
+kept_contents = record { tables = emp ∷ []; clock = first_moment; versions = version_in 1 kept_version ∷ [] }
 
--- as of each moment on each day it holds what the history says
-represented_by : (moment day : ℤ) (a c : Bool) → int_le first_moment moment ≡ a → int_lt moment forever ≡ true → covers_day (pos 5) (pos 8) day ≡ c →
-    values_at (kept_version ∷ []) moment day ≡ state_at with_row moment 1 day
-represented_by moment day true true e f g = rw (e, f, g) refl
-represented_by moment day true false e f g = rw (e, f, g) refl
-represented_by moment day false c e f g = rw e refl
+-- the history is in order
+order : IsInOrder with_row
+order = record { before = omega (arith, ints); recorded = none; events = (refl, tt) }
+  where
+    none : (table : ℕ) → All (IsRecorded first_moment) (versions_in with_row.opening table)
+    none zero = All-nil (IsRecorded first_moment)
+    none (suc place) = All-nil (IsRecorded first_moment)
+
+-- the history leaves it of table 1, and of another table nothing
+left_of_first : AreLeftBy with_row 1 (kept_version ∷ [])
+left_of_first = IsPermutation-refl (map plain_version (kept_version ∷ []))
+
+left_elsewhere : (table : ℕ) → (table == 1) ≡ false → AreLeftBy with_row table []
+left_elsewhere zero off = IsPermutation-refl []
+left_elsewhere (suc place) off = rw off (IsPermutation-refl [])
+
+none_elsewhere : (table : ℕ) → (1 == table) ≡ false → of_table table kept_contents.versions ≡ []
+none_elsewhere table off = rw off refl
 
 -- what is kept is what the history says
-represented : Represents with_row kept_database
-represented = record { clock = refl; catalog = refl; daily = held_daily }
+represented : AreOfHistory with_row kept_contents
+represented = record {
+  order = order;
+  clock = refl;
+  tables = refl;
+  versions = holds;
+  is_clock = (omega (arith, ints), omega (arith, ints));
+  recorded = (
+    record {
+      from_is = (omega (arith, ints), omega (arith, ints));
+      to_is = (omega (arith, ints), omega (arith, ints));
+      rise = omega (arith, ints);
+      past = (omega (arith, ints), inr refl);
+    },
+    tt,
+  );
+}
   where
-    elsewhere : (table : ℕ) (moment day : ℤ) (b : Bool) → (table == 1) ≡ false → int_le first_moment moment ≡ b → [] ≡ fold (λ rows change. effect change table day rows) [] (filter_map (changed_until moment) (Created emp ∷ Changed first_moment inserted_row ∷ []))
-    elsewhere table moment day true off e = rw (e, off) refl
-    elsewhere table moment day false off e = rw e refl
+    elsewhere : (table : ℕ) → (table == 1) ≡ false → (1 == table) ≡ false → HoldsTable with_row kept_contents.versions table
+    elsewhere table off out = record {
+      rows = [];
+      left = left_elsewhere table off;
+      all = subst (λ (l : List TableVersion). IsPermutation l []) (sym (none_elsewhere table out)) (IsPermutation-refl []);
+    }
 
-    held_daily : (table : ℕ) (moment day : ℤ) → moment <ℤ forever → IsPermutation (values_at (versions_in kept_database table) moment day) (state_at with_row moment table day)
-    held_daily zero moment day before = subst (IsPermutation []) (elsewhere zero moment day (int_le first_moment moment) refl refl) (IsPermutation-refl [])
-    held_daily (suc zero) moment day before =
-        let now : int_lt moment forever ≡ true = grind (arith, ints) in
-        subst (IsPermutation (values_at (kept_version ∷ []) moment day)) (represented_by moment day (int_le first_moment moment) (covers_day (pos 5) (pos 8) day) refl now refl)
-        (IsPermutation-refl (values_at (kept_version ∷ []) moment day))
-    held_daily (suc (suc place)) moment day before =
-        let other : (suc (suc place) == 1) ≡ false = grind arith in
-        subst (IsPermutation []) (elsewhere (suc (suc place)) moment day (int_le first_moment moment) other refl) (IsPermutation-refl [])
+    holds : (table : ℕ) → HoldsTable with_row kept_contents.versions table
+    holds zero = elsewhere zero refl refl
+    holds (suc zero) = record { rows = kept_version ∷ []; left = left_of_first; all = IsPermutation-refl (version_in 1 kept_version ∷ []) }
+    holds (suc (suc place)) = elsewhere (suc (suc place)) (grind arith) (grind arith)
 
--- without the row it is not
-not_represented : Represents with_row (record { clock = first_moment; catalog = emp ∷ []; versions = [] ∷ [] }) → ⊥
-not_represented kept =
-    let same : IsPermutation [] (worker ∷ []) = kept.daily 1 first_moment (pos 5) (omega (arith, ints)) in
-    Contains-nil worker (Contains-permutation (worker ∷ []) [] worker (IsPermutation-sym [] (worker ∷ []) same) (0, omega arith, refl))
+-- without the row it is not: the history leaves a version
+not_represented : AreOfHistory with_row (record kept_contents { versions = [] }) → ⊥
+not_represented said =
+    let holds = said.versions 1 in
+    none holds.rows holds.left holds.all
+  where
+    none : (rows : List VersionRow) → AreLeftBy with_row 1 rows → IsPermutation [] (map (version_in 1) rows) → ⊥
+    none [] left all =
+        let same : IsPermutation [] (worker ∷ []) = left_hold with_row 1 [] order left first_moment (pos 5) (omega (arith, ints)) in
+        Contains-nil worker (Contains-permutation (worker ∷ []) [] worker (IsPermutation-sym [] (worker ∷ []) same) (0, omega arith, refl))
+    none (v ∷ rows) left all =
+        let others = map (version_in 1) rows in
+        Contains-nil (version_in 1 v) (Contains-permutation (version_in 1 v ∷ others) [] (version_in 1 v) (IsPermutation-sym [] (version_in 1 v ∷ others) all) (Contains-here (version_in 1 v) others))
 
 -- ---- rows whose periods overlap
 
@@ -278,7 +328,7 @@ asked_of_both = (
     refl,
     record {
       query = departments;
-      resolved = record { definition = emp; number = refl; table = refl; items = refl };
+      resolved = record { reference = workers; alone = refl; definition = emp; number = refl; table = refl; items = refl };
       columns = refl;
       right = right_by (InAnswerOn with_rows departments) daily_of_both;
       after = refl;

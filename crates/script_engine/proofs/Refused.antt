@@ -1,19 +1,19 @@
 -- Which refusals a statement may get, from those that its parts give.
-use Rattle.std.proofs.Common.{◌≡◌, ◌≤◌, ◌++◌, ◌∷◌, ◌⊎◌, ℕ, ℤ, Bool, true, false, List, [], map, refl, ap, subst, inl, inr, nat_le, arith}
+use Rattle.std.proofs.Common.{◌≡◌, ◌≤◌, ◌++◌, ◌∷◌, ◌⊎◌, ℕ, Bool, true, false, List, [], map, refl, ap, subst, inl, inr, nat_le, arith}
 use Rattle.std.proofs.lemmas.Int.{ints}
 use Rattle.std.specs.List.{list_all, list_any}
 use Rattle.period_core.specs.Codes.{code_of}
 use Rattle.period_core.specs.Leasts.{MayAnswer, NoneApplies}
 use Rattle.period_core.specs.declared.refusal.Refusal.{Refusal}
 use Rattle.period_core.specs.declared.refusal.Refusal.TheVariants.{EmptyPeriod}
-use Rattle.period_core.specs.declared.version.VersionRow.{VersionRow}
+use Rattle.period_core.specs.declared.row.PeriodRow.{PeriodRow}
 use Rattle.catalog_core.specs.Judged.{Holds, Judged}
 use Rattle.catalog_core.specs.change.Resolution.{has_empty_row, is_empty_row}
 use Rattle.history_model.specs.Effects.{given_of}
 use Rattle.catalog_core.specs.declared.change.Action.{Action}
-use Rattle.catalog_core.specs.declared.change.Action.TheVariants.{Insert}
+use Rattle.catalog_core.specs.declared.change.Action.TheVariants.{Delete, Insert, Update}
 use Rattle.catalog_core.specs.declared.change.GivenRow.{GivenRow}
-use Rattle.history_model.specs.Versions.{AreBegun, PlainVersion, plain_begun, plain_version}
+use Rattle.script_engine.specs.engine.Projected.{AreGiven, as_given}
 
 -- a refusal among more conditions
 pub holds_before : (conditions more : List Judged) (refusal : Refusal) → Holds conditions refusal → Holds (conditions ++ more) refusal
@@ -39,21 +39,24 @@ code-at_most number [] refusal all h = absurd h
 code-at_most number ((judged, holds) ∷ conditions) refusal all (inl (same, held)) = subst (λ r. code_of r ≤ number) same (grind (arith, all))
 code-at_most number ((judged, holds) ∷ conditions) refusal all (inr h) = code-at_most number conditions refusal (grind (arith, all)) h
 
--- given rows of which versions are begun have days
-days-given : (moment : ℤ) (given : List GivenRow) (made : List VersionRow) → AreBegun moment given made → list_any is_empty_row given ≡ false
-days-given moment [] made e = refl
-days-given moment (first ∷ given) [] e = cc
-days-given moment (first ∷ given) (v ∷ made) e =
-    let head : plain_version v ≡ plain_begun moment first = cc in
-    let tail : map plain_version made ≡ map (plain_begun moment) given = cc in
-    let start : v.period.start ≡ first.start = ap (λ (p : PlainVersion). p.start) head in
-    let end : v.period.end ≡ first.end = ap (λ (p : PlainVersion). p.end) head in
-    let ordered = v.period.ordered in
+-- given rows of which there are period rows have days
+days-given : (given : List GivenRow) (rows : List PeriodRow) → AreGiven given rows → list_any is_empty_row given ≡ false
+days-given [] [] e = refl
+days-given [] (row ∷ rows) e = cc
+days-given (first ∷ given) [] e = cc
+days-given (first ∷ given) (row ∷ rows) e =
+    let head : as_given row ≡ first = cc in
+    let tail : map as_given rows ≡ given = cc in
+    let start : row.period.start ≡ first.start = ap (λ (r : GivenRow). r.start) head in
+    let end : row.period.end ≡ first.end = ap (λ (r : GivenRow). r.end) head in
+    let ordered = row.period.ordered in
     let here : is_empty_row first ≡ false = grind (arith, ints, start, end, ordered) in
-    rw here (days-given moment given made tail)
+    rw here (days-given given rows tail)
 
-pub days-action : (moment : ℤ) (action : Action) (made : List VersionRow) → AreBegun moment (given_of action) made → has_empty_row action ≡ false
-days-action moment (Insert given) made e = days-given moment given made e
+pub days-action : (action : Action) (rows : List PeriodRow) → AreGiven (given_of action) rows → has_empty_row action ≡ false
+days-action (Insert given) rows e = days-given given rows e
+days-action (Update portion assignments condition) rows e = refl
+days-action (Delete portion condition) rows e = refl
 
 -- what may be answered by the conditions alone may be answered where that of an empty period stands behind them
 pub may_answer-before : (conditions : List Judged) (holds : Bool) (refusal : Refusal) → are_at_most 41 conditions ≡ true → MayAnswer (Holds conditions) refusal → MayAnswer (Holds (conditions ++ (EmptyPeriod, holds) ∷ [])) refusal

@@ -7,7 +7,7 @@ use Rattle.period_core.specs.Codes.{code_of}
 use Rattle.period_core.specs.Leasts.{MayAnswer}
 use Rattle.period_core.proofs.Periods.{are_ends, period_over}
 use Rattle.period_core.specs.declared.answer.Answer.{Answer}
-use Rattle.period_core.specs.declared.refusal.Refusal.TheVariants.{BadToken, MomentBack, NotUtf8, ScriptTooLarge, Syntax}
+use Rattle.period_core.specs.declared.refusal.Refusal.TheVariants.{BadMoment, BadToken, Memory, MomentBack, NotUtf8, ScriptTooLarge, Store, Syntax}
 use Rattle.period_core.specs.declared.row.PeriodRow.{PeriodRow}
 use Rattle.period_core.specs.declared.value.Value.{Value}
 use Rattle.period_core.specs.declared.value.Value.TheVariants.{Int}
@@ -24,12 +24,16 @@ use Rattle.sql_statements.specs.Trees as statement
 use Rattle.catalog_core.specs.Judged.{Holds}
 use Rattle.history_model.specs.Histories.{Advanced, History, new_database, opened, with_event}
 use Rattle.script_engine.specs.Headline.{IsSequencedAnswer}
-use Rattle.script_engine.specs.engine.Runs.{Step, StepsTo}
+use Rattle.script_engine.specs.engine.Runs.{MayRefuseMoment, Step, StepsTo}
 use Rattle.script_engine.specs.declared.engine.outcome.Outcome.{Outcome}
 use Rattle.script_engine.specs.declared.engine.outcome.Outcome.TheVariants.{Done}
 use Rattle.script_engine.specs.declared.engine.outcome.Word.TheVariants as word
 use Rattle.script_engine.specs.script.Script.{RunPieces, ScriptApplies, most_bytes}
-use Rattle.history_model.proofs.HistoryLemmas.{represents_opened}
+use Rattle.script_engine.proofs.NewStore.{new_store}
+use Rattle.sqlite.specs.Store.{Ghosts}
+use Rattle.version_store.specs.Contents.{empty_contents}
+use Rattle.version_store.specs.StoreState.{StoreRepresents, StoreState}
+use Rattle.period_core.specs.Moments.{first_moment, forever}
 
 -- ---- whole scripts
 
@@ -80,11 +84,33 @@ syntax_alone = inl (record {
 
 -- a statement that does not run yet is refused by 10, and the history stays
 not_run_yet : (history : History) (rows : Delete) → Step history (statement.delete rows) (Err Syntax) history
-not_run_yet history rows = (syntax_alone, refl)
+not_run_yet history rows = (inl syntax_alone, refl)
 
 -- and what is kept stays
-kept_as_it_was : (rows : Delete) → StepsTo (opened new_database) (statement.delete rows) (Err Syntax) new_database
-kept_as_it_was rows = (opened new_database, not_run_yet (opened new_database) rows, represents_opened new_database)
+kept_as_it_was : {S : Type 0} (g : Ghosts S) (store : StoreState S) (rows : Delete) → StoreRepresents g store empty_contents → StepsTo g (opened new_database) (statement.delete rows) (Err Syntax) store
+kept_as_it_was g store rows stored = (opened new_database, not_run_yet (opened new_database) rows, new_store g store stored)
+
+-- the database is not blamed for it
+not_the_database : (history : History) (rows : Delete) → Step history (statement.delete rows) (Err Store) history → ⊥
+not_the_database history rows step =
+    elim step.0 [
+      | inl may ↦ elim may [ inl least ↦ elim least.applies [ inl both ↦ absurd cc | inr nothing ↦ nothing ] | inr memory ↦ absurd cc ]
+      | inr failed ↦ let late : 40 < 10 = failed.1 Syntax (inl (refl, refl)) in omega arith
+    ]
+
+-- ---- moments
+
+-- 13 for FOREVER, 40 for a moment before the clock, and neither out of memory nor the database in place of these
+forever_refused : MayRefuseMoment first_moment forever BadMoment
+forever_refused = inl (refl, refl)
+
+back_refused : MayRefuseMoment (pos 5) (pos 4) MomentBack
+back_refused = inr (inl (refl, omega (arith, ints)))
+
+back_not_for_memory : MayRefuseMoment (pos 5) (pos 4) Memory → ⊥
+back_not_for_memory (inl bad) = absurd cc
+back_not_for_memory (inr (inl back)) = absurd cc
+back_not_for_memory (inr (inr failed)) = let late : pos 5 ≤ℤ pos 4 = failed.1 in omega (arith, ints)
 
 -- ---- AT
 

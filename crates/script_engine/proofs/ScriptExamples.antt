@@ -201,7 +201,7 @@ lookup_not_refused (inr memory) = cc
 
 -- run: the first is a statement that does not run yet, and refused with 10 too; the history stays
 lookup_step : (history : History) → PieceStep history lookup (Err Syntax) history
-lookup_step history = inr (looked_up, lookup_sound, lookup_spelled, (syntax_alone, refl))
+lookup_step history = inr (looked_up, lookup_sound, lookup_spelled, (inl syntax_alone, refl))
 
 -- the second is refused as it is where it is checked
 letter_step : (history : History) → PieceStep history letter (Err Syntax) history

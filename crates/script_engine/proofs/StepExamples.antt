@@ -26,7 +26,7 @@ use Rattle.catalog_core.specs.change.Resolution.{ResolvesAction, change_conditio
 use Rattle.catalog_core.specs.table.TableWords.{def_kind, is_value_column, number_of, table_of_name}
 use Rattle.catalog_core.proofs.lemmas.judged.Least.{first_is_least}
 use Rattle.catalog_core.specs.declared.change.Action.{Action}
-use Rattle.catalog_core.specs.declared.change.Action.TheVariants.{Insert}
+use Rattle.catalog_core.specs.declared.change.Action.TheVariants.{Delete, Insert, Update}
 use Rattle.catalog_core.specs.declared.change.Change.{Change}
 use Rattle.catalog_core.specs.declared.table.ColumnKind.TheVariants as kind
 use Rattle.catalog_core.specs.declared.table.TableDef.{TableDef}
@@ -129,7 +129,7 @@ created_is_kept (sound, creates) = let e = creates.after in cc
 created_again : Step with_table (statement.create creation) (Err TableExists) with_table
 unfolding matches_among period_matches some_match_among some_parent_match some_match has_sort sort_count exceeds_limits is_there lacks_parent names_other_period lacks_period lacks_name is_ambiguous is_shared repeats repeats_name is_no_value_column some_no_value keys_period_column lacks_one_of_each has_bad_period has_bad_system_period is_bad_type has_bad_column is_used_otherwise has_other_period is_at is_key_name is_named are_key names_no_key references_no_key is_bad_definition has_unequal_lists own_kind def_kind have_other_kinds names_other_kind references_other_kind is_matching is_of_sort number_of table_of_name kind_of_type kind_of_column same_kind differ find_among
 created_again = (
-  inl (first_is_least 0 (create_conditions (emp ∷ []) creation) (lit≤ tt, (lit≤ tt, (lit≤ tt, (lit≤ tt, (lit≤ tt, (lit≤ tt, (lit≤ tt, (lit≤ tt, (lit≤ tt, (lit≤ tt, tt))))))))))),
+  inl (inl (first_is_least 0 (create_conditions (emp ∷ []) creation) (lit≤ tt, (lit≤ tt, (lit≤ tt, (lit≤ tt, (lit≤ tt, (lit≤ tt, (lit≤ tt, (lit≤ tt, (lit≤ tt, (lit≤ tt, tt)))))))))))),
   refl,
 )
 
@@ -185,6 +185,8 @@ given_one : (definition : TableDef) (action : Action) → ResolvesAction definit
 given_one definition (Insert []) e = cc
 given_one definition (Insert (given ∷ [])) e = refl
 given_one definition (Insert (given ∷ other ∷ more)) e = cc
+given_one definition (Update portion assignments condition) e = absurd e
+given_one definition (Delete portion condition) e = absurd e
 
 -- so the statement does not report two
 inserted_counts_one : (new : History) → Step with_table (statement.insert insertion) (Ok (Done word.Insert 2)) new → ⊥
@@ -202,11 +204,11 @@ half_empty = into_emp (employee 1 5 8 ∷ employee 2 8 8 ∷ [])
 refused_whole : Step with_table (statement.insert half_empty) (Err EmptyPeriod) with_table
 unfolding matches_among some_match_among def_kind repeats is_matching number_of table_of_name kind_of_column same_kind differ wanted_names given_names lacks_table lists_unknown lists_ambiguous lists_twice is_system_name some_system_name lists_system lacks_some some_other_length has_other_count is_of_other_kind is_longer is_too_long is_wrong gives_wrong has_wrong given_value value_for is_no_period gives_no_period has_no_period is_value_column chars find_among
 refused_whole = (
-  may_answer-empty
+  inl (may_answer-empty
       (change_conditions (emp ∷ []) (statement.insert half_empty))
       (gives_empty_row (emp ∷ []) half_empty)
       (none_if_no_first (change_conditions (emp ∷ []) (statement.insert half_empty)) refl)
-      refl,
+      refl),
   refl,
 )
 

@@ -1,112 +1,139 @@
 -- Each way in which the engine runs a statement is a step of the histories that it represents.
-use Rattle.std.proofs.Common.{◌≡◌, ◌++◌, ◌∷◌, ◌<ℤ◌, ◌≤ℤ◌, ◌≤◌, ℕ, zero, suc, ℤ, true, false, List, [], Ok, Err, refl, sym, ap, ◌∙◌, append-nil, subst, inl, inr, get_or, arith}
+use Rattle.std.proofs.Common.{◌≡◌, ◌++◌, ◌∷◌, ◌<ℤ◌, ◌≤ℤ◌, ◌≤◌, ℤ, true, false, List, [], Result, Ok, Err, OnErr, OnOk, refl, sym, ap, ◌∙◌, subst, inl, inr, arith}
 use Rattle.std.specs.Prelude.{int_lt}
-use Rattle.std.specs.List.Sorted.{IsPermutation}
 use Rattle.std.proofs.lemmas.Bool.{false≢true}
 use Rattle.std.proofs.lemmas.Int.{ints}
+use Rattle.std.proofs.lemmas.Result.{on_err_weaker, on_ok_weaker}
 use Rattle.period_core.specs.Codes.{code_of}
 use Rattle.period_core.specs.Leasts.{MayAnswer, NoneApplies}
+use Rattle.period_core.specs.Moments.{forever}
 use Rattle.period_core.specs.declared.refusal.Refusal.{Refusal}
 use Rattle.period_core.specs.declared.refusal.Refusal.TheVariants.{MomentBack}
-use Rattle.period_core.specs.declared.value.Value.{Value}
-use Rattle.period_core.specs.declared.version.VersionRow.{VersionRow}
+use Rattle.sqlite.specs.Store.{Ghosts}
 use Rattle.sql_statements.specs.declared.create.CreateTable.{CreateTable}
 use Rattle.sql_statements.specs.Trees.{Statement}
 use Rattle.sql_statements.specs.Trees as statement
 use Rattle.catalog_core.specs.create.Creation.{create_conditions}
 use Rattle.catalog_core.specs.create.Definition.{Defines}
 use Rattle.catalog_core.specs.Judged.{Holds}
-use Rattle.history_model.specs.Histories.{Advanced, Created, Database, History, catalog_of, clock_of, state_at, versions_in, with_event}
-use Rattle.history_model.specs.Represents.{Represents}
-use Rattle.history_model.specs.Versions.{values_at}
-use Rattle.history_model.proofs.HistoryLemmas.{catalog_of-event, clock_of-event, state_at-event}
 use Rattle.catalog_core.specs.declared.table.TableDef.{TableDef}
-use Rattle.script_engine.specs.engine.Runs.{StepsTo, StatementApplies}
+use Rattle.version_store.specs.Changed.{with_clock, with_table}
+use Rattle.version_store.specs.Contents.{Contents}
+use Rattle.version_store.specs.StoreState.{Changes, IsStoreRefusal, IsUsable, StoreRepresents, StoreState}
+use Rattle.history_model.specs.Histories.{Advanced, Created, History, catalog_of, clock_of, with_event}
+use Rattle.script_engine.specs.engine.Runs.{MayRefuse, MayRefuseMoment, NoneBeforeStore, StatementApplies, StepsTo}
+use Rattle.script_engine.specs.engine.Stored.{AreOfHistory, EngineRepresents, KeepsOnErr}
+use Rattle.script_engine.specs.declared.engine.outcome.Outcome.{Outcome}
 use Rattle.script_engine.specs.declared.engine.outcome.Outcome.TheVariants.{Done}
 use Rattle.script_engine.specs.declared.engine.outcome.Word.TheVariants as word
+use Rattle.script_engine.proofs.Contents.{said-advanced, said-created}
+
+-- where no refusal applies, a failure of the database may be answered
+pub may_refuse-store : (Applies : Refusal → Type 0) (refusal : Refusal) → IsStoreRefusal refusal → NoneApplies Applies → MayRefuse Applies refusal
+may_refuse-store Applies refusal (inl memory) none = inl (inr memory)
+may_refuse-store Applies refusal (inr store) none = inr (store, λ other applies. absurd (none other applies))
+
+-- the tables that are kept in memory are those of the history
+pub tables_of : {S : Type 0} (g : Ghosts S) (history : History) (store : StoreState S) → EngineRepresents g history store → store.catalog.tables ≡ catalog_of history
+tables_of g history store kept = kept.stored.catalog ∙ kept.said.tables
+
+pub clock_is : {S : Type 0} (g : Ghosts S) (history : History) (store : StoreState S) → EngineRepresents g history store → store.clock ≡ clock_of history
+clock_is g history store kept = kept.stored.clock ∙ kept.said.clock
 
 -- a refusal leaves the history and what is kept as they were
-pub refused_step : (history : History) (database : Database) (s : Statement) (refusal : Refusal) → Represents history database → MayAnswer (StatementApplies history s) refusal → StepsTo history s (Err refusal) database
-refused_step history database s refusal kept may = (history, (may, refl), kept)
+pub refused_step : {S : Type 0} (g : Ghosts S) (history : History) (store : StoreState S) (s : Statement) (refusal : Refusal) → EngineRepresents g history store → MayRefuse (StatementApplies history s) refusal → StepsTo g history s (Err refusal) store
+refused_step g history store s refusal kept may = (history, (may, refl), kept)
 
--- versions that hold what a state has hold what an equal state has
-pub carried : (versions others : List VersionRow) (state same : List (List Value)) (moment day : ℤ) → others ≡ versions → same ≡ state →
-    IsPermutation (values_at versions moment day) state → IsPermutation (values_at others moment day) same
-carried versions others state same moment day e f h =
-    subst (λ (vs : List VersionRow). IsPermutation (values_at vs moment day) same) (sym e) (subst (IsPermutation (values_at versions moment day)) (sym f) h)
+-- what is represented after a refused call
+pub still : {S : Type 0} (g : Ghosts S) (history : History) (old new : StoreState S) (kept : EngineRepresents g history old) → StoreRepresents g new kept.contents → EngineRepresents g history new
+still g history old new kept stored = record { contents = kept.contents; stored = stored; said = kept.said }
+
+-- the database fails where no refusal applies
+pub failed_step : {S : Type 0} (g : Ghosts S) (history : History) (old new : StoreState S) (s : Statement) (refusal : Refusal) (kept : EngineRepresents g history old) → StoreRepresents g new kept.contents →
+    IsStoreRefusal refusal → NoneApplies (StatementApplies history s) → StepsTo g history s (Err refusal) new
+failed_step g history old new s refusal kept stored failure none =
+    refused_step g history new s refusal (still g history old new kept stored) (may_refuse-store (StatementApplies history s) refusal failure none)
+
+-- a call of the store that is refused changes nothing
+pub kept_on_err : {S X : Type 0} (g : Ghosts S) (old new : StoreState S) (result : Result X Refusal) (change : Contents → Contents) → Changes g old new result change → KeepsOnErr g old new result
+kept_on_err g old new result change changes usable c stored = (changes usable c stored).1
 
 -- ---- AT
 
-pub back_step : (history : History) (database : Database) (moment : ℤ) → Represents history database → moment <ℤ database.clock → StepsTo history (statement.at moment) (Err MomentBack) database
-back_step history database moment kept back =
-    refused_step history database (statement.at moment) MomentBack kept
-    (let early : moment <ℤ clock_of history = subst (λ (c : ℤ). moment <ℤ c) kept.clock back in
-    let holds : int_lt moment (clock_of history) ≡ true = grind (arith, ints) in
-    inl (record {
-      applies = inl (refl, holds);
-      least = λ other h. elim h [ inl both ↦ subst (λ r. 40 ≤ code_of r) both.0 (omega arith) | inr nothing ↦ absurd nothing ];
-    }))
+pub moved : {S : Type 0} (g : Ghosts S) (history : History) (old new : StoreState S) (result : Result (Unit {0}) Refusal) (moment : ℤ) → Changes g old new result (with_clock moment) →
+    old.clock ≤ℤ moment → moment <ℤ forever → IsUsable g new.connection → EngineRepresents g history old → OnOk result (EngineRepresents g (with_event history (Advanced moment)) new)
+moved g history old new result moment changes late before usable kept =
+    on_ok_weaker result
+    (λ stored. record {
+      contents = with_clock moment kept.contents;
+      stored = stored;
+      said = said-advanced history kept.contents moment kept.said (subst (λ (k : ℤ). k ≤ℤ moment) kept.stored.clock late) before;
+    })
+    (changes usable kept.contents kept.stored).0
 
-pub advanced_step : (history : History) (old new : Database) (moment : ℤ) → Represents history old → old.clock ≤ℤ moment → new ≡ record old { clock = moment } → StepsTo history (statement.at moment) (Ok (Done word.At 0)) new
-advanced_step history old new moment kept late same = (
-  with_event history (Advanced moment),
-  (
-    λ refusal h. elim h [
+-- no refusal applies to a moment that is not before the clock
+none_of_later : (history : History) (moment : ℤ) → clock_of history ≤ℤ moment → NoneApplies (StatementApplies history (statement.at moment))
+none_of_later history moment late refusal h =
+    elim h [
       | inl both ↦
-          (let late_of : clock_of history ≤ℤ moment = subst (λ (c : ℤ). c ≤ℤ moment) kept.clock late in
-          let off : int_lt moment (clock_of history) ≡ false = grind (arith, ints) in
+          (let off : int_lt moment (clock_of history) ≡ false = grind (arith, ints) in
           false≢true (sym off ∙ both.1))
       | inr nothing ↦ nothing
-    ],
-    record { done = refl; after = refl },
-  ),
-  subst (Represents (with_event history (Advanced moment))) (sym same)
-      (record {
-        clock = sym (clock_of-event history (Advanced moment));
-        catalog = kept.catalog ∙ sym (catalog_of-event history (Advanced moment) ∙ append-nil (catalog_of history));
-        daily = λ table at day before.
-            carried (versions_in old table) (versions_in (record old { clock = moment }) table) (state_at history at table day) (state_at (with_event history (Advanced moment)) at table day) at day
-            (versions_in-clock old moment table) (state_at-event history (Advanced moment) at table day) (kept.daily table at day before);
-      }),
-)
+    ]
+
+pub advanced_step : {S : Type 0} (g : Ghosts S) (history : History) (old new : StoreState S) (moment : ℤ) → EngineRepresents g history old → old.clock ≤ℤ moment → EngineRepresents g (with_event history (Advanced moment)) new →
+    StepsTo g history (statement.at moment) (Ok (Done word.At 0)) new
+advanced_step g history old new moment kept late after =
+    (with_event history (Advanced moment), (none_of_later history moment (subst (λ (k : ℤ). k ≤ℤ moment) (clock_is g history old kept) late), record { done = refl; after = refl }), after)
+
+-- a moment below FOREVER is refused as the statement may be
+pub unmoved_step : {S : Type 0} (g : Ghosts S) (history : History) (old new : StoreState S) (moment : ℤ) (refusal : Refusal) (kept : EngineRepresents g history old) → StoreRepresents g new kept.contents →
+    MayRefuseMoment old.clock moment refusal → moment <ℤ forever → StepsTo g history (statement.at moment) (Err refusal) new
+unmoved_step g history old new moment refusal kept stored may before =
+    refused_step g history new (statement.at moment) refusal (still g history old new kept stored) (by_case may)
   where
-    versions_in-clock : (database : Database) (moment : ℤ) (table : ℕ) → versions_in (record database { clock = moment }) table ≡ versions_in database table
-    versions_in-clock database moment zero = refl
-    versions_in-clock database moment (suc place) = refl
+    by_case : MayRefuseMoment old.clock moment refusal → MayRefuse (StatementApplies history (statement.at moment)) refusal
+    by_case (inl bad) = let last : moment ≡ forever = bad.1 in absurd (omega (arith, ints))
+    by_case (inr (inl back)) =
+        let early : moment <ℤ clock_of history = subst (λ (k : ℤ). moment <ℤ k) (clock_is g history old kept) back.1 in
+        let holds : int_lt moment (clock_of history) ≡ true = grind (arith, ints) in
+        subst (λ r. MayRefuse (StatementApplies history (statement.at moment)) r) (sym back.0)
+        (inl (inl (record {
+          applies = inl (refl, holds);
+          least = λ other h. elim h [ inl both ↦ subst (λ r. 40 ≤ code_of r) both.0 (omega arith) | inr nothing ↦ absurd nothing ];
+        })))
+    by_case (inr (inr failed)) =
+        may_refuse-store (StatementApplies history (statement.at moment)) refusal failed.0
+        (none_of_later history moment (subst (λ (k : ℤ). k ≤ℤ moment) (clock_is g history old kept) failed.1))
 
 -- ---- CREATE
 
--- a table without versions at the end is like one that is not there
-get_or-empty_last : {X : Type 0} (lists : List (List X)) (place : ℕ) → get_or (lists ++ [] ∷ []) place [] ≡ get_or lists place []
-get_or-empty_last [] zero = refl
-get_or-empty_last [] (suc place) = refl
-get_or-empty_last (list ∷ lists) zero = refl
-get_or-empty_last (list ∷ lists) (suc place) = get_or-empty_last lists place
+pub unmade_step : {S : Type 0} (g : Ghosts S) (history : History) (store : StoreState S) (create : CreateTable) (refusal : Refusal) → EngineRepresents g history store →
+    MayAnswer (Holds (create_conditions store.catalog.tables create)) refusal → StepsTo g history (statement.create create) (Err refusal) store
+unmade_step g history store create refusal kept may =
+    refused_step g history store (statement.create create) refusal kept
+    (inl (subst (λ (tables : List TableDef). MayAnswer (Holds (create_conditions tables create)) refusal) (tables_of g history store kept) may))
 
-versions_in-created : (old new : Database) → new.versions ≡ old.versions ++ [] ∷ [] → (table : ℕ) → versions_in new table ≡ versions_in old table
-versions_in-created old new e zero = refl
-versions_in-created old new e (suc place) = ap (λ (lists : List (List VersionRow)). get_or lists place []) e ∙ get_or-empty_last old.versions place
-
-pub created_step : (history : History) (old new : Database) (create : CreateTable) (definition : TableDef) → Represents history old →
-    NoneApplies (Holds (create_conditions old.catalog create)) → Defines old.catalog create definition →
-    new.catalog ≡ old.catalog ++ definition ∷ [] → new.versions ≡ old.versions ++ [] ∷ [] → new.clock ≡ old.clock →
-    StepsTo history (statement.create create) (Ok (Done word.Create 0)) new
-created_step history old new create definition kept sound defined catalog versions clock = (
+pub created_step : {S : Type 0} (g : Ghosts S) (history : History) (old new : StoreState S) (create : CreateTable) (definition : TableDef) (kept : EngineRepresents g history old) →
+    NoneApplies (Holds (create_conditions old.catalog.tables create)) → Defines old.catalog.tables create definition → StoreRepresents g new (with_table definition kept.contents) →
+    StepsTo g history (statement.create create) (Ok (Done word.Create 0)) new
+created_step g history old new create definition kept sound defined stored = (
   with_event history (Created definition),
   (
-    subst (λ c. NoneApplies (Holds (create_conditions c create))) kept.catalog sound,
+    subst (λ (tables : List TableDef). NoneApplies (Holds (create_conditions tables create))) (tables_of g history old kept) sound,
     record {
       definition = definition;
-      defined = subst (λ c. Defines c create definition) kept.catalog defined;
+      defined = subst (λ (tables : List TableDef). Defines tables create definition) (tables_of g history old kept) defined;
       done = refl;
       after = refl;
     },
   ),
-  record {
-    clock = clock ∙ kept.clock ∙ sym (clock_of-event history (Created definition));
-    catalog = catalog ∙ ap (λ (c : List TableDef). c ++ definition ∷ []) kept.catalog ∙ sym (catalog_of-event history (Created definition));
-    daily = λ table moment day before.
-        carried (versions_in old table) (versions_in new table) (state_at history moment table day) (state_at (with_event history (Created definition)) moment table day) moment day
-        (versions_in-created old new versions table) (state_at-event history (Created definition) moment table day) (kept.daily table moment day before);
-  },
+  record { contents = with_table definition kept.contents; stored = stored; said = said-created history kept.contents definition kept.said },
 )
+
+pub uncreated_step : {S : Type 0} (g : Ghosts S) (history : History) (old new : StoreState S) (create : CreateTable) (refusal : Refusal) (kept : EngineRepresents g history old) →
+    NoneApplies (Holds (create_conditions old.catalog.tables create)) → StoreRepresents g new kept.contents → IsStoreRefusal refusal →
+    StepsTo g history (statement.create create) (Err refusal) new
+uncreated_step g history old new create refusal kept sound stored failure =
+    failed_step g history old new (statement.create create) refusal kept stored failure
+    (subst (λ (tables : List TableDef). NoneApplies (Holds (create_conditions tables create))) (tables_of g history old kept) sound)

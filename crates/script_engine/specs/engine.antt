@@ -1,3 +1,3 @@
+pub mod Stored
 pub mod Runs
-pub mod Rows
-pub mod Kept
+pub mod Projected

@@ -1,18 +1,21 @@
-//! The engine: a clock, a catalog, the versions of its tables, and the statements that it runs.
+//! The engine: the statements that it runs over a store.
 
-ghost use Rattle.std.specs.Prelude.{◌≡◌, ◌<◌, ◌≤◌, ◌+◌, ◌-◌, ◌++◌, ◌∷◌, [], ℕ, List, Some, true};
-ghost use Rattle.std.specs.Prelude.{length, All, ◌<ℤ◌, ◌≤ℤ◌, ◌⊎◌};
+ghost use Rattle.std.specs.Prelude.{◌≡◌, ◌⊎◌, ◌<ℤ◌, ◌≤ℤ◌, false, IsPermutation};
+ghost use Rattle.std.specs.Prelude.{IfErr, IfOk, OnErr, OnOk, ℤ};
 ghost use Rattle.period_core.specs.Moments.{forever};
-ghost use Rattle.period_core.specs.declared.refusal.Refusal.TheVariants.{BadMoment, MomentBack};
-ghost use Rattle.std.specs.Prelude.{IfOk, IfErr, IsOkAnd, OnOk, OnErr, slice_set, slice_index_or};
-ghost use Rattle.history_model.specs.Histories.{History, Database, new_database, versions_in};
-ghost use Rattle.catalog_core.specs.Limits.{most_tables};
-ghost use Rattle.catalog_core.specs.table.TableWords.{has_date_period, has_distinct_names};
-ghost use Rattle.catalog_core.specs.table.TableWords.{table_of};
-ghost use Rattle.catalog_core.specs.declared.table.TableDef.{TableDef};
-ghost use Rattle.history_model.specs.Represents.{Represents};
-ghost use Rattle.script_engine.specs.engine.Runs.{StepsTo};
-ghost use Rattle.script_engine.specs.engine.Kept.{HaveWidth, IsOpen};
+ghost use Rattle.period_core.specs.declared.refusal.Refusal.TheVariants.{BadStore};
+ghost use Rattle.sqlite.specs.Held.{state};
+ghost use Rattle.version_tables.specs.Presence.{IsNoneThere};
+ghost use Rattle.version_tables.specs.Steps.{IsAsBefore};
+ghost use Rattle.version_store.specs.Contents.{AreRowsOf, Contents};
+ghost use Rattle.version_store.specs.GoodStore.{IsGoodStore, NothingMore};
+ghost use Rattle.version_store.specs.StoreState.{IsOpenRefusal, IsOurs, IsStoreRefusal, IsUsable};
+ghost use Rattle.version_store.specs.StoreState.{StoreRepresents};
+ghost use Rattle.history_model.specs.Histories.{Advanced, History, state_at, with_event};
+ghost use Rattle.history_model.specs.Versions.{values_at};
+ghost use Rattle.script_engine.specs.engine.Runs.{MayRefuseMoment, StepsTo};
+ghost use Rattle.script_engine.specs.engine.Stored.{DatabaseRepresents, EngineRepresents};
+ghost use Rattle.script_engine.specs.engine.Stored.{KeepsOnErr};
 ghost use Rattle.sql_statements.specs.Plain.{plain, plain_query};
 ghost use Rattle.sql_statements.specs.Trees as statement;
 
@@ -20,10 +23,9 @@ pub mod outcome;
 mod rows;
 
 use crate::engine::outcome::{Outcome, Word};
-use crate::engine::rows::{column_names, inserted_rows, projected_rows};
-use catalog_core::{Catalog, Change, TableDef, define, resolve_insert, resolve_sequenced};
-use coalesce_core::{coalesce, witnesses};
-use period_core::{Answer, Items, Memory, Moment, Refusal, VersionRow};
+use crate::engine::rows::{answer_of, inserted_rows};
+use catalog_core::{Catalog, Change, Plan, define, resolve_insert, resolve_sequenced};
+use period_core::{Items, Moment, Refusal, VersionRow};
 use sql_statements::{
     ClockMoment, CreateTable, InsertRows, QueryTree, SelectDistinct, Statement, StatementForm,
 };
@@ -31,188 +33,215 @@ use sqlite::Connection;
 use sqlite_trees::store::Alter;
 use std::alloc::Global;
 use std::marker::Model;
+use version_store::VersionStore;
 
-/// The clock, the tables' definitions and, in the same places, their versions, beside the
-/// connection that it was handed.
+/// The engine. It keeps nothing but its store.
 #[derive(Drop)]
 pub struct Engine<S: Alter> {
-    connection: Connection<S>,
-    clock: ClockMoment,
-    catalog: Catalog,
-    versions: Vec<Items<VersionRow>>,
+    store: VersionStore<S>,
 }
 
 impl<S: Alter> Model for Engine<S> {
-    ghost use Rattle.history_model.specs.Histories.{Database};
-    ghost use Rattle.script_engine.specs.engine.Kept.{IsKept};
+    ghost use Rattle.version_store.specs.StoreState.{StoreState, store_state_code};
 
-    ghost Value = { Database };
+    ghost Value = { StoreState S };
 
-    ghost view = { λ e. record {
-      clock = e.clock;
-      catalog = e.catalog.tables;
-      versions = e.versions.items;
-    } };
+    ghost coded = { store_state_code S.code };
 
-    ghost invariant = { λ e. IsKept (record {
-      clock = e.clock;
-      catalog = e.catalog.tables;
-      versions = e.versions.items;
-    }) };
+    ghost view = { λ e. e.store };
 }
 
+// What the clauses say of a store holds where its connection is usable as the call ends: its disk
+// is clean, and no failure has shut it. A store in memory always is. Without that each call is safe
+// and returns, and `open` and `at` still give only the refusals that they name.
 impl<S: Alter> Engine<S> {
-    /// Opens an engine without tables over a connection. It makes no call of the database, so it is
-    /// not refused: an `Err` would hand the connection back.
+    /// Opens a store: a new one in a database that has none of its three tables, or else the one
+    /// that is there, if it is a good one. An `Err` hands the connection back: 60 for a store that
+    /// is not good, 61 or 62. It changes nothing, and no transaction is open on the connection.
     pub fn open(
         alloc: Global,
         connection: Connection<S>,
     ) -> Result<Engine<S>, (Refusal, Connection<S>)>
-        ensures { IsOkAnd result (λ engine. engine ≡ new_database) }
+        requires { connection.in_transaction ≡ false }
+
+        // Whatever history the database stood for, the engine represents it; and each good store
+        // is one of some history.
+        ensures opened { IfOk result (λ engine. IsUsable S.Store engine.connection
+            → (history : History)
+            → DatabaseRepresents history (state S.Store connection).now
+            → EngineRepresents S.Store history engine) }
+        ensures good { IfOk result (λ engine. IsUsable S.Store engine.connection
+            → IsOurs (state S.Store connection).now.schema
+            → IsNoneThere (state S.Store connection).now.schema
+            ⊎ (IsGoodStore NothingMore (state S.Store connection).now
+            × ((history : History) × EngineRepresents S.Store history engine))) }
+
+        ensures bad { IfErr result (λ failed. IsUsable S.Store failed.1 → failed.0 ≡ BadStore
+            → (¬ IsNoneThere (state S.Store connection).now.schema)
+            × ¬ IsGoodStore NothingMore (state S.Store connection).now) }
+        ensures none { IfErr result (λ failed. IsUsable S.Store failed.1
+            → IsAsBefore (state S.Store connection) (state S.Store failed.1)) }
+        ensures settled { IfErr result (λ failed. failed.1.in_transaction ≡ false) }
+        ensures named { IfErr result (λ failed. IsOpenRefusal failed.0) }
     {
-        Ok(Engine {
-            connection,
-            clock: ClockMoment::first(),
-            catalog: Catalog::new(alloc),
-            versions: Vec::new(alloc),
-        })
+        match VersionStore::open(alloc, connection) {
+            Ok(store) => Ok(Engine { store }),
+            Err(failed) => Err(failed),
+        }
+    }
+
+    /// The connection, on which no transaction is open.
+    pub fn close(self) -> Connection<S>
+        ensures same { result ≡ self.connection }
+        ensures settled { result.in_transaction ≡ false }
+    {
+        let Engine { store } = self;
+        store.close()
     }
 
     /// The clock: the moment of the last AT, in a new store the first moment.
     pub fn clock(&self) -> Moment
         ensures { result ≡ self.now.clock }
     {
-        self.clock.moment()
+        self.store.clock()
     }
 
     /// The tables' definitions in the order of their creation.
     pub fn catalog(&self) -> &Catalog
-        ensures { result.now.tables ≡ self.now.catalog }
+        ensures { result.now ≡ self.now.catalog }
     {
-        &self.catalog
+        self.store.catalog()
     }
 
-    /// Moves the clock to a moment. An `Err` changes nothing: it is 13 for FOREVER, and 40 for a
-    /// moment before the clock. No memory is taken.
+    /// The version rows of the table of a number, by values, then period start, then system start:
+    /// as of each moment they hold on each day the state of the table, each row as often. Nothing
+    /// is changed.
+    pub fn rows(&mut self, alloc: Global, table: u8) -> Result<Vec<VersionRow>, Refusal>
+        ensures rows { IsUsable S.Store self.new.connection
+            → (c : Contents) → StoreRepresents S.Store self.old c
+            → IfOk result (λ rows. AreRowsOf c table rows.items) }
+        ensures states { IsUsable S.Store self.new.connection
+            → (history : History) → EngineRepresents S.Store history self.old
+            → IfOk result (λ rows. (moment day : ℤ) → moment <ℤ forever
+            → IsPermutation (values_at rows.items moment day) (state_at history moment table day)) }
+        ensures same { IsUsable S.Store self.new.connection
+            → (history : History) → EngineRepresents S.Store history self.old
+            → EngineRepresents S.Store history self.new }
+        ensures named { IfErr result IsStoreRefusal }
+    {
+        self.store.rows(alloc, table)
+    }
+
+    /// Moves the clock to a moment. An `Err` changes nothing: it is 13 for FOREVER, 40 for a
+    /// moment before the clock, whatever memory there is, and only for others 61 or 62.
     pub fn at(&mut self, moment: Moment) -> Result<(), Refusal>
-        ensures moved { IfOk result (λ _. self.new ≡ record self.old { clock = moment }) }
+        ensures moved { IsUsable S.Store self.new.connection
+            → (history : History) → EngineRepresents S.Store history self.old
+            → OnOk result
+            (EngineRepresents S.Store (with_event history (Advanced moment)) self.new) }
         ensures later { OnOk result ((self.old.clock ≤ℤ moment) × (moment <ℤ forever)) }
-        ensures err { OnErr result (self.new ≡ self.old) }
-        ensures refused { IfErr result (λ refusal.
-            ((refusal ≡ BadMoment) × (moment ≡ forever))
-            ⊎ ((refusal ≡ MomentBack) × (moment <ℤ self.old.clock))) }
+        ensures kept { KeepsOnErr S.Store self.old self.new result }
+        ensures refused { IfErr result (MayRefuseMoment self.old.clock moment) }
     {
         match ClockMoment::new(moment) {
-            Some(moment) if moment < self.clock => Err(Refusal::MomentBack),
-            Some(moment) => {
-                self.clock = moment;
-                Ok(())
-            }
+            Some(_) if moment < self.store.clock() => Err(Refusal::MomentBack),
+            Some(_) => self.store.advance(moment),
             None => Err(Refusal::BadMoment),
         }
     }
 
-    /// Adds a table without rows. An `Err` changes nothing.
-    fn add_table(&mut self, alloc: Global, definition: TableDef) -> Result<(), Memory>
-        requires room { length self.old.catalog < most_tables }
-        requires dated { has_date_period definition ≡ true }
-        requires distinct { has_distinct_names definition ≡ true }
-        ensures catalog { OnOk result (self.new.catalog ≡ self.old.catalog ++ definition ∷ []) }
-        ensures versions { OnOk result (self.new.versions ≡ self.old.versions ++ [] ∷ []) }
-        ensures clock { self.new.clock ≡ self.old.clock }
-        ensures err { OnErr result (self.new ≡ self.old) }
-    {
-        self.versions.reserve(1)?;
-        self.catalog.push(definition)?;
-        self.versions.push_reserved(Items::empty(alloc));
-        Ok(())
-    }
-
-    /// The versions of the table of a number.
-    fn table_versions(&self, table: u8) -> &[VersionRow]
-        requires low { 0 < table }
-        requires high { table ≤ length self.now.catalog }
-        ensures { result.now ≡ versions_in self.now table }
-    {
-        self.versions[usize::from(table) - 1].as_slice()
-    }
-
-    /// Adds versions that begin at the clock to the table of a number. An `Err` changes nothing.
-    fn add_versions(&mut self, table: u8, added: Items<VersionRow>) -> Result<(), Memory>
-        requires low { 0 < table }
-        requires high { table ≤ length self.old.catalog }
-        requires width { (definition : TableDef)
-            → table_of self.old.catalog table ≡ Some definition → HaveWidth definition added }
-        requires unended { All (IsOpen self.old.clock) added }
-        ensures catalog { self.new.catalog ≡ self.old.catalog }
-        ensures clock { self.new.clock ≡ self.old.clock }
-        ensures versions { OnOk result
-            (self.new.versions ≡ slice_set self.old.versions (table - 1)
-            (slice_index_or self.old.versions (table - 1) [] ++ added)) }
-        ensures err { OnErr result (self.new ≡ self.old) }
-    {
-        self.versions[usize::from(table) - 1].append(added)
-    }
-
     /// Runs an AT. An `Err` changes nothing.
     fn advance(&mut self, moment: ClockMoment) -> Result<Outcome, Refusal>
-        ensures step { (history : History) → Represents history self.old
-            → StepsTo history (statement.at moment) result self.new }
-        ensures err { OnErr result (self.new ≡ self.old) }
+        ensures step { IsUsable S.Store self.new.connection
+            → (history : History) → EngineRepresents S.Store history self.old
+            → StepsTo S.Store history (statement.at moment) result self.new }
+        ensures kept { KeepsOnErr S.Store self.old self.new result }
     {
-        self.at(moment.moment())?;
-        Ok(Outcome::Done(Word::At, 0))
+        match self.at(moment.moment()) {
+            Ok(()) => Ok(Outcome::Done(Word::At, 0)),
+            Err(refusal) => Err(refusal),
+        }
     }
 
     /// Runs a CREATE. An `Err` changes nothing.
     fn create(&mut self, alloc: Global, create: &CreateTable) -> Result<Outcome, Refusal>
-        ensures step { (history : History) → Represents history self.old
-            → StepsTo history (statement.create create.now) result self.new }
-        ensures err { OnErr result (self.new ≡ self.old) }
+        ensures step { IsUsable S.Store self.new.connection
+            → (history : History) → EngineRepresents S.Store history self.old
+            → StepsTo S.Store history (statement.create create.now) result self.new }
+        ensures kept { KeepsOnErr S.Store self.old self.new result }
     {
-        let definition = define(alloc, &self.catalog, create)?;
-        self.add_table(alloc, definition)?;
-        Ok(Outcome::Done(Word::Create, 0))
+        let definition = match define(alloc, self.store.catalog(), create) {
+            Ok(definition) => definition,
+            Err(refusal) => return Err(refusal),
+        };
+        match self.store.add_table(alloc, definition) {
+            Ok(()) => Ok(Outcome::Done(Word::Create, 0)),
+            Err(refusal) => Err(refusal),
+        }
     }
 
-    /// Runs an INSERT. An `Err` changes nothing.
+    /// Runs an INSERT: its rows are added in one transaction. An `Err` changes nothing.
     fn insert(&mut self, alloc: Global, insert: &InsertRows) -> Result<Outcome, Refusal>
-        ensures step { (history : History) → Represents history self.old
-            → StepsTo history (statement.insert insert.now) result self.new }
-        ensures err { OnErr result (self.new ≡ self.old) }
+        ensures step { IsUsable S.Store self.new.connection
+            → (history : History) → EngineRepresents S.Store history self.old
+            → StepsTo S.Store history (statement.insert insert.now) result self.new }
+        ensures kept { KeepsOnErr S.Store self.old self.new result }
     {
-        let Change { table, action } = resolve_insert(alloc, &self.catalog, insert)?;
-        let added = inserted_rows(alloc, self.clock.moment(), action)?;
+        let Change { table, action } = match resolve_insert(alloc, self.store.catalog(), insert) {
+            Ok(change) => change,
+            Err(refusal) => return Err(refusal),
+        };
+        let added = match inserted_rows(alloc, action) {
+            Ok(added) => added,
+            Err(refusal) => return Err(refusal),
+        };
         let count = added.len() as u64;
-        self.add_versions(table, added)?;
-        Ok(Outcome::Done(Word::Insert, count))
+        let plan = Plan {
+            ended: Items::empty(alloc),
+            added,
+        };
+        match self.store.apply(alloc, table, self.store.clock(), &plan) {
+            Ok(()) => Ok(Outcome::Done(Word::Insert, count)),
+            Err(refusal) => Err(refusal),
+        }
     }
 
-    /// Answers a sequenced query.
-    fn answer(&self, alloc: Global, query: &QueryTree<SelectDistinct>) -> Result<Outcome, Refusal>
-        ensures { (history : History) → Represents history self.now
-            → StepsTo history (statement.sequenced (plain_query query.now)) result self.now }
+    /// Answers a sequenced query. Nothing is changed.
+    fn answer(
+        &mut self,
+        alloc: Global,
+        query: &QueryTree<SelectDistinct>,
+    ) -> Result<Outcome, Refusal>
+        ensures step { IsUsable S.Store self.new.connection
+            → (history : History) → EngineRepresents S.Store history self.old
+            → StepsTo S.Store history (statement.sequenced (plain_query query.now)) result
+            self.new }
+        ensures kept { KeepsOnErr S.Store self.old self.new result }
     {
-        let query = resolve_sequenced(alloc, &self.catalog, query)?;
-        let items = query.items.as_slice();
-        let rows = projected_rows(alloc, items, self.table_versions(query.table))?;
-        let rows = coalesce(alloc, rows)?;
-        let witnesses = witnesses(alloc, rows.as_slice())?;
-        Ok(Outcome::Answer(Answer {
-            columns: column_names(alloc, items)?,
-            rows: Items::from_vec(rows),
-            witnesses: Items::from_vec(witnesses),
-        }))
+        let query = match resolve_sequenced(alloc, self.store.catalog(), query) {
+            Ok(query) => query,
+            Err(refusal) => return Err(refusal),
+        };
+        let versions = match self.store.rows(alloc, query.table) {
+            Ok(versions) => versions,
+            Err(refusal) => return Err(refusal),
+        };
+        match answer_of(alloc, query.items.as_slice(), versions.as_slice()) {
+            Ok(answer) => Ok(Outcome::Answer(answer)),
+            Err(refusal) => Err(refusal),
+        }
     }
 
     /// Runs a statement. An `Err` changes nothing: it is the refusal of the least number whose
-    /// condition holds, 10 where statements of its form are not run yet, or out of memory.
+    /// condition holds, 10 where statements of its form are not run yet; out of memory; or another
+    /// failure of the database, only where no condition of 1 to 31 or 40 holds.
     pub fn execute(&mut self, alloc: Global, statement: &Statement) -> Result<Outcome, Refusal>
         // Whatever history the engine represents, the call is a step of it, and the engine then
         // represents the new one.
-        ensures step { (history : History) → Represents history self.old
-            → StepsTo history (plain statement.now) result self.new }
-        ensures err { OnErr result (self.new ≡ self.old) }
+        ensures step { IsUsable S.Store self.new.connection
+            → (history : History) → EngineRepresents S.Store history self.old
+            → StepsTo S.Store history (plain statement.now) result self.new }
+        ensures kept { KeepsOnErr S.Store self.old self.new result }
     {
         match statement.form() {
             StatementForm::At(moment) => self.advance(*moment),

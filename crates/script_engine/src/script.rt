@@ -1,6 +1,6 @@
 //! Scripts: their text, their pieces, and the results of these.
 
-ghost use Rattle.std.specs.Prelude.{◌≡◌, ◌≤◌, All, IfErr, IfOk, OnErr, OnOk, length, map};
+ghost use Rattle.std.specs.Prelude.{◌≡◌, ◌≤◌, All, IfErr, IfOk, OnOk, false, length, map};
 ghost use Rattle.std.specs.Str.{IsUtf8};
 ghost use Rattle.period_core.specs.Leasts.{MayAnswer, NoneApplies};
 ghost use Rattle.period_core.specs.declared.refusal.Refusal.TheVariants.{NotUtf8, ScriptTooLarge};
@@ -9,11 +9,14 @@ ghost use Rattle.sql_statements.specs.Lexemes.{lexemes};
 ghost use Rattle.sql_statements.specs.Lexis.{TokensOf};
 ghost use Rattle.sql_front.specs.Pieces.{IsWithin, spanned};
 ghost use Rattle.sql_statements.specs.Plain.{plain};
-ghost use Rattle.history_model.specs.Histories.{History, new_database, opened};
-ghost use Rattle.history_model.specs.Represents.{Represents};
-ghost use Rattle.script_engine.specs.script.Script.{IsRunOf, MayRefuseScript, PieceStepsTo};
-ghost use Rattle.script_engine.specs.script.Script.{RunPieces};
-ghost use Rattle.script_engine.specs.script.Script.{ScriptApplies, TextApplies, most_bytes};
+ghost use Rattle.sqlite.specs.Held.{state};
+ghost use Rattle.version_store.specs.StoreState.{IsUsable};
+ghost use Rattle.history_model.specs.Histories.{History};
+ghost use Rattle.script_engine.specs.engine.Stored.{DatabaseRepresents, EngineRepresents};
+ghost use Rattle.script_engine.specs.engine.Stored.{IsAlwaysUsable, KeepsOnErr};
+ghost use Rattle.script_engine.specs.script.Script.{IsRunFrom, MayRefuseRun, MayRefuseScript};
+ghost use Rattle.script_engine.specs.script.Script.{PieceStepsTo, RunPieces};
+ghost use Rattle.script_engine.specs.script.Script.{TextApplies, most_bytes};
 
 pub mod check;
 
@@ -86,18 +89,23 @@ fn run_piece<S: Alter>(
     script: &str,
     piece: &[Token<'_>],
 ) -> Result<Outcome, Refusal>
-    ensures step { (history : History) → Represents history engine.old
-        → PieceStepsTo history (lexemes piece.now) result engine.new }
-    ensures err { OnErr result (engine.new ≡ engine.old) }
+    ensures step { IsUsable S.Store engine.new.connection
+        → (history : History) → EngineRepresents S.Store history engine.old
+        → PieceStepsTo S.Store history (lexemes piece.now) result engine.new }
+    ensures kept { KeepsOnErr S.Store engine.old engine.new result }
 {
-    let statement = statement_of(alloc, script, piece)?;
+    let statement = match statement_of(alloc, script, piece) {
+        Ok(statement) => statement,
+        Err(refusal) => return Err(refusal),
+    };
     let result = engine.execute(alloc, &statement);
     // By a call: the proof of an implicit drop goes through each kind of statement.
     drop(statement);
     result
 }
 
-/// The results of the pieces of a script, one after the other, over a new engine.
+/// The results of the pieces of a script, one after the other, from any history that the engine
+/// represents, over a store that is always usable.
 fn run_pieces<S: Alter>(
     alloc: Global,
     engine: &mut Engine<S>,
@@ -106,10 +114,10 @@ fn run_pieces<S: Alter>(
     pieces: &[Span],
 ) -> Result<Vec<Result<Outcome, Refusal>>, Refusal>
     requires within { All (IsWithin (length tokens.now)) pieces.now }
-    requires new { Represents (opened new_database) engine.old }
-    ensures run { IfOk result (λ results. (last : History)
-        × RunPieces (opened new_database) (map (spanned (lexemes tokens.now)) pieces.now)
-        results.items last) }
+    ensures run { IsAlwaysUsable S.Store
+        → (history : History) → EngineRepresents S.Store history engine.old
+        → IfOk result (λ results. (last : History)
+        × RunPieces history (map (spanned (lexemes tokens.now)) pieces.now) results.items last) }
     ensures memory { IfErr result (λ refusal. refusal ≡ Refusal.Memory) }
 {
     let mut results = Vec::with_capacity(alloc, pieces.len())?;
@@ -120,15 +128,22 @@ fn run_pieces<S: Alter>(
     Ok(results)
 }
 
-/// Runs a script over a new engine. The results are those of its statements, refused ones too, in
-/// order; an `Err` is the refusal of the whole script, of which nothing is run, or out of memory.
+/// Runs a script over the store of a connection, a new one where there is none. The results are
+/// those of its statements, refused ones too, in order; an `Err` is the refusal of the whole
+/// script, of which nothing is run; out of memory; or, of a script that is sound, why the store is
+/// not opened: 60, 61 or 62.
 pub fn run_script<S: Alter + Drop>(
     alloc: Global,
     connection: Connection<S>,
     script: &[u8],
 ) -> Result<Vec<Result<Outcome, Refusal>>, Refusal>
-    ensures run { IfOk result (λ results. IsRunOf script.now results.items) }
-    ensures refused { IfErr result (MayRefuseScript script.now) }
+    requires { connection.in_transaction ≡ false }
+    // The connection is dropped, so this is said of stores that are always usable, as each in
+    // memory is.
+    ensures run { IsAlwaysUsable S.Store
+        → (history : History) → DatabaseRepresents history (state S.Store connection).now
+        → IfOk result (λ results. IsRunFrom history script.now results.items) }
+    ensures refused { IfErr result (MayRefuseRun script.now) }
 {
     let text = script_text(script)?;
     let tokens = script_tokens(alloc, text)?;

@@ -1,10 +1,13 @@
 -- Which outcomes a statement may have in a history, and which history follows.
-use Rattle.std.specs.Prelude.{◌≡◌, ◌++◌, ◌∷◌, ℤ, [], Result, Ok, Err, int_lt, true}
-use Rattle.std.specs.Prelude.{length, map}
+use Rattle.std.specs.Prelude.{◌≡◌, ◌⊎◌, ◌<◌, ◌<ℤ◌, ◌≤ℤ◌, ◌++◌, ◌∷◌, ℤ, [], Result, Ok, Err}
+use Rattle.std.specs.Prelude.{int_lt, true, length, map}
+use Rattle.period_core.specs.Codes.{code_of}
 use Rattle.period_core.specs.Leasts.{MayAnswer, NoneApplies}
+use Rattle.period_core.specs.Moments.{forever}
 use Rattle.period_core.specs.declared.answer.Answer.{Answer}
 use Rattle.period_core.specs.declared.refusal.Refusal.{Refusal}
-use Rattle.period_core.specs.declared.refusal.Refusal.TheVariants.{MomentBack, Syntax}
+use Rattle.period_core.specs.declared.refusal.Refusal.TheVariants.{BadMoment, MomentBack, Store}
+use Rattle.period_core.specs.declared.refusal.Refusal.TheVariants.{Syntax}
 use Rattle.sql_statements.specs.declared.create.CreateTable.{CreateTable}
 use Rattle.sql_statements.specs.Trees.{Statement}
 use Rattle.sql_statements.specs.Trees as statement
@@ -15,9 +18,11 @@ use Rattle.catalog_core.specs.change.Resolution.{ResolvesChange, change_conditio
 use Rattle.catalog_core.specs.query.Selection.{ResolvesQuery, query_conditions}
 use Rattle.history_model.specs.Answers.{InAnswerOn}
 use Rattle.history_model.specs.Effects.{given_of}
-use Rattle.history_model.specs.Histories.{Advanced, Asked, Changed, Created, Database, History}
+use Rattle.history_model.specs.Histories.{Advanced, Asked, Changed, Created, History}
 use Rattle.history_model.specs.Histories.{catalog_of, clock_of, with_event}
-use Rattle.history_model.specs.Represents.{Represents}
+use Rattle.sqlite.specs.Store.{Ghosts}
+use Rattle.version_store.specs.StoreState.{IsStoreRefusal, StoreState}
+use Rattle.script_engine.specs.engine.Stored.{EngineRepresents}
 use Rattle.catalog_core.specs.declared.change.Change.{Change}
 use Rattle.catalog_core.specs.declared.query.AnswerColumn.{AnswerColumn}
 use Rattle.catalog_core.specs.declared.query.Select.{Select}
@@ -40,6 +45,24 @@ StatementApplies history (statement.insert i) =
 StatementApplies history (statement.sequenced q) =
     Holds (query_conditions (catalog_of history) (statement.sequenced q))
 StatementApplies history _ = Holds ((Syntax, true) ∷ [])
+
+-- no condition of 1 to 31 or 40 holds
+abbrev pub NoneBeforeStore : (Refusal → Type 0) → Type 0
+NoneBeforeStore Applies = (refusal : Refusal) → Applies refusal → 40 < code_of refusal
+
+-- what a statement may be refused with: the least, or out of memory in its place; another failure
+-- of the database only where no condition of 1 to 31 or 40 holds
+abbrev pub MayRefuse : (Refusal → Type 0) → Refusal → Type 0
+MayRefuse Applies refusal =
+    MayAnswer Applies refusal ⊎ ((refusal ≡ Store) × NoneBeforeStore Applies)
+
+-- what a moment may be refused with: 13 for FOREVER, 40 for one before the clock, and only for a
+-- later one out of memory or another failure of the database
+abbrev pub MayRefuseMoment : ℤ → ℤ → Refusal → Type 0
+MayRefuseMoment clock moment refusal =
+    ((refusal ≡ BadMoment) × (moment ≡ forever))
+    ⊎ (((refusal ≡ MomentBack) × (moment <ℤ clock))
+    ⊎ (IsStoreRefusal refusal × (clock ≤ℤ moment) × (moment <ℤ forever)))
 
 -- AT moves the clock
 pub record Advances
@@ -95,12 +118,13 @@ Accepts history _ outcome new = ⊥
 -- a statement's result: refused, and the history stays; or accepted, and added to the history
 abbrev pub Step : History → Statement → Result Outcome Refusal → History → Type 0
 Step history s (Err refusal) new =
-    MayAnswer (StatementApplies history s) refusal × (new ≡ history)
+    MayRefuse (StatementApplies history s) refusal × (new ≡ history)
 Step history s (Ok outcome) new =
     NoneApplies (StatementApplies history s) × Accepts history s outcome new
 
--- the statement's result is a step of the history, and what is kept then is what the new history
--- says
-abbrev pub StepsTo : History → Statement → Result Outcome Refusal → Database → Type 0
-StepsTo history s result database =
-    (new : History) × Step history s result new × Represents new database
+-- the statement's result is a step of the history, and what the store then holds is what the new
+-- history says
+abbrev pub StepsTo : {S : Type 0} → Ghosts S → History → Statement → Result Outcome Refusal
+    → StoreState S → Type 0
+StepsTo g history s result store =
+    (new : History) × Step history s result new × EngineRepresents g new store

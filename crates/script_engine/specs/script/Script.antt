@@ -1,4 +1,4 @@
--- The results of a script: those of its pieces, one after the other, from an engine without tables.
+-- The results of a script: those of its pieces, one after the other, from an opening on.
 use Rattle.std.specs.Prelude.{◌≡◌, ◌<◌, ◌≤◌, ◌⊎◌, ◌∷◌, ℕ, List, [], Result, Err, length}
 use Rattle.std.specs.Str.{IsUtf8}
 use Rattle.period_core.specs.Leasts.{MayAnswer, NoneApplies}
@@ -11,9 +11,11 @@ use Rattle.sql_statements.specs.Lexemes.{Lexeme}
 use Rattle.sql_statements.specs.Lexis.{StopsAt, TokensOf}
 use Rattle.sql_front.specs.Pieces.{HasPieces}
 use Rattle.sql_statements.specs.Trees.{Statement}
-use Rattle.history_model.specs.Histories.{Database, History, new_database, opened}
-use Rattle.history_model.specs.Represents.{Represents}
+use Rattle.history_model.specs.Histories.{History, new_database, opened}
+use Rattle.sqlite.specs.Store.{Ghosts}
+use Rattle.version_store.specs.StoreState.{IsOpenRefusal, StoreState}
 use Rattle.script_engine.specs.engine.Runs.{Step}
+use Rattle.script_engine.specs.engine.Stored.{EngineRepresents}
 use Rattle.script_engine.specs.declared.engine.outcome.Outcome.{Outcome}
 
 -- a piece of more than 10,000 tokens
@@ -62,6 +64,13 @@ ScriptApplies script other = ⊥
 abbrev pub MayRefuseScript : List ℕ → Refusal → Type 0
 MayRefuseScript script refusal = MayAnswer (ScriptApplies script) refusal
 
+-- which refusals a run of a whole script may get: those, and, of a script that none of them applies
+-- to, those of the store that is opened
+abbrev pub MayRefuseRun : List ℕ → Refusal → Type 0
+MayRefuseRun script refusal =
+    MayRefuseScript script refusal
+    ⊎ (IsOpenRefusal refusal × NoneApplies (ScriptApplies script))
+
 -- the script has tokens, and these are its pieces
 pub record IsCutInto (script : List ℕ) (pieces : List (List Lexeme)) : Type 0 where
   pub sound : NoneApplies (ScriptApplies script)
@@ -69,14 +78,21 @@ pub record IsCutInto (script : List ℕ) (pieces : List (List Lexeme)) : Type 0 
   pub lexed : TokensOf script tokens
   pub parted : HasPieces tokens pieces
 
--- the results are those of the script's pieces, from a new engine on
-pub record IsRunOf (script : List ℕ) (results : List (Result Outcome Refusal)) : Type 0 where
+-- the results are those of the script's pieces, from the opening on
+pub record IsRunFrom
+    (opening : History) (script : List ℕ) (results : List (Result Outcome Refusal)) : Type 0 where
   pub pieces : List (List Lexeme)
   pub cut : IsCutInto script pieces
   pub last : History
-  pub run : RunPieces (opened new_database) pieces results last
+  pub run : RunPieces opening pieces results last
 
--- a piece's result is a step of the history, and what is kept then is what the new history says
-abbrev pub PieceStepsTo : History → List Lexeme → Result Outcome Refusal → Database → Type 0
-PieceStepsTo history piece result database =
-    (new : History) × PieceStep history piece result new × Represents new database
+-- from a new store on
+abbrev pub IsRunOf : List ℕ → List (Result Outcome Refusal) → Type 0
+IsRunOf = IsRunFrom (opened new_database)
+
+-- a piece's result is a step of the history, and what the store then holds is what the new history
+-- says
+abbrev pub PieceStepsTo : {S : Type 0} → Ghosts S → History → List Lexeme → Result Outcome Refusal
+    → StoreState S → Type 0
+PieceStepsTo g history piece result store =
+    (new : History) × PieceStep history piece result new × EngineRepresents g new store

@@ -1,8 +1,8 @@
 use Rattle.std.proofs.Common.{◌≡◌, ◌≤◌, length, map, take, vec_capacity, vec_len}
 use Rattle.sql_statements.specs.Lexemes.{lexemes}
 use Rattle.sql_front.specs.Pieces.{spanned}
-use Rattle.history_model.specs.Histories.{History, new_database, opened}
-use Rattle.history_model.specs.Represents.{Represents}
+use Rattle.history_model.specs.Histories.{History}
+use Rattle.script_engine.specs.engine.Stored.{EngineRepresents, IsAlwaysUsable}
 use Rattle.script_engine.specs.script.Script.{RunPieces}
 use Rattle.script_engine.proofs.script.run_pieces.Given as goal
 
@@ -10,5 +10,6 @@ abbrev pub invariant-loop-piece : goal.invariant-loop-piece
 invariant-loop-piece g l = record {
   room : length l.pieces ≤ vec_capacity l.results;
   count : vec_len l.results ≡ l.piece-index;
-  run : (last : History) × RunPieces (opened new_database) (map (spanned (lexemes l.tokens)) (take l.piece-index l.pieces)) l.results.items last × Represents last l.engine;
+  run : IsAlwaysUsable g.S.Store → (history : History) → EngineRepresents g.S.Store history l.fn.engine →
+      (last : History) × RunPieces history (map (spanned (lexemes l.tokens)) (take l.piece-index l.pieces)) l.results.items last × EngineRepresents g.S.Store last l.engine;
 }

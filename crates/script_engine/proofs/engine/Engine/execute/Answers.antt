@@ -6,7 +6,23 @@ use Rattle.script_engine.specs.engine.Runs.{StepsTo}
 use Rattle.script_engine.proofs.engine.Engine.execute.Goals as goal
 
 pub returns-in-Sequenced-clause-step : goal.returns-in-Sequenced-clause-step
-returns-in-Sequenced-clause-step g c history kept =
+returns-in-Sequenced-clause-step g c usable history kept =
     let said : statement.sequenced (plain_query c.in-Sequenced.query) ≡ plain c.args.statement.now =
     ap plain_form (sym c.in-Sequenced.is) ∙ c.form.ensures in
-    subst (λ (s : Statement). StepsTo history s c.answer.result c.args.self.now) said (c.answer.ensures history kept)
+    subst (λ (s : Statement). StepsTo g.S.Store history s c.answer.result c.answer.new.self) said (c.answer.ensures.step usable history kept)
+
+pub returns-in-At-clause-step : goal.returns-in-At-clause-step
+returns-in-At-clause-step g c usable history kept =
+    let said : statement.at c.in-At.moment ≡ plain c.args.statement.now = ap plain_form (sym c.in-At.is) ∙ c.form.ensures in
+    subst (λ (s : Statement). StepsTo g.S.Store history s c.advance.result c.advance.new.self) said (c.advance.ensures.step usable history kept)
+
+pub returns-in-Create-clause-step : goal.returns-in-Create-clause-step
+returns-in-Create-clause-step g c usable history kept =
+    let said : statement.create c.table.result.now ≡ plain c.args.statement.now =
+    ap statement.create c.table.ensures.value ∙ ap plain_form (sym c.in-Create.is) ∙ c.form.ensures in
+    subst (λ (s : Statement). StepsTo g.S.Store history s c.create.result c.create.new.self) said (c.create.ensures.step usable history kept)
+
+pub returns-in-Insert-clause-step : goal.returns-in-Insert-clause-step
+returns-in-Insert-clause-step g c usable history kept =
+    let said : statement.insert c.in-Insert.insert ≡ plain c.args.statement.now = ap plain_form (sym c.in-Insert.is) ∙ c.form.ensures in
+    subst (λ (s : Statement). StepsTo g.S.Store history s c.insert.result c.insert.new.self) said (c.insert.ensures.step usable history kept)

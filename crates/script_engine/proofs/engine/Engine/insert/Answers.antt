@@ -1,66 +1,65 @@
-use Rattle.std.proofs.Common.{◌≡◌, ◌∙◌, ℤ, List, ap, subst, length, arith}
-use Rattle.std.proofs.lemmas.Result.{err_from_is_err_and}
+use Rattle.std.proofs.Common.{◌≡◌, ◌∙◌, ℕ, ℤ, List, Ok, ap, length, rules, subst, subst₂, sym}
 use Rattle.period_core.specs.Leasts.{MayAnswer, NoneApplies}
+use Rattle.period_core.specs.declared.version.VersionRow.{VersionRow}
 use Rattle.sql_statements.specs.Trees as statement
-use Rattle.history_model.specs.Effects.{given_of}
-use Rattle.history_model.specs.Histories.{Database}
-use Rattle.history_model.specs.Versions.{AreBegun}
 use Rattle.catalog_core.specs.Judged.{Holds}
-use Rattle.catalog_core.specs.change.Resolution.{ResolvesChange, change_conditions, empty_period, has_empty_row}
+use Rattle.catalog_core.specs.change.Insertion.{gives_empty_row, insert_conditions}
+use Rattle.catalog_core.specs.change.Resolution.{ResolvesInsert, has_empty_row}
 use Rattle.catalog_core.specs.declared.table.TableDef.{TableDef}
-use Rattle.script_engine.proofs.Changed.{changed_step}
-use Rattle.script_engine.proofs.TableNumbers.{change_number}
-use Rattle.script_engine.proofs.Widths.{fit_lengths, open-action, width-change}
-use Rattle.script_engine.proofs.InsertRefused.{empty_step, unresolved_step}
+use Rattle.catalog_core.specs.declared.table.catalog.Catalog.{Catalog}
+use Rattle.version_store.specs.Changed.{planned}
+use Rattle.version_store.specs.StoreState.{StoreRepresents}
+use Rattle.script_engine.specs.engine.Runs.{StepsTo}
+use Rattle.script_engine.specs.engine.Stored.{EngineRepresents}
+use Rattle.script_engine.specs.declared.engine.outcome.Outcome.TheVariants.{Done}
+use Rattle.script_engine.specs.declared.engine.outcome.Word.TheVariants as word
+use Rattle.script_engine.proofs.Changed.{changed_step, empty_step, unchanged_step, unresolved_step}
 use Rattle.script_engine.proofs.engine.Engine.insert.Goals as goal
 
-pub add_versions-requires-clause-width : goal.add_versions-requires-clause-width
-add_versions-requires-clause-width g c =
-    let same : c.self.inside.catalog.tables ≡ c.args.self.now.catalog = ap (λ (d : Database). d.catalog) c.self.view_is in
-    width-change c.args.self.now.catalog (statement.insert c.args.insert.now) c.moment.result c.in_ok-table.field-0 c.in_ok-added.added
-    (subst (λ (tables : List TableDef). ResolvesChange tables (statement.insert c.args.insert.now) c.in_ok-table.field-0) same c.in_ok-table.ensures.resolved)
-    c.in_ok-added.ensures.rows
+pub returns-in-Err-clause-step : goal.returns-in-Err-clause-step
+returns-in-Err-clause-step g c usable history kept =
+    let same : c.catalog.result.now.tables ≡ c.args.self.now.catalog.tables = ap (λ (k : Catalog). k.tables) c.catalog.ensures ∙ ap (λ s. s.catalog.tables) c.self.view_is in
+    unresolved_step g.S.Store history c.args.self.now c.args.insert.now kept c.in-Err.refusal
+    (subst (λ (tables : List TableDef). MayAnswer (Holds (insert_conditions tables c.args.insert.now)) c.in-Err.refusal) same c.in-Err.ensures.refused)
 
-pub add_versions-requires-clause-unended : goal.add_versions-requires-clause-unended
-add_versions-requires-clause-unended g c =
-    let clock : c.moment.result ≡ c.args.self.now.clock = c.moment.ensures.value ∙ ap (λ (d : Database). d.clock) c.self.view_is in
-    open-action c.args.self.now.clock c.in_ok-table.field-0.action c.in_ok-added.added
-    (subst (λ (k : ℤ). AreBegun k (given_of c.in_ok-table.field-0.action) c.in_ok-added.added) clock c.in_ok-added.ensures.rows)
+pub returns-in-Err-inserted_rows-clause-step : goal.returns-in-Err-inserted_rows-clause-step
+returns-in-Err-inserted_rows-clause-step g c usable history kept =
+    let insert = c.args.insert.now in
+    let change = c.in-Ok.change in
+    let same : c.catalog.result.now.tables ≡ c.args.self.now.catalog.tables = ap (λ (k : Catalog). k.tables) c.catalog.ensures ∙ ap (λ s. s.catalog.tables) c.self.view_is in
+    empty_step g.S.Store history c.args.self.now insert kept change c.in-Err-inserted_rows.refusal
+    (subst (λ (tables : List TableDef). NoneApplies (Holds (insert_conditions tables insert))) same c.in-Ok.ensures.sound)
+    (subst (λ (tables : List TableDef). gives_empty_row tables insert ≡ has_empty_row change.action) same c.in-Ok.ensures.empty)
+    c.in-Err-inserted_rows.ensures.refused
+
+pub returns-in-Ok-apply-clause-step : goal.returns-in-Ok-apply-clause-step
+returns-in-Ok-apply-clause-step g c usable history kept =
+    let insert = c.args.insert.now in
+    let change = c.in-Ok.change in
+    let added = c.in-Ok-inserted_rows.added in
+    let new = c.apply.new.self in
+    let was : EngineRepresents g.S.Store history c.self.inside.store = subst (λ s. EngineRepresents g.S.Store history s) (sym c.self.view_is) kept in
+    let count : length added ≡ c.len-count.result = search rules in
+    subst (λ (n : ℕ). StepsTo g.S.Store history (statement.insert insert) (Ok (Done word.Insert n)) new) count
+    (changed_step g.S.Store history c.self.inside.store insert was change added
+    (subst (λ (k : Catalog). NoneApplies (Holds (insert_conditions k.tables insert))) c.catalog.ensures c.in-Ok.ensures.sound)
+    (subst (λ (k : Catalog). gives_empty_row k.tables insert ≡ has_empty_row change.action) c.catalog.ensures c.in-Ok.ensures.empty)
+    c.in-Ok-inserted_rows.ensures.rows
+    new
+    (subst (λ (k : Catalog). ResolvesInsert k.tables insert change) c.catalog.ensures c.in-Ok.ensures.resolved)
+    (subst₂ (λ (m : ℤ) (ended : List VersionRow). StoreRepresents g.S.Store new (planned change.table m ended added was.contents)) c.clock.ensures c.empty.ensures
+    (c.in-Ok-apply.ensures.changes usable was.contents was.stored).0))
 
 pub returns-clause-step : goal.returns-clause-step
-returns-clause-step g c history kept =
-    let same : c.self.inside.catalog.tables ≡ c.args.self.now.catalog = ap (λ (d : Database). d.catalog) c.self.view_is in
-    let clock : c.moment.result ≡ c.args.self.now.clock = c.moment.ensures.value ∙ ap (λ (d : Database). d.clock) c.self.view_is in
-    let there = change_number c.self.inside.catalog.tables (statement.insert c.args.insert.now) c.in_ok-table.field-0 c.in_ok-table.ensures.resolved in
-    let high = there.high in
-    let placed : length c.self.inside.versions.items ≡ length c.self.inside.catalog.tables = fit_lengths c.self.inside.catalog.tables c.self.inside.versions.items c.self.invariant.fit in
-    let lists : c.self.inside.versions.items ≡ c.args.self.now.versions = ap (λ (d : Database). d.versions) c.self.view_is in
-    let count : length c.self.inside.versions.items ≡ length c.args.self.now.versions = ap length lists in
-    rw c.len-count.ensures (changed_step history c.args.self.now c.add_versions.new.self (statement.insert c.args.insert.now) c.in_ok-table.field-0 c.in_ok-added.added tt kept
-    (subst (λ (tables : List TableDef). NoneApplies (Holds (change_conditions tables (statement.insert c.args.insert.now)))) same c.in_ok-table.ensures.sound)
-    (subst (λ (tables : List TableDef). ResolvesChange tables (statement.insert c.args.insert.now) c.in_ok-table.field-0) same c.in_ok-table.ensures.resolved)
-    (subst (λ (tables : List TableDef). (empty_period tables (statement.insert c.args.insert.now)).1 ≡ has_empty_row c.in_ok-table.field-0.action) same c.in_ok-table.ensures.empty)
-    record {
-      low = there.low;
-      inside = omega arith;
-      begun = subst (λ (k : ℤ). AreBegun k (given_of c.in_ok-table.field-0.action) c.in_ok-added.added) clock c.in_ok-added.ensures.rows;
-      clock = c.add_versions.ensures.clock;
-      catalog = c.add_versions.ensures.catalog;
-      versions = c.in_ok-add_versions.ensures.versions;
-    })
-
-pub returns-in_err-table-clause-step : goal.returns-in_err-table-clause-step
-returns-in_err-table-clause-step g c history kept =
-    let p = err_from_is_err_and c.from_residual.result c.from_residual.ensures.1 in
-    let same : c.self.inside.catalog.tables ≡ c.args.self.now.catalog = ap (λ (d : Database). d.catalog) c.self.view_is in
-    rw (p.1, p.2) (unresolved_step history c.args.self.now (statement.insert c.args.insert.now) c.in_err-table.field-0.0 tt kept
-    (subst (λ (tables : List TableDef). MayAnswer (Holds (change_conditions tables (statement.insert c.args.insert.now))) c.in_err-table.field-0.0) same c.in_err-table.ensures.refused))
-
-pub returns-in_err-added-clause-step : goal.returns-in_err-added-clause-step
-returns-in_err-added-clause-step g c history kept =
-    let p = err_from_is_err_and c.from_residual-in_err-added.result c.from_residual-in_err-added.ensures.1 in
-    let same : c.self.inside.catalog.tables ≡ c.args.self.now.catalog = ap (λ (d : Database). d.catalog) c.self.view_is in
-    rw (p.1, p.2) (empty_step history c.args.self.now (statement.insert c.args.insert.now) c.in_ok-table.field-0 c.in_err-added.field-0.0 tt kept
-    (subst (λ (tables : List TableDef). NoneApplies (Holds (change_conditions tables (statement.insert c.args.insert.now)))) same c.in_ok-table.ensures.sound)
-    (subst (λ (tables : List TableDef). (empty_period tables (statement.insert c.args.insert.now)).1 ≡ has_empty_row c.in_ok-table.field-0.action) same c.in_ok-table.ensures.empty)
-    c.in_err-added.ensures.refused)
+returns-clause-step g c usable history kept =
+    let insert = c.args.insert.now in
+    let change = c.in-Ok.change in
+    let added = c.in-Ok-inserted_rows.added in
+    let was : EngineRepresents g.S.Store history c.self.inside.store = subst (λ s. EngineRepresents g.S.Store history s) (sym c.self.view_is) kept in
+    unchanged_step g.S.Store history c.self.inside.store insert was change added
+    (subst (λ (k : Catalog). NoneApplies (Holds (insert_conditions k.tables insert))) c.catalog.ensures c.in-Ok.ensures.sound)
+    (subst (λ (k : Catalog). gives_empty_row k.tables insert ≡ has_empty_row change.action) c.catalog.ensures c.in-Ok.ensures.empty)
+    c.in-Ok-inserted_rows.ensures.rows
+    c.apply.new.self c.in-Err-apply.refusal
+    (c.in-Err-apply.ensures.changes usable was.contents was.stored).1
+    c.in-Err-apply.ensures.named

@@ -1,7 +1,6 @@
-use Rattle.std.proofs.Common.{◌≡◌, map, take}
-use Rattle.script_engine.specs.engine.Rows.{read_row, whole_row}
+use Rattle.std.proofs.Common.{take}
+use Rattle.script_engine.specs.engine.Projected.{AreProjected}
 use Rattle.script_engine.proofs.engine.rows.projected_rows.Given as goal
 
-abbrev pub invariant-loop-row : goal.invariant-loop-row
-invariant-loop-row l =
-    map (read_row l.items) (take l.row-index l.versions) ≡ map whole_row l.projections.items
+abbrev pub invariant-loop-version : goal.invariant-loop-version
+invariant-loop-version l = AreProjected l.items (take l.version-index l.versions) l.projections.items

@@ -1,0 +1,34 @@
+-- A new store is one of the history to which nothing was done.
+use Rattle.std.proofs.Common.{◌≡◌, ◌<ℤ◌, ◌≤ℤ◌, [], refl, arith, zero, suc, ℕ}
+use Rattle.std.specs.List.{All}
+use Rattle.std.proofs.lemmas.Int.{ints}
+use Rattle.std.proofs.lemmas.List.Elements.{All-nil}
+use Rattle.std.proofs.lemmas.List.Sorted.{IsPermutation-refl}
+use Rattle.sqlite.specs.Store.{Ghosts}
+use Rattle.period_core.specs.Moments.{first_moment}
+use Rattle.version_store.specs.Contents.{empty_contents}
+use Rattle.version_store.specs.StoreState.{StoreRepresents, StoreState}
+use Rattle.history_model.specs.Histories.{new_database, opened, versions_in}
+use Rattle.history_model.specs.Versions.{IsRecorded}
+use Rattle.script_engine.specs.engine.Stored.{AreOfHistory, EngineRepresents, HoldsTable}
+
+holds_none : (table : ℕ) → HoldsTable (opened new_database) [] table
+holds_none zero = record { rows = []; left = IsPermutation-refl []; all = IsPermutation-refl [] }
+holds_none (suc place) = record { rows = []; left = IsPermutation-refl []; all = IsPermutation-refl [] }
+
+recorded_none : (table : ℕ) → All (IsRecorded first_moment) (versions_in new_database table)
+recorded_none zero = All-nil (IsRecorded first_moment)
+recorded_none (suc place) = All-nil (IsRecorded first_moment)
+
+said_new : AreOfHistory (opened new_database) empty_contents
+said_new = record {
+  order = record { before = omega (arith, ints); recorded = recorded_none; events = tt };
+  clock = refl;
+  tables = refl;
+  versions = holds_none;
+  is_clock = (omega (arith, ints), omega (arith, ints));
+  recorded = tt;
+}
+
+pub new_store : {S : Type 0} (g : Ghosts S) (store : StoreState S) → StoreRepresents g store empty_contents → EngineRepresents g (opened new_database) store
+new_store g store stored = record { contents = empty_contents; stored = stored; said = said_new }

@@ -1,0 +1,65 @@
+-- What an engine's store holds: what a history says, the versions in any order.
+use Rattle.std.specs.Prelude.{◌≡◌, ◌⊎◌, ℕ, List, map, IsPermutation, OnErr, Result}
+use Rattle.std.specs.List.{AllByRecursion}
+use Rattle.period_core.specs.declared.refusal.Refusal.{Refusal}
+use Rattle.period_core.specs.declared.version.VersionRow.{VersionRow}
+use Rattle.sqlite.specs.Effect.{Database}
+use Rattle.sqlite.specs.Held.{Held}
+use Rattle.sqlite.specs.Store.{Ghosts}
+use Rattle.version_tables.specs.Good.{AreMoments, IsClock}
+use Rattle.version_tables.specs.Tables.{no_schema}
+use Rattle.version_store.specs.Contents.{Contents, TableVersion, of_table, version_in}
+use Rattle.version_store.specs.StoreState.{IsUsable, StoreRepresents, StoreState}
+use Rattle.version_store.specs.Written.{Has}
+use Rattle.history_model.specs.Histories.{History, IsInOrder, catalog_of, clock_of, new_database}
+use Rattle.history_model.specs.Histories.{opened}
+use Rattle.history_model.specs.Left.{AreLeftBy}
+
+-- the versions of the table are, in any order, those that the history leaves of it
+pub record HoldsTable (history : History) (versions : List TableVersion) (table : ℕ) : Type 0
+  where
+    pub rows : List VersionRow
+    pub left : AreLeftBy history table rows
+    pub all : IsPermutation (of_table table versions) (map (version_in table) rows)
+
+-- the version is recorded: it began by the clock, and it ended by then or not at all
+abbrev pub AreRecorded : Contents → Type 0
+AreRecorded c = AllByRecursion (λ v. AreMoments c.clock v.from v.to) c.versions
+
+-- the contents are what the history says: its clock, its tables and, in any order, its versions
+pub record AreOfHistory (history : History) (c : Contents) : Type 0 where
+  -- it is one that statements make: AT goes forward, and each change is made at the clock
+  pub order : IsInOrder history
+  pub clock : c.clock ≡ clock_of history
+  pub tables : c.tables ≡ catalog_of history
+  pub versions : (table : ℕ) → HoldsTable history c.versions table
+  -- the clock is below FOREVER, and no version is recorded after it
+  pub is_clock : IsClock c.clock
+  pub recorded : AreRecorded c
+
+-- the store has the history's clock, its tables and, in any order, its versions: in the database,
+-- as it was last committed, and in memory
+pub record EngineRepresents {S : Type 0} (g : Ghosts S) (history : History) (store : StoreState S)
+    : Type 0 where
+  pub contents : Contents
+  pub stored : StoreRepresents g store contents
+  pub said : AreOfHistory history contents
+
+-- the database is what the history says; one without tables is a new store
+abbrev pub DatabaseRepresents : History → Database → Type 0
+DatabaseRepresents history db =
+    ((db.schema ≡ no_schema) × (history ≡ opened new_database))
+    ⊎ ((c : Contents) × Has db c × AreOfHistory history c)
+
+-- where a call is refused, the catalog, the clock and the versions are as they were, in memory and
+-- in the database
+abbrev pub KeepsOnErr : {S X : Type 0} → Ghosts S → StoreState S → StoreState S → Result X Refusal
+    → Type 0
+KeepsOnErr g old new result =
+    IsUsable g new.connection → (c : Contents) → StoreRepresents g old c
+    → OnErr result (StoreRepresents g new c)
+
+-- the disk returns what was written, and no failure shuts the connection, whatever is done: a store
+-- in memory is such a one
+abbrev pub IsAlwaysUsable : {S : Type 0} → Ghosts S → Type 0
+IsAlwaysUsable {S} g = (connection : Held S) → IsUsable g connection
