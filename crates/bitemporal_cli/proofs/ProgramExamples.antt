@@ -105,10 +105,10 @@ empty_script = refl
 
 -- a writer that failed leaves no silent end, a reader that did not fail is at no fault, and of a
 -- script that is not known nothing is said
-not_silent : MayEndSilently None true Write → ⊥
+not_silent : MayEndSilently Run None true Write → ⊥
 not_silent h = h
 
-not_the_reader : MayEndSilently None false Read → ⊥
+not_the_reader : MayEndSilently Run None false Read → ⊥
 not_the_reader same = cc
 
 not_known : IsRefusedWhole None → ⊥

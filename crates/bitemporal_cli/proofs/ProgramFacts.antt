@@ -29,18 +29,18 @@ line_told mode script read_failed old new before after err_failed fault ended (t
     (told, subst (MayEndIn mode script read_failed old new) (sym memory.1) (memory_instead mode script read_failed old new fault ended), line)
 
 -- a run that ends in a fault before its script gave anything
-pub ends_silently : (r : ProgramRun) (fault : RunFault) → r.status ≡ 2 → MayEndSilently r.script r.read_failed fault → Keeps r.out_before r.out_after
+pub ends_silently : (r : ProgramRun) (fault : RunFault) → r.status ≡ 2 → MayEndSilently r.mode r.script r.read_failed fault → Keeps r.out_before r.out_after
     → (told : RunFault) × MayBeToldAs fault told × IsTold r.err_failed r.err_before r.err_after (fault_line told) → EndsWell r
 ends_silently r fault status silent kept told =
     let bound : r.status ≤ 2 = omega (arith, status) in
     (bound, (λ other. absurd (other status)), (λ _. line_told r.mode r.script r.read_failed r.out_before r.out_after r.err_before r.err_after r.err_failed fault (inl (silent, kept)) told), (λ _. (status, kept)))
 
-silent_if_failed : (script : Option (List ℕ)) (read_failed : Bool) (fault : RunFault) → MayEndSilently script read_failed fault → MayEndSilently script true fault
-silent_if_failed script read_failed (Script refusal) may = may
-silent_if_failed script read_failed Memory may = may
-silent_if_failed script read_failed Words may = may
-silent_if_failed script read_failed Read may = refl
-silent_if_failed script read_failed Write may = may
+silent_if_failed : (mode : Mode) (script : Option (List ℕ)) (read_failed : Bool) (fault : RunFault) → MayEndSilently mode script read_failed fault → MayEndSilently mode script true fault
+silent_if_failed mode script read_failed (Script refusal) may = may
+silent_if_failed mode script read_failed Memory may = may
+silent_if_failed mode script read_failed Words may = may
+silent_if_failed mode script read_failed Read may = refl
+silent_if_failed mode script read_failed Write may = may
 
 -- a run ends well whatever is known of its reader
 pub ends_if_failed : (r : ProgramRun) → EndsWell r → EndsWell (record r { read_failed = true })
@@ -48,7 +48,7 @@ ends_if_failed r (bound, reported, faulty, refused) = (bound, reported, (λ stat
   where
     go : (fault : RunFault) × MayEndIn r.mode r.script r.read_failed r.out_before r.out_after fault × IsTold r.err_failed r.err_before r.err_after (fault_line fault)
         → (fault : RunFault) × MayEndIn r.mode r.script true r.out_before r.out_after fault × IsTold r.err_failed r.err_before r.err_after (fault_line fault)
-    go (fault, inl silent, line) = (fault, inl (silent_if_failed r.script r.read_failed fault silent.0, silent.1), line)
+    go (fault, inl silent, line) = (fault, inl (silent_if_failed r.mode r.script r.read_failed fault silent.0, silent.1), line)
     go (fault, inr failed, line) = (fault, inr failed, line)
 
 -- a run over a script of these bytes

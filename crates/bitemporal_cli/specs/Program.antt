@@ -7,7 +7,8 @@ use Rattle.period_core.specs.declared.refusal.Refusal.{Refusal}
 use Rattle.script_engine.specs.script.Check.{IsCheckOf}
 use Rattle.script_engine.specs.report.CheckReport.{check_text}
 use Rattle.script_engine.specs.report.Report.{report}
-use Rattle.script_engine.specs.script.Script.{IsRunOf, MayRefuseScript, ScriptApplies, most_bytes}
+use Rattle.script_engine.specs.script.Script.{IsRunOf, MayRefuseRun, MayRefuseScript}
+use Rattle.script_engine.specs.script.Script.{ScriptApplies, most_bytes}
 use Rattle.bitemporal_cli.specs.Lines.{IsTold, fault_line}
 use Rattle.bitemporal_cli.specs.declared.command.Mode.{Mode}
 use Rattle.bitemporal_cli.specs.declared.command.Mode.TheVariants.{Run, Check}
@@ -50,14 +51,19 @@ abbrev pub Reports : Mode → Option (List ℕ) → Option (List ℕ) → Option
 Reports Run = ReportsText IsRunOf report
 Reports Check = ReportsText IsCheckOf check_text
 
+-- which refusals a whole script may get: only a run opens a store
+abbrev pub MayRefuseIn : Mode → List ℕ → Refusal → Type 0
+MayRefuseIn Run = MayRefuseRun
+MayRefuseIn Check = MayRefuseScript
+
 -- a fault of a script that gave no results; its reader is at fault only if a read failed
-abbrev pub MayEndSilently : Option (List ℕ) → Bool → RunFault → Type 0
-MayEndSilently input read_failed (Script refusal) =
-    IfSome input (λ all. MayRefuseScript (read_of all) refusal)
-MayEndSilently input read_failed Memory = ⊤
-MayEndSilently input read_failed Words = ⊥
-MayEndSilently input read_failed Read = read_failed ≡ true
-MayEndSilently input read_failed Write = ⊥
+abbrev pub MayEndSilently : Mode → Option (List ℕ) → Bool → RunFault → Type 0
+MayEndSilently mode input read_failed (Script refusal) =
+    IfSome input (λ all. MayRefuseIn mode (read_of all) refusal)
+MayEndSilently mode input read_failed Memory = ⊤
+MayEndSilently mode input read_failed Words = ⊥
+MayEndSilently mode input read_failed Read = read_failed ≡ true
+MayEndSilently mode input read_failed Write = ⊥
 
 -- the script that the reader has gives results of this kind
 abbrev pub GivesResults :
@@ -74,7 +80,7 @@ HasResults Check = GivesResults IsCheckOf
 abbrev pub MayEndIn :
     Mode → Option (List ℕ) → Bool → Option (List ℕ) → Option (List ℕ) → RunFault → Type 0
 MayEndIn mode input read_failed old new fault =
-    (MayEndSilently input read_failed fault × Keeps old new)
+    (MayEndSilently mode input read_failed fault × Keeps old new)
     ⊎ (HasResults mode input × ((fault ≡ Memory) ⊎ (fault ≡ Write)))
 
 -- the script that the reader has, where its bytes are known, is refused as a whole

@@ -54,4 +54,4 @@ Refusals (this version does not give those marked *):
   43 PeriodReference  a child row has no parent row on some day *
   60 BadStore         the database holds no store of this program *
   61 Memory           out of memory
-  62 Store            the database refused for another cause *";
+  62 Store            the database refused for another cause";

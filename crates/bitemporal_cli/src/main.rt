@@ -13,8 +13,6 @@ mod help;
 mod program;
 mod reading;
 mod scripts;
-#[cfg(test)]
-mod tests;
 mod tool;
 mod tracked;
 

@@ -103,7 +103,7 @@ fn run_results<R: Read>(
     ensures run { IfOk result
         (λ results. AreOfReader IsRunOf (R.remaining input.old.inner) results.items) }
     ensures refused { IfErr result
-        (MayEndSilently (R.remaining input.old.inner) input.new.has_failed) }
+        (MayEndSilently Mode.Run (R.remaining input.old.inner) input.new.has_failed) }
     ensures taken { TakesAtMost read_limit
         (R.remaining input.old.inner) (R.remaining input.new.inner) }
 {
@@ -125,7 +125,7 @@ fn check_results<R: Read>(
     ensures check { IfOk result
         (λ results. AreOfReader IsCheckOf (R.remaining input.old.inner) results.items) }
     ensures refused { IfErr result
-        (MayEndSilently (R.remaining input.old.inner) input.new.has_failed) }
+        (MayEndSilently Mode.Check (R.remaining input.old.inner) input.new.has_failed) }
     ensures taken { TakesAtMost read_limit
         (R.remaining input.old.inner) (R.remaining input.new.inner) }
 {

@@ -1,4 +1,0 @@
-//! Days and moments, and periods and windows of them.
-
-mod days;
-mod moments;

@@ -1,0 +1,8 @@
+//! Tests of calls that the program doesn't make, so that no script shows them. Nothing uses this
+//! crate: it is proved beside the crates that lead to the program.
+#![tactic(auto)]
+
+#[cfg(test)]
+mod definitions;
+#[cfg(test)]
+mod values;
