@@ -1,4 +1,5 @@
 pub mod Contents
+pub mod DistinctKeys
 pub mod Changed
 pub mod Written
 pub mod StoreState

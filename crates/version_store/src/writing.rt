@@ -3,7 +3,7 @@
 ghost use Rattle.std.specs.Prelude.{◌≡◌, ◌+◌, ◌∷◌, [], false, length, IfErr};
 ghost use Rattle.version_tables.specs.Represents.{with_definition};
 ghost use Rattle.version_store.specs.Changed.{added_at, ended_at, planned, with_clock};
-ghost use Rattle.version_store.specs.StoreState.{IsStoreRefusal};
+ghost use Rattle.version_store.specs.StoreState.{IsStoreRefusal, IsUsable};
 ghost use Rattle.version_store.specs.Steps.{Carries, Commits, CommitsWhere, Undoes};
 ghost use Rattle.version_tables.specs.Steps.{CommitsNothing, ChangesWhere};
 
@@ -157,6 +157,7 @@ pub(crate) fn write_plan<S: Alter>(
     ensures made { Commits S.Store connection.old connection.new result
         (planned table moment plan.now.ended plan.now.added) }
     ensures none { Undoes S.Store connection.old connection.new result }
+    ensures usable { IsUsable S.Store connection.new → IsUsable S.Store connection.old }
     ensures mode { connection.new.in_transaction ≡ false }
     ensures named { IfErr result IsStoreRefusal }
 {
