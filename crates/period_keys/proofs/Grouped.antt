@@ -3,7 +3,7 @@ use Rattle.std.proofs.Common.{◌≡◌, ◌++◌, ◌∷◌, [], ◌∙◌, ℕ
 use Rattle.std.specs.Prelude.{◌⊎◌, Option, Contains, IsPermutation, filter, unwrap_or}
 use Rattle.std.specs.Bool.{OnFalse, OnTrue}
 use Rattle.std.specs.List.{AllByRecursion, IsDistinct}
-use Rattle.std.specs.Map.{keys_of, lookup, remove_entry, set_value}
+use Rattle.std.specs.Map.{keys_of, lookup, remove_entry, set_value, values_of}
 use Rattle.std.specs.Option.{option_map_or}
 use Rattle.std.specs.Ordering.{eq_by_cmp, is_eq, match_ordering}
 use Rattle.std.specs.declared.cmp.Ordering.{Ordering}
@@ -23,7 +23,7 @@ use Rattle.temporal_model.proofs.Members.{Contains-here, Contains-there}
 use Rattle.temporal_model.proofs.Rearranged.{IsPermutation-uncons}
 use Rattle.period_keys.proofs.Members.{in_filter}
 use Rattle.period_keys.specs.declared.key_rows.KeyRows.{KeyRows}
-use Rattle.period_keys.specs.Rows.{AreGrouped, HaveKey, rows_of_groups}
+use Rattle.period_keys.specs.Rows.{AreGrouped, HaveKey, rows_of_groups, rows_of_lists}
 use Rattle.period_keys.specs.Versions.{is_of_key, version_key}
 
 abbrev pub rows_in : KeyRows → List VersionRow
@@ -31,6 +31,11 @@ rows_in group = group.rows.items
 
 abbrev pub Entries : Type 0
 Entries = List (List Value × KeyRows)
+
+-- the rows, without the keys
+pub lists_of_groups : (es : Entries) → rows_of_lists (values_of es) ≡ rows_of_groups es
+lists_of_groups [] = refl
+lists_of_groups (e ∷ es) = ap (λ (xs : List VersionRow). rows_in e.1 ++ xs) (lists_of_groups es)
 
 -- the middle list to the front
 pub to_front : {X : Type 0} (a e r : List X) → IsPermutation (a ++ (e ++ r)) (e ++ (a ++ r))

@@ -1,5 +1,5 @@
 -- The faults of a change among the period rows that stand after it.
-use Rattle.std.proofs.Common.{◌≡◌, ◌⊎◌, ◌==◌, ◌∙◌, ℕ, ℤ, Bool, true, false, List, Some, None, ap, cond, inl, inr, refl, subst, sym}
+use Rattle.std.proofs.Common.{◌≡◌, ◌⊎◌, ◌==◌, ◌∙◌, ℕ, ℤ, Bool, true, false, List, Some, None, ap, arith, cond, inl, inr, refl, subst, sym}
 use Rattle.std.specs.Prelude.{◌↔◌, Contains, IsPermutation, Option, unwrap_or}
 use Rattle.std.proofs.lemmas.List.Sorted.{Contains-permutation, IsPermutation-refl, IsPermutation-sym}
 use Rattle.period_core.specs.declared.row.PeriodRow.{PeriodRow}

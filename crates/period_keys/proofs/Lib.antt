@@ -15,6 +15,9 @@ pub mod Apart
 pub mod ByDays
 pub mod Origins
 pub mod LawfulFacts
+pub mod VersionKeys
+pub mod Fixed
+pub mod PlanParts
 pub mod Touched
 pub mod Covered
 mod KeyExamples

@@ -80,11 +80,11 @@ numbered_from k (x ∷ xs) y h =
       | inr later ↦ (let above : k + 1 ≤ y.0 = numbered_from (k + 1) xs y later in omega arith)
     ]
 
-numbers_differ : {X : Type 0} (k : ℕ) (xs : List X) → SomePair (SameNumber {X}) (enumerate_from k xs) → ⊥
-numbers_differ {X} k [] h = SomePair-nil (SameNumber {X}) h
+numbers_differ : {X : Type 0} (k : ℕ) (xs : List X) → SomePair (SameNumber {X = X}) (enumerate_from k xs) → ⊥
+numbers_differ {X} k [] h = SomePair-nil (SameNumber {X = X}) h
 numbers_differ {X} k (x ∷ xs) h =
-    elim (SomePair-append (SameNumber {X}) ((k, x) ∷ []) (enumerate_from (k + 1) xs) h) [
-      | inl one ↦ SomePair-one (SameNumber {X}) (k, x) one
+    elim (SomePair-append (SameNumber {X = X}) ((k, x) ∷ []) (enumerate_from (k + 1) xs) h) [
+      | inl one ↦ SomePair-one (SameNumber {X = X}) (k, x) one
       | inr (inl cross) ↦
         let above : k + 1 ≤ cross.1.0 = numbered_from (k + 1) xs cross.1 cross.3 in
         let here : k ≡ cross.0.0 = ap (λ p. p.0) (Contains-one (k, x) cross.0 cross.2) in
@@ -102,7 +102,7 @@ kept_differ rows apart h = apart (pair_weaker (λ v w. Kept v ≡ Kept w) (λ v 
 given_differ : (day : ℤ) (given : List GivenRow) → SomePair SameOrigin (map given_row (filter (given_covers day) (enumerate_from 0 given))) → ⊥
 given_differ day given h =
     let listed : List (ℕ × GivenRow) = enumerate_from 0 given in
-    numbers_differ 0 given (pair_of_filter (given_covers day) (λ a b. SameOrigin (given_row a) (given_row b)) (SameNumber {GivenRow}) (λ a b t u e. given_apart a.0 b.0 e) listed
+    numbers_differ 0 given (pair_of_filter (given_covers day) (λ a b. SameOrigin (given_row a) (given_row b)) (SameNumber {X = GivenRow}) (λ a b t u e. given_apart a.0 b.0 e) listed
     (pair_of_map SameOrigin given_row (filter (given_covers day) listed) h))
 
 -- rows at two places have two origins

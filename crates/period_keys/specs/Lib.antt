@@ -10,3 +10,5 @@ pub mod Laws
 pub mod Repeats
 pub mod Lawful
 pub mod LawfulLaws
+pub mod FixedKeys
+pub mod Planned

@@ -29,6 +29,11 @@ abbrev pub rows_of_groups : List (List Value × KeyRows) → List VersionRow
 rows_of_groups [] = []
 rows_of_groups (group ∷ groups) = group.1.rows.items ++ rows_of_groups groups
 
+-- the same without the keys
+abbrev pub rows_of_lists : List KeyRows → List VersionRow
+rows_of_lists [] = []
+rows_of_lists (group ∷ groups) = group.rows.items ++ rows_of_lists groups
+
 -- each row of a group has its key
 abbrev pub HaveKey : List ℕ → List Value × KeyRows → Type 0
 HaveKey positions group =

@@ -5,14 +5,15 @@ ghost use Rattle.std.specs.Prelude.{length, map, take};
 ghost use Rattle.period_core.specs.declared.version.VersionRow.{VersionRow as Version};
 ghost use Rattle.period_keys.specs.Keys.{key_values, values_at};
 ghost use Rattle.period_keys.specs.Ordered.{AreInOrder};
-ghost use Rattle.period_keys.specs.Rows.{HasRows, rows_of_key};
+ghost use Rattle.period_keys.specs.Rows.{HasRows, rows_of_key, rows_of_lists};
 ghost use Rattle.period_keys.specs.Versions.{begun, period_of, recorded, version_key};
 
 use crate::groups::{Groups, add_to, take_from};
+use crate::key_rows::KeyRows;
 use crate::keys::values_of;
 use period_core::{Items, Memory, Moment, Period, PeriodRow, Values, VersionRow};
 use std::alloc::Global;
-use std::collections::BTreeMap;
+use std::collections::{BTreeMap, btree_map};
 use std::marker::Model;
 
 /// The current version rows of one table, by the values of its key's columns. Contracts see the
@@ -74,6 +75,13 @@ impl CurrentRows {
             Some(group) => group.periods(),
             None => &[],
         }
+    }
+
+    /// The rows of each key, one key after another.
+    pub fn groups(&self) -> btree_map::Values<'_, Values, KeyRows>
+        ensures { rows_of_lists result ≡ self.now.rows }
+    {
+        self.groups.values()
     }
 
     /// Adds a row. The only error is out of memory, and changes nothing.
