@@ -4,6 +4,7 @@ pub mod Changed
 pub mod Written
 pub mod StoreState
 pub mod Steps
+pub mod Leaving
 pub mod Scans
 pub mod RowValues
 pub mod GoodStore
