@@ -147,14 +147,18 @@ fn shown(alloc: Global, connection: &mut Connection<MemStore>) -> Result<String,
     Ok(shown)
 }
 
-// Whether a database is refused as a bad store, and shows then what it showed before.
-fn is_bad(alloc: Global, mut connection: Connection<MemStore>) -> Result<bool, Fail> {
+// The refusal of a database that shows then what it showed before.
+fn answer(alloc: Global, mut connection: Connection<MemStore>) -> Result<&'static str, Fail> {
     let before = shown(alloc, &mut connection)?;
     match opened(alloc, connection)? {
-        Ok(_) => Ok(false),
+        Ok(_) => Ok("opened"),
         Err((refusal, mut connection)) => {
             let after = shown(alloc, &mut connection)?;
-            Ok(refusal == Refusal::BadStore && before.as_str() == after.as_str())
+            if before.as_str() == after.as_str() {
+                Ok(refusal.name())
+            } else {
+                Ok("changed")
+            }
         }
     }
 }
@@ -188,11 +192,17 @@ fn close_and_open(rt: HostRuntime) -> Result<(), Fail> {
 
 #[test]
 fn bad_stores(rt: HostRuntime) -> Result<(), Fail> {
+    let alloc = rt.alloc();
+    let mut others = String::new(alloc);
     for (what, sql) in SPOILED {
-        let mut connection = made(rt.alloc(), &STORE)?;
+        let mut connection = made(alloc, &STORE)?;
         changed(&mut connection, sql)?;
-        assert!(rt; is_bad(rt.alloc(), connection)?, "with {what}");
+        let answer = answer(alloc, connection)?;
+        if answer != Refusal::BadStore.name() {
+            others.push_str(format!(in alloc; "{what}: {answer}. ")?.as_str())?;
+        }
     }
+    assert_eq!(rt; others.as_str(), "");
     Ok(())
 }
 
