@@ -281,6 +281,18 @@ class Model:
         self.report = ''
         self.status = 0
 
+    def check(self):
+        """The model against itself: as of each moment the versions are the rows of each day."""
+        for table in self.tables.values():
+            firsts = {first for days in (table.days, *(days for _, days in table.past))
+                      for first, _ in days} | {version[1] for version in table.versions}
+            for moment in MOMENTS:
+                days = table.as_of(moment)
+                current = [version for version in table.versions if version[3] <= moment < version[4]]
+                for first in firsts:
+                    rows = [values for values, start, end, _, _ in current if start <= first < end]
+                    assert collections.Counter(rows) == collections.Counter(on(days, first))
+
     def record(self, first, *fields):
         fields = [str(field) for field in (first, self.statements, *fields)]
         self.report += ','.join('"' + field.replace('"', '""') + '"' if set(field) & set(',"\r\n')
