@@ -5,4 +5,6 @@
 #[cfg(test)]
 mod definitions;
 #[cfg(test)]
+mod stores;
+#[cfg(test)]
 mod values;

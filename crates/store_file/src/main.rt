@@ -1,0 +1,64 @@
+//! Runs the script on standard input over a store in the file that the first word names, and prints
+//! nothing. It is a tool of a test: tests/store_file reads the file then with `sqlite3`. The status is
+//! 0 where each statement ran, and else 1; 0 too where no file is named.
+#![tactic(auto)]
+
+use period_core::Refusal;
+use script_engine::{Outcome, run_script};
+use sqlite::Connection;
+use std::alloc::Global;
+use std::env;
+use std::io::Read;
+use std::process::ExitCode;
+
+/// Whether each statement of a script ran, over a store in a file.
+fn runs(rt: &HostRuntime, path: &str, script: &[u8]) -> bool {
+    let Ok(connection) = Connection::open(rt, path) else {
+        return false;
+    };
+    if !connection.is_autocommit() {
+        return false;
+    }
+    match run_script(rt.alloc(), connection, script) {
+        Ok(results) => are_ok(results.as_slice()),
+        Err(_) => false,
+    }
+}
+
+fn are_ok(results: &[Result<Outcome, Refusal>]) -> bool {
+    for result in results {
+        if result.is_err() {
+            return false;
+        }
+    }
+    true
+}
+
+/// The bytes of standard input.
+fn input(rt: &HostRuntime, alloc: Global) -> Option<Vec<u8>> {
+    let mut script = Vec::new(alloc);
+    match rt.stdin().read_to_end(&mut script) {
+        Ok(_) => Some(script),
+        Err(_) => None,
+    }
+}
+
+fn main(rt: HostRuntime) -> ExitCode {
+    let Ok(words) = env::args(&rt) else {
+        return ExitCode::from(1);
+    };
+    let Ok(words) = words.collect(rt.alloc()) else {
+        return ExitCode::from(1);
+    };
+    let Some(path) = words.as_slice().get(1) else {
+        return ExitCode::from(0);
+    };
+    let Some(script) = input(&rt, rt.alloc()) else {
+        return ExitCode::from(1);
+    };
+    if runs(&rt, path.as_str(), script.as_slice()) {
+        ExitCode::from(0)
+    } else {
+        ExitCode::from(1)
+    }
+}
