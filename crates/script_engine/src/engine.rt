@@ -202,7 +202,10 @@ impl<S: Alter> Engine<S> {
             Ok(plan) => plan,
             Err(refusal) => return Err(refusal),
         };
-        match self.store.apply(alloc, change.table, self.store.clock(), &plan) {
+        match self
+            .store
+            .apply(alloc, change.table, self.store.clock(), &plan)
+        {
             Ok(()) => Ok(done(&change.action, &plan)),
             Err(refusal) => Err(refusal),
         }
