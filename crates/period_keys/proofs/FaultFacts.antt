@@ -127,7 +127,7 @@ pub least_parent_fault : (catalog : List TableDef) (before : State) (change : Ch
     (below : List PeriodRow) (found : Option ℤ) → keys ≡ parent_positions parent reference → IsPlanned catalog before change current plan
     → Refers catalog number child reference parent → reference.parent ≡ change.table → (number ≡ change.table → ⊥) → HoldsTable below before number
     → ((stay : List PeriodRow) → IsEachCovered (own_positions child reference) below keys (map row_of current) → IsPermutation (map row_of current) (map row_of plan.ended ++ stay)
-      → IsLeastOf (IsUncovered (own_positions child reference) below keys (stay ++ plan.added)) found)
+    → IsLeastOf (IsUncovered (own_positions child reference) below keys (stay ++ plan.added)) found)
     → IsLeastOf (LacksParentBy (state_after change before) number child reference parent) found
 least_parent_fault catalog before change current plan number child reference parent keys below found is planned refers changed other holds least =
     let rows : List PeriodRow = map row_of current in

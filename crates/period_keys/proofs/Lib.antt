@@ -22,3 +22,4 @@ pub mod FaultFacts
 pub mod Touched
 pub mod Covered
 mod KeyExamples
+mod LawfulExamples
