@@ -58,14 +58,14 @@ absent rows periods row place at aligned order below is early passed (k, inside,
     elim (cases_lt place k) [
       | inl later ↦ passed k row (omega arith) inside same
       | inr le ↦
-        let size : length periods ≡ length rows = ap length aligned ∙ length-map rows period_of in
-        let there : get_or periods k at ≡ row.period = beside rows periods aligned k row row at inside same in
-        let start : (get_or periods k at).start ≡ row.period.start = ap (λ (p : Period). p.start) there in
-        let here : (get_or periods place at).start ≡ at.start = ap (λ (p : Period). p.start) (sym is) in
-        elim (cases_lt k place) [
-          | inl less ↦ let upto : (get_or periods k at).start ≤ℤ (get_or periods place at).start = order k place at less (omega arith) in omega (arith, ints)
-          | inr ge ↦ let both : k ≡ place = omega arith in let also : (get_or periods k at).start ≡ (get_or periods place at).start = ap (λ n. (get_or periods n at).start) both in omega (arith, ints)
-        ]
+          let size : length periods ≡ length rows = ap length aligned ∙ length-map rows period_of in
+          let there : get_or periods k at ≡ row.period = beside rows periods aligned k row row at inside same in
+          let start : (get_or periods k at).start ≡ row.period.start = ap (λ (p : Period). p.start) there in
+          let here : (get_or periods place at).start ≡ at.start = ap (λ (p : Period). p.start) (sym is) in
+          elim (cases_lt k place) [
+            | inl less ↦ let upto : (get_or periods k at).start ≤ℤ (get_or periods place at).start = order k place at less (omega arith) in omega (arith, ints)
+            | inr ge ↦ let both : k ≡ place = omega arith in let also : (get_or periods k at).start ≡ (get_or periods place at).start = ap (λ n. (get_or periods n at).start) both in omega (arith, ints)
+          ]
     ]
 
 -- periods in order stay so with one less

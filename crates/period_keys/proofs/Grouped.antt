@@ -146,7 +146,7 @@ found_rows positions key [] distinct keyed = refl
 found_rows positions key (e ∷ es) distinct keyed =
     filter-append (is_of_key positions key) (rows_in e.1) (rows_of_groups es)
     ∙ ap (λ (xs : List VersionRow). xs ++ filter (is_of_key positions key) (rows_of_groups es))
-      (each_alike (is_of_key positions key) (eq_by_cmp values_cmp key e.0) (rows_in e.1) (λ v c. ap (λ k. eq_by_cmp values_cmp key k) (sym (keyed.0 v c))))
+    (each_alike (is_of_key positions key) (eq_by_cmp values_cmp key e.0) (rows_in e.1) (λ v c. ap (λ k. eq_by_cmp values_cmp key k) (sym (keyed.0 v c))))
     ∙ by_test (found_rows positions key es (distinct_rest e es distinct) keyed.1) (eq_by_cmp values_cmp key e.0) refl
   where
     by_test : filter (is_of_key positions key) (rows_of_groups es) ≡ option_map_or rows_in (lookup (is_at (values_cmp key)) es) [] → (t : Bool) → eq_by_cmp values_cmp key e.0 ≡ t
@@ -154,7 +154,7 @@ found_rows positions key (e ∷ es) distinct keyed =
     by_test rest true same =
         ap (λ (xs : List VersionRow). rows_in e.1 ++ xs)
         (rest ∙ ap (λ (o : Option KeyRows). option_map_or rows_in o [])
-          (lookup-none (is_at (values_cmp key)) es (none_past_head (eq_by_cmp_equiv values_cmp_total) key e es distinct same)))
+        (lookup-none (is_at (values_cmp key)) es (none_past_head (eq_by_cmp_equiv values_cmp_total) key e es distinct same)))
         ∙ append-nil (rows_in e.1)
     by_test rest false other = rest
 
@@ -188,12 +188,12 @@ grouped_after positions m n key v w there writes from grouped = record {
   keyed = subst (AllByRecursion (HaveKey positions)) (sym writes.0)
       (keyed_written (HaveKey positions) (is_at (values_cmp key)) m.entries v w (sym there) step grouped.keyed);
 } where
-    step : (k : List Value) → is_at (values_cmp key) k ≡ true → HaveKey positions (k, v) → HaveKey positions (k, w)
-    step k same have x c =
-        elim (from x c) [
-          | inl was ↦ have x was
-          | inr own ↦ sym ((values_eq key k).0 same) ∙ own
-        ]
+  step : (k : List Value) → is_at (values_cmp key) k ≡ true → HaveKey positions (k, v) → HaveKey positions (k, w)
+  step k same have x c =
+      elim (from x c) [
+        | inl was ↦ have x was
+        | inr own ↦ sym ((values_eq key k).0 same) ∙ own
+      ]
 
 -- a row of this key, which is among the rows, is in its group
 pub in_group : (positions : List ℕ) (m : Groups) (key : List Value) (x : VersionRow) → AreGrouped positions m → key ≡ version_key positions x → Contains (rows_of_groups m.entries) x

@@ -84,20 +84,26 @@ own_references catalog before change lawful number child reference parent day re
     by_tests true b is other = inl (same_number number change.table is)
     by_tests false true other is = inr (same_number reference.parent change.table is)
     by_tests false false child_other parent_other =
-        absurd (lawful.references day (number, child, reference, parent, refers,
-        subst (λ (rows : List (List Value)). LacksParent own rows keys (before reference.parent day)) (unchanged change before number day child_other)
-        (subst (λ (rows : List (List Value)). LacksParent own (state_after change before number day) keys rows) (unchanged change before reference.parent day parent_other) lacks)))
+        absurd (lawful.references day (
+          number,
+          child,
+          reference,
+          parent,
+          refers,
+          subst (λ (rows : List (List Value)). LacksParent own rows keys (before reference.parent day)) (unchanged change before number day child_other)
+              (subst (λ (rows : List (List Value)). LacksParent own (state_after change before number day) keys rows) (unchanged change before reference.parent day parent_other) lacks),
+        ))
 
 pub stays_lawful : (catalog : List TableDef) (before : State) (change : Change) → IsLawfulState catalog before → IsLawfulChange catalog before change → IsLawfulState catalog (state_after change before)
 stays_lawful catalog before change lawful allowed = record {
   keys = λ table def is day shared. by_test table def is day (table == change.table) refl shared;
   references = allowed.references;
 } where
-    by_test : (table : ℕ) (def : TableDef) → table_of catalog table ≡ Some def → (day : ℤ) → (b : Bool) → (table == change.table) ≡ b
-        → ShareKey (key_positions def) (cond b (rows_after change.action day (before table day)) (before table day)) → ⊥
-    by_test table def is day false other shared = lawful.keys table def is day shared
-    by_test table def is day true e shared =
-        let same : table ≡ change.table = same_number table change.table e in
-        let rows : List (List Value) = before table day in
-        let law = of_origins (key_positions def) change.action day rows (rows_after change.action day rows) (IsPermutation-refl (rows_after change.action day rows)) (lawful.keys table def is day) in
-        allowed.keys day (def, subst (λ n. table_of catalog n ≡ Some def) same is, subst (λ n. OriginsShareKey (key_positions def) (traced change.action day (before n day))) same (law.0 shared))
+  by_test : (table : ℕ) (def : TableDef) → table_of catalog table ≡ Some def → (day : ℤ) → (b : Bool) → (table == change.table) ≡ b
+      → ShareKey (key_positions def) (cond b (rows_after change.action day (before table day)) (before table day)) → ⊥
+  by_test table def is day false other shared = lawful.keys table def is day shared
+  by_test table def is day true e shared =
+      let same : table ≡ change.table = same_number table change.table e in
+      let rows : List (List Value) = before table day in
+      let law = of_origins (key_positions def) change.action day rows (rows_after change.action day rows) (IsPermutation-refl (rows_after change.action day rows)) (lawful.keys table def is day) in
+      allowed.keys day (def, subst (λ n. table_of catalog n ≡ Some def) same is, subst (λ n. OriginsShareKey (key_positions def) (traced change.action day (before n day))) same (law.0 shared))

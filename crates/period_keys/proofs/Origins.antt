@@ -39,7 +39,7 @@ apart_pair {X} R turned xs a b (i, at_i, a_is) (j, at_j, b_is) differ related =
       | inr ge ↦ elim (cases_lt j i) [
         | inl more ↦ (j, i, more, at_i, λ d. subst (λ (x : X). R x (get_or xs i d)) (at_place xs j b d at_j b_is) (subst (R b) (at_place xs i a d at_i a_is) (turned a b related)))
         | inr le ↦ let same : i ≡ j = omega arith in
-          absurd (differ (at_place xs i a b at_i a_is ∙ ap (λ n. get_or xs n b) same ∙ b_is))
+            absurd (differ (at_place xs i a b at_i a_is ∙ ap (λ n. get_or xs n b) same ∙ b_is))
       ]
     ]
 
@@ -86,10 +86,10 @@ numbers_differ {X} k (x ∷ xs) h =
     elim (SomePair-append (SameNumber {X = X}) ((k, x) ∷ []) (enumerate_from (k + 1) xs) h) [
       | inl one ↦ SomePair-one (SameNumber {X = X}) (k, x) one
       | inr (inl cross) ↦
-        let above : k + 1 ≤ cross.1.0 = numbered_from (k + 1) xs cross.1 cross.3 in
-        let here : k ≡ cross.0.0 = ap (λ p. p.0) (Contains-one (k, x) cross.0 cross.2) in
-        let same : cross.0.0 ≡ cross.1.0 = cross.4 in
-        omega arith
+          let above : k + 1 ≤ cross.1.0 = numbered_from (k + 1) xs cross.1 cross.3 in
+          let here : k ≡ cross.0.0 = ap (λ p. p.0) (Contains-one (k, x) cross.0 cross.2) in
+          let same : cross.0.0 ≡ cross.1.0 = cross.4 in
+          omega arith
       | inr (inr later) ↦ numbers_differ (k + 1) xs later
     ]
 
@@ -112,7 +112,7 @@ origins_differ (Insert given) day rows apart h =
     elim (SomePair-append SameOrigin (map kept rows) (map given_row shown) h) [
       | inl left ↦ kept_differ rows apart left
       | inr (inl cross) ↦ (let p = from_map kept rows cross.0 cross.2 in let q = from_map given_row shown cross.1 cross.3 in
-        no_common p.0 q.0.0 (ap (λ (t : Traced). t.origin) p.2 ∙ cross.4 ∙ sym (ap (λ (t : Traced). t.origin) q.2)))
+          no_common p.0 q.0.0 (ap (λ (t : Traced). t.origin) p.2 ∙ cross.4 ∙ sym (ap (λ (t : Traced). t.origin) q.2)))
       | inr (inr right) ↦ given_differ day given right
     ]
 origins_differ (Update portion assignments condition) day rows apart h =

@@ -90,13 +90,7 @@ impl KeyRows {
 }
 
 // Whether the row is of these values, this period and this system time.
-fn is_recorded(
-    row: &VersionRow,
-    values: &Values,
-    period: Period,
-    from: Moment,
-    to: Moment,
-) -> bool
+fn is_recorded(row: &VersionRow, values: &Values, period: Period, from: Moment, to: Moment) -> bool
     ensures { IsTrue result ↔ ((row.now.period ≡ period) × (row.now.from ≡ from)
         × (row.now.to ≡ to) × (row.now.values ≡ values.now)) }
 {

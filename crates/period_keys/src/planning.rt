@@ -19,11 +19,7 @@ use std::alloc::Global;
 /// The plan of a change over its table's current rows. Where its condition fixes the key, the rows
 /// of that key alone are looked at. It is refused where an INSERT gives a row with a period without
 /// a day, and else only out of memory.
-pub fn plan_change(
-    alloc: Global,
-    current: &CurrentRows,
-    change: &Change,
-) -> Result<Plan, Refusal>
+pub fn plan_change(alloc: Global, current: &CurrentRows, change: &Change) -> Result<Plan, Refusal>
     ensures plan { IfOk result (λ plan. IsPlanOf change.now.action current.now.rows plan) }
     ensures refused { IfErr result (λ refusal.
         ((refusal ≡ Refusal.EmptyPeriod) × IsTrue (has_empty_row change.now.action))
@@ -57,11 +53,7 @@ fn plan_without_condition(
 }
 
 // The plan of a change that gives no rows, over all rows.
-fn plan_over_all(
-    alloc: Global,
-    current: &CurrentRows,
-    change: &Change,
-) -> Result<Plan, Refusal>
+fn plan_over_all(alloc: Global, current: &CurrentRows, change: &Change) -> Result<Plan, Refusal>
     requires { given_of change.now.action ≡ [] }
     ensures plan { IfOk result (λ plan. Plans change.now.action current.now.rows plan) }
     ensures refused { IfErr result (λ refusal.

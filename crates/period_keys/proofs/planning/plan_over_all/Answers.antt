@@ -14,7 +14,7 @@ loop-group-init c = (
   [],
   sym (ap rows_of_lists c.into_iter-group-iterator.ensures.into_iter_gives ∙ c.groups-group-items.ensures),
   subst (λ (xs : List VersionRow). Plans c.args.change.now.action [] (record { ended = xs; added = c.empty-added.result })) (sym c.empty-ended.ensures)
-  (subst (λ (ys : List PeriodRow). Plans c.args.change.now.action [] (record { ended = []; added = ys })) (sym c.empty-added.ensures) (plans_nothing c.args.change.now.action c.requires)),
+      (subst (λ (ys : List PeriodRow). Plans c.args.change.now.action [] (record { ended = []; added = ys })) (sym c.empty-added.ensures) (plans_nothing c.args.change.now.action c.requires)),
 )
 
 pub loop-group-preserved : goal.loop-group-preserved
@@ -31,7 +31,7 @@ loop-group-preserved c =
       done ++ rows,
       split ∙ ap (λ (xs : List VersionRow). done ++ xs) left ∙ sym (append_assoc done rows (rows_of_lists c.next.new.self)),
       subst (λ (xs : List VersionRow). Plans action (done ++ rows) (record { ended = xs; added = c.append-in-loop-group.new.self })) (sym c.in_default.ensures.ok)
-      (subst (λ (ys : List PeriodRow). Plans action (done ++ rows) (record { ended = c.loop-group.ended ++ more.ended; added = ys })) (sym c.in_default-append.ensures.ok) both),
+          (subst (λ (ys : List PeriodRow). Plans action (done ++ rows) (record { ended = c.loop-group.ended ++ more.ended; added = ys })) (sym c.in_default-append.ensures.ok) both),
     )
 
 pub returns-clause-plan : goal.returns-clause-plan
