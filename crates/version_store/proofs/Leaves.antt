@@ -21,7 +21,7 @@ use Rattle.version_tables.proofs.Goes.{de_morgan, twice}
 use Rattle.version_store.specs.declared.place.NewRow.{NewRow}
 use Rattle.version_store.specs.declared.place.Place.{Place}
 use Rattle.version_store.specs.Contents.{Contents, TableVersion, added_in, version_in}
-use Rattle.version_store.specs.Changed.{added_at, ended_at, left_of}
+use Rattle.version_store.specs.Changed.{added_at, ended_at}
 use Rattle.version_store.specs.Leaving.{HasBut, is_leaving, key_at, new_version}
 use Rattle.version_store.specs.Written.{Has, written, written_version}
 use Rattle.version_store.proofs.Sweeps.{ended_held, ending, equal, one_row, permuted, taken}

@@ -1,5 +1,5 @@
 -- A database in the midst of a plan: it still has versions that the plan removes.
-use Rattle.std.specs.Prelude.{◌≡◌, ℕ, ℤ, Bool, not, List, map, filter}
+use Rattle.std.specs.Prelude.{ℕ, ℤ, Bool, not, List, map, filter}
 use Rattle.std.specs.Prelude.{IsPermutation, IsTrue, OnOk, Result}
 use Rattle.std.specs.List.{AllByRecursion, list_any}
 use Rattle.period_core.specs.Moments.{forever}

@@ -1,9 +1,6 @@
 use Rattle.std.proofs.Common.{◌≡◌, ◌||◌, sym, ap, ◌∙◌, rules, w64, to_z, of_z}
 use Rattle.sqlite.specs.Held.{state}
-use Rattle.version_tables.specs.Represents.{Version, same_key}
-use Rattle.version_store.specs.Contents.{version_in}
 use Rattle.version_store.specs.Leaving.{is_leaving}
-use Rattle.version_store.specs.Written.{written_version}
 use Rattle.version_store.proofs.Leaves.{closes, notes, same_place}
 use Rattle.version_store.proofs.Places.{one_more}
 use Rattle.version_store.proofs.Sweeps.{other_moment, same_ended, same_moment}

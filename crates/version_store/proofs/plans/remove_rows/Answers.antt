@@ -1,6 +1,5 @@
-use Rattle.std.proofs.Common.{◌≡◌, ◌||◌, arith, rules, refl, sym, ap, ◌∙◌}
+use Rattle.std.proofs.Common.{arith, rules, refl, ap, ◌∙◌}
 use Rattle.sqlite.specs.Held.{state}
-use Rattle.version_tables.specs.Represents.{Version}
 use Rattle.version_tables.proofs.Steps.{nothing_then}
 use Rattle.version_store.specs.Leaving.{is_leaving, key_at}
 use Rattle.version_store.proofs.Leaves.{leaves}

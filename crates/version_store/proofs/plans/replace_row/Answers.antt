@@ -1,4 +1,4 @@
-use Rattle.std.proofs.Common.{◌≡◌, arith, rules, ap, ◌∙◌, w64, to_z, of_z}
+use Rattle.std.proofs.Common.{◌≡◌, arith, rules, w64, to_z, of_z}
 use Rattle.sqlite.specs.Held.{state}
 use Rattle.period_core.specs.Moments.{forever}
 use Rattle.version_tables.proofs.Steps.{nothing_then}
