@@ -35,7 +35,7 @@ pub use bytes::{decode_def, encode_def};
 pub use change::portion_changes::{resolve_delete, resolve_update};
 pub use change::resolution::{resolve_change, resolve_insert};
 pub use change::{Action, Assignment, Change, GivenRow, Plan};
-pub use condition::{Comparand, CompareValues, Cond, holds};
+pub use condition::{Comparand, CompareValues, Cond, holds, is_allowed};
 pub use create::define;
 pub use create::lawful::lawful;
 pub use query::fitting::fits;
