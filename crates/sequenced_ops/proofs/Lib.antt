@@ -10,10 +10,10 @@ pub mod JoinSweeps
 pub mod JoinRows
 pub mod Projections
 pub mod Selections
-pub mod Deciding
-pub mod Pruning
+pub mod KnownTruths
+pub mod KeptRows
 pub mod Widths
-pub mod Equalities
+pub mod JoinKeys
 pub mod SelectRows
 pub mod References
 mod OperatorExamples

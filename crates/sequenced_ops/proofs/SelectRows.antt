@@ -1,7 +1,7 @@
 -- The steps of a select over several references, and of set operators.
 use Rattle.std.proofs.Common.{◌≡◌, ◌↔◌, ◌++◌, ◌∷◌, [], ℕ, ℤ, true, List, map, inl, inr, refl, sym}
 use Rattle.std.proofs.Common.{◌∙◌, ap, subst, append_assoc}
-use Rattle.std.specs.Prelude.{slice_get, Some}
+use Rattle.std.specs.Prelude.{slice_get}
 use Rattle.period_core.specs.declared.row.PeriodRow.{PeriodRow}
 use Rattle.period_core.specs.declared.value.Value.{Value}
 use Rattle.sql_statements.specs.declared.tree.SetOperator.TheVariants.{Union, Except}
@@ -10,10 +10,10 @@ use Rattle.catalog_core.specs.declared.query.AnswerColumn.{AnswerColumn}
 use Rattle.catalog_core.specs.declared.query.resolved.QueryReference.{QueryReference}
 use Rattle.catalog_core.specs.declared.query.resolved.Select.{Select}
 use Rattle.catalog_core.specs.query.Queries.{Query, both, one, rows_for}
-use Rattle.history_model.specs.Answers.{IsProjection, read_items}
+use Rattle.history_model.specs.Answers.{read_items}
 use Rattle.history_model.specs.OrdinaryQuery.{InAnswerOver, InProduct, TableSights, meets_all}
 use Rattle.sequenced_ops.specs.Operations.{Cond, InDifference, InProjection, InUnion}
-use Rattle.sequenced_ops.specs.Operations.{ReadsColumns, SnapshotsAre}
+use Rattle.sequenced_ops.specs.Operations.{SnapshotsAre}
 use Rattle.sequenced_ops.specs.Planning.{InJoined, InMeeting, InPairs, IsPruned}
 
 append-nil : (l : List Value) → l ++ [] ≡ l
@@ -111,9 +111,9 @@ pub select_rows
     → select.references ≡ reference ∷ more
     → columns ≡ map (λ (item : AnswerColumn). item.position) select.items
     → SnapshotsAre
-      (InProjection columns
-      (InJoined tables select.conjuncts (rows_for tables reference) more))
-      rows
+    (InProjection columns
+    (InJoined tables select.conjuncts (rows_for tables reference) more))
+    rows
     → SnapshotsAre (InAnswerOver (one select) tables) rows
 select_rows tables select reference more columns rows split positions are day row = (
   λ h.

@@ -68,15 +68,16 @@ pub selected_next
     : (accepts : List Value → Bool) (columns : List ℕ) (selected more done : List PeriodRow)
     → (row : PeriodRow) → SelectedSoFar accepts columns selected done
     → ((day : ℤ) (vs : List Value)
-      → (InSnapshot more day vs
-      ↔ (InSnapshot selected day vs ⊎ IsAcceptedOn accepts columns row day vs)))
+    → (InSnapshot more day vs
+    ↔ (InSnapshot selected day vs ⊎ IsAcceptedOn accepts columns row day vs)))
     → SelectedSoFar accepts columns more (done ++ row ∷ [])
 selected_next accepts columns selected more done row before step day vs = (
   λ h. elim ((step day vs).0 h) [
     | inl old ↦ let (values, (there, met), reads) = (before day vs).0 old in
         (values, ((holds-push done row day values).1 (inl there), met), reads)
     | inr (inside, met, reads) ↦
-        let here = (refl, days_from row.period day inside, days_to row.period day inside) in
+        let here : RowHolds row day row.values =
+        (refl, days_from row.period day inside, days_to row.period day inside) in
         (row.values, ((holds-push done row day row.values).1 (inr here), met), reads)
   ],
   λ (values, (there, met), reads).
@@ -84,10 +85,10 @@ selected_next accepts columns selected more done row before step day vs = (
       (elim ((holds-push done row day values).0 there) [
         | inl old ↦ inl ((before day vs).1 (values, (old, met), reads))
         | inr (same, from, to) ↦ inr (
-            day_in row.period day from to,
-            subst (λ v. accepts v ≡ true) (sym same) met,
-            subst (λ v. ReadsColumns columns v vs) (sym same) reads,
-          )
+          day_in row.period day from to,
+          subst (λ v. accepts v ≡ true) (sym same) met,
+          subst (λ v. ReadsColumns columns v vs) (sym same) reads,
+        )
       ]),
 )
 
@@ -96,9 +97,9 @@ pub projected_selected
     : (accepts : List Value → Bool) (columns : List ℕ) (old new : List PeriodRow)
     → (row : PeriodRow) → accepts row.values ≡ true
     → ((day : ℤ) (vs : List Value)
-      → (InSnapshot new day vs
-      ↔ (InSnapshot old day vs
-      ⊎ (ReadsColumns columns row.values vs × InPeriod row.period day))))
+    → (InSnapshot new day vs
+    ↔ (InSnapshot old day vs
+    ⊎ (ReadsColumns columns row.values vs × InPeriod row.period day))))
     → (day : ℤ) (vs : List Value)
     → (InSnapshot new day vs
     ↔ (InSnapshot old day vs ⊎ IsAcceptedOn accepts columns row day vs))

@@ -1,11 +1,11 @@
-use Rattle.std.proofs.Common.{◌≡◌, ◌++◌, ◌∷◌, [], List, true, sym, ap, ◌∙◌, subst}
+use Rattle.std.proofs.Common.{◌≡◌, ◌++◌, List, true, sym, ap, ◌∙◌, subst}
 use Rattle.std.specs.Global.{Vec}
 use Rattle.catalog_core.proofs.lemmas.conditions.Truth.{test_truth}
 use Rattle.catalog_core.specs.Conditions.{compares, meets}
 use Rattle.sequenced_ops.specs.Operations.{Cond}
 use Rattle.sequenced_ops.specs.Planning.{AreKeys}
 use Rattle.sequenced_ops.specs.declared.equalities.Equality.{Equality}
-use Rattle.sequenced_ops.proofs.Equalities.{keys_more, meets_at}
+use Rattle.sequenced_ops.proofs.JoinKeys.{keys_more, meets_at}
 use Rattle.sequenced_ops.proofs.joining.equalities_of.Goals as goal
 use Rattle.sequenced_ops.proofs.joining.equalities_of.Goals.{in-Test+in-Some+in_ok-push, in-Test+in_default-equality_of, in_default}
 

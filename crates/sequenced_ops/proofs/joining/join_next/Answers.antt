@@ -5,7 +5,7 @@ use Rattle.temporal_model.specs.Snapshot.{InSnapshot}
 use Rattle.sequenced_ops.specs.Operations.{Cond}
 use Rattle.sequenced_ops.specs.Planning.{InPairs, IsPruned}
 use Rattle.sequenced_ops.proofs.Logic.{if_ok_weaker}
-use Rattle.sequenced_ops.proofs.Pruning.{pruned_again}
+use Rattle.sequenced_ops.proofs.KeptRows.{pruned_again}
 use Rattle.sequenced_ops.proofs.joining.join_next.Goals as goal
 
 pub returns : goal.returns

@@ -1,5 +1,5 @@
 use Rattle.std.proofs.Common.{take}
-use Rattle.sequenced_ops.proofs.Pruning.{IsKept}
+use Rattle.sequenced_ops.proofs.KeptRows.{IsKept}
 use Rattle.sequenced_ops.proofs.pruning.copy_pruned.Given as goal
 
 abbrev pub invariant-loop-row : goal.invariant-loop-row

@@ -1,4 +1,4 @@
-use Rattle.sequenced_ops.proofs.Pruning.{IsKeptOf}
+use Rattle.sequenced_ops.proofs.KeptRows.{IsKeptOf}
 use Rattle.sequenced_ops.proofs.pruning.prune.Given as goal
 
 abbrev pub invariant-loop-row : goal.invariant-loop-row

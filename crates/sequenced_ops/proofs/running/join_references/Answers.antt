@@ -15,8 +15,8 @@ join_all-requires-clause-width c =
     (pruned_width c.args.conjuncts.now 0 c.args.first.now c.in_ok-kept.kept.items
     c.requires.width c.in_ok-kept.ensures)
 
-pub returns-in_ok-kept : goal.returns-in_ok-kept
-returns-in_ok-kept c =
+pub returns-then-rules_some_out : goal.returns-then-rules_some_out
+returns-then-rules_some_out c =
     let tables = c.args.tables.now in
     let conjuncts : List Cond = c.args.conjuncts.now in
     let columns : List ℕ = c.args.columns.now in

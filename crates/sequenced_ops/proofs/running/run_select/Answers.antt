@@ -30,8 +30,8 @@ join_references-requires c =
     let reference = c.reference-item.result in
     let is = first_of references reference c.in-len1-up.len_at_least c.reference-item.is in
     let fits = fit_parts tables references reference is
-        (fit_of tables c.args.select.now.references references c.as_slice.ensures.value
-        c.requires) in
+    (fit_of tables c.args.select.now.references references c.as_slice.ensures.value
+    c.requires) in
     record {
       width = subst HasOneWidth (sym c.rows_for-first.ensures)
           (seen_width tables reference fits.0);

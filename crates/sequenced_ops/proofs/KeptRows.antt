@@ -1,14 +1,13 @@
 -- The steps of the loops that leave rows out, and what they keep.
-use Rattle.std.proofs.Common.{◌≡◌, ◌++◌, ◌∷◌, [], ℕ, ℤ, List, length, true, inl, inr, refl, sym}
+use Rattle.std.proofs.Common.{◌≡◌, ◌++◌, ◌∷◌, [], ℕ, ℤ, List, true, inl, inr, refl, sym}
 use Rattle.std.proofs.Common.{◌∙◌, ap, subst, append_assoc}
-use Rattle.std.specs.Prelude.{IsTrue}
 use Rattle.period_core.specs.declared.row.PeriodRow.{PeriodRow}
 use Rattle.period_core.specs.declared.value.Value.{Value}
 use Rattle.temporal_model.specs.Snapshot.{InSnapshot}
 use Rattle.history_model.specs.OrdinaryQuery.{meets_all}
 use Rattle.sequenced_ops.specs.Operations.{Cond}
 use Rattle.sequenced_ops.specs.Planning.{IsPruned, RulesOut}
-use Rattle.sequenced_ops.proofs.Standing.{holds-nil, holds-push}
+use Rattle.sequenced_ops.proofs.Standing.{holds-push}
 
 module _ (conjuncts : List Cond) (start : ℕ) where
   -- what is kept of the rows that are done

@@ -1,10 +1,9 @@
 -- The equalities of a join, found among the conditions.
-use Rattle.std.proofs.Common.{◌≡◌, ◌<◌, ◌≤◌, ◌+◌, ◌++◌, ◌∷◌, [], ℕ, Bool, List, Option, Some, None}
-use Rattle.std.proofs.Common.{true, false, length, get_or, refl, sym, ◌∙◌, ap, ap₂, subst, arith}
+use Rattle.std.proofs.Common.{◌≡◌, ◌<◌, ◌+◌, ◌++◌, ◌∷◌, [], ℕ, List, Option, Some, None}
+use Rattle.std.proofs.Common.{true, length, get_or, refl, sym, ◌∙◌, ap, subst, arith}
 use Rattle.std.proofs.Common.{append_assoc, length-append}
 use Rattle.std.specs.Prelude.{slice_get}
 use Rattle.std.specs.Ordering.{is_eq}
-use Rattle.std.specs.List.{All}
 use Rattle.std.specs.declared.cmp.Ordering.{Ordering}
 use Rattle.std.specs.declared.cmp.Ordering.TheVariants as order
 use Rattle.std.proofs.lemmas.List.Elements.{All-push}
@@ -13,13 +12,13 @@ use Rattle.period_core.specs.OrderLaws.{value_cmp-same}
 use Rattle.period_core.specs.declared.row.PeriodRow.{PeriodRow}
 use Rattle.period_core.specs.declared.value.Value.{Value}
 use Rattle.sql_statements.specs.declared.statement.Comparison.TheVariants.{Equal}
-use Rattle.catalog_core.specs.Conditions.{compared, compares, meets}
+use Rattle.catalog_core.specs.Conditions.{compared, meets}
 use Rattle.temporal_model.specs.Snapshot.{InSnapshot}
 use Rattle.history_model.specs.OrdinaryQuery.{meets_all}
 use Rattle.sequenced_ops.specs.Operations.{Cond, InJoin, IsEqual, SnapshotsAre}
 use Rattle.sequenced_ops.specs.Planning.{AreKeys, HasWidth, InPairs, IsColumnPair, IsPruned}
 use Rattle.sequenced_ops.specs.declared.equalities.Equality.{Equality}
-use Rattle.sequenced_ops.proofs.Deciding.{get-left, get-right}
+use Rattle.sequenced_ops.proofs.KnownTruths.{get-left, get-right}
 use Rattle.sequenced_ops.proofs.Widths.{passes_at}
 
 -- ---- two sides that are equal are there and the same
@@ -68,8 +67,8 @@ pub pair_equal
     : (width more left right : ℕ) (pair : Equality) → IsColumnPair width more left right pair
     → (first second rest : List Value) → length first ≡ width → length second ≡ more
     → compared Equal (slice_get ((first ++ second) ++ rest) left)
-      (slice_get ((first ++ second) ++ rest) right)
-      ≡ true
+    (slice_get ((first ++ second) ++ rest) right)
+    ≡ true
     → IsEqual first second pair
 pair_equal width more left right pair is first second rest e f met =
     let row = (first ++ second) ++ rest in
@@ -84,8 +83,8 @@ pub pair_equal_back
     : (width more left right : ℕ) (pair : Equality) → IsColumnPair width more left right pair
     → (first second rest : List Value) → length first ≡ width → length second ≡ more
     → compared Equal (slice_get ((first ++ second) ++ rest) right)
-      (slice_get ((first ++ second) ++ rest) left)
-      ≡ true
+    (slice_get ((first ++ second) ++ rest) left)
+    ≡ true
     → IsEqual first second pair
 pair_equal_back width more left right pair is first second rest e f met =
     let row = (first ++ second) ++ rest in
@@ -111,7 +110,7 @@ pub keys_more
     : (conjuncts : List Cond) (width more : ℕ) (keys : List Equality) (pair : Equality)
     → AreKeys conjuncts width more keys
     → ((first second rest : List Value) → length first ≡ width → length second ≡ more
-      → meets_all conjuncts ((first ++ second) ++ rest) ≡ true → IsEqual first second pair)
+    → meets_all conjuncts ((first ++ second) ++ rest) ≡ true → IsEqual first second pair)
     → AreKeys conjuncts width more (keys ++ pair ∷ [])
 keys_more conjuncts width more keys pair old new first second rest e f met =
     All-push (IsEqual first second) keys pair (old first second rest e f met)

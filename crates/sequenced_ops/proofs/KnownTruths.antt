@@ -1,6 +1,6 @@
 -- What the values of a row from a position on decide of a condition.
-use Rattle.std.proofs.Common.{◌≡◌, ◌<◌, ◌≤◌, ◌-◌, ◌++◌, ◌∷◌, [], ℕ, zero, suc, Bool, List, Option}
-use Rattle.std.proofs.Common.{Some, None, true, false, not, length, get_or, refl, sym, ◌∙◌, ap, ap₂}
+use Rattle.std.proofs.Common.{◌≡◌, ◌<◌, ◌≤◌, ◌-◌, ◌++◌, ◌∷◌, [], ℕ, zero, suc, Bool, List}
+use Rattle.std.proofs.Common.{Some, true, false, not, length, get_or, refl, sym, ◌∙◌, ap, ap₂}
 use Rattle.std.proofs.Common.{arith}
 use Rattle.std.specs.Prelude.{◌||◌, ◌&&◌, slice_get}
 use Rattle.std.specs.Global.{Box, Vec}
@@ -11,7 +11,6 @@ use Rattle.period_core.specs.Order.{value_cmp}
 use Rattle.period_core.specs.declared.value.Value.{Value}
 use Rattle.sql_statements.specs.declared.tree.Tree as code
 use Rattle.catalog_core.specs.Conditions.{allows, compared, compares, meets, side_value}
-use Rattle.catalog_core.specs.declared.condition.Comparand.{Comparand}
 use Rattle.catalog_core.specs.declared.condition.CompareValues.{CompareValues}
 use Rattle.catalog_core.proofs.lemmas.conditions.Truth.{and_both, and_truth, not_truth, or_none}
 use Rattle.catalog_core.proofs.lemmas.conditions.Truth.{or_truth, test_truth}
@@ -57,9 +56,9 @@ known_at values start position value past there first rest e =
 pub test_known
     : (start : ℕ) (values : List Value) (test : CompareValues) (left right : Value)
     → ((first rest : List Value) → length first ≡ start
-      → side_value test.left (first ++ (values ++ rest)) ≡ Some left)
+    → side_value test.left (first ++ (values ++ rest)) ≡ Some left)
     → ((first rest : List Value) → length first ≡ start
-      → side_value test.right (first ++ (values ++ rest)) ≡ Some right)
+    → side_value test.right (first ++ (values ++ rest)) ≡ Some right)
     → IsTestTruth start values test (allows test.comparison (value_cmp left right))
 test_known start values test left right lefts rights first rest e =
     ap₂ (compared test.comparison) (lefts first rest e) (rights first rest e)
@@ -108,13 +107,15 @@ module _ (start : ℕ) (values : List Value) where
       (h first rest e)
 
   pub or_part
-      : (first_part : Box Cond) (others : Vec Cond) (i : ℕ) (part : Cond)
-      → i < length others.items → part ≡ get_or others.items i part
+      : (first_part : Box Cond) (others : Vec Cond) (parts : List Cond)
+      → parts ≡ others.items → (i : ℕ) (part : Cond) → i < length parts
+      → part ≡ get_or parts i part
       → IsTruth start values part true → IsTruth start values (code.Or first_part others) true
-  or_part first_part others i part here is h first rest e =
+  or_part first_part others parts same i part here is h first rest e =
       or_truth (compares (first ++ (values ++ rest))) first_part others
       ∙ or_there (at first rest first_part.value) (list_any (at first rest) others.items)
-      (list_any_at (at first rest) others.items i part here
+      (ap (list_any (at first rest)) (sym same)
+      ∙ list_any_at (at first rest) parts i part here
       (ap (at first rest) (sym is) ∙ h first rest e))
 
   none_holds
@@ -146,13 +147,15 @@ module _ (start : ℕ) (values : List Value) where
       (h first rest e)
 
   pub and_part
-      : (first_part : Box Cond) (others : Vec Cond) (i : ℕ) (part : Cond)
-      → i < length others.items → part ≡ get_or others.items i part
+      : (first_part : Box Cond) (others : Vec Cond) (parts : List Cond)
+      → parts ≡ others.items → (i : ℕ) (part : Cond) → i < length parts
+      → part ≡ get_or parts i part
       → IsTruth start values part false → IsTruth start values (code.And first_part others) false
-  and_part first_part others i part here is h first rest e =
+  and_part first_part others parts same i part here is h first rest e =
       and_truth (compares (first ++ (values ++ rest))) first_part others
       ∙ and_there (at first rest first_part.value) (list_all (at first rest) others.items)
-      (list_all_at (at first rest) others.items i part here
+      (ap (list_all (at first rest)) (sym same)
+      ∙ list_all_at (at first rest) parts i part here
       (ap (at first rest) (sym is) ∙ h first rest e))
 
   each_holds
