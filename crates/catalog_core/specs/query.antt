@@ -3,3 +3,5 @@ pub mod QueryParts
 pub mod Refusals
 pub mod SimpleSelects
 pub mod Selection
+pub mod Queries
+pub mod Fitting
