@@ -1,0 +1,145 @@
+-- For private functions: the faults of a query, collected over its parts. Of a query they are the
+-- conditions of its refusals.
+use Rattle.std.specs.Prelude.{◌||◌, Bool, false, List, [], ◌∷◌, Option, Some, filter, length, map}
+use Rattle.std.specs.Prelude.{slice_get, is_none}
+use Rattle.std.specs.List.{list_any}
+use Rattle.std.specs.Option.{option_map}
+use Rattle.period_core.specs.declared.refusal.Refusal.TheVariants.{AmbiguousColumn, ColumnCount}
+use Rattle.period_core.specs.declared.refusal.Refusal.TheVariants.{DuplicateName, PeriodColumn}
+use Rattle.period_core.specs.declared.refusal.Refusal.TheVariants.{TypeMismatch, UnknownColumn}
+use Rattle.period_core.specs.declared.refusal.Refusal.TheVariants.{UnknownTable}
+use Rattle.sql_statements.specs.Trees.{Condition, Query, Select}
+use Rattle.sql_statements.specs.declared.statement.ColumnReference.{ColumnReference}
+use Rattle.sql_statements.specs.declared.statement.Compare.{Compare}
+use Rattle.sql_statements.specs.declared.statement.Operand.{Operand}
+use Rattle.sql_statements.specs.declared.statement.Operand.TheVariants as operand
+use Rattle.sql_statements.specs.declared.statement.SelectItem.{SelectItem}
+use Rattle.catalog_core.specs.Judged.{Judged}
+use Rattle.catalog_core.specs.table.Kinds.{differ, kind_of_column, kind_of_value}
+use Rattle.catalog_core.specs.query.QueryParts.{selects_of, sides_of}
+use Rattle.catalog_core.specs.query.Refusals.{are_matching, are_of_period, have_other_count}
+use Rattle.catalog_core.specs.query.Refusals.{have_other_kinds, lacks_table, names_twice}
+use Rattle.catalog_core.specs.query.Scopes.{ScopedCondition, SeenColumn, conditions_in, names_column}
+use Rattle.catalog_core.specs.query.Scopes.{seen_columns, tables_of, tests_of}
+use Rattle.catalog_core.specs.declared.query.faults.Faults.{Faults}
+use Rattle.catalog_core.specs.declared.table.ValueKind.{ValueKind}
+use Rattle.catalog_core.specs.declared.table.TableDef.{TableDef}
+use Rattle.catalog_core.specs.declared.table.matching.Matching.TheVariants.{Nothing, Several}
+
+-- none of them
+abbrev pub no_faults : Faults
+no_faults = record {
+  table = false;
+  unknown = false;
+  ambiguous = false;
+  twice = false;
+  period = false;
+  count = false;
+  kinds = false;
+}
+
+-- those of either
+abbrev pub either : Faults → Faults → Faults
+either f g = record {
+  table = f.table || g.table;
+  unknown = f.unknown || g.unknown;
+  ambiguous = f.ambiguous || g.ambiguous;
+  twice = f.twice || g.twice;
+  period = f.period || g.period;
+  count = f.count || g.count;
+  kinds = f.kinds || g.kinds;
+}
+
+-- those of some element
+abbrev pub faults_among : {X : Type 0} → (X → Faults) → List X → Faults
+faults_among f [] = no_faults
+faults_among f (x ∷ xs) = either (f x) (faults_among f xs)
+
+-- the refusals with their conditions
+abbrev pub judged_faults : Faults → List Judged
+judged_faults f =
+    (UnknownTable, f.table)
+    ∷ (UnknownColumn, f.unknown)
+    ∷ (AmbiguousColumn, f.ambiguous)
+    ∷ (DuplicateName, f.twice)
+    ∷ (PeriodColumn, f.period)
+    ∷ (ColumnCount, f.count)
+    ∷ (TypeMismatch, f.kinds)
+    ∷ []
+
+-- ---- names, among the columns that are seen
+
+-- those that a name matches
+abbrev pub matches_among : List SeenColumn → ColumnReference → List SeenColumn
+matches_among columns reference = filter (names_column reference) columns
+
+-- of a name that matches these
+unfoldable pub match_faults : List SeenColumn → Faults
+match_faults matches = record no_faults {
+  unknown = are_matching Nothing matches;
+  ambiguous = are_matching Several matches;
+  period = are_of_period matches
+}
+
+-- the kind of the first
+abbrev pub match_kind : List SeenColumn → Option ValueKind
+match_kind matches =
+    option_map (λ (seen : SeenColumn). kind_of_column seen.column.kind) (slice_get matches 0)
+
+-- of a side of a comparison
+abbrev pub side_faults : List SeenColumn → Operand → Faults
+side_faults columns (operand.Column column) = match_faults (matches_among columns column)
+side_faults columns (operand.Literal value) = no_faults
+
+abbrev pub side_kind : List SeenColumn → Operand → Option ValueKind
+side_kind columns (operand.Column column) = match_kind (matches_among columns column)
+side_kind columns (operand.Literal value) = Some (kind_of_value value)
+
+-- of sides of these kinds
+abbrev pub kind_faults : Bool → Faults
+kind_faults other = record no_faults { kinds = other }
+
+-- of a comparison
+unfoldable pub compare_faults : List SeenColumn → Compare → Faults
+compare_faults columns t =
+    either (either (side_faults columns t.left) (side_faults columns t.right))
+    (kind_faults (differ (side_kind columns t.left) (side_kind columns t.right)))
+
+-- of a condition
+abbrev pub condition_faults : List SeenColumn → Condition Compare → Faults
+condition_faults columns condition = faults_among (compare_faults columns) (tests_of condition)
+
+-- of an item
+abbrev pub item_faults : List SeenColumn → SelectItem → Faults
+item_faults columns item = match_faults (matches_among columns item.column)
+
+-- ---- selects and queries
+
+-- of a condition of a select, by what it sees
+abbrev pub scoped_faults : List TableDef → ScopedCondition → Faults
+scoped_faults catalog c = condition_faults (seen_columns catalog c.0.seen) c.1
+
+-- of the tables of a select
+abbrev pub table_faults : List TableDef → Select → Faults
+table_faults catalog select =
+    record no_faults { table = lacks_table catalog select; twice = names_twice select }
+
+-- of a select
+unfoldable pub select_faults : List TableDef → Select → Faults
+select_faults catalog select =
+    either (table_faults catalog select)
+    (either (faults_among (scoped_faults catalog) (conditions_in select))
+    (faults_among (item_faults (seen_columns catalog (tables_of select))) select.items))
+
+-- of the two sides of a set operator, by their first selects
+abbrev pub operand_faults : List TableDef → Select × Select → Faults
+operand_faults catalog sides = record no_faults {
+  count = have_other_count sides;
+  kinds = have_other_kinds catalog sides
+}
+
+-- of a query
+abbrev pub query_faults : List TableDef → Query → Faults
+query_faults catalog query =
+    either (faults_among (select_faults catalog) (selects_of query))
+    (faults_among (operand_faults catalog) (sides_of query))
