@@ -5,3 +5,5 @@ pub mod Faults
 pub mod Matched
 pub mod SimpleSelects
 pub mod Selection
+pub mod Queries
+pub mod Fitting

@@ -38,6 +38,8 @@ pub use change::{Action, Assignment, Change, GivenRow, Plan};
 pub use condition::{Comparand, CompareValues, Cond, holds};
 pub use create::define;
 pub use create::lawful::lawful;
+pub use query::fitting::fits;
+pub use query::resolved;
 pub use query::selection::{resolve_query, resolve_sequenced};
 pub use query::{AnswerColumn, Query, Select};
 pub use stored::resolution::{resolve_stored, resolve_stored_query};
