@@ -2,3 +2,8 @@ pub mod SeenColumns
 pub mod SimpleFacts
 pub mod SelectFaults
 pub mod InPlace
+pub mod FaultSums
+pub mod Matching
+pub mod ColumnLists
+pub mod ReferenceLists
+pub mod ScopeFaults

@@ -1,8 +1,8 @@
 -- For private functions: the faults of a query, collected over its parts. Of a query they are the
 -- conditions of its refusals.
-use Rattle.std.specs.Prelude.{◌||◌, Bool, false, List, [], ◌∷◌, Option, Some, filter, length, map}
-use Rattle.std.specs.Prelude.{slice_get, is_none}
-use Rattle.std.specs.List.{list_any}
+use Rattle.std.specs.Prelude.{◌==◌, ◌||◌, Bool, false, not, List, [], ◌∷◌, Option, Some, None, filter}
+use Rattle.std.specs.Prelude.{is_none, length, map, slice_get}
+use Rattle.std.specs.List.{list_any, zip}
 use Rattle.std.specs.Option.{option_map}
 use Rattle.period_core.specs.declared.refusal.Refusal.TheVariants.{AmbiguousColumn, ColumnCount}
 use Rattle.period_core.specs.declared.refusal.Refusal.TheVariants.{DuplicateName, PeriodColumn}
@@ -14,13 +14,15 @@ use Rattle.sql_statements.specs.declared.statement.Compare.{Compare}
 use Rattle.sql_statements.specs.declared.statement.Operand.{Operand}
 use Rattle.sql_statements.specs.declared.statement.Operand.TheVariants as operand
 use Rattle.sql_statements.specs.declared.statement.SelectItem.{SelectItem}
+use Rattle.sql_statements.specs.declared.statement.TableReference.{TableReference}
 use Rattle.catalog_core.specs.Judged.{Judged}
 use Rattle.catalog_core.specs.table.Kinds.{differ, kind_of_column, kind_of_value}
+use Rattle.catalog_core.specs.table.Naming.{repeats}
+use Rattle.catalog_core.specs.table.TableWords.{table_of_name}
 use Rattle.catalog_core.specs.query.QueryParts.{selects_of, sides_of}
-use Rattle.catalog_core.specs.query.Refusals.{are_matching, are_of_period, have_other_count}
-use Rattle.catalog_core.specs.query.Refusals.{have_other_kinds, lacks_table, names_twice}
-use Rattle.catalog_core.specs.query.Scopes.{ScopedCondition, SeenColumn, conditions_in, names_column}
-use Rattle.catalog_core.specs.query.Scopes.{seen_columns, tables_of, tests_of}
+use Rattle.catalog_core.specs.query.Refusals.{are_matching, are_of_period}
+use Rattle.catalog_core.specs.query.Scopes.{ScopedCondition, SeenColumn, known_name, names_column}
+use Rattle.catalog_core.specs.query.Scopes.{on_conditions, seen_columns, tables_of, tests_of}
 use Rattle.catalog_core.specs.declared.query.faults.Faults.{Faults}
 use Rattle.catalog_core.specs.declared.table.ValueKind.{ValueKind}
 use Rattle.catalog_core.specs.declared.table.TableDef.{TableDef}
@@ -78,7 +80,7 @@ unfoldable pub match_faults : List SeenColumn → Faults
 match_faults matches = record no_faults {
   unknown = are_matching Nothing matches;
   ambiguous = are_matching Several matches;
-  period = are_of_period matches
+  period = are_of_period matches;
 }
 
 -- the kind of the first
@@ -113,30 +115,71 @@ condition_faults columns condition = faults_among (compare_faults columns) (test
 abbrev pub item_faults : List SeenColumn → SelectItem → Faults
 item_faults columns item = match_faults (matches_among columns item.column)
 
+-- of a condition that may be absent
+abbrev pub where_faults : List SeenColumn → Option (Condition Compare) → Faults
+where_faults columns None = no_faults
+where_faults columns (Some condition) = condition_faults columns condition
+
 -- ---- selects and queries
+
+-- one of the tables is not there
+abbrev pub lacks_some : List TableDef → List TableReference → Bool
+lacks_some catalog tables =
+    list_any (λ (r : TableReference). is_none (table_of_name catalog r.table)) tables
+
+-- two of them are known by one name
+abbrev pub known_twice : List TableReference → Bool
+known_twice tables = repeats (map known_name tables)
+
+-- of the tables of a select
+abbrev pub reference_faults : List TableDef → List TableReference → Faults
+reference_faults catalog tables = record no_faults {
+  table = lacks_some catalog tables;
+  twice = known_twice tables;
+}
 
 -- of a condition of a select, by what it sees
 abbrev pub scoped_faults : List TableDef → ScopedCondition → Faults
 scoped_faults catalog c = condition_faults (seen_columns catalog c.0.seen) c.1
 
--- of the tables of a select
-abbrev pub table_faults : List TableDef → Select → Faults
-table_faults catalog select =
-    record no_faults { table = lacks_table catalog select; twice = names_twice select }
+-- of a select: of its tables, the conditions of ON, that of WHERE, and the items
+abbrev pub select_faults_over : List TableDef → List SeenColumn → Select → Faults
+select_faults_over catalog columns select =
+    either
+    (either (reference_faults catalog (tables_of select))
+    (faults_among (scoped_faults catalog) (on_conditions [] select.chains)))
+    (either (where_faults columns select.condition)
+    (faults_among (item_faults columns) select.items))
 
--- of a select
 unfoldable pub select_faults : List TableDef → Select → Faults
 select_faults catalog select =
-    either (table_faults catalog select)
-    (either (faults_among (scoped_faults catalog) (conditions_in select))
-    (faults_among (item_faults (seen_columns catalog (tables_of select))) select.items))
+    select_faults_over catalog (seen_columns catalog (tables_of select)) select
+
+-- the kinds of a select's columns
+abbrev pub side_kinds : List TableDef → Select → List (Option ValueKind)
+side_kinds catalog select =
+    map
+    (λ (item : SelectItem).
+    match_kind (matches_among (seen_columns catalog (tables_of select)) item.column))
+    select.items
+
+-- some columns in the same place are of two kinds
+abbrev pub differ_somewhere : List (Option ValueKind) → List (Option ValueKind) → Bool
+differ_somewhere left right =
+    list_any (λ (kinds : Option ValueKind × Option ValueKind). differ kinds.0 kinds.1)
+    (zip left right)
+
+-- of a set operator over sides with columns of these kinds
+abbrev pub kinds_faults : List (Option ValueKind) → List (Option ValueKind) → Faults
+kinds_faults left right = record no_faults {
+  count = not (length left == length right);
+  kinds = differ_somewhere left right;
+}
 
 -- of the two sides of a set operator, by their first selects
 abbrev pub operand_faults : List TableDef → Select × Select → Faults
-operand_faults catalog sides = record no_faults {
-  count = have_other_count sides;
-  kinds = have_other_kinds catalog sides
-}
+operand_faults catalog sides =
+    kinds_faults (side_kinds catalog sides.0) (side_kinds catalog sides.1)
 
 -- of a query
 abbrev pub query_faults : List TableDef → Query → Faults

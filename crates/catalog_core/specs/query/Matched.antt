@@ -30,5 +30,5 @@ abbrev pub found_faults : Matched → Faults
 found_faults found = record no_faults {
   unknown = is_none found.kind;
   ambiguous = found.several;
-  period = found.period
+  period = found.period;
 }

@@ -34,10 +34,10 @@ impl<'a> Model for SeenColumn<'a> {
     ghost Value = { Seen };
 
     ghost view = { λ s. record {
-        known_as = s.known_as.now;
-        table = s.table.now;
-        place = s.place;
-        column = s.column.now;
+      known_as = s.known_as.now;
+      table = s.table.now;
+      place = s.place;
+      column = s.column.now;
     } };
 }
 
@@ -128,7 +128,7 @@ pub fn push_columns<'a>(
 ) -> Result<(), Memory>
     ensures { IfOk result (λ _. columns.new.items ≡ columns.old.items
         ++ declared_columns (scope.known_name reference.now)
-            (table_of_name catalog.now.tables reference.now.table)) }
+        (table_of_name catalog.now.tables reference.now.table)) }
 {
     let Some((_, table)) = catalog.find(&reference.table) else {
         return Ok(());
