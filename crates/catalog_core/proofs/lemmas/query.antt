@@ -7,3 +7,6 @@ pub mod Matching
 pub mod ColumnLists
 pub mod ReferenceLists
 pub mod ScopeFaults
+pub mod QueryWalks
+pub mod FaultParts
+pub mod QueryFaults

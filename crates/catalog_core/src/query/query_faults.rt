@@ -3,9 +3,9 @@
 
 ghost use Rattle.std.specs.Prelude.{◌≡◌, IfOk};
 ghost use Rattle.sql_statements.specs.Plain.{plain_query, plain_select};
-ghost use Rattle.catalog_core.specs.query.Faults as faults;
-ghost use Rattle.catalog_core.specs.query.Faults.{faults_among, kinds_faults, select_faults};
-ghost use Rattle.catalog_core.specs.query.Faults.{side_kinds};
+ghost use Rattle.catalog_core.specs.query.Faults as words;
+ghost use Rattle.catalog_core.specs.query.Faults.{differ_somewhere, faults_among, kinds_faults};
+ghost use Rattle.catalog_core.specs.query.Faults.{operand_faults, select_faults, side_kinds};
 ghost use Rattle.catalog_core.specs.query.QueryParts.{selects_of, sides_of};
 
 use crate::query::faults::Faults;
@@ -65,14 +65,15 @@ fn item_kinds(
 
 /// Whether columns in the same place are of two kinds.
 fn have_other_kinds(left: &[Option<ValueKind>], right: &[Option<ValueKind>]) -> bool
-    ensures { result ≡ faults.differ_somewhere left.now right.now }
+    ensures { result ≡ differ_somewhere left.now right.now }
 {
-    for (x, y) in left.iter().zip(right) {
-        if differ(*x, *y) {
-            return true;
-        }
-    }
-    false
+    let [x, more_left @ ..] = left else {
+        return false;
+    };
+    let [y, more_right @ ..] = right else {
+        return false;
+    };
+    differ(*x, *y) || have_other_kinds(more_left, more_right)
 }
 
 /// The faults of a set operator over sides with columns of these kinds.
@@ -93,7 +94,7 @@ fn faults_of_operators(
     query: &QueryTree<SelectDistinct>,
 ) -> Result<Faults, Memory>
     ensures { IfOk result (λ faults. faults ≡ faults_among
-        (faults.operand_faults catalog.now.tables) (sides_of (plain_query query.now))) }
+        (operand_faults catalog.now.tables) (sides_of (plain_query query.now))) }
 {
     match query {
         QueryTree::Select(_) => Ok(Faults::none()),
@@ -117,7 +118,7 @@ pub fn query_faults(
     query: &QueryTree<SelectDistinct>,
 ) -> Result<Faults, Memory>
     ensures { IfOk result
-        (λ faults. faults ≡ faults.query_faults catalog.now.tables (plain_query query.now)) }
+        (λ faults. faults ≡ words.query_faults catalog.now.tables (plain_query query.now)) }
 {
     let selects = faults_of_selects(alloc, catalog, query)?;
     Ok(selects.or(faults_of_operators(alloc, catalog, query)?))
