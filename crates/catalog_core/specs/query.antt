@@ -6,4 +6,5 @@ pub mod Matched
 pub mod SimpleSelects
 pub mod Selection
 pub mod Queries
+pub mod Resolving
 pub mod Fitting

@@ -1,22 +1,25 @@
 //! The faults of a sequenced query: those of its selects, and those of the two sides of each of its
 //! set operators.
 
-ghost use Rattle.std.specs.Prelude.{◌≡◌, IfOk};
+ghost use Rattle.std.specs.Prelude.{◌≡◌, IfOk, MatchOption};
+ghost use Rattle.period_core.specs.Leasts.{IsLeast, NoneApplies};
 ghost use Rattle.sql_statements.specs.Plain.{plain_query, plain_select};
+ghost use Rattle.catalog_core.specs.Judged.{Holds};
 ghost use Rattle.catalog_core.specs.query.Faults as words;
 ghost use Rattle.catalog_core.specs.query.Faults.{differ_somewhere, faults_among, kinds_faults};
 ghost use Rattle.catalog_core.specs.query.Faults.{operand_faults, select_faults, side_kinds};
 ghost use Rattle.catalog_core.specs.query.QueryParts.{selects_of, sides_of};
+ghost use Rattle.catalog_core.specs.query.Refusals.{refusals_of};
 
 use crate::query::faults::Faults;
 use crate::query::judging::select_faults;
-use crate::query::query_parts::first_select;
+use crate::query::query_parts::{first_select, is_above_limit};
 use crate::query::references::references_of;
 use crate::query::seen_column::{look_up, push_columns};
 use crate::table::ValueKind;
 use crate::table::catalog::Catalog;
 use crate::table::kinds::differ;
-use period_core::Memory;
+use period_core::{Memory, Refusal};
 use sql_statements::{QueryTree, SelectDistinct};
 use std::alloc::Global;
 
@@ -122,4 +125,21 @@ pub fn query_faults(
 {
     let selects = faults_of_selects(alloc, catalog, query)?;
     Ok(selects.or(faults_of_operators(alloc, catalog, query)?))
+}
+
+/// The lowest-numbered refusal that applies to a query, if one does. The only error is out of
+/// memory.
+pub fn query_fault(
+    alloc: Global,
+    catalog: &Catalog,
+    query: &QueryTree<SelectDistinct>,
+) -> Result<Option<Refusal>, Memory>
+    ensures { let applies = Holds (refusals_of catalog.now.tables (plain_query query.now))
+        in IfOk result (λ found. MatchOption found (NoneApplies applies) (IsLeast applies)) }
+{
+    if is_above_limit(query) {
+        return Ok(Some(Refusal::LimitReached));
+    }
+    let faults = query_faults(alloc, catalog, query)?;
+    Ok(faults.first())
 }

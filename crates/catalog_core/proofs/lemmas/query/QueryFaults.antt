@@ -1,5 +1,6 @@
 -- The refusals of a query are its limits and its faults.
-use Rattle.std.proofs.Common.{◌≡◌, ◌∷◌, ◌||◌, ◌==◌, ◌∙◌, Bool, true, false, not, List, [], None, Some, length, lit≤, map, nat_lt, refl, sym, ap}
+use Rattle.std.proofs.Common.{◌≡◌, ◌∷◌, ◌||◌, ◌==◌, ◌∙◌, Bool, true, false, not, List, [], Option, None, Some, length, lit≤, map, nat_lt, refl, sym, ap}
+use Rattle.std.specs.Prelude.{MatchOption}
 use Rattle.std.specs.List.{list_any}
 use Rattle.std.proofs.lemmas.List.{length-map}
 use Rattle.period_core.specs.Leasts.{IsLeast, NoneApplies}
@@ -101,3 +102,9 @@ least_fault catalog query refusal few first = first_least (refusals_of catalog q
 
 pub no_fault : (catalog : List TableDef) (query : Query) → above query ≡ false → first_holding (judged_faults (query_faults catalog query)) ≡ None → NoneApplies (Holds (refusals_of catalog query))
 no_fault catalog query few first = none_first (refusals_of catalog query) (ascending catalog query) (behind_limit catalog query few ∙ first)
+
+-- what the first fault says
+pub fault_says : (catalog : List TableDef) (query : Query) (found : Option Refusal) → above query ≡ false → found ≡ first_holding (judged_faults (query_faults catalog query))
+    → MatchOption found (NoneApplies (Holds (refusals_of catalog query))) (IsLeast (Holds (refusals_of catalog query)))
+fault_says catalog query None few first = no_fault catalog query few (sym first)
+fault_says catalog query (Some refusal) few first = least_fault catalog query refusal few (sym first)
