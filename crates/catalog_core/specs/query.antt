@@ -7,4 +7,5 @@ pub mod SimpleSelects
 pub mod Selection
 pub mod Queries
 pub mod Resolving
+pub mod Places
 pub mod Fitting

@@ -10,3 +10,6 @@ pub mod ScopeFaults
 pub mod QueryWalks
 pub mod FaultParts
 pub mod QueryFaults
+pub mod ValuePlaces
+pub mod Members
+pub mod Converted

@@ -122,10 +122,13 @@ where_faults columns (Some condition) = condition_faults columns condition
 
 -- ---- selects and queries
 
+-- a table is not there
+abbrev pub lacks_one : List TableDef → TableReference → Bool
+lacks_one catalog reference = is_none (table_of_name catalog reference.table)
+
 -- one of the tables is not there
 abbrev pub lacks_some : List TableDef → List TableReference → Bool
-lacks_some catalog tables =
-    list_any (λ (r : TableReference). is_none (table_of_name catalog r.table)) tables
+lacks_some catalog tables = list_any (λ (r : TableReference). lacks_one catalog r) tables
 
 -- two of them are known by one name
 abbrev pub known_twice : List TableReference → Bool

@@ -84,12 +84,11 @@ abbrev pub ReferenceParts : Type 0
 ReferenceParts = Option ℕ × Window × Option (List ValueKind)
 
 abbrev pub written_reference : List TableDef → TableReference → ReferenceParts
-written_reference catalog r =
-    (
-      number_of catalog r.table,
-      window_of r.window,
-      option_map value_kinds (table_of_name catalog r.table),
-    )
+written_reference catalog r = (
+  number_of catalog r.table,
+  window_of r.window,
+  option_map value_kinds (table_of_name catalog r.table),
+)
 
 -- of a resolved select
 abbrev pub reference_parts : QueryReference → ReferenceParts
@@ -100,11 +99,10 @@ reference_parts r = (Some r.table, r.window, Some r.kinds)
 -- an item as it is written: the position of its column, and its name, which is its new name or else
 -- the column's
 abbrev pub written_column : List TableDef → written.Select → SelectItem → Option ℕ × Name
-written_column catalog select item =
-    (
-      column_position catalog (whole_scope select) item.column,
-      name_or item.new_name item.column.name,
-    )
+written_column catalog select item = (
+  column_position catalog (whole_scope select) item.column,
+  name_or item.new_name item.column.name,
+)
 
 -- the same select, with positions for names
 pub record IsResolved (catalog : List TableDef) (s : written.Select) (select : Select) : Type 0

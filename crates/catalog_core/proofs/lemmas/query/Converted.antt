@@ -1,0 +1,1 @@
+-- A select by positions.
