@@ -13,3 +13,4 @@ pub mod QueryFaults
 pub mod ValuePlaces
 pub mod Members
 pub mod Converted
+pub mod ReferenceParts

@@ -1,13 +1,14 @@
 //! The parts of an accepted select, with positions in place of names. The only error is out of
 //! memory.
 
-ghost use Rattle.std.specs.Prelude.{◌≡◌, ◌++◌, ◌+◌, ◌<◌, ℕ, IfOk, false, length, map, true};
+ghost use Rattle.std.specs.Prelude.{◌≡◌, ◌++◌, ◌+◌, ◌<◌, ◌∷◌, [], IfOk, MatchOption, false, length};
+ghost use Rattle.std.specs.Prelude.{map, true};
 ghost use Rattle.sql_statements.specs.Plain.{plain_condition};
 ghost use Rattle.catalog_core.specs.query.Faults.{lacks_one, lacks_some};
 ghost use Rattle.catalog_core.specs.query.Fitting.{are_in_place};
 ghost use Rattle.catalog_core.specs.query.Places.{placed_item, placed_members};
 ghost use Rattle.catalog_core.specs.query.Resolving as words;
-ghost use Rattle.catalog_core.specs.query.Resolving.{conjunct_parts, reference_parts};
+ghost use Rattle.catalog_core.specs.query.Resolving.{conjunct_parts, members, reference_parts};
 ghost use Rattle.catalog_core.specs.query.Resolving.{written_reference};
 ghost use Rattle.catalog_core.specs.query.Selection.{item_parts};
 
@@ -25,6 +26,21 @@ use period_core::{Items, Memory};
 use sql_statements::{Compare, SelectItem, TableReference, Tree};
 use std::alloc::Global;
 
+/// The first member of a condition's outermost AND, and the others: `None` where it has none, and so
+/// is its one member.
+fn outer_and(condition: &Tree<Compare>) -> Option<(&Tree<Compare>, &[Tree<Compare>])>
+    ensures { let whole = members (plain_condition condition.now) in MatchOption result
+        (whole ≡ plain_condition condition.now ∷ [])
+        (λ found. whole ≡ plain_condition found.0.now ∷ map plain_condition found.1.now) }
+{
+    match condition {
+        Tree::And(first, others) => Some((first, others.as_slice())),
+        Tree::Or(_, _) => None,
+        Tree::Not(_) => None,
+        Tree::Test(_) => None,
+    }
+}
+
 /// Adds the members of a condition's outermost AND.
 pub fn push_members<P: Positions>(
     alloc: Global,
@@ -36,7 +52,7 @@ pub fn push_members<P: Positions>(
         ≡ map conjunct_parts conjuncts.old.items
         ++ placed_members (P.place positions.now) (plain_condition condition.now)) }
 {
-    let Tree::And(first, others) = condition else {
+    let Some((first, others)) = outer_and(condition) else {
         conjuncts.push(number_condition(alloc, positions, condition)?)?;
         return Ok(());
     };

@@ -116,3 +116,7 @@ pub any_next : {X : Type 0} (p : X → Bool) (xs : List X) (i : ℕ) (x : X) →
 any_next p xs i x here item none failing =
     let at : p (get_or xs i x) ≡ false = ap p (sym item) ∙ failing in
     rw (list_any_more p xs i x here, none, at) refl
+
+pub map_both : {X Y Z : Type 0} (f : Y → Z) (g : X → Y) (xs : List X) → map f (map g xs) ≡ map (λ x. f (g x)) xs
+map_both f g [] = refl
+map_both f g (x ∷ xs) = ap (λ zs. f (g x) ∷ zs) (map_both f g xs)
