@@ -1,6 +1,6 @@
 //! The table references of a select, in the order of the text.
 
-ghost use Rattle.std.specs.Prelude.{◌≡◌, ◌++◌, IfOk, is_none, map};
+ghost use Rattle.std.specs.Prelude.{◌≡◌, ◌<◌, ◌++◌, IfOk, is_none, length, map};
 ghost use Rattle.sql_statements.specs.Plain.{plain_chain, plain_select};
 ghost use Rattle.catalog_core.specs.query.Faults.{known_twice, lacks_some};
 ghost use Rattle.catalog_core.specs.query.Scopes.{chain_tables, tables_of};
@@ -41,8 +41,9 @@ fn push_chain<'a>(
 
 /// The references of a select. The only error is out of memory.
 pub fn references_of(alloc: Global, select: &SelectDistinct) -> Result<Vec<&TableReference>, Memory>
-    ensures { IfOk result (λ references.
+    ensures value { IfOk result (λ references.
         map (λ r. r.now) references.items ≡ tables_of (plain_select select.now)) }
+    ensures filled { IfOk result (λ references. 0 < length references.items) }
 {
     let mut references = Vec::new(alloc);
     for chain in select.chains.as_slice() {

@@ -53,11 +53,11 @@ select_view catalog s =
     of_where (Some condition) = sym (either_none (condition_faults (seen_columns catalog (tables_of s)) condition))
 
 -- a side of a comparison that is a column for which the test holds
-abbrev side_holds : (List SeenColumn → Bool) → List SeenColumn → Operand → Bool
+abbrev pub side_holds : (List SeenColumn → Bool) → List SeenColumn → Operand → Bool
 side_holds κ columns (operand.Column column) = κ (matches_among columns column)
 side_holds κ columns (operand.Literal value) = false
 
-abbrev test_holds : (List SeenColumn → Bool) → (Bool → Bool) → List SeenColumn → Compare → Bool
+abbrev pub test_holds : (List SeenColumn → Bool) → (Bool → Bool) → List SeenColumn → Compare → Bool
 test_holds κ δ columns t =
     (side_holds κ columns t.left || side_holds κ columns t.right) || δ (differ (faults.side_kind columns t.left) (faults.side_kind columns t.right))
 
@@ -129,7 +129,7 @@ module _ (κ : List SeenColumn → Bool) (catalog : List TableDef) where
       ∙ ap (λ b. side_holds κ (seen_columns catalog scope.seen) t.left || b) (side_asked scope t.right)
       ∙ sym (or_none (side_holds κ (seen_columns catalog scope.seen) t.left || side_holds κ (seen_columns catalog scope.seen) t.right))
 
-  column_asked : (s : Select) → some_column κ catalog s
+  pub column_asked : (s : Select) → some_column κ catalog s
       ≡ (list_any (λ (c : ScopedCondition). list_any (test_holds κ (λ other. false) (seen_columns catalog c.0.seen)) (tests_of c.1)) (conditions_in s)
       || list_any (λ (item : SelectItem). κ (matches_among (seen_columns catalog (tables_of s)) item.column)) s.items)
   column_asked s =

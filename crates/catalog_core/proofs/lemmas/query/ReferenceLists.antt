@@ -1,5 +1,5 @@
 -- The table references of a select, in a loop over its chains and their joins.
-use Rattle.std.proofs.Common.{◌≡◌, ◌<◌, ◌≤◌, ◌+◌, ◌++◌, ◌∷◌, ◌||◌, ◌∙◌, ℕ, suc, Bool, true, false, List, [], Some, None, Bor, append_assoc, bytes_eq, cond, count_by, filter, flat_map, get_or, take, length, map, refl, sym, ap}
+use Rattle.std.proofs.Common.{◌≡◌, ◌<◌, ◌≤◌, ◌+◌, ◌++◌, ◌∷◌, ◌||◌, ◌∙◌, ℕ, suc, Bool, true, false, List, [], Some, None, Bor, append_assoc, arith, bytes_eq, cond, count_by, filter, flat_map, get_or, take, length, map, refl, sym, ap}
 use Rattle.std.specs.List.{list_any}
 use Rattle.std.specs.Option.{is_none}
 use Rattle.std.proofs.lemmas.List.{append-nil, map_push, take_more}
@@ -120,3 +120,9 @@ any_next p xs i x here item none failing =
 pub map_both : {X Y Z : Type 0} (f : Y → Z) (g : X → Y) (xs : List X) → map f (map g xs) ≡ map (λ x. f (g x)) xs
 map_both f g [] = refl
 map_both f g (x ∷ xs) = ap (λ zs. f (g x) ∷ zs) (map_both f g xs)
+
+-- chains have tables
+pub borrowed_filled : (rs : List Borrowed) (chains : List JoinChain) → map (λ (r : Borrowed). r.now) rs ≡ tables_in chains → 0 < length chains → 0 < length rs
+borrowed_filled rs [] same filled = absurd (omega (arith, filled))
+borrowed_filled [] (c ∷ chains) same filled = cc
+borrowed_filled (r ∷ rs) (c ∷ chains) same filled = omega arith

@@ -2,7 +2,7 @@
 -- and chains.
 use Rattle.std.proofs.Common.{◌≡◌, ◌<◌, ◌≤◌, ◌+◌, ◌++◌, ◌∷◌, ◌⊎◌, ◌∙◌, ℕ, List, [], append_assoc, ◌-◌, arith, drop, get_or, inl, inr, length, length-append, map, refl, sym, take, take_all, ap}
 use Rattle.std.specs.Global.{Box, Vec}
-use Rattle.std.proofs.Math.Seq.{drop-append_seam}
+use Rattle.std.proofs.Math.Seq.{drop-append_seam, take-append_seam}
 use Rattle.std.proofs.lemmas.List.{append-nil, map_push, take_more}
 use Rattle.std.proofs.lemmas.Grind.{flat_map-append}
 use Rattle.sql_statements.specs.Plain.{plain_chain, plain_condition, plain_join}
@@ -161,3 +161,7 @@ select_sum catalog s tables before where_part items rest whole of_tables of_on o
     of_on ∙ ap (λ f. either f (faults_among (faults_on catalog) s.chains)) of_tables
     ∙ ap (either (reference_faults catalog (tables_of s))) (sym (on_faults catalog [] s.chains)) in
     rw (of_whole, on, of_rest, of_where, of_items) refl
+
+-- and what comes in front
+pub in_front : (old whole seen : List SeenColumn) (start : ℕ) → start ≡ length old → whole ≡ old ++ seen → take start whole ≡ old
+in_front old whole seen start at same = ap (λ n. take n whole) at ∙ ap (take (length old)) same ∙ take-append_seam old seen

@@ -1,8 +1,12 @@
 -- The place of a named column among those that rows have a value for.
-use Rattle.std.proofs.Common.{◌≡◌, ◌<◌, ◌≤◌, ◌+◌, ◌++◌, ◌∷◌, ◌∙◌, ℕ, zero, suc, Bool, true, false, not, List, [], Option, None, Some, cond, arith, drop, drop-cons, filter, get_or, length, nat_lt, refl, sym, ap}
-use Rattle.std.specs.List.{position, position_or_len, prefix_len}
+use Rattle.std.proofs.Common.{◌≡◌, ◌<◌, ◌≤◌, ◌+◌, ◌++◌, ◌∷◌, ◌==◌, ◌∙◌, ℕ, zero, suc, Bool, true, false, not, List, [], Option, None, Some, cond, arith, drop, drop-cons, filter, get_or, length, nat_lt, refl, sym, ap}
+use Rattle.std.specs.List.{list_any, position, position_or_len}
 use Rattle.std.specs.Option.{option_map}
+use Rattle.std.proofs.lemmas.Bool.{false≢true}
 use Rattle.std.proofs.lemmas.Bool.Decides.{nat_tests}
+use Rattle.catalog_core.proofs.lemmas.table.Positions.{none_passes}
+use Rattle.catalog_core.specs.table.Matches.{is_matching}
+use Rattle.catalog_core.specs.declared.table.matching.Matching.TheVariants.{Nothing}
 
 -- what is left to be searched, behind so many
 abbrev pub place_behind : {X : Type 0} → (X → Bool) → (X → Bool) → ℕ → List X → Option ℕ
@@ -76,3 +80,24 @@ drop_past (x ∷ xs) (suc i) done = drop_past xs i (omega (arith, done))
 
 pub place_none : {X : Type 0} (p q : X → Bool) (xs : List X) (i n : ℕ) (whole : Option ℕ) → length xs ≤ i → whole ≡ place_behind p q n (drop i xs) → None ≡ whole
 place_none p q xs i n whole done so_far = sym (so_far ∙ ap (place_behind p q n) (drop_past xs i done))
+
+-- ---- what is named among columns with values has a place
+
+kept : {X : Type 0} (p q : X → Bool) (xs : List X) → list_any (λ x. not (q x)) (filter p xs) ≡ false → length (filter p (filter q xs)) ≡ length (filter p xs)
+kept p q [] none = refl
+kept {X} p q (x ∷ xs) none =
+    let later : list_any (λ x. not (q x)) (filter p xs) ≡ false → length (filter p (filter q xs)) ≡ length (filter p xs) = kept p q xs in
+    by (q x) (p x) refl refl none
+  where
+    by : (v n : Bool) → q x ≡ v → p x ≡ n → list_any (λ y. not (q y)) (cond n (x ∷ filter p xs) (filter p xs)) ≡ false
+        → length (filter p (cond v (x ∷ filter q xs) (filter q xs))) ≡ length (cond n (x ∷ filter p xs) (filter p xs))
+    by true true value named h = rw named (ap suc (kept p q xs (let rest : list_any (λ y. not (q y)) (filter p xs) ≡ false = rw value at h in rest)))
+    by true false value named h = rw named (kept p q xs h)
+    by false true value named h = absurd (false≢true (sym h ∙ (rw value refl)))
+    by false false value named h = kept p q xs h
+
+pub some_value : {X : Type 0} (p q : X → Bool) (xs : List X) → is_matching Nothing (length (filter p xs)) ≡ false → list_any (λ x. not (q x)) (filter p xs) ≡ false → position p (filter q xs) ≡ None → ⊥
+unfolding is_matching
+some_value p q xs some values none =
+    let zero : length (filter p xs) ≡ 0 = sym (kept p q xs values) ∙ none_passes p (filter q xs) none in
+    false≢true (sym some ∙ ap (λ (n : ℕ). n == 0) zero)

@@ -31,7 +31,7 @@ returns c =
     let seen : c.as_slice-columns.result.now ≡ seen_columns catalog (tables_of s) =
     c.as_slice-columns.ensures.value ∙ c.loop-chain.invariant.seen ∙ ap (λ (cs : List JoinChain). seen_columns catalog (tables_in cs)) all in
     select_sum catalog s c.table_faults-faults.result c.loop-chain.faults c.where_faults.result c.item_faults.result c.or-rest.result c.or.result
-    (c.table_faults-faults.ensures ∙ ap (λ rs. reference_faults catalog (map (λ r. r.now) rs)) c.as_slice.ensures.value ∙ ap (reference_faults catalog) c.in_ok-references.ensures)
+    (c.table_faults-faults.ensures ∙ ap (λ rs. reference_faults catalog (map (λ r. r.now) rs)) c.as_slice.ensures.value ∙ ap (reference_faults catalog) c.in_ok-references.ensures.value)
     (c.loop-chain.invariant.faults ∙ ap (λ (cs : List JoinChain). either c.table_faults-faults.result (faults_among (faults_on catalog) (map plain_chain cs))) all)
     (c.where_faults.ensures ∙ ap (λ (cs : List SeenColumn). faults.where_faults cs s.condition) seen)
     (c.item_faults.ensures ∙ ap (λ (cs : List SeenColumn). faults_among (faults.item_faults cs) c.as_slice-2.result.now) seen ∙ ap (faults_among (faults.item_faults (seen_columns catalog (tables_of s)))) c.as_slice-2.ensures.value)

@@ -14,7 +14,7 @@ returns c =
     take_all c.loop-reference.reference-index c.as_slice-reference-items.result.now c.loop-reference-test.false ∙ c.as_slice-reference-items.ensures.value in
     let seen : c.as_slice-columns.result.now ≡ seen_columns catalog (tables_of s) =
     c.as_slice-columns.ensures.value ∙ c.loop-reference.invariant ∙ ap (λ (rs : List Borrowed). seen_columns catalog (map (λ (r : Borrowed). r.now) rs)) all
-    ∙ ap (seen_columns catalog) c.in_ok-references.ensures in
+    ∙ ap (seen_columns catalog) c.in_ok-references.ensures.value in
     let kinds = λ (cs : List SeenColumn) (item : SelectItem). match_kind (matches_among cs item.column) in
     c.loop-item.invariant
     ∙ ap (λ (cs : List SeenColumn). map (kinds cs) (take c.loop-item.item-index c.as_slice-item-items.result.now)) seen

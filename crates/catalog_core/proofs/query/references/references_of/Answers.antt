@@ -2,7 +2,7 @@ use Rattle.std.proofs.Common.{◌∙◌, ◌++◌, List, ap, flat_map, map, sym,
 use Rattle.sql_statements.specs.Plain.{plain_chain}
 use Rattle.sql_statements.specs.declared.statement.JoinChain.{JoinChain}
 use Rattle.sql_statements.specs.declared.statement.TableReference.{TableReference}
-use Rattle.catalog_core.proofs.lemmas.query.ReferenceLists.{Borrowed, front_tables, front_tables_more}
+use Rattle.catalog_core.proofs.lemmas.query.ReferenceLists.{borrowed_filled, front_tables_more}
 use Rattle.catalog_core.specs.query.Scopes.{chain_tables}
 use Rattle.catalog_core.proofs.query.references.references_of.Goals as goal
 
@@ -14,6 +14,11 @@ loop-chain-preserved c =
 
 pub returns : goal.returns
 returns c =
+    let value =
     c.loop-chain.invariant
     ∙ ap (λ (cs : List JoinChain). flat_map chain_tables (map plain_chain cs))
-    (take_all c.loop-chain.chain-index c.as_slice-chain-items.result.now c.loop-chain-test.false ∙ c.as_slice-chain-items.ensures.value)
+    (take_all c.loop-chain.chain-index c.as_slice-chain-items.result.now c.loop-chain-test.false ∙ c.as_slice-chain-items.ensures.value) in
+    record {
+      value = value;
+      filled = borrowed_filled c.loop-chain.references.items c.args.select.now.chains value (rw (← c.as_slice-chain-items.ensures.value) c.as_slice-chain-items.ensures.filled);
+    }
