@@ -14,3 +14,5 @@ pub mod ValuePlaces
 pub mod Members
 pub mod Converted
 pub mod ReferenceParts
+pub mod Accepted
+pub mod QuerySizes

@@ -33,7 +33,7 @@ position_next n p x xs failing =
     by true sum = ap (λ (k : ℕ). Some k) sum
     by false sum = refl
 
-drop_at : {X : Type 0} (xs : List X) (i : ℕ) (x : X) → i < length xs → x ≡ get_or xs i x → drop i xs ≡ x ∷ drop (i + 1) xs
+pub drop_at : {X : Type 0} (xs : List X) (i : ℕ) (x : X) → i < length xs → x ≡ get_or xs i x → drop i xs ≡ x ∷ drop (i + 1) xs
 drop_at xs i x here item =
     let next : suc i ≡ i + 1 = omega arith in
     drop-cons xs i x here ∙ ap (λ y. y ∷ drop (suc i) xs) (sym item) ∙ ap (λ n. x ∷ drop n xs) next
@@ -72,7 +72,7 @@ place_begun p q xs =
     by None = refl
     by (Some k) = let sum : k ≡ 0 + k = omega arith in ap (λ (j : ℕ). Some j) sum
 
-drop_past : {X : Type 0} (xs : List X) (i : ℕ) → length xs ≤ i → drop i xs ≡ []
+pub drop_past : {X : Type 0} (xs : List X) (i : ℕ) → length xs ≤ i → drop i xs ≡ []
 drop_past [] zero done = refl
 drop_past [] (suc i) done = refl
 drop_past (x ∷ xs) zero done = absurd (omega (arith, done))
@@ -87,14 +87,14 @@ kept : {X : Type 0} (p q : X → Bool) (xs : List X) → list_any (λ x. not (q 
 kept p q [] none = refl
 kept {X} p q (x ∷ xs) none =
     let later : list_any (λ x. not (q x)) (filter p xs) ≡ false → length (filter p (filter q xs)) ≡ length (filter p xs) = kept p q xs in
-    by (q x) (p x) refl refl none
+    by later (q x) (p x) refl refl none
   where
-    by : (v n : Bool) → q x ≡ v → p x ≡ n → list_any (λ y. not (q y)) (cond n (x ∷ filter p xs) (filter p xs)) ≡ false
+    by : (list_any (λ y. not (q y)) (filter p xs) ≡ false → length (filter p (filter q xs)) ≡ length (filter p xs)) → (v n : Bool) → q x ≡ v → p x ≡ n → list_any (λ y. not (q y)) (cond n (x ∷ filter p xs) (filter p xs)) ≡ false
         → length (filter p (cond v (x ∷ filter q xs) (filter q xs))) ≡ length (cond n (x ∷ filter p xs) (filter p xs))
-    by true true value named h = rw named (ap suc (kept p q xs (let rest : list_any (λ y. not (q y)) (filter p xs) ≡ false = rw value at h in rest)))
-    by true false value named h = rw named (kept p q xs h)
-    by false true value named h = absurd (false≢true (sym h ∙ (rw value refl)))
-    by false false value named h = kept p q xs h
+    by next true true value named h = rw named (ap suc (next (let rest : list_any (λ y. not (q y)) (filter p xs) ≡ false = rw value at h in rest)))
+    by next true false value named h = rw named (next h)
+    by next false true value named h = absurd (false≢true (sym h ∙ (rw value refl)))
+    by next false false value named h = next h
 
 pub some_value : {X : Type 0} (p q : X → Bool) (xs : List X) → is_matching Nothing (length (filter p xs)) ≡ false → list_any (λ x. not (q x)) (filter p xs) ≡ false → position p (filter q xs) ≡ None → ⊥
 unfolding is_matching
