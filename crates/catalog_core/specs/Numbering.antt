@@ -1,10 +1,11 @@
 -- Conditions, assignments and portions with positions for names.
-use Rattle.std.specs.Prelude.{◌≡◌, ℤ, Option, Some, None}
+use Rattle.std.specs.Prelude.{◌≡◌, ℕ, ℤ, Option, Some, None}
 use Rattle.std.specs.Option.{option_and_then, option_map}
 use Rattle.period_core.specs.declared.period.Period.{Period}
 use Rattle.sql_statements.specs.Plain.{plain_condition}
 use Rattle.sql_statements.specs.Trees.{Condition, Conditions, any, all, negated, test, none, more}
 use Rattle.sql_statements.specs.declared.statement.Assignment as written
+use Rattle.sql_statements.specs.declared.statement.ColumnReference.{ColumnReference}
 use Rattle.sql_statements.specs.declared.statement.Compare.{Compare}
 use Rattle.sql_statements.specs.declared.statement.Operand.{Operand}
 use Rattle.sql_statements.specs.declared.statement.Operand.TheVariants as operand
@@ -29,19 +30,26 @@ abbrev mutual
   map_conditions f none = none
   map_conditions f (more part parts) = more (map_condition f part) (map_conditions f parts)
 
--- a side by its position, where it names a value column
-abbrev pub numbered_side : TableDef → Operand → Option Comparand
-numbered_side t (operand.Column r) = option_map (λ n. Position n) (value_position t r.name)
-numbered_side t (operand.Literal value) = Some (Literal value)
+-- a side by its position, where its column has one
+abbrev pub side_by : (ColumnReference → Option ℕ) → Operand → Option Comparand
+side_by place (operand.Column r) = option_map (λ n. Position n) (place r)
+side_by place (operand.Literal value) = Some (Literal value)
 
--- a comparison, where both sides do
-abbrev pub numbered_compare : TableDef → Compare → Option CompareValues
-numbered_compare t c =
+-- a comparison, where both sides have one
+abbrev pub compare_by : (ColumnReference → Option ℕ) → Compare → Option CompareValues
+compare_by place c =
     option_and_then
     (λ left.
     option_map (λ right. record { left = left; comparison = c.comparison; right = right })
-    (numbered_side t c.right))
-    (numbered_side t c.left)
+    (side_by place c.right))
+    (side_by place c.left)
+
+-- in a row of a table
+abbrev pub numbered_side : TableDef → Operand → Option Comparand
+numbered_side t side = side_by (λ (r : ColumnReference). value_position t r.name) side
+
+abbrev pub numbered_compare : TableDef → Compare → Option CompareValues
+numbered_compare t c = compare_by (λ (r : ColumnReference). value_position t r.name) c
 
 -- an assignment
 abbrev pub numbered_set : TableDef → written.Assignment → Option Assignment

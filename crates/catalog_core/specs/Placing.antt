@@ -1,6 +1,7 @@
 -- For private functions: comparisons by positions, where a name without a position has 0. No
 -- statement that is accepted has such a name.
 use Rattle.std.specs.Prelude.{ℕ, Option, Some, None}
+use Rattle.sql_statements.specs.declared.statement.ColumnReference.{ColumnReference}
 use Rattle.sql_statements.specs.declared.statement.Compare.{Compare}
 use Rattle.sql_statements.specs.declared.statement.Operand.{Operand}
 use Rattle.sql_statements.specs.declared.statement.Operand.TheVariants as operand
@@ -14,14 +15,25 @@ abbrev pub or_zero : Option ℕ → ℕ
 or_zero None = 0
 or_zero (Some n) = n
 
+-- by the places of columns
+abbrev pub place_side : (ColumnReference → ℕ) → Operand → Comparand
+place_side place (operand.Column r) = Position (place r)
+place_side place (operand.Literal value) = Literal value
+
+abbrev pub place_compare : (ColumnReference → ℕ) → Compare → CompareValues
+place_compare place c =
+    record {
+      left = place_side place c.left;
+      comparison = c.comparison;
+      right = place_side place c.right;
+    }
+
+-- in a row of a table
+abbrev pub table_place : TableDef → ColumnReference → ℕ
+table_place t r = or_zero (value_position t r.name)
+
 abbrev pub placed_side : TableDef → Operand → Comparand
-placed_side t (operand.Column r) = Position (or_zero (value_position t r.name))
-placed_side t (operand.Literal value) = Literal value
+placed_side t side = place_side (table_place t) side
 
 abbrev pub placed_compare : TableDef → Compare → CompareValues
-placed_compare t c =
-    record {
-      left = placed_side t c.left;
-      comparison = c.comparison;
-      right = placed_side t c.right;
-    }
+placed_compare t c = place_compare (table_place t) c

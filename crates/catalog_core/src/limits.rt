@@ -23,3 +23,9 @@ pub const TABLE_NUMBER_LIMIT: usize = 256;
 
 /// A count or a place in a definition's bytes is below this.
 pub const NUMBER_LIMIT: usize = 1 << 63;
+
+/// How many table references a select may have.
+pub const MOST_SELECT_TABLES: usize = 4;
+
+/// How many set operators a query may have, nested ones counted.
+pub const MOST_OPERATORS: usize = 16;

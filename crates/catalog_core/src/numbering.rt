@@ -9,8 +9,7 @@ ghost use Rattle.catalog_core.specs.Flaws.{has_test, is_flawed_compare, is_flawe
 ghost use Rattle.catalog_core.specs.Flaws.{is_flawed_set};
 ghost use Rattle.catalog_core.specs.Numbering.{ResolvesWhere, map_condition, numbered_compare};
 ghost use Rattle.catalog_core.specs.Numbering.{numbered_set, period_days, portion_days};
-ghost use Rattle.catalog_core.specs.Placing.{or_zero, placed_compare, placed_side};
-ghost use Rattle.catalog_core.specs.query.Selection.{value_position};
+ghost use Rattle.catalog_core.specs.Placing.{place_compare, place_side};
 ghost use Rattle.catalog_core.specs.declared.flaw.Flaw.TheVariants.{Empty, NoValue, Unknown};
 
 use crate::change::Assignment;
@@ -21,36 +20,58 @@ use period_core::{Items, Memory, Period};
 use sql_statements::{ColumnReference, Compare, Operand, Portion, Tree};
 use std::alloc::Global;
 
-/// The position of a named column: 0 where it has none, which no accepted statement names.
-fn column_position(table: &TableDef, column: &ColumnReference) -> usize
-    ensures { result ≡ or_zero (value_position table.now column.now.name) }
-{
-    match value_position(table, &column.name) {
-        Some(position) => position,
-        None => 0,
+/// What gives each named column its position: 0 where it has none, which no accepted statement
+/// names.
+pub trait Positions {
+    ghost use Rattle.std.specs.Prelude.{◌≡◌, ℕ};
+    ghost use Rattle.sql_statements.specs.declared.statement.ColumnReference.{ColumnReference as Named};
+
+    /// The position of each.
+    ghost place: { Self → Named → ℕ };
+
+    /// The position of a column.
+    fn position(&self, column: &ColumnReference) -> usize
+        ensures { result ≡ place self.now column.now };
+}
+
+impl Positions for TableDef {
+    ghost use Rattle.catalog_core.specs.Placing.{table_place};
+
+    ghost place = { λ t r. table_place t r };
+
+    fn position(&self, column: &ColumnReference) -> usize {
+        match value_position(self, &column.name) {
+            Some(position) => position,
+            None => 0,
+        }
     }
 }
 
 /// A side of a comparison.
-fn number_side(alloc: Global, table: &TableDef, side: &Operand) -> Result<Comparand, Memory>
-    ensures { IfOk result (λ numbered. numbered ≡ placed_side table.now side.now) }
+fn number_side<P: Positions>(
+    alloc: Global,
+    positions: &P,
+    side: &Operand,
+) -> Result<Comparand, Memory>
+    ensures { IfOk result (λ numbered. numbered ≡ place_side (P.place positions.now) side.now) }
 {
     match side {
-        Operand::Column(column) => Ok(Comparand::Position(column_position(table, column))),
+        Operand::Column(column) => Ok(Comparand::Position(positions.position(column))),
         Operand::Literal(value) => Ok(Comparand::Literal(value.copy(alloc)?)),
     }
 }
 
 /// A comparison.
-pub fn number_compare(
+pub fn number_compare<P: Positions>(
     alloc: Global,
-    table: &TableDef,
+    positions: &P,
     compare: &Compare,
 ) -> Result<CompareValues, Memory>
-    ensures { IfOk result (λ numbered. numbered ≡ placed_compare table.now compare.now) }
+    ensures { IfOk result
+        (λ numbered. numbered ≡ place_compare (P.place positions.now) compare.now) }
 {
-    let left = number_side(alloc, table, &compare.left)?;
-    let right = number_side(alloc, table, &compare.right)?;
+    let left = number_side(alloc, positions, &compare.left)?;
+    let right = number_side(alloc, positions, &compare.right)?;
     Ok(CompareValues {
         left,
         comparison: compare.comparison,
@@ -59,37 +80,38 @@ pub fn number_compare(
 }
 
 /// A condition.
-fn number_condition(
+pub fn number_condition<P: Positions>(
     alloc: Global,
-    table: &TableDef,
+    positions: &P,
     condition: &Tree<Compare>,
 ) -> Result<Cond, Memory>
     ensures { IfOk result (λ numbered.
-        map_condition (λ leaf. Some (placed_compare table.now leaf)) (plain_condition condition.now)
+        map_condition (λ leaf. Some (place_compare (P.place positions.now) leaf))
+        (plain_condition condition.now)
         ≡ map_condition (λ leaf. Some leaf) (plain_condition numbered)) }
 {
     match condition {
         Tree::Or(first, others) => {
             let mut numbered = Vec::new(alloc);
             for part in others {
-                numbered.push(number_condition(alloc, table, part)?)?;
+                numbered.push(number_condition(alloc, positions, part)?)?;
             }
-            let first = number_condition(alloc, table, first)?;
+            let first = number_condition(alloc, positions, first)?;
             Ok(Tree::Or(Box::new(alloc, first)?, numbered))
         }
         Tree::And(first, others) => {
             let mut numbered = Vec::new(alloc);
             for part in others {
-                numbered.push(number_condition(alloc, table, part)?)?;
+                numbered.push(number_condition(alloc, positions, part)?)?;
             }
-            let first = number_condition(alloc, table, first)?;
+            let first = number_condition(alloc, positions, first)?;
             Ok(Tree::And(Box::new(alloc, first)?, numbered))
         }
         Tree::Not(part) => {
-            let part = number_condition(alloc, table, part)?;
+            let part = number_condition(alloc, positions, part)?;
             Ok(Tree::Not(Box::new(alloc, part)?))
         }
-        Tree::Test(compare) => Ok(Tree::Test(number_compare(alloc, table, compare)?)),
+        Tree::Test(compare) => Ok(Tree::Test(number_compare(alloc, positions, compare)?)),
     }
 }
 

@@ -3,6 +3,7 @@ pub mod CreateExamples
 pub mod DefinitionExamples
 pub mod InsertExamples
 pub mod SelectExamples
+pub mod QueryExamples
 pub mod TableExamples
 pub mod LawfulExamples
 pub mod UpdateExamples

@@ -18,7 +18,7 @@ use Rattle.sql_statements.specs.Trees.{Condition, Conditions, all, any, conditio
 use Rattle.catalog_core.proofs.lemmas.conditions.Truth.{and_view, not_view, or_view, test_view}
 use Rattle.catalog_core.proofs.lemmas.query.SeenColumns.{placed_in}
 use Rattle.catalog_core.specs.Flaws.{has_test, is_flawed_column, is_flawed_compare, is_flawed_portion, is_flawed_set, is_flawed_side, is_of_two_kinds, some_test, some_tests}
-use Rattle.catalog_core.specs.Placing.{or_zero, placed_compare, placed_side}
+use Rattle.catalog_core.specs.Placing.{or_zero, place_compare, placed_compare, placed_side}
 use Rattle.catalog_core.specs.change.PortionChanges.{is_flawed_delete, is_flawed_update}
 use Rattle.catalog_core.specs.Numbering.{map_condition, map_conditions, numbered_compare, numbered_side}
 use Rattle.catalog_core.specs.query.Selection.{value_position}
@@ -90,6 +90,10 @@ pub column_positioned : (t : TableDef) (r : ColumnReference) → is_flawed_colum
 unfolding is_flawed_column
 column_positioned t r there value nowhere =
     placed_in t.name t r there value nowhere
+
+-- each test by the places of its columns
+abbrev pub placed_by : (ColumnReference → ℕ) → Compare → Option CompareValues
+placed_by place c = Some (place_compare place c)
 
 abbrev pub placed : TableDef → Compare → Option CompareValues
 placed t c = Some (placed_compare t c)

@@ -1,0 +1,173 @@
+-- Worked examples: which refusal a sequenced query of several tables gets, and what it is with positions for names.
+use Rattle.std.proofs.Common.{◌≡◌, ◌∷◌, ℕ, zero, suc, pos, List, [], Option, Some, None, map, refl}
+use Rattle.std.specs.Prelude.{codes}
+use Rattle.period_core.specs.declared.refusal.Refusal.{Refusal}
+use Rattle.period_core.specs.declared.refusal.Refusal.TheVariants.{AmbiguousColumn, ColumnCount, DuplicateName, LimitReached, PeriodColumn, TypeMismatch, UnknownColumn, UnknownTable}
+use Rattle.period_core.specs.declared.value.Value.TheVariants.{Int, Text}
+use Rattle.period_core.specs.declared.window.Window.TheVariants as window
+use Rattle.sql_statements.specs.Trees as written
+use Rattle.sql_statements.specs.Trees.{Condition, JoinChain, Query, Steps, all, combined, conditions_of, last, simple, step, test}
+use Rattle.sql_statements.specs.declared.statement.ColumnReference.{ColumnReference}
+use Rattle.sql_statements.specs.declared.statement.Compare.{Compare}
+use Rattle.sql_statements.specs.declared.statement.Comparison.TheVariants as comparison
+use Rattle.sql_statements.specs.declared.statement.Operand.{Operand}
+use Rattle.sql_statements.specs.declared.statement.Operand.TheVariants as operand
+use Rattle.sql_statements.specs.declared.statement.SelectItem.{SelectItem}
+use Rattle.sql_statements.specs.declared.statement.TableReference.{TableReference}
+use Rattle.sql_statements.specs.declared.tree.SetOperator.TheVariants.{Union, Except}
+use Rattle.catalog_core.proofs.lemmas.examples.Tables.{dep}
+use Rattle.catalog_core.specs.Judged.{first_holding}
+use Rattle.catalog_core.specs.table.Kinds.{differ, kind_of_column, same_kind}
+use Rattle.catalog_core.specs.table.Matches.{is_matching}
+use Rattle.catalog_core.specs.table.Naming.{Name, matches_among, repeats}
+use Rattle.catalog_core.specs.table.TableWords.{is_value_column, number_of, table_of_name}
+use Rattle.catalog_core.specs.query.Queries as resolved
+use Rattle.catalog_core.specs.query.Queries.{both, one}
+use Rattle.catalog_core.specs.query.Refusals.{compares_kinds, have_other_count, have_other_kinds, is_too_long, lacks_table, names_period, names_twice, refusals_of, some_column_matches}
+use Rattle.catalog_core.specs.query.Resolving.{IsResolved, Placed, ResolvesTree, written_column, written_conjuncts, written_reference}
+use Rattle.catalog_core.specs.declared.condition.Comparand.TheVariants.{Position}
+use Rattle.catalog_core.specs.declared.query.resolved.Select.{Select}
+use Rattle.catalog_core.specs.declared.table.ValueKind.TheVariants as kind
+use Rattle.catalog_core.specs.declared.table.TableDef.{TableDef}
+
+abbrev DEP : Name
+DEP = codes "DEP"
+
+abbrev catalog : List TableDef
+catalog = dep ∷ []
+
+-- a column without its table's name, and with it
+abbrev column : Name → ColumnReference
+column name = record { qualifier = None; name = name }
+
+abbrev of : Name → Name → ColumnReference
+of table name = record { qualifier = Some table; name = name }
+
+abbrev item : ColumnReference → SelectItem
+item c = record { column = c; new_name = None }
+
+abbrev table : Name → TableReference
+table name = record { table = name; window = None; new_name = None }
+
+-- DEP by a new name
+abbrev known_as : Name → TableReference
+known_as name = record { table = DEP; window = None; new_name = Some name }
+
+abbrev alone : TableReference → JoinChain
+alone reference = record { first = reference; joins = [] }
+
+abbrev equal : Operand → Operand → Condition Compare
+equal left right = test (record { left = left; comparison = comparison.Equal; right = right })
+
+abbrev same : ColumnReference → ColumnReference → Condition Compare
+same left right = equal (operand.Column left) (operand.Column right)
+
+abbrev joined : TableReference → TableReference → Condition Compare → JoinChain
+joined left right condition = record { first = left; joins = record { reference = right; condition = condition } ∷ [] }
+
+abbrev select : List ColumnReference → List JoinChain → Option (Condition Compare) → written.Select
+select columns chains condition = record { items = map item columns; chains = chains; condition = condition }
+
+abbrev X : Name
+X = codes "X"
+
+abbrev Y : Name
+Y = codes "Y"
+
+abbrev Z : Name
+Z = codes "Z"
+
+abbrev DNO : Name
+DNO = codes "DNO"
+
+abbrev NAME : Name
+NAME = codes "NAME"
+
+abbrev refusal : Query → Option Refusal
+refusal query = first_holding (refusals_of catalog query)
+
+abbrev from_dep : List ColumnReference → Query
+from_dep columns = simple (select columns (alone (table DEP) ∷ []) None)
+
+abbrev numbers : written.Select
+numbers = select (column DNO ∷ []) (alone (table DEP) ∷ []) None
+
+abbrev names : written.Select
+names = select (column NAME ∷ []) (alone (table DEP) ∷ []) None
+
+-- UNION of the query so many times
+abbrev unions : ℕ → Query → Steps
+unions zero query = last
+unions (suc n) query = step Union query (unions n query)
+
+-- FROM DEP Z, DEP X JOIN DEP Y ON ..
+abbrev three : Condition Compare → Option (Condition Compare) → written.Select
+three condition where_condition =
+    select (of Y NAME ∷ of Z NAME ∷ []) (alone (known_as Z) ∷ joined (known_as X) (known_as Y) condition ∷ []) where_condition
+
+record Refused : Type 0 where
+  accepted : refusal (simple (three (same (of X DNO) (of Y DNO)) (Some (same (of Z DNO) (of Y DNO))))) ≡ None
+  -- ON does not see an earlier chain, nor count it for ambiguity
+  other_chain : refusal (simple (three (same (of Z DNO) (of Y DNO)) None)) ≡ Some UnknownColumn
+  ambiguous_in_chain : refusal (simple (three (same (column DNO) (of Y DNO)) None)) ≡ Some AmbiguousColumn
+  ambiguous : refusal (simple (select (column DNO ∷ []) (alone (known_as X) ∷ alone (known_as Y) ∷ []) None)) ≡ Some AmbiguousColumn
+  -- a new name hides the table's
+  hidden : refusal (simple (select (of DEP DNO ∷ []) (alone (known_as X) ∷ []) None)) ≡ Some UnknownColumn
+  by_own_name : refusal (from_dep (of DEP DNO ∷ [])) ≡ None
+  twice : refusal (simple (select (of Y DNO ∷ []) (alone (known_as X) ∷ alone (known_as X) ∷ alone (known_as Y) ∷ []) None)) ≡ Some DuplicateName
+  -- the ambiguous name is the lower number
+  twice_and_named : refusal (simple (select (of X DNO ∷ []) (alone (known_as X) ∷ alone (known_as X) ∷ []) None)) ≡ Some AmbiguousColumn
+  unknown_table : refusal (simple (select (column DNO ∷ column X ∷ []) (alone (table X) ∷ []) None)) ≡ Some UnknownTable
+  period : refusal (from_dep (column (codes "DP") ∷ [])) ≡ Some UnknownColumn
+  period_column : refusal (from_dep (column (codes "S") ∷ [])) ≡ Some PeriodColumn
+  four_tables : refusal (simple (select (of X DNO ∷ []) (map alone (map known_as (X ∷ Y ∷ Z ∷ DEP ∷ []))) None)) ≡ None
+  five_tables : refusal (simple (select (of X DNO ∷ []) (map alone (map known_as (X ∷ Y ∷ Z ∷ DEP ∷ DNO ∷ []))) None)) ≡ Some LimitReached
+  sixteen : refusal (combined (simple numbers) (unions 16 (simple numbers))) ≡ None
+  seventeen : refusal (combined (combined (simple numbers) (unions 9 (simple numbers))) (unions 8 (simple numbers))) ≡ Some LimitReached
+  other_count : refusal (combined (from_dep (column DNO ∷ [])) (step Except (from_dep (column DNO ∷ column DNO ∷ [])) last)) ≡ Some ColumnCount
+  other_kind : refusal (combined (simple numbers) (step Except (simple names) last)) ≡ Some TypeMismatch
+  compared : refusal (simple (select (column DNO ∷ []) (alone (table DEP) ∷ []) (Some (equal (operand.Column (column DNO)) (operand.Literal (Text (codes "a"))))))) ≡ Some TypeMismatch
+  literals : refusal (simple (select (column DNO ∷ []) (alone (table DEP) ∷ []) (Some (equal (operand.Literal (Int (pos 1))) (operand.Literal (Int (pos 1))))))) ≡ None
+
+refused : Refused
+unfolding is_too_long lacks_table some_column_matches names_twice names_period compares_kinds have_other_count have_other_kinds number_of table_of_name is_value_column matches_among repeats is_matching differ same_kind kind_of_column
+refused = record {
+  accepted = refl;
+  other_chain = refl;
+  ambiguous_in_chain = refl;
+  ambiguous = refl;
+  hidden = refl;
+  by_own_name = refl;
+  twice = refl;
+  twice_and_named = refl;
+  unknown_table = refl;
+  period = refl;
+  period_column = refl;
+  four_tables = refl;
+  five_tables = refl;
+  sixteen = refl;
+  seventeen = refl;
+  other_count = refl;
+  other_kind = refl;
+  compared = refl;
+  literals = refl;
+}
+
+abbrev at : ℕ → ℕ → Placed
+at left right = test (Some (record { left = Position left; comparison = comparison.Equal; right = Position right }))
+
+record Positions : Type 0 where
+  -- Z has the positions 0 and 1, X has 2 and 3, Y has 4 and 5; WHERE is cut at its AND
+  conjuncts : written_conjuncts catalog (three (same (of X DNO) (of Y DNO)) (Some (all (conditions_of (same (of Z DNO) (of Y DNO) ∷ same (of X NAME) (of Z NAME) ∷ [])))))
+      ≡ at 2 4 ∷ at 0 4 ∷ at 3 1 ∷ []
+  items : map (written_column catalog (three (same (of X DNO) (of Y DNO)) None)) (map item (of Y NAME ∷ of Z NAME ∷ [])) ≡ (Some 5, NAME) ∷ (Some 1, NAME) ∷ []
+  reference : written_reference catalog (known_as X) ≡ (Some 1, window.Now, Some (kind.Integer ∷ kind.Text ∷ []))
+
+positions : Positions
+unfolding number_of table_of_name is_value_column kind_of_column
+positions = record { conjuncts = refl; items = refl; reference = refl }
+
+-- set operators apply from left to right: a EXCEPT b UNION c is the union of c with what EXCEPT leaves
+from_left : (a b c : written.Select) (x y z : Select) → IsResolved catalog a x → IsResolved catalog b y → IsResolved catalog c z
+    → ResolvesTree catalog (combined (simple a) (step Except (simple b) (step Union (simple c) last))) (both Union (both Except (one x) (one y)) (one z))
+from_left a b c x y z at_a at_b at_c = (one x, at_a, (one y, at_b, (one z, at_c, refl)))

@@ -1,0 +1,144 @@
+//! The parts of an accepted select, with positions in place of names. The only error is out of
+//! memory.
+
+ghost use Rattle.std.specs.Prelude.{◌≡◌, ◌++◌, ◌+◌, ◌<◌, ◌∷◌, [], IfOk, MatchOption, false, length};
+ghost use Rattle.std.specs.Prelude.{map, true};
+ghost use Rattle.sql_statements.specs.Plain.{plain_condition};
+ghost use Rattle.catalog_core.specs.query.Faults.{lacks_one, lacks_some};
+ghost use Rattle.catalog_core.specs.query.Fitting.{are_in_place};
+ghost use Rattle.catalog_core.specs.query.Places.{placed_item, placed_members};
+ghost use Rattle.catalog_core.specs.query.Resolving as words;
+ghost use Rattle.catalog_core.specs.query.Resolving.{conjunct_parts, members, reference_parts};
+ghost use Rattle.catalog_core.specs.query.Resolving.{written_reference};
+ghost use Rattle.catalog_core.specs.query.Selection.{item_parts};
+
+use crate::condition::Cond;
+use crate::numbering::{Positions, number_condition};
+use crate::query::AnswerColumn;
+use crate::query::resolved::QueryReference;
+use crate::query::seen::name_or;
+use crate::system_window::window_of;
+use crate::table::catalog::Catalog;
+use crate::table::columns::is_value_column;
+use crate::table::kinds::kind_of_column;
+use crate::table::{TableDef, ValueKind};
+use period_core::{Items, Memory};
+use sql_statements::{Compare, SelectItem, TableReference, Tree};
+use std::alloc::Global;
+
+/// The first member of a condition's outermost AND, and the others: `None` where it has none, and so
+/// is its one member.
+fn outer_and(condition: &Tree<Compare>) -> Option<(&Tree<Compare>, &[Tree<Compare>])>
+    ensures { let whole = members (plain_condition condition.now) in MatchOption result
+        (whole ≡ plain_condition condition.now ∷ [])
+        (λ found. whole ≡ plain_condition found.0.now ∷ map plain_condition found.1.now) }
+{
+    match condition {
+        Tree::And(first, others) => Some((first, others.as_slice())),
+        Tree::Or(_, _) => None,
+        Tree::Not(_) => None,
+        Tree::Test(_) => None,
+    }
+}
+
+/// Adds the members of a condition's outermost AND.
+pub fn push_members<P: Positions>(
+    alloc: Global,
+    positions: &P,
+    condition: &Tree<Compare>,
+    conjuncts: &mut Vec<Cond>,
+) -> Result<(), Memory>
+    ensures { IfOk result (λ _. map conjunct_parts conjuncts.new.items
+        ≡ map conjunct_parts conjuncts.old.items
+        ++ placed_members (P.place positions.now) (plain_condition condition.now)) }
+{
+    let Some((first, others)) = outer_and(condition) else {
+        conjuncts.push(number_condition(alloc, positions, condition)?)?;
+        return Ok(());
+    };
+    conjuncts.push(number_condition(alloc, positions, first)?)?;
+    for part in others {
+        conjuncts.push(number_condition(alloc, positions, part)?)?;
+    }
+    Ok(())
+}
+
+/// The items by positions, with their names.
+pub fn number_items<P: Positions>(
+    alloc: Global,
+    positions: &P,
+    items: &[SelectItem],
+) -> Result<Vec<AnswerColumn>, Memory>
+    ensures { IfOk result (λ numbered.
+        map (placed_item (P.place positions.now)) items.now ≡ map item_parts numbered.items) }
+{
+    let mut numbered = Vec::with_capacity(alloc, items.len())?;
+    for item in items {
+        let position = positions.position(&item.column);
+        let name = name_or(&item.new_name, &item.column.name).copy(alloc)?;
+        numbered.push(AnswerColumn { position, name })?;
+    }
+    Ok(numbered)
+}
+
+/// The kinds of a table's values.
+fn value_kinds(alloc: Global, table: &TableDef) -> Result<Vec<ValueKind>, Memory>
+    ensures { IfOk result (λ kinds. kinds.items ≡ words.value_kinds table.now) }
+{
+    let columns = table.columns.as_slice();
+    let mut kinds = Vec::new(alloc);
+    for i in 0..columns.len() {
+        let column = &columns[i];
+        if is_value_column(table, i, column) {
+            kinds.push(kind_of_column(column.kind))?;
+        }
+    }
+    Ok(kinds)
+}
+
+/// A reference to a table that is there, by the table's number.
+fn number_reference(
+    alloc: Global,
+    catalog: &Catalog,
+    reference: &TableReference,
+    place: usize,
+) -> Result<QueryReference, Memory>
+    requires { lacks_one catalog.now.tables reference.now ≡ false }
+    ensures parts { IfOk result (λ numbered.
+        written_reference catalog.now.tables reference.now ≡ reference_parts numbered) }
+    ensures placed { IfOk result (λ numbered. numbered.place ≡ place) }
+{
+    let Some((number, table)) = catalog.find(&reference.table) else {
+        unreachable!()
+    };
+    let kinds = value_kinds(alloc, table)?;
+    Ok(QueryReference {
+        place,
+        table: number,
+        window: window_of(&reference.window),
+        kinds: Items::from_vec(kinds),
+    })
+}
+
+/// References to tables that are there. Their places count up from this one.
+pub fn number_references(
+    alloc: Global,
+    catalog: &Catalog,
+    references: &[&TableReference],
+    place: usize,
+) -> Result<Vec<QueryReference>, Memory>
+    requires there { lacks_some catalog.now.tables (map (λ r. r.now) references.now) ≡ false }
+    requires room { place + length references.now < 1_000 }
+    ensures parts { IfOk result (λ numbered.
+        map (written_reference catalog.now.tables) (map (λ r. r.now) references.now)
+        ≡ map reference_parts numbered.items) }
+    ensures placed { IfOk result (λ numbered. are_in_place place numbered.items ≡ true) }
+{
+    let mut numbered = Vec::new(alloc);
+    let mut next = place;
+    for reference in references {
+        numbered.push(number_reference(alloc, catalog, *reference, next)?)?;
+        next += 1;
+    }
+    Ok(numbered)
+}
