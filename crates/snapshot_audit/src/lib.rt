@@ -10,6 +10,7 @@ mod gaps;
 mod ordinary_query;
 mod sets;
 mod snapshots;
+mod sweep;
 mod verdict;
 mod witness_check;
 
