@@ -16,7 +16,6 @@ use Rattle.temporal_model.proofs.Snapshots.{held, in_snapshot}
 use Rattle.snapshot_audit.specs.ChangeDays.{AreChangeDays, IsChangeDay}
 use Rattle.snapshot_audit.specs.Faults.{IsSound, SoundBelow, IsFirstFault, IsFaultless}
 use Rattle.snapshot_audit.specs.Gaps.{HasGaps}
-use Rattle.snapshot_audit.specs.OrdinaryQueries.{seen_on}
 use Rattle.snapshot_audit.specs.Sets.{ListsSet}
 use Rattle.snapshot_audit.specs.Verdicts.{IsFirstDifference}
 use Rattle.snapshot_audit.proofs.Sound.{sound_more}
@@ -138,10 +137,6 @@ held_twice-once = record {
     ],
   );
 }
-
--- what two tables show on day 4
-seen-day_four : seen_on ((early ∷ []) ∷ (late ∷ whole ∷ []) ∷ []) (pos 4) ≡ [] ∷ (seven ∷ seven ∷ []) ∷ []
-seen-day_four = refl
 
 -- ---- days
 

@@ -11,7 +11,9 @@ use Rattle.std.proofs.lemmas.Int.{ints, by_lt_z}
 use Rattle.std.proofs.lemmas.List.Elements.{Contains-append_left, Contains-push, Contains-push_cases}
 use Rattle.period_core.specs.declared.row.PeriodRow.{PeriodRow}
 use Rattle.temporal_model.proofs.Members.{Contains-here, Contains-there, Contains-nil, Contains-cons_cases, AllPairs-head, AllPairs-tail}
-use Rattle.snapshot_audit.specs.Sweeping.{Swept, ContainsRow, BeginInOrder, AreSwept, GoOnAfter, IsSweptTo, HaveSwept}
+use Rattle.snapshot_audit.specs.ActiveRows.{RowReferences, ContainsRow, AreActive}
+use Rattle.snapshot_audit.proofs.ActiveFacts.{AreRows, ContainsRow-nil, ContainsRow-there, ContainsRow-cons_cases, ContainsRow-push, ContainsRow-before, ContainsRow-push_cases}
+use Rattle.snapshot_audit.specs.Sweeping.{BeginInOrder, AreByFirstDay, GoOnAfter, AreSweptTo}
 
 -- the first element of a list and the others, as a pattern of a slice reads them
 pub first_of : {X : Type 0} (xs : List X) (x : X) → 1 ≤ length xs → x ≡ get_or xs 0 x → xs ≡ x ∷ take (length xs - 1) (drop 1 xs)
@@ -20,58 +22,13 @@ first_of (y ∷ ys) x h e =
     let all : take (length (y ∷ ys) - 1) ys ≡ ys = take_all (length (y ∷ ys) - 1) ys (omega arith) in
     ap (λ z. z ∷ ys) (sym e) ∙ ap (λ zs. x ∷ zs) (sym all)
 
--- ---- rows by reference
-
--- the references are to the rows of the list, and to no others
-abbrev pub AreRows : List PeriodRow → Swept → Type 0
-AreRows rows swept = (row : PeriodRow) → (ContainsRow swept row ↔ Contains rows row)
-
-pub ContainsRow-nil : (row : PeriodRow) → ContainsRow [] row → ⊥
-ContainsRow-nil row (r, c, is) = Contains-nil r c
-
-pub ContainsRow-there : (r : Bor PeriodRow) (swept : Swept) (row : PeriodRow) → ContainsRow swept row → ContainsRow (r ∷ swept) row
-ContainsRow-there r swept row (s, c, is) = (s, Contains-there r swept s c, is)
-
-pub ContainsRow-cons_cases :
-    (r : Bor PeriodRow) (swept : Swept) (row : PeriodRow) → ContainsRow (r ∷ swept) row → (r.now ≡ row) ⊎ ContainsRow swept row
-ContainsRow-cons_cases r swept row (s, c, is) = elim (Contains-cons_cases r swept s c) [
-  | inl same ↦ inl (subst (λ (x : Bor PeriodRow). x.now ≡ row) (sym same) is)
-  | inr more ↦ inr (s, more, is)
-]
-
-pub ContainsRow-push : (swept : Swept) (r : Bor PeriodRow) → ContainsRow (swept ++ r ∷ []) r.now
-ContainsRow-push swept r = (r, Contains-push swept r, refl)
-
-pub ContainsRow-before : (swept : Swept) (r : Bor PeriodRow) (row : PeriodRow) → ContainsRow swept row → ContainsRow (swept ++ r ∷ []) row
-ContainsRow-before swept r row (s, c, is) = (s, Contains-append_left swept (r ∷ []) s c, is)
-
-pub ContainsRow-push_cases :
-    (swept : Swept) (r : Bor PeriodRow) (row : PeriodRow) → ContainsRow (swept ++ r ∷ []) row → ContainsRow swept row ⊎ (r.now ≡ row)
-ContainsRow-push_cases swept r row (s, c, is) = elim (Contains-push_cases swept r s c) [
-  | inl before ↦ inl (s, before, is)
-  | inr same ↦ inr (subst (λ (x : Bor PeriodRow). x.now ≡ row) (sym same) is)
-]
-
--- one more
-pub AreRows-more :
-    (rows : List PeriodRow) (swept : Swept) (row : PeriodRow) (r : Bor PeriodRow) → r.now ≡ row → AreRows rows swept
-    → AreRows (rows ++ row ∷ []) (swept ++ r ∷ [])
-AreRows-more rows swept row r is are other = (
-  λ h. elim (ContainsRow-push_cases swept r other h) [
-    | inl before ↦ Contains-append_left rows (row ∷ []) other ((are other).0 before)
-    | inr same ↦ subst (Contains (rows ++ row ∷ [])) (sym is ∙ same) (Contains-push rows row)
-  ],
-  λ h. elim (Contains-push_cases rows row other h) [
-    | inl before ↦ ContainsRow-before swept r other ((are other).1 before)
-    | inr same ↦ subst (ContainsRow (swept ++ r ∷ [])) (is ∙ same) (ContainsRow-push swept r)
-  ],
-)
+-- ---- by first days
 
 -- the start of a row
 abbrev start_of : Bor PeriodRow → ℤ
 start_of r = r.now.period.start
 
-begin_in_order : (swept : Swept) → IsSortedByKey start_of int_cmp swept → BeginInOrder swept
+begin_in_order : (swept : RowReferences) → IsSortedByKey start_of int_cmp swept → BeginInOrder swept
 begin_in_order swept up = λ i j d lt below.
     let a : ℤ = start_of (get_or swept i d) in
     let b : ℤ = start_of (get_or swept j d) in
@@ -80,8 +37,8 @@ begin_in_order swept up = λ i j d lt below.
 
 -- the same rows, once they are sorted by their first days
 pub are_swept :
-    (rows : List PeriodRow) (swept sorted : Swept) → AreRows rows swept → IsPermutation swept sorted
-    → IsSortedByKey start_of int_cmp sorted → AreSwept rows sorted
+    (rows : List PeriodRow) (swept sorted : RowReferences) → AreRows rows swept → IsPermutation swept sorted
+    → IsSortedByKey start_of int_cmp sorted → AreByFirstDay rows sorted
 are_swept rows swept sorted are moved up = record {
   ordered = begin_in_order sorted up;
   members = λ row. (
@@ -96,7 +53,7 @@ abbrev goes_on : ℤ → Bor PeriodRow → Bool
 goes_on day r = int_lt day r.now.period.end
 
 kept_cons :
-    (day : ℤ) (r : Bor PeriodRow) (active : Swept) (b : Bool) → goes_on day r ≡ b → GoOnAfter active day (filter (goes_on day) active)
+    (day : ℤ) (r : Bor PeriodRow) (active : RowReferences) (b : Bool) → goes_on day r ≡ b → GoOnAfter active day (filter (goes_on day) active)
     → GoOnAfter (r ∷ active) day (filter (goes_on day) (r ∷ active))
 kept_cons day r active true e rest row =
     let ends : day <ℤ r.now.period.end = grind (arith, e) in
@@ -120,14 +77,14 @@ kept_cons day r active false e rest row =
       ],
     )
 
-pub kept : (day : ℤ) (active : Swept) → GoOnAfter active day (filter (goes_on day) active)
+pub kept : (day : ℤ) (active : RowReferences) → GoOnAfter active day (filter (goes_on day) active)
 kept day [] row = (λ c. absurd (ContainsRow-nil row c), λ (c, after). absurd (ContainsRow-nil row c))
 kept day (r ∷ active) row = kept_cons day r active (goes_on day r) refl (kept day active) row
 
 -- ---- a day later
 
 -- before its first day a sweep has all rows before it
-pub sweep_begins : (rows : List PeriodRow) (swept : Swept) (day : ℤ) → AreSwept rows swept → IsSweptTo rows swept [] day
+pub sweep_begins : (rows : List PeriodRow) (swept : RowReferences) (day : ℤ) → AreByFirstDay rows swept → AreSweptTo rows swept [] day
 sweep_begins rows swept day are = record {
   ordered = are.ordered;
   unbegun = λ row c. (are.members row).0 c;
@@ -137,8 +94,8 @@ sweep_begins rows swept day are = record {
 
 -- what is true of a day is true of a later one
 pub sweep_later :
-    (rows : List PeriodRow) (later active : Swept) (day next : ℤ) → day ≤ℤ next → IsSweptTo rows later active day
-    → IsSweptTo rows later active next
+    (rows : List PeriodRow) (later active : RowReferences) (day next : ℤ) → day ≤ℤ next → AreSweptTo rows later active day
+    → AreSweptTo rows later active next
 sweep_later rows later active day next upto is = record {
   ordered = is.ordered;
   unbegun = is.unbegun;
@@ -151,8 +108,8 @@ sweep_later rows later active day next upto is = record {
 
 -- rows that have ended by the day go
 pub sweep_ended :
-    (rows : List PeriodRow) (later active left : Swept) (day : ℤ) → GoOnAfter active day left → IsSweptTo rows later active day
-    → IsSweptTo rows later left day
+    (rows : List PeriodRow) (later active left : RowReferences) (day : ℤ) → GoOnAfter active day left → AreSweptTo rows later active day
+    → AreSweptTo rows later left day
 sweep_ended rows later active left day goes is = record {
   ordered = is.ordered;
   unbegun = is.unbegun;
@@ -164,13 +121,13 @@ sweep_ended rows later active left day goes is = record {
 }
 
 -- all active rows end after the day
-abbrev pub AllGoOn : Swept → ℤ → Type 0
+abbrev pub AllGoOn : RowReferences → ℤ → Type 0
 AllGoOn active day = (row : PeriodRow) → ContainsRow active row → day <ℤ row.period.end
 
-pub AllGoOn-ended : (active left : Swept) (day : ℤ) → GoOnAfter active day left → AllGoOn left day
+pub AllGoOn-ended : (active left : RowReferences) (day : ℤ) → GoOnAfter active day left → AllGoOn left day
 AllGoOn-ended active left day goes row c = ((goes row).0 c).1
 
-pub AllGoOn-push : (active : Swept) (r : Bor PeriodRow) (day : ℤ) → day <ℤ r.now.period.end → AllGoOn active day → AllGoOn (active ++ r ∷ []) day
+pub AllGoOn-push : (active : RowReferences) (r : Bor PeriodRow) (day : ℤ) → day <ℤ r.now.period.end → AllGoOn active day → AllGoOn (active ++ r ∷ []) day
 AllGoOn-push active r day ends all row c = elim (ContainsRow-push_cases active r row c) [
   | inl before ↦ all row before
   | inr same ↦ subst (λ (x : PeriodRow). day <ℤ x.period.end) same ends
@@ -178,8 +135,8 @@ AllGoOn-push active r day ends all row c = elim (ContainsRow-push_cases active r
 
 -- the next row begins, and goes on
 pub sweep_added :
-    (rows : List PeriodRow) (r : Bor PeriodRow) (later active : Swept) (day : ℤ) → r.now.period.start ≤ℤ day
-    → IsSweptTo rows (r ∷ later) active day → IsSweptTo rows later (active ++ r ∷ []) day
+    (rows : List PeriodRow) (r : Bor PeriodRow) (later active : RowReferences) (day : ℤ) → r.now.period.start ≤ℤ day
+    → AreSweptTo rows (r ∷ later) active day → AreSweptTo rows later (active ++ r ∷ []) day
 sweep_added rows r later active day from is = record {
   ordered = AllPairs-tail (λ a b. a.now.period.start ≤ℤ b.now.period.start) r later is.ordered;
   unbegun = λ row c. is.unbegun row (ContainsRow-there r later row c);
@@ -198,8 +155,8 @@ sweep_added rows r later active day from is = record {
 
 -- the next row begins, and has ended by the day
 pub sweep_passed :
-    (rows : List PeriodRow) (r : Bor PeriodRow) (later active : Swept) (day : ℤ) → (day <ℤ r.now.period.end → ⊥)
-    → IsSweptTo rows (r ∷ later) active day → IsSweptTo rows later active day
+    (rows : List PeriodRow) (r : Bor PeriodRow) (later active : RowReferences) (day : ℤ) → (day <ℤ r.now.period.end → ⊥)
+    → AreSweptTo rows (r ∷ later) active day → AreSweptTo rows later active day
 sweep_passed rows r later active day ended is = record {
   ordered = AllPairs-tail (λ a b. a.now.period.start ≤ℤ b.now.period.start) r later is.ordered;
   unbegun = λ row c. is.unbegun row (ContainsRow-there r later row c);
@@ -214,11 +171,11 @@ sweep_passed rows r later active day ended is = record {
 }
 
 -- all rows that are left begin after the day
-abbrev pub AllBeginAfter : Swept → ℤ → Type 0
+abbrev pub AllBeginAfter : RowReferences → ℤ → Type 0
 AllBeginAfter later day = (row : PeriodRow) → ContainsRow later row → day <ℤ row.period.start
 
 pub AllBeginAfter-first :
-    (r : Bor PeriodRow) (later : Swept) (day : ℤ) → day <ℤ r.now.period.start → BeginInOrder (r ∷ later) → AllBeginAfter (r ∷ later) day
+    (r : Bor PeriodRow) (later : RowReferences) (day : ℤ) → day <ℤ r.now.period.start → BeginInOrder (r ∷ later) → AllBeginAfter (r ∷ later) day
 AllBeginAfter-first r later day after order row (s, c, is) =
     subst (λ (x : PeriodRow). day <ℤ x.period.start) is (elim (Contains-cons_cases r later s c) [
       | inl same ↦ subst (λ (x : Bor PeriodRow). day <ℤ x.now.period.start) same after
@@ -227,16 +184,13 @@ AllBeginAfter-first r later day after order row (s, c, is) =
     ])
 
 -- then the active rows are those that cover the day
-pub have_swept :
-    (rows : List PeriodRow) (later active : Swept) (day : ℤ) → AllBeginAfter later day → AllGoOn active day
-    → IsSweptTo rows later active day → HaveSwept rows later active day
-have_swept rows later active day after goes is = record {
-  swept = is;
-  covers = λ row. (
-    λ c. let (there, from) = is.begun row c in (there, from, goes row c),
-    λ (there, from, to). elim (is.all row there) [
-      | inl l ↦ absurd (let begins : day <ℤ row.period.start = after row l in omega (arith, ints))
-      | inr on ↦ on to
-    ],
-  );
-}
+pub are_active :
+    (rows : List PeriodRow) (later active : RowReferences) (day : ℤ) → AllBeginAfter later day → AllGoOn active day
+    → AreSweptTo rows later active day → AreActive rows active day
+are_active rows later active day after goes is row = (
+  λ c. let (there, from) = is.begun row c in (there, from, goes row c),
+  λ (there, from, to). elim (is.all row there) [
+    | inl l ↦ absurd (let begins : day <ℤ row.period.start = after row l in omega (arith, ints))
+    | inr on ↦ on to
+  ],
+)

@@ -1,8 +1,7 @@
 //! A sweep over days: the rows of a list that cover a day, and from there those of a later day.
 
-ghost use Rattle.std.specs.Prelude.{◌↔◌, ◌<ℤ◌, IfOk, IsTrue, List};
-ghost use Rattle.period_core.specs.declared.row.PeriodRow.{PeriodRow as Row};
-ghost use Rattle.snapshot_audit.specs.Sweeping.{AreSwept, GoOnAfter, HaveSwept, IsSweptTo};
+ghost use Rattle.std.specs.Prelude.{◌↔◌, ◌<ℤ◌, IfOk, IsTrue};
+ghost use Rattle.snapshot_audit.specs.Sweeping.{AreByFirstDay, GoOnAfter, HasMovedTo};
 
 use period_core::{Day, Memory, PeriodRow};
 use std::alloc::Global;
@@ -21,14 +20,14 @@ pub(crate) fn by_first_day<'a>(
     alloc: Global,
     rows: &'a [PeriodRow],
 ) -> Result<Vec<&'a PeriodRow>, Memory>
-    ensures { IfOk result (λ swept. AreSwept rows.now swept.items) }
+    ensures { IfOk result (λ references. AreByFirstDay rows.now references.items) }
 {
-    let mut swept = Vec::with_capacity(alloc, rows.len())?;
+    let mut references = Vec::with_capacity(alloc, rows.len())?;
     for row in rows {
-        swept.push(row)?;
+        references.push(row)?;
     }
-    swept.sort_by_key(|row| row.period.start)?;
-    Ok(swept)
+    references.sort_by_key(|row| row.period.start)?;
+    Ok(references)
 }
 
 // Whether the row begins after the day.
@@ -55,12 +54,10 @@ fn going_on<'a>(active: Vec<&'a PeriodRow>, day: Day) -> Vec<&'a PeriodRow>
 }
 
 impl<'s, 'a> Sweep<'s, 'a> {
-    /// Where the sweep is on this day, which is not before the day on which it was. The only error
-    /// is out of memory.
+    /// The sweep at this day, which is not before the day at which it was. The only error is out
+    /// of memory.
     pub(crate) fn moved_to(self, day: Day) -> Result<Sweep<'s, 'a>, Memory>
-        ensures { IfOk result (λ next. (rows : List Row) →
-            IsSweptTo rows self.entry.later.now self.entry.active.items day →
-            HaveSwept rows next.later.now next.active.items day) }
+        ensures { IfOk result (λ next. HasMovedTo day self.entry next) }
     {
         let mut later = self.later;
         let mut active = going_on(self.active, day);

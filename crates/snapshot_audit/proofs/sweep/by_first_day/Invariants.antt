@@ -1,7 +1,7 @@
 use Rattle.std.proofs.Common.{take, List}
 use Rattle.period_core.specs.declared.row.PeriodRow.{PeriodRow}
-use Rattle.snapshot_audit.proofs.SweepSteps.{AreRows}
+use Rattle.snapshot_audit.proofs.ActiveFacts.{AreRows}
 use Rattle.snapshot_audit.proofs.sweep.by_first_day.Given as goal
 
 abbrev pub invariant-loop-row : goal.invariant-loop-row
-invariant-loop-row l = AreRows (take l.row-index l.rows) l.swept.items
+invariant-loop-row l = AreRows (take l.row-index l.rows) l.references.items
