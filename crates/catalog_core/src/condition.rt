@@ -27,7 +27,7 @@ pub struct CompareValues {
 pub type Cond = Tree<CompareValues>;
 
 /// Whether the comparison holds of two values that are in this order.
-fn is_allowed(comparison: Comparison, order: Ordering) -> bool
+pub fn is_allowed(comparison: Comparison, order: Ordering) -> bool
     ensures { result ≡ allows comparison order }
 {
     match comparison {

@@ -19,10 +19,10 @@ use Rattle.history_model.specs.SystemWindows.{SeesThrough}
 use Rattle.history_model.specs.Versions.{PlainVersion, last_moment}
 
 -- employee 1 of department 3, and of department 4
-abbrev worker : List Value
+abbrev pub worker : List Value
 worker = Int (pos 1) ∷ Int (pos 3) ∷ []
 
-abbrev promoted : List Value
+abbrev pub promoted : List Value
 promoted = Int (pos 1) ∷ Int (pos 4) ∷ []
 
 -- from day 12 on and before day 15
@@ -114,7 +114,7 @@ shares_a_day = refl
 
 -- ---- a history: INSERT at moment 100, and at 200 an UPDATE of a portion
 
-abbrev history : History
+abbrev pub history : History
 history = record {
   opening = new_database;
   events = Advanced (pos 100) ∷ Changed (pos 100) inserting ∷ Advanced (pos 200) ∷ Changed (pos 200) updating ∷ [];
@@ -146,10 +146,10 @@ last = refl
 
 -- ---- windows
 
-sees_now : SeesThrough history Now (pos 12) 1 promoted
+pub sees_now : SeesThrough history Now (pos 12) 1 promoted
 sees_now = (last_moment, omega (arith, ints), refl, (0, omega arith, refl))
 
-saw : SeesThrough history (AsOf (pos 199)) (pos 12) 1 worker
+pub saw : SeesThrough history (AsOf (pos 199)) (pos 12) 1 worker
 saw = (pos 199, omega (arith, ints), refl, (0, omega arith, refl))
 
 saw_old : SeesThrough history (FromTo (pos 150) (pos 201)) (pos 12) 1 worker

@@ -8,3 +8,5 @@ pub mod Changes
 pub mod Shown
 pub mod ModelExamples
 pub mod ChangeExamples
+pub mod Sights
+pub mod QueryExamples

@@ -10,4 +10,10 @@ pub mod JoinSweeps
 pub mod JoinRows
 pub mod Projections
 pub mod Selections
+pub mod KnownTruths
+pub mod KeptRows
+pub mod Widths
+pub mod JoinKeys
+pub mod SelectRows
+pub mod References
 mod OperatorExamples

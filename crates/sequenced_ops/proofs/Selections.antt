@@ -1,12 +1,12 @@
 -- The steps of a selection.
-use Rattle.std.proofs.Common.{◌≡◌, ◌↔◌, ◌++◌, ℕ, ℤ, true, false, List, [], ◌∷◌, refl, sym, subst, inl, inr, ◌⊎◌}
+use Rattle.std.proofs.Common.{◌≡◌, ◌↔◌, ◌++◌, ℕ, ℤ, Bool, true, false, IsTrue, List, [], ◌∷◌, refl, sym, subst, inl, inr, ◌⊎◌}
 use Rattle.catalog_core.specs.Conditions.{meets}
 use Rattle.period_core.specs.DaySets.{InPeriod}
 use Rattle.period_core.specs.declared.value.Value.{Value}
 use Rattle.period_core.specs.declared.row.PeriodRow.{PeriodRow}
 use Rattle.period_core.proofs.PeriodEnds.{days_from, days_to, day_in}
 use Rattle.temporal_model.specs.Snapshot.{InSnapshot}
-use Rattle.sequenced_ops.specs.Operations.{Cond, InProjection, InSelection, IsSelectedOn, ReadsColumns}
+use Rattle.sequenced_ops.specs.Operations.{Cond, InProjection, InSelection, ReadsColumns}
 use Rattle.sequenced_ops.specs.Sweeping.{RowHolds}
 use Rattle.sequenced_ops.proofs.Standing.{holds-cons, holds-nil, holds-push}
 
@@ -41,44 +41,75 @@ row_refused condition row rest not day vs = (
 
 -- ---- selections that are projected
 
--- what is selected already is the projection of the selection of what is done
-abbrev pub SelectedSoFar : Cond → List ℕ → List PeriodRow → List PeriodRow → Type 0
-SelectedSoFar condition columns selected done =
-    (day : ℤ) (vs : List Value) → (InSnapshot selected day vs ↔ InProjection columns (InSelection condition done) day vs)
+-- the values that the rows hold on the day and that are accepted
+abbrev pub InAccepted : (List Value → Bool) → List PeriodRow → ℤ → List Value → Type 0
+InAccepted accepts rows day values = InSnapshot rows day values × IsTrue (accepts values)
 
-pub selected_none : (condition : Cond) (columns : List ℕ) → SelectedSoFar condition columns [] []
-selected_none condition columns day vs = (
+-- the row holds on the day and is accepted, and these are its values at the positions
+abbrev pub IsAcceptedOn : (List Value → Bool) → List ℕ → PeriodRow → ℤ → List Value → Type 0
+IsAcceptedOn accepts columns row day read =
+    InPeriod row.period day × IsTrue (accepts row.values) × ReadsColumns columns row.values read
+
+-- what is selected already is the projection of the selection of what is done
+abbrev pub SelectedSoFar
+    : (List Value → Bool) → List ℕ → List PeriodRow → List PeriodRow → Type 0
+SelectedSoFar accepts columns selected done =
+    (day : ℤ) (vs : List Value)
+    → (InSnapshot selected day vs ↔ InProjection columns (InAccepted accepts done) day vs)
+
+pub selected_none
+    : (accepts : List Value → Bool) (columns : List ℕ) → SelectedSoFar accepts columns [] []
+selected_none accepts columns day vs = (
   λ h. absurd (holds-nil day vs h),
   λ (values, (there, met), reads). absurd (holds-nil day values there),
 )
 
-pub selected_next :
-    (condition : Cond) (columns : List ℕ) (selected more done : List PeriodRow) (row : PeriodRow) → SelectedSoFar condition columns selected done
-    → ((day : ℤ) (vs : List Value) → (InSnapshot more day vs ↔ (InSnapshot selected day vs ⊎ IsSelectedOn condition columns row day vs)))
-    → SelectedSoFar condition columns more (done ++ row ∷ [])
-selected_next condition columns selected more done row before step day vs = (
+pub selected_next
+    : (accepts : List Value → Bool) (columns : List ℕ) (selected more done : List PeriodRow)
+    → (row : PeriodRow) → SelectedSoFar accepts columns selected done
+    → ((day : ℤ) (vs : List Value)
+    → (InSnapshot more day vs
+    ↔ (InSnapshot selected day vs ⊎ IsAcceptedOn accepts columns row day vs)))
+    → SelectedSoFar accepts columns more (done ++ row ∷ [])
+selected_next accepts columns selected more done row before step day vs = (
   λ h. elim ((step day vs).0 h) [
     | inl old ↦ let (values, (there, met), reads) = (before day vs).0 old in
         (values, ((holds-push done row day values).1 (inl there), met), reads)
     | inr (inside, met, reads) ↦
-        (row.values, ((holds-push done row day row.values).1 (inr (refl, days_from row.period day inside, days_to row.period day inside)), met), reads)
+        let here : RowHolds row day row.values =
+        (refl, days_from row.period day inside, days_to row.period day inside) in
+        (row.values, ((holds-push done row day row.values).1 (inr here), met), reads)
   ],
-  λ (values, (there, met), reads). (step day vs).1 (elim ((holds-push done row day values).0 there) [
-    | inl old ↦ inl ((before day vs).1 (values, (old, met), reads))
-    | inr (same, from, to) ↦ inr (
-      day_in row.period day from to,
-      subst (λ v. meets condition v ≡ true) (sym same) met,
-      subst (λ v. ReadsColumns columns v vs) (sym same) reads,
-    )
-  ]),
+  λ (values, (there, met), reads).
+      (step day vs).1
+      (elim ((holds-push done row day values).0 there) [
+        | inl old ↦ inl ((before day vs).1 (values, (old, met), reads))
+        | inr (same, from, to) ↦ inr (
+          day_in row.period day from to,
+          subst (λ v. accepts v ≡ true) (sym same) met,
+          subst (λ v. ReadsColumns columns v vs) (sym same) reads,
+        )
+      ]),
 )
 
--- a row that meets the condition, projected
-pub projected_selected :
-    (condition : Cond) (columns : List ℕ) (old new : List PeriodRow) (row : PeriodRow) → meets condition row.values ≡ true
-    → ((day : ℤ) (vs : List Value) → (InSnapshot new day vs ↔ (InSnapshot old day vs ⊎ (ReadsColumns columns row.values vs × InPeriod row.period day))))
-    → (day : ℤ) (vs : List Value) → (InSnapshot new day vs ↔ (InSnapshot old day vs ⊎ IsSelectedOn condition columns row day vs))
-projected_selected condition columns old new row met step day vs = (
-  λ h. elim ((step day vs).0 h) [ inl was ↦ inl was | inr (reads, inside) ↦ inr (inside, met, reads) ],
-  λ h. (step day vs).1 (elim h [ inl was ↦ inl was | inr (inside, its, reads) ↦ inr (reads, inside) ]),
+-- a row that is accepted, projected
+pub projected_selected
+    : (accepts : List Value → Bool) (columns : List ℕ) (old new : List PeriodRow)
+    → (row : PeriodRow) → accepts row.values ≡ true
+    → ((day : ℤ) (vs : List Value)
+    → (InSnapshot new day vs
+    ↔ (InSnapshot old day vs
+    ⊎ (ReadsColumns columns row.values vs × InPeriod row.period day))))
+    → (day : ℤ) (vs : List Value)
+    → (InSnapshot new day vs
+    ↔ (InSnapshot old day vs ⊎ IsAcceptedOn accepts columns row day vs))
+projected_selected accepts columns old new row met step day vs = (
+  λ h.
+      elim ((step day vs).0 h) [
+        | inl was ↦ inl was
+        | inr (reads, inside) ↦ inr (inside, met, reads)
+      ],
+  λ h.
+      (step day vs).1
+      (elim h [ inl was ↦ inl was | inr (inside, its, reads) ↦ inr (reads, inside) ]),
 )

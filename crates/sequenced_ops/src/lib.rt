@@ -2,16 +2,26 @@
 //! ordinary operator gives of that day's snapshots. Each sorts and sweeps; none goes from day to
 //! day. The rows of an argument may come in any order, with overlaps and repeats, and those of a
 //! result do: `coalesce` makes them an answer.
+//!
+//! `run_query` gives the rows of a whole query: it joins the references of a select from left to
+//! right, each by the equalities between it and those before it, and applies a condition as soon as
+//! the values that it needs are there. To add a set operator: its case in `run_part` of
+//! `running.rt`, in `InCombined` of history_model, and in `proofs/SelectRows`.
 #![tactic(auto)]
 
 mod columns;
+mod conjuncts;
+mod deciding;
 mod equalities;
 mod filters;
 mod inner_sweep;
+mod joining;
 mod joins;
 mod keyed;
 mod places;
 mod projecting;
+mod pruning;
+mod running;
 mod selecting;
 mod sweep;
 mod unite;
@@ -20,6 +30,7 @@ pub use equalities::Equality;
 pub use filters::filter;
 pub use inner_sweep::intersection;
 pub use joins::join;
+pub use running::run_query;
 pub use selecting::{select, select_into};
 pub use sweep::difference;
 pub use unite::union;

@@ -1,11 +1,13 @@
-//! Selections: the rows that meet a condition, projected to given positions.
+//! Selections: the rows that meet a condition, or several, projected to given positions.
 
 ghost use Rattle.std.specs.Prelude.{◌≡◌, ◌↔◌, ◌⊎◌, ℤ, List, IfOk, OnErr, OnOk};
 ghost use Rattle.period_core.specs.declared.value.Value.{Value};
 ghost use Rattle.temporal_model.specs.Snapshot.{InSnapshot};
 ghost use Rattle.sequenced_ops.specs.Operations.{InProjection, InSelection, IsSelectedOn};
 ghost use Rattle.sequenced_ops.specs.Operations.{SnapshotsAre};
+ghost use Rattle.sequenced_ops.specs.Planning.{InMeeting, IsMeetingOn};
 
+use crate::conjuncts::meets_all;
 use crate::projecting::project_into;
 use catalog_core::{Cond, holds};
 use period_core::{Memory, PeriodRow};
@@ -47,6 +49,45 @@ pub fn select(
     let mut selected = Vec::new(alloc);
     for row in rows {
         select_into(alloc, &mut selected, row, condition, columns)?;
+    }
+    Ok(selected)
+}
+
+/// Adds the row's values at these positions, over its period, if the row meets all conditions and
+/// has a value at each. The only error is out of memory.
+fn push_meeting(
+    alloc: Global,
+    rows: &mut Vec<PeriodRow>,
+    row: &PeriodRow,
+    conjuncts: &[Cond],
+    columns: &[usize],
+) -> Result<(), Memory>
+    ensures { OnOk result ((day : ℤ) (values : List Value) →
+        (InSnapshot rows.new.items day values
+        ↔ (InSnapshot rows.old.items day values
+        ⊎ IsMeetingOn conjuncts.now columns.now row.now day values))) }
+{
+    if meets_all(conjuncts, row.values.as_slice()) {
+        return project_into(alloc, rows, row, columns);
+    }
+    Ok(())
+}
+
+/// On each day the values at these positions of the rows that meet all conditions. The only error
+/// is out of memory.
+pub fn select_meeting(
+    alloc: Global,
+    rows: &[PeriodRow],
+    conjuncts: &[Cond],
+    columns: &[usize],
+) -> Result<Vec<PeriodRow>, Memory>
+    ensures { IfOk result (λ selected.
+        SnapshotsAre (InProjection columns.now (InMeeting conjuncts.now rows.now))
+        selected.items) }
+{
+    let mut selected = Vec::new(alloc);
+    for row in rows {
+        push_meeting(alloc, &mut selected, row, conjuncts, columns)?;
     }
     Ok(selected)
 }

@@ -7,3 +7,4 @@ pub mod TableExamples
 pub mod LawfulExamples
 pub mod UpdateExamples
 pub mod StoredExamples
+pub mod FittingExamples

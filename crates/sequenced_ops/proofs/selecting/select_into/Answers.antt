@@ -12,4 +12,4 @@ returns-then-holds-clause-added c =
     let row : PeriodRow = c.args.row.now in
     let met : meets condition row.values ≡ true = ap (meets condition) (sym c.as_slice.ensures) ∙ sym c.holds.ensures ∙ c.if-holds.true in
     on_ok_weaker c.project_into.result _ _
-    (λ step. projected_selected condition c.args.columns.now c.args.rows.now.items c.project_into.new.rows.items row met step) c.project_into.ensures.added
+    (λ step. projected_selected (meets condition) c.args.columns.now c.args.rows.now.items c.project_into.new.rows.items row met step) c.project_into.ensures.added

@@ -16,9 +16,9 @@ some_more
     : (place next bound : ℕ) (all xs ys : List QueryReference) (result : Option ℕ) → all ≡ xs ++ ys
     → (are_in_place place xs ≡ true) × (place + length xs ≡ next) × (next ≤ bound)
     → IfSome result (λ end.
-      (are_in_place next ys ≡ true) × (next + length ys ≡ end) × (end ≤ bound))
+    (are_in_place next ys ≡ true) × (next + length ys ≡ end) × (end ≤ bound))
     → IfSome result (λ end.
-      (are_in_place place all ≡ true) × (place + length all ≡ end) × (end ≤ bound))
+    (are_in_place place all ≡ true) × (place + length all ≡ end) × (end ≤ bound))
 some_more place next bound all xs ys None is first h = tt
 some_more place next bound all xs ys (Some end) is first h =
     both_within place next end bound all xs ys is first h

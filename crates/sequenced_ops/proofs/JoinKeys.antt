@@ -1,0 +1,152 @@
+-- The equalities of a join, found among the conditions.
+use Rattle.std.proofs.Common.{◌≡◌, ◌<◌, ◌+◌, ◌++◌, ◌∷◌, [], ℕ, List, Option, Some, None}
+use Rattle.std.proofs.Common.{true, length, get_or, refl, sym, ◌∙◌, ap, subst, arith}
+use Rattle.std.proofs.Common.{append_assoc, length-append}
+use Rattle.std.specs.Prelude.{slice_get}
+use Rattle.std.specs.Ordering.{is_eq}
+use Rattle.std.specs.declared.cmp.Ordering.{Ordering}
+use Rattle.std.specs.declared.cmp.Ordering.TheVariants as order
+use Rattle.std.proofs.lemmas.List.Elements.{All-push}
+use Rattle.period_core.specs.Order.{value_cmp}
+use Rattle.period_core.specs.OrderLaws.{value_cmp-same}
+use Rattle.period_core.specs.declared.row.PeriodRow.{PeriodRow}
+use Rattle.period_core.specs.declared.value.Value.{Value}
+use Rattle.sql_statements.specs.declared.statement.Comparison.TheVariants.{Equal}
+use Rattle.catalog_core.specs.Conditions.{compared, meets}
+use Rattle.temporal_model.specs.Snapshot.{InSnapshot}
+use Rattle.history_model.specs.OrdinaryQuery.{meets_all}
+use Rattle.sequenced_ops.specs.Operations.{Cond, InJoin, IsEqual, SnapshotsAre}
+use Rattle.sequenced_ops.specs.Planning.{AreKeys, HasWidth, InPairs, IsColumnPair, IsPruned}
+use Rattle.sequenced_ops.specs.declared.equalities.Equality.{Equality}
+use Rattle.sequenced_ops.proofs.KnownTruths.{get-left, get-right}
+use Rattle.sequenced_ops.proofs.Widths.{passes_at}
+
+-- ---- two sides that are equal are there and the same
+
+is_tie : (o : Ordering) → is_eq o ≡ true → o ≡ order.Equal
+is_tie order.Less e = cc
+is_tie order.Equal e = refl
+is_tie order.Greater e = cc
+
+pub same_value
+    : (left right : Option Value) → compared Equal left right ≡ true
+    → (value : Value) × (left ≡ Some value) × (right ≡ Some value)
+same_value None right e = absurd (cc)
+same_value (Some left) None e = absurd (cc)
+same_value (Some left) (Some right) e = (
+  left,
+  refl,
+  ap (λ (v : Value). Some v)
+      (sym (value_cmp-same left right (is_tie (value_cmp left right) e))),
+)
+
+-- ---- where they are
+
+-- a value of the whole row at the position of a pair's left side
+left_at
+    : (width more left right : ℕ) (pair : Equality) → IsColumnPair width more left right pair
+    → (first second rest : List Value) → length first ≡ width
+    → slice_get ((first ++ second) ++ rest) left ≡ slice_get first pair.left
+left_at width more left right pair is first second rest e =
+    let within : left < length first = let h = is.left_within in omega arith in
+    get-left (first ++ second) rest left (omega (arith, length-append first second))
+    ∙ get-left first second left within
+    ∙ ap (slice_get first) (sym is.left_is)
+
+right_at
+    : (width more left right : ℕ) (pair : Equality) → IsColumnPair width more left right pair
+    → (first second rest : List Value) → length first ≡ width → length second ≡ more
+    → slice_get ((first ++ second) ++ rest) right ≡ slice_get second pair.right
+right_at width more left right pair is first second rest e f =
+    let at : width + pair.right ≡ right = is.right_is in
+    let within : pair.right < more = is.right_within in
+    get-left (first ++ second) rest right (omega (arith, length-append first second))
+    ∙ get-right first second right pair.right (omega arith) (omega arith)
+
+pub pair_equal
+    : (width more left right : ℕ) (pair : Equality) → IsColumnPair width more left right pair
+    → (first second rest : List Value) → length first ≡ width → length second ≡ more
+    → compared Equal (slice_get ((first ++ second) ++ rest) left)
+    (slice_get ((first ++ second) ++ rest) right)
+    ≡ true
+    → IsEqual first second pair
+pair_equal width more left right pair is first second rest e f met =
+    let row = (first ++ second) ++ rest in
+    let (value, one, two) = same_value (slice_get row left) (slice_get row right) met in (
+      value,
+      sym (left_at width more left right pair is first second rest e) ∙ one,
+      sym (right_at width more left right pair is first second rest e f) ∙ two,
+    )
+
+-- the same where the comparison has its sides the other way round
+pub pair_equal_back
+    : (width more left right : ℕ) (pair : Equality) → IsColumnPair width more left right pair
+    → (first second rest : List Value) → length first ≡ width → length second ≡ more
+    → compared Equal (slice_get ((first ++ second) ++ rest) right)
+    (slice_get ((first ++ second) ++ rest) left)
+    ≡ true
+    → IsEqual first second pair
+pair_equal_back width more left right pair is first second rest e f met =
+    let row = (first ++ second) ++ rest in
+    let (value, one, two) = same_value (slice_get row right) (slice_get row left) met in (
+      value,
+      sym (left_at width more left right pair is first second rest e) ∙ two,
+      sym (right_at width more left right pair is first second rest e f) ∙ one,
+    )
+
+-- ---- the loop over the conditions
+
+-- a condition among those that all hold
+pub meets_at
+    : (conjuncts : List Cond) (i : ℕ) (condition : Cond) → i < length conjuncts
+    → condition ≡ get_or conjuncts i condition → (values : List Value)
+    → meets_all conjuncts values ≡ true → meets condition values ≡ true
+meets_at conjuncts i condition h is values all =
+    ap (λ (c : Cond). meets c values) is
+    ∙ passes_at (λ (c : Cond). meets c values) conjuncts i condition h all
+
+-- one equality more
+pub keys_more
+    : (conjuncts : List Cond) (width more : ℕ) (keys : List Equality) (pair : Equality)
+    → AreKeys conjuncts width more keys
+    → ((first second rest : List Value) → length first ≡ width → length second ≡ more
+    → meets_all conjuncts ((first ++ second) ++ rest) ≡ true → IsEqual first second pair)
+    → AreKeys conjuncts width more (keys ++ pair ∷ [])
+keys_more conjuncts width more keys pair old new first second rest e f met =
+    All-push (IsEqual first second) keys pair (old first second rest e f met)
+    (new first second rest e f met)
+
+-- ---- the join
+
+-- a join by the equalities, of a right side that lacks only rows that are ruled out, lacks no pair
+-- that can meet the conditions
+pub pairs_pruned
+    : (conjuncts : List Cond) (rows others kept pairs : List PeriodRow) (width more : ℕ)
+    → (keys : List Equality) → HasWidth width rows → HasWidth more others
+    → AreKeys conjuncts width more keys → IsPruned conjuncts width (InSnapshot others) kept
+    → SnapshotsAre (InJoin keys rows kept) pairs
+    → IsPruned conjuncts 0 (InPairs rows others) pairs
+pairs_pruned conjuncts rows others kept pairs width more keys lefts rights are_keys pruned are =
+    record {
+      sound = λ day values h.
+          let (first, second, a, b, equal, is) = (are day values).0 h in
+          (first, second, a, pruned.sound day second b, is);
+      complete = λ day before values rest e (first, second, a, b, is) met.
+          let its : meets_all conjuncts ((first ++ second) ++ rest) ≡ true =
+          nothing_before before values rest e (first ++ second) is met in
+          let wide = lefts day first a in
+          let apart : meets_all conjuncts (first ++ (second ++ rest)) ≡ true =
+          subst (λ (v : List Value). meets_all conjuncts v ≡ true)
+          (append_assoc first second rest) its in
+          let there = pruned.complete day first second rest wide b apart in
+          let equal = are_keys first second rest wide (rights day second b) its in
+          (are day values).1 (first, second, a, there, equal, is);
+    }
+  where
+    nothing_before
+        : (before values rest : List Value) → length before ≡ 0 → (pair : List Value)
+        → pair ≡ values → meets_all conjuncts (before ++ (values ++ rest)) ≡ true
+        → meets_all conjuncts (pair ++ rest) ≡ true
+    nothing_before [] values rest e pair is met =
+        subst (λ (v : List Value). meets_all conjuncts (v ++ rest) ≡ true) (sym is) met
+    nothing_before (x ∷ before) values rest e pair is met = absurd (omega arith)
