@@ -1,5 +1,5 @@
 -- Active rows: one row more, their values, and what references see by them.
-use Rattle.std.proofs.Common.{◌≡◌, ◌↔◌, ◌⊎◌, ◌≤ℤ◌, ◌<ℤ◌, ◌<◌, ◌≤◌, ℕ, ℤ, List, [], ◌∷◌, ◌++◌, length, get_or, map, Bor, refl, sym, ◌∙◌, ap, subst, inl, inr, arith}
+use Rattle.std.proofs.Common.{◌≡◌, ◌↔◌, ◌⊎◌, ◌≤ℤ◌, ◌<ℤ◌, ◌<◌, ◌≤◌, ℕ, ℤ, List, [], ◌∷◌, ◌++◌, length, get_or, Bor, refl, sym, ◌∙◌, ap, subst, inl, inr, arith}
 use Rattle.std.specs.List.{Contains}
 use Rattle.std.proofs.lemmas.List.{get_or-map, get_or_past, length-map}
 use Rattle.std.proofs.lemmas.List.Elements.{Contains-append_left, Contains-push, Contains-push_cases}
@@ -7,9 +7,9 @@ use Rattle.period_core.specs.declared.row.PeriodRow.{PeriodRow}
 use Rattle.period_core.specs.declared.value.Value.{Value}
 use Rattle.temporal_model.specs.Snapshot.{InSnapshot}
 use Rattle.temporal_model.proofs.Snapshots.{CoversDay, held, in_snapshot}
-use Rattle.temporal_model.proofs.Members.{Contains-here, Contains-there, Contains-nil, Contains-cons_cases}
+use Rattle.temporal_model.proofs.Members.{Contains-there, Contains-nil, Contains-cons_cases}
 use Rattle.catalog_core.specs.declared.query.resolved.QueryReference.{QueryReference}
-use Rattle.catalog_core.specs.query.Queries.{Query, rows_for, references_of}
+use Rattle.catalog_core.specs.query.Queries.{Query, rows_for}
 use Rattle.history_model.specs.OrdinaryQuery.{InAnswerOver, InQuery, TableSights}
 use Rattle.history_model.proofs.Sights.{query_seen}
 use Rattle.snapshot_audit.specs.declared.sweep.Sweep.{Sweep}

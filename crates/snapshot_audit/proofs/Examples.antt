@@ -20,10 +20,10 @@ use Rattle.snapshot_audit.specs.Sets.{ListsSet}
 use Rattle.snapshot_audit.specs.Verdicts.{IsFirstDifference}
 use Rattle.snapshot_audit.proofs.Sound.{sound_more}
 
-abbrev seven : List Value
+abbrev pub seven : List Value
 seven = Int (pos 7) ∷ []
 
-abbrev seven_over : (start end : ℤ) → are_ends start end ≡ true → PeriodRow
+abbrev pub seven_over : (start end : ℤ) → are_ends start end ≡ true → PeriodRow
 seven_over start end ends = record { values = seven; period = period_over start end ends }
 
 -- from day 1 to day 3, from day 3 to day 5, from day 1 to day 5, from day 1 to day 9
@@ -36,7 +36,7 @@ late = seven_over (pos 3) (pos 5) refl
 abbrev whole : PeriodRow
 whole = seven_over (pos 1) (pos 5) refl
 
-abbrev long : PeriodRow
+abbrev pub long : PeriodRow
 long = seven_over (pos 1) (pos 9) refl
 
 -- ---- faults

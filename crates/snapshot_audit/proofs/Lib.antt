@@ -8,4 +8,5 @@ pub mod SweepSteps
 pub mod SelectSteps
 pub mod SetSteps
 pub mod Verdicts
-mod Examples
+pub mod Examples
+pub mod AuditExamples

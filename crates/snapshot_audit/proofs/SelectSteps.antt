@@ -18,7 +18,7 @@ use Rattle.snapshot_audit.specs.Selections.{IsSelected, InRest, InRests}
 
 -- ---- the values of items
 
-abbrev some : Value → Option Value
+abbrev pub some : Value → Option Value
 some v = Some v
 
 -- one item more
@@ -44,7 +44,7 @@ no_value (first ∷ items) values (v ∷ row) (suc i) item h none all =
     let tail : read_items items values ≡ map some row = cc in
     no_value items values row i item (omega arith) none tail
 
-same_values : (values others : List Value) → map some values ≡ map some others → values ≡ others
+pub same_values : (values others : List Value) → map some values ≡ map some others → values ≡ others
 same_values [] [] e = refl
 same_values [] (other ∷ others) e = cc
 same_values (value ∷ values) [] e = cc

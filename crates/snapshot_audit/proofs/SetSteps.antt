@@ -1,6 +1,6 @@
 -- The steps of a difference: two ascending lists, each gone over once.
-use Rattle.std.proofs.Common.{◌≡◌, ◌↔◌, ◌⊎◌, List, [], ◌∷◌, ◌++◌, get_or, inl, inr, sym, ◌∙◌, subst, arith}
-use Rattle.std.specs.List.{Contains, AllPairs}
+use Rattle.std.proofs.Common.{◌≡◌, ◌↔◌, ◌⊎◌, List, [], ◌∷◌, ◌++◌, get_or, inl, inr, sym, subst, arith}
+use Rattle.std.specs.List.{Contains}
 use Rattle.std.specs.declared.cmp.Ordering.TheVariants.{Less, Equal}
 use Rattle.std.proofs.lemmas.List.Elements.{Contains-append_left, Contains-push, Contains-push_cases}
 use Rattle.std.proofs.lemmas.List.{get_or_default}

@@ -1,6 +1,6 @@
 -- The steps of a sweep: rows by reference, and the day moved on.
-use Rattle.std.proofs.Common.{◌≡◌, ◌↔◌, ◌⊎◌, ◌≤◌, ◌-◌, ◌≤ℤ◌, ◌<ℤ◌, ℤ, Bool, true, false, int_lt, List, [], ◌∷◌, ◌++◌, length, get_or, take, drop, Bor, refl, sym, ◌∙◌, ap, subst, inl, inr, arith}
-use Rattle.std.specs.List.{Contains, filter}
+use Rattle.std.proofs.Common.{◌≡◌, ◌≤◌, ◌-◌, ◌≤ℤ◌, ◌<ℤ◌, ℤ, Bool, true, false, int_lt, List, [], ◌∷◌, ◌++◌, length, get_or, take, drop, Bor, refl, sym, ◌∙◌, ap, subst, inl, inr, arith}
+use Rattle.std.specs.List.{filter}
 use Rattle.std.specs.List.Sorted.{IsPermutation, IsSortedByKey}
 use Rattle.std.specs.Ordering.{int_cmp, is_lt}
 use Rattle.std.proofs.lemmas.Cmp.{int_cmp_total}
@@ -8,9 +8,8 @@ use Rattle.std.proofs.lemmas.List.{take_all}
 use Rattle.std.proofs.lemmas.List.Sorted.{Contains-permutation, IsPermutation-sym, ranks_by, sorted_far}
 use Rattle.temporal_model.proofs.AnswerOrder.{int_cmp-Less}
 use Rattle.std.proofs.lemmas.Int.{ints, by_lt_z}
-use Rattle.std.proofs.lemmas.List.Elements.{Contains-append_left, Contains-push, Contains-push_cases}
 use Rattle.period_core.specs.declared.row.PeriodRow.{PeriodRow}
-use Rattle.temporal_model.proofs.Members.{Contains-here, Contains-there, Contains-nil, Contains-cons_cases, AllPairs-head, AllPairs-tail}
+use Rattle.temporal_model.proofs.Members.{Contains-here, Contains-cons_cases, AllPairs-head, AllPairs-tail}
 use Rattle.snapshot_audit.specs.ActiveRows.{RowReferences, ContainsRow, AreActive}
 use Rattle.snapshot_audit.proofs.ActiveFacts.{AreRows, ContainsRow-nil, ContainsRow-there, ContainsRow-cons_cases, ContainsRow-push, ContainsRow-before, ContainsRow-push_cases}
 use Rattle.snapshot_audit.specs.Sweeping.{BeginInOrder, AreByFirstDay, GoOnAfter, AreSweptTo}

@@ -125,7 +125,7 @@ sweeping_moves tables rows days n day next sweep inside at all one later after =
 pub constant_over : (query : Query) (tables : List (List PeriodRow)) → IsConstantBetween (seen_lists query tables) (InAnswerOver query tables)
 constant_over query tables first second order none row =
     query_seen (TableSights tables first) (TableSights tables second) query (λ reference c values.
-        constant_between (rows_for tables reference) first second order (none (rows_for tables reference) (contains_map (rows_for tables) (references_of query) reference c)) values) row
+    constant_between (rows_for tables reference) first second order (none (rows_for tables reference) (contains_map (rows_for tables) (references_of query) reference c)) values) row
 
 -- no change day comes before 0001-01-01
 change_day-from : (lists : List (List PeriodRow)) (day : ℤ) → IsChangeDay lists day → first_day ≤ℤ day

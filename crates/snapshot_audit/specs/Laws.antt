@@ -1,6 +1,5 @@
 -- The law of change days. It is the contract of a function of this crate.
-use Rattle.std.specs.Prelude.{◌↔◌, ◌∷◌, ◌≤ℤ◌, ◌<ℤ◌, ℤ, List, Contains}
-use Rattle.period_core.specs.declared.value.Value.{Value}
+use Rattle.std.specs.Prelude.{◌∷◌, ◌≤ℤ◌, ◌<ℤ◌, ℤ, List, Contains}
 use Rattle.period_core.specs.declared.row.PeriodRow.{PeriodRow}
 use Rattle.temporal_model.specs.Snapshot.{InSnapshot}
 use Rattle.catalog_core.specs.query.Queries.{Query}

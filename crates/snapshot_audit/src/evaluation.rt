@@ -16,11 +16,7 @@ use std::alloc::Global;
 
 /// The set of a query by the active rows, in ascending order, each list of values once. The only
 /// error is out of memory.
-pub(crate) fn evaluated(
-    alloc: Global,
-    query: &Query,
-    seen: &[Sweep],
-) -> Result<Vec<Values>, Memory>
+pub(crate) fn evaluated(alloc: Global, query: &Query, seen: &[Sweep]) -> Result<Vec<Values>, Memory>
     ensures { IfOk result (λ set.
         ListsSet (InQuery (ActiveSights seen.now) (plain_query query.now)) set.items) }
 {

@@ -122,6 +122,13 @@ pub(crate) fn selected(
     ensures { IfOk result (λ set. ListsSet (InSelect (ActiveSights seen.now) select.now) set.items) }
 {
     let mut rows = Vec::new(alloc);
-    add_rest(alloc, &mut rows, select, select.references.as_slice(), seen, &[])?;
+    add_rest(
+        alloc,
+        &mut rows,
+        select,
+        select.references.as_slice(),
+        seen,
+        &[],
+    )?;
     sorted_once(rows)
 }

@@ -1,10 +1,10 @@
-use Rattle.std.proofs.Common.{◌≡◌, ◌∷◌, ℤ, ℕ, List, Option, length, sym, ◌∙◌, subst, arith}
+use Rattle.std.proofs.Common.{◌≡◌, ◌∷◌, ℤ, List, Option, length, sym, ◌∙◌, subst, arith}
 use Rattle.std.specs.Prelude.{MatchOption}
 use Rattle.period_core.specs.declared.value.Value.{Value}
 use Rattle.period_core.specs.declared.row.PeriodRow.{PeriodRow}
 use Rattle.catalog_core.specs.query.Queries.{Query, plain_query}
 use Rattle.history_model.specs.OrdinaryQuery.{InAnswerOver}
-use Rattle.snapshot_audit.specs.ChangeDays.{AreChangeDays, IsConstantBetween, seen_lists}
+use Rattle.snapshot_audit.specs.ChangeDays.{AreChangeDays, seen_lists}
 use Rattle.snapshot_audit.specs.Faults.{IsFirstFault, IsFaultless}
 use Rattle.snapshot_audit.specs.Verdicts.{AgreesAlways, AgreesOnAll, DiffersFirst, IsFirstDifference, IsConfirmed}
 use Rattle.snapshot_audit.proofs.Verdicts.{always, first_difference, confirmed, constant_over}

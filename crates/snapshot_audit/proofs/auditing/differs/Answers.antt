@@ -1,4 +1,4 @@
-use Rattle.std.proofs.Common.{◌≡◌, ◌↔◌, List, true, false, not, refl, sym, ◌∙◌, subst}
+use Rattle.std.proofs.Common.{◌≡◌, ◌↔◌, List, true, false, not, refl, sym, ◌∙◌}
 use Rattle.std.specs.Prelude.{IsTrue, MatchBool}
 use Rattle.period_core.specs.declared.value.Value.{Value}
 use Rattle.catalog_core.specs.query.Queries.{plain_query}

@@ -1,7 +1,6 @@
-use Rattle.std.proofs.Common.{◌≡◌, ◌<◌, ℤ, ℕ, List, length, get_or, refl, sym, subst, arith}
+use Rattle.std.proofs.Common.{ℤ, ℕ, List, refl, sym, subst, arith}
 use Rattle.std.specs.List.{AllZip}
 use Rattle.period_core.specs.declared.row.PeriodRow.{PeriodRow}
-use Rattle.period_core.specs.declared.value.Value.{Value}
 use Rattle.catalog_core.specs.query.Queries.{Query, plain_query}
 use Rattle.history_model.specs.OrdinaryQuery.{InAnswerOver, InQuery}
 use Rattle.snapshot_audit.specs.declared.sweep.Sweep.{Sweep}

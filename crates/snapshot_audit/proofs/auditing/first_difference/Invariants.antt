@@ -1,4 +1,3 @@
-use Rattle.std.proofs.Common.{List}
 use Rattle.catalog_core.specs.query.Queries.{plain_query}
 use Rattle.history_model.specs.OrdinaryQuery.{InAnswerOver}
 use Rattle.snapshot_audit.specs.Verdicts.{AgreesBefore}

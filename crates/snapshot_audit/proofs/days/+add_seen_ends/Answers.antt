@@ -46,7 +46,7 @@ returns-in_ok-add_seen_ends-in-Combined t c =
     let first : HasEndsAmong old (seen_lists left tables) days =
     subst (λ (q : code.Query). HasEndsAmong old (seen_lists (plain_query q) tables) days) c.deref.ensures c.in_ok-add_seen_ends-in-Combined.ensures in
     on_ok_weaker c.add_seen_ends-in-Combined.result (λ then.
-        let second : HasEndsAmong days (seen_lists right tables) more =
-        subst (λ (q : code.Query). HasEndsAmong days (seen_lists (plain_query q) tables) more) c.deref-in-Combined.ensures then in
-        subst (λ ls. HasEndsAmong old ls more) lists (HasEndsAmong-both old (seen_lists left tables) (seen_lists right tables) days more first second))
+    let second : HasEndsAmong days (seen_lists right tables) more =
+    subst (λ (q : code.Query). HasEndsAmong days (seen_lists (plain_query q) tables) more) c.deref-in-Combined.ensures then in
+    subst (λ ls. HasEndsAmong old ls more) lists (HasEndsAmong-both old (seen_lists left tables) (seen_lists right tables) days more first second))
     c.add_seen_ends-in-Combined.ensures

@@ -1,4 +1,4 @@
-use Rattle.std.proofs.Common.{◌∷◌, ◌≤ℤ◌, ℤ, List, inl, inr, refl}
+use Rattle.std.proofs.Common.{◌∷◌, List, inl, inr, refl}
 use Rattle.std.specs.List.{Contains}
 use Rattle.period_core.specs.declared.row.PeriodRow.{PeriodRow}
 use Rattle.temporal_model.specs.Snapshot.{NoChangeBetween}

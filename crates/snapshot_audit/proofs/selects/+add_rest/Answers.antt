@@ -3,12 +3,11 @@ use Rattle.std.specs.List.{Contains}
 use Rattle.std.proofs.lemmas.List.{nil_from_length, take_more, take_all}
 use Rattle.std.proofs.lemmas.Result.{on_ok_weaker}
 use Rattle.period_core.specs.declared.row.PeriodRow.{PeriodRow}
-use Rattle.period_core.specs.declared.value.Value.{Value}
 use Rattle.catalog_core.specs.declared.query.resolved.QueryReference.{QueryReference}
 use Rattle.snapshot_audit.specs.declared.sweep.Sweep.{Sweep}
 use Rattle.snapshot_audit.specs.ActiveRows.{RowReferences, ActiveSights, active_for}
 use Rattle.snapshot_audit.specs.Selections.{InRest}
-use Rattle.snapshot_audit.proofs.ActiveFacts.{active_at, active_past}
+use Rattle.snapshot_audit.proofs.ActiveFacts.{active_at}
 use Rattle.snapshot_audit.proofs.SweepSteps.{first_of}
 use Rattle.snapshot_audit.proofs.SelectSteps.{HasRests, HasRests-none, HasRests-more, HasRests-all, rest_done}
 use Rattle.snapshot_audit.proofs.selects.+add_rest.Goals as goal
@@ -17,8 +16,8 @@ pub returns-in_default : goal.returns-in_default
 returns-in_default t c =
     let none : c.args.references.now ≡ [] = nil_from_length c.args.references.now (omega (arith, c.in_default.len_below)) in
     on_ok_weaker c.add_selected.result (λ step row.
-        subst (λ references. Contains c.add_selected.new.rows.items row ↔ (Contains c.args.rows.now.items row ⊎ InRest (ActiveSights c.args.seen.now) c.args.select.now references c.args.front.now row)) (sym none)
-        (rest_done (ActiveSights c.args.seen.now) c.args.select.now c.args.front.now c.args.rows.now.items c.add_selected.new.rows.items step row))
+    subst (λ references. Contains c.add_selected.new.rows.items row ↔ (Contains c.args.rows.now.items row ⊎ InRest (ActiveSights c.args.seen.now) c.args.select.now references c.args.front.now row)) (sym none)
+    (rest_done (ActiveSights c.args.seen.now) c.args.select.now c.args.front.now c.args.rows.now.items c.add_selected.new.rows.items step row))
     c.add_selected.ensures
 
 pub loop-next-init : goal.loop-next-init

@@ -1,5 +1,5 @@
 use Rattle.std.proofs.Common.{◌≡◌, List, Option, true, false, sym, ◌∙◌, ap, subst}
-use Rattle.std.specs.Prelude.{MatchOption, IsTrue}
+use Rattle.std.specs.Prelude.{MatchOption}
 use Rattle.period_core.specs.declared.value.Value.{Value}
 use Rattle.catalog_core.specs.declared.query.AnswerColumn.{AnswerColumn}
 use Rattle.history_model.specs.Answers.{IsProjection}

@@ -1,7 +1,6 @@
-use Rattle.std.proofs.Common.{List, sym, subst}
+use Rattle.std.proofs.Common.{sym, subst}
 use Rattle.std.specs.List.{Contains}
 use Rattle.std.proofs.lemmas.Result.{IfOk-weaker}
-use Rattle.period_core.specs.declared.value.Value.{Value}
 use Rattle.sql_statements.specs.declared.tree.SetOperator.{SetOperator}
 use Rattle.sql_statements.specs.declared.tree.SetOperator.TheVariants.{Except}
 use Rattle.history_model.specs.OrdinaryQuery.{InCombined}

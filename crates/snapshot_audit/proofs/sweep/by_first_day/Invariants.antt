@@ -1,5 +1,4 @@
-use Rattle.std.proofs.Common.{take, List}
-use Rattle.period_core.specs.declared.row.PeriodRow.{PeriodRow}
+use Rattle.std.proofs.Common.{take}
 use Rattle.snapshot_audit.proofs.ActiveFacts.{AreRows}
 use Rattle.snapshot_audit.proofs.sweep.by_first_day.Given as goal
 

@@ -1,7 +1,6 @@
-use Rattle.std.proofs.Common.{◌≡◌, ◌∷◌, ◌-◌, ◌≤ℤ◌, ◌<ℤ◌, [], List, length, take, drop, refl, subst, arith}
-use Rattle.std.proofs.lemmas.Int.{ints, by_lt_z}
+use Rattle.std.proofs.Common.{◌≡◌, ◌∷◌, ◌-◌, ◌≤ℤ◌, [], length, take, drop, refl, subst, arith}
+use Rattle.std.proofs.lemmas.Int.{by_lt_z}
 use Rattle.std.proofs.lemmas.List.{nil_from_length}
-use Rattle.period_core.specs.declared.row.PeriodRow.{PeriodRow}
 use Rattle.snapshot_audit.specs.ActiveRows.{RowReferences}
 use Rattle.snapshot_audit.specs.Sweeping.{AreSweptTo}
 use Rattle.snapshot_audit.proofs.SweepSteps.{first_of, sweep_ended, sweep_added, sweep_passed, AllGoOn-ended, AllGoOn-push, AllBeginAfter-first, are_active}
