@@ -1,6 +1,5 @@
 -- Worked rows of an audit: who works in a department while nobody else does, by a difference.
-use Rattle.std.proofs.Common.{◌≡◌, ◌++◌, ◌∷◌, ◌<ℤ◌, ℕ, ℤ, pos, List, [], codes, map, refl, sym, ◌∙◌, ap, subst, inl, inr, arith}
-use Rattle.std.specs.List.{Contains}
+use Rattle.std.proofs.Common.{◌≡◌, ◌++◌, ◌∷◌, ◌<ℤ◌, ℕ, ℤ, pos, List, [], codes, refl, sym, ◌∙◌, ap, subst, inl, inr, arith}
 use Rattle.std.proofs.lemmas.Int.{ints}
 use Rattle.period_core.specs.declared.row.PeriodRow.{PeriodRow}
 use Rattle.period_core.specs.declared.value.Value.{Value}
@@ -10,7 +9,6 @@ use Rattle.temporal_model.specs.Snapshot.{InSnapshot}
 use Rattle.temporal_model.proofs.Members.{Contains-here, Contains-one, Contains-cons_cases}
 use Rattle.temporal_model.proofs.Snapshots.{held}
 use Rattle.catalog_core.specs.declared.query.AnswerColumn.{AnswerColumn}
-use Rattle.catalog_core.specs.declared.query.resolved.QueryReference.{QueryReference}
 use Rattle.catalog_core.specs.declared.query.resolved.Select.{Select}
 use Rattle.catalog_core.specs.declared.table.ValueKind.TheVariants.{Integer}
 use Rattle.catalog_core.specs.query.Queries.{Query, both, one}
@@ -19,7 +17,7 @@ use Rattle.history_model.specs.OrdinaryQuery.{InAnswerOver}
 use Rattle.snapshot_audit.specs.ChangeDays.{seen_lists}
 use Rattle.snapshot_audit.specs.Verdicts.{IsFirstDifference}
 use Rattle.snapshot_audit.proofs.Examples.{seven, seven_over, long}
-use Rattle.snapshot_audit.proofs.SelectSteps.{some, same_values}
+use Rattle.snapshot_audit.proofs.SelectSteps.{same_values}
 
 abbrev column : AnswerColumn
 column = record { position = 0; name = codes "DEPT" }

@@ -5,6 +5,7 @@ pub mod Zips
 pub mod Changes
 pub mod ActiveFacts
 pub mod SweepSteps
+pub mod Ruling
 pub mod SelectSteps
 pub mod SetSteps
 pub mod Verdicts

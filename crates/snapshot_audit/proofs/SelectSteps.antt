@@ -1,6 +1,6 @@
 -- The steps of a select: values of its items, a row that is selected, and one reference more.
-use Rattle.std.proofs.Common.{◌≡◌, ◌↔◌, ◌⊎◌, ◌<◌, ◌+◌, ◌++◌, inl, inr, ℕ, zero, suc, true, Bool, List, [], ◌∷◌, Option, Some, None, Bor, length, get_or, take, map, refl, subst, sym, ◌∙◌, ap, ap₂, arith, append_assoc, append-nil}
-use Rattle.std.specs.Prelude.{slice_get, IsTrue}
+use Rattle.std.proofs.Common.{◌≡◌, ◌↔◌, ◌⊎◌, ◌<◌, ◌+◌, ◌++◌, inl, inr, ℕ, zero, suc, true, false, List, [], ◌∷◌, Option, Some, None, Bor, length, get_or, take, map, refl, subst, sym, ◌∙◌, ap, ap₂, arith, append_assoc, append-nil}
+use Rattle.std.specs.Prelude.{slice_get}
 use Rattle.std.specs.List.{Contains}
 use Rattle.std.proofs.lemmas.List.{map-append, map_more}
 use Rattle.std.proofs.lemmas.List.Elements.{Contains-append_left, Contains-push, Contains-push_cases}
@@ -11,9 +11,9 @@ use Rattle.catalog_core.specs.declared.query.AnswerColumn.{AnswerColumn}
 use Rattle.catalog_core.specs.declared.query.resolved.QueryReference.{QueryReference}
 use Rattle.catalog_core.specs.declared.query.resolved.Select.{Select}
 use Rattle.history_model.specs.Answers.{IsProjection, read_items}
-use Rattle.history_model.specs.OrdinaryQuery.{Sights, InProduct, InSelect, meets_all}
+use Rattle.history_model.specs.OrdinaryQuery.{Sights, InSelect, meets_all}
 use Rattle.snapshot_audit.specs.declared.sweep.Sweep.{Sweep}
-use Rattle.snapshot_audit.specs.ActiveRows.{RowReferences, InActive, active_for, ActiveSights}
+use Rattle.snapshot_audit.specs.ActiveRows.{RowReferences, active_for, ActiveSights}
 use Rattle.snapshot_audit.specs.Selections.{IsSelected, InRest, InRests}
 
 -- ---- the values of items
@@ -143,6 +143,21 @@ HasRests-more seen select more front old rows next active r has step row = (
     ]
   ]),
 )
+
+-- a row that no combined row can go on with
+pub HasRests-skip :
+    (seen : List Sweep) (select : Select) (more : List QueryReference) (front : List Value) (old rows : List (List Value))
+    (active : RowReferences) (r : Bor PeriodRow) → HasRests seen select more front old active rows
+    → ((rest : List Value) → meets_all select.conjuncts ((front ++ r.now.values) ++ rest) ≡ false)
+    → HasRests seen select more front old (active ++ r ∷ []) rows
+HasRests-skip seen select more front old rows active r has none =
+    HasRests-more seen select more front old rows rows active r has (λ row. (
+      λ h. inl h,
+      λ h. elim h [
+        | inl was ↦ was
+        | inr (rest, product, (met, read)) ↦ absurd (let no = none rest in let yes : meets_all select.conjuncts ((front ++ r.now.values) ++ rest) ≡ true = met in cc)
+      ],
+    ))
 
 -- once all rows of the first reference are done
 pub HasRests-all :

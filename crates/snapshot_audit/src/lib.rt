@@ -8,6 +8,7 @@ mod days;
 mod evaluation;
 mod gaps;
 mod laws;
+mod ruling_out;
 mod selects;
 mod set_operations;
 mod sets;

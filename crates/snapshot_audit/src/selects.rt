@@ -8,6 +8,7 @@ ghost use Rattle.snapshot_audit.specs.ActiveRows.{ActiveSights};
 ghost use Rattle.snapshot_audit.specs.Selections.{InRest, IsSelected};
 ghost use Rattle.snapshot_audit.specs.Sets.{ListsSet};
 
+use crate::ruling_out::is_ruled_out;
 use crate::sets::sorted_once;
 use crate::sweep::Sweep;
 use catalog_core::resolved::{QueryReference, Select};
@@ -106,6 +107,9 @@ fn add_rest(
         return Ok(());
     };
     for next in sweep.active.iter() {
+        if is_ruled_out(select.conjuncts.as_slice(), front, next.values.as_slice()) {
+            continue;
+        }
         let values = side_by_side(alloc, front, next.values.as_slice())?;
         add_rest(alloc, rows, select, more, seen, values.as_slice())?;
     }
