@@ -6,13 +6,13 @@ use Rattle.std.specs.Ordering.{int_cmp}
 use Rattle.std.specs.declared.cmp.Ordering.TheVariants.{Less}
 use Rattle.std.proofs.lemmas.Cmp.{int_ranked}
 use Rattle.std.proofs.lemmas.Int.{ints, by_lt_z}
-use Rattle.std.proofs.lemmas.List.Elements.{Contains-append_left, Contains-push, Contains-push_cases}
+use Rattle.std.proofs.lemmas.List.Elements.{Contains-append_left, Contains-append_right, Contains-append_cases, Contains-push, Contains-push_cases}
 use Rattle.period_core.specs.Calendar.{first_day}
 use Rattle.period_core.specs.declared.row.PeriodRow.{PeriodRow}
-use Rattle.temporal_model.proofs.Members.{Contains-here, Contains-there, Contains-nil, Contains-cons_cases, AllPairs-head, AllPairs-tail}
+use Rattle.temporal_model.proofs.Members.{Contains-here, Contains-there, Contains-nil, Contains-one, Contains-cons_cases, AllPairs-head, AllPairs-tail}
 use Rattle.temporal_model.specs.Snapshot.{NoChangeBetween}
 use Rattle.snapshot_audit.specs.Sets.{IsSortedOnce}
-use Rattle.snapshot_audit.specs.ChangeDays.{EndsOn, IsChangeDay, AreChangeDays}
+use Rattle.snapshot_audit.specs.ChangeDays.{EndsOn, EndsAmong, IsChangeDay, AreChangeDays}
 
 -- ---- gathering
 
@@ -59,50 +59,79 @@ HasEnds-more old rows days row has day = (
   new (inl is) = Contains-append_left (days ++ row.period.start ∷ []) (row.period.end ∷ []) day (subst (Contains (days ++ row.period.start ∷ [])) is (Contains-push days row.period.start))
   new (inr is) = subst (Contains ((days ++ row.period.start ∷ []) ++ row.period.end ∷ [])) is (Contains-push (days ++ row.period.start ∷ []) row.period.end)
 
--- the days are the change days of the lists, in any order
-abbrev pub HasChangeDays : List (List PeriodRow) → List ℤ → Type 0
-HasChangeDays lists days = (day : ℤ) → (Contains days day ↔ IsChangeDay lists day)
+-- the days are the old ones and the ends of the rows of the lists
+abbrev pub HasEndsAmong : List ℤ → List (List PeriodRow) → List ℤ → Type 0
+HasEndsAmong old lists days = (day : ℤ) → (Contains days day ↔ (Contains old day ⊎ EndsAmong lists day))
 
--- 0001-01-01 and the ends of one list
-pub HasChangeDays-first :
-    (rows : List PeriodRow) (days : List ℤ) → HasEnds (first_day ∷ []) rows days → HasChangeDays (rows ∷ []) days
-HasChangeDays-first rows days has day = (
-  λ h. elim ((has day).0 h) [
-    | inl k ↦ elim (Contains-cons_cases first_day [] day k) [
-      | inl is ↦ inl is
-      | inr none ↦ absurd (Contains-nil day none)
+no_ends_among : (day : ℤ) → EndsAmong [] day → ⊥
+no_ends_among day (rows, c, ends) = Contains-nil rows c
+
+pub HasEndsAmong-none : (old : List ℤ) → HasEndsAmong old [] old
+HasEndsAmong-none old day = (
+  λ h. inl h,
+  λ h. elim h [ inl k ↦ k | inr ends ↦ absurd (no_ends_among day ends) ],
+)
+
+-- more lists
+pub HasEndsAmong-both :
+    (old : List ℤ) (left right : List (List PeriodRow)) (days more : List ℤ) → HasEndsAmong old left days
+    → HasEndsAmong days right more → HasEndsAmong old (left ++ right) more
+HasEndsAmong-both old left right days more has next day = (
+  λ h. elim ((next day).0 h) [
+    | inl k ↦ elim ((has day).0 k) [
+      | inl was ↦ inl was
+      | inr (rows, c, ends) ↦ inr (rows, Contains-append_left left right rows c, ends)
     ]
+    | inr (rows, c, ends) ↦ inr (rows, Contains-append_right left right rows c, ends)
+  ],
+  λ h. elim h [
+    | inl was ↦ (next day).1 (inl ((has day).1 (inl was)))
+    | inr (rows, c, ends) ↦ elim (Contains-append_cases left right rows c) [
+      | inl l ↦ (next day).1 (inl ((has day).1 (inr (rows, l, ends))))
+      | inr r ↦ (next day).1 (inr (rows, r, ends))
+    ]
+  ],
+)
+
+-- the ends of one list
+HasEndsAmong-one : (old : List ℤ) (rows : List PeriodRow) (days : List ℤ) → HasEnds old rows days → HasEndsAmong old (rows ∷ []) days
+HasEndsAmong-one old rows days has day = (
+  λ h. elim ((has day).0 h) [
+    | inl k ↦ inl k
     | inr ends ↦ inr (rows, Contains-here rows [], ends)
   ],
   λ h. elim h [
-    | inl is ↦ (has day).1 (inl (subst (Contains (first_day ∷ [])) is (Contains-here first_day [])))
-    | inr (list, c, ends) ↦ elim (Contains-cons_cases rows [] list c) [
-      | inl is ↦ (has day).1 (inr (subst (λ l. EndsOn l day) (sym is) ends))
-      | inr none ↦ absurd (Contains-nil list none)
-    ]
+    | inl k ↦ (has day).1 (inl k)
+    | inr (list, c, ends) ↦ (has day).1 (inr (subst (λ l. EndsOn l day) (sym (Contains-one rows list c)) ends))
   ],
 )
 
 -- one more list
-pub HasChangeDays-more :
-    (lists : List (List PeriodRow)) (rows : List PeriodRow) (days more : List ℤ) → HasChangeDays lists days
-    → HasEnds days rows more → HasChangeDays (lists ++ rows ∷ []) more
-HasChangeDays-more lists rows days more has ends day = (
-  λ h. elim ((ends day).0 h) [
-    | inl k ↦ elim ((has day).0 k) [
-      | inl is ↦ inl is
-      | inr (list, c, e) ↦ inr (list, Contains-append_left lists (rows ∷ []) list c, e)
-    ]
-    | inr e ↦ inr (rows, Contains-push lists rows, e)
-  ],
-  λ h. elim h [
-    | inl is ↦ (ends day).1 (inl ((has day).1 (inl is)))
-    | inr (list, c, e) ↦ elim (Contains-push_cases lists rows list c) [
-      | inl k ↦ (ends day).1 (inl ((has day).1 (inr (list, k, e))))
-      | inr is ↦ (ends day).1 (inr (subst (λ l. EndsOn l day) (sym is) e))
-    ]
-  ],
-)
+pub HasEndsAmong-more :
+    (old : List ℤ) (lists : List (List PeriodRow)) (rows : List PeriodRow) (days more : List ℤ)
+    → HasEndsAmong old lists days → HasEnds days rows more → HasEndsAmong old (lists ++ rows ∷ []) more
+HasEndsAmong-more old lists rows days more has ends =
+    HasEndsAmong-both old lists (rows ∷ []) days more has (HasEndsAmong-one days rows more ends)
+
+-- the days are the change days of the lists, in any order
+abbrev pub HasChangeDays : List (List PeriodRow) → List ℤ → Type 0
+HasChangeDays lists days = (day : ℤ) → (Contains days day ↔ IsChangeDay lists day)
+
+-- 0001-01-01, the ends of the rows of one list, and those of the others
+pub HasChangeDays-from :
+    (rows : List PeriodRow) (lists : List (List PeriodRow)) (days more : List ℤ)
+    → HasEnds (first_day ∷ []) rows days → HasEndsAmong days lists more → HasChangeDays (rows ∷ lists) more
+HasChangeDays-from rows lists days more has next day =
+    let all : HasEndsAmong (first_day ∷ []) (rows ∷ lists) more = HasEndsAmong-both (first_day ∷ []) (rows ∷ []) lists days more (HasEndsAmong-one (first_day ∷ []) rows days has) next in (
+      λ h. elim ((all day).0 h) [
+        | inl k ↦ inl (Contains-one first_day day k)
+        | inr ends ↦ inr ends
+      ],
+      λ h. (all day).1 (elim h [
+        | inl is ↦ inl (subst (Contains (first_day ∷ [])) is (Contains-here first_day []))
+        | inr ends ↦ inr ends
+      ]),
+    )
 
 -- ---- the last change day up to a day
 

@@ -16,15 +16,14 @@ use Rattle.temporal_model.proofs.Snapshots.{held, in_snapshot}
 use Rattle.snapshot_audit.specs.ChangeDays.{AreChangeDays, IsChangeDay}
 use Rattle.snapshot_audit.specs.Faults.{IsSound, SoundBelow, IsFirstFault, IsFaultless}
 use Rattle.snapshot_audit.specs.Gaps.{HasGaps}
-use Rattle.snapshot_audit.specs.OrdinaryQueries.{seen_on}
 use Rattle.snapshot_audit.specs.Sets.{ListsSet}
 use Rattle.snapshot_audit.specs.Verdicts.{IsFirstDifference}
 use Rattle.snapshot_audit.proofs.Sound.{sound_more}
 
-abbrev seven : List Value
+abbrev pub seven : List Value
 seven = Int (pos 7) ∷ []
 
-abbrev seven_over : (start end : ℤ) → are_ends start end ≡ true → PeriodRow
+abbrev pub seven_over : (start end : ℤ) → are_ends start end ≡ true → PeriodRow
 seven_over start end ends = record { values = seven; period = period_over start end ends }
 
 -- from day 1 to day 3, from day 3 to day 5, from day 1 to day 5, from day 1 to day 9
@@ -37,7 +36,7 @@ late = seven_over (pos 3) (pos 5) refl
 abbrev whole : PeriodRow
 whole = seven_over (pos 1) (pos 5) refl
 
-abbrev long : PeriodRow
+abbrev pub long : PeriodRow
 long = seven_over (pos 1) (pos 9) refl
 
 -- ---- faults
@@ -138,10 +137,6 @@ held_twice-once = record {
     ],
   );
 }
-
--- what two tables show on day 4
-seen-day_four : seen_on ((early ∷ []) ∷ (late ∷ whole ∷ []) ∷ []) (pos 4) ≡ [] ∷ (seven ∷ seven ∷ []) ∷ []
-seen-day_four = refl
 
 -- ---- days
 

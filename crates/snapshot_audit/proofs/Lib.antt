@@ -1,7 +1,13 @@
 pub mod Sound
 pub mod Neighbours
 pub mod Once
+pub mod Zips
 pub mod Changes
-pub mod SameSets
+pub mod ActiveFacts
+pub mod SweepSteps
+pub mod Ruling
+pub mod SelectSteps
+pub mod SetSteps
 pub mod Verdicts
-mod Examples
+pub mod Examples
+pub mod AuditExamples

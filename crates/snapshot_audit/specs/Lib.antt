@@ -2,5 +2,8 @@ pub mod Sets
 pub mod Faults
 pub mod Gaps
 pub mod ChangeDays
-pub mod OrdinaryQueries
+pub mod ActiveRows
+pub mod Sweeping
+pub mod Selections
 pub mod Verdicts
+pub mod Laws

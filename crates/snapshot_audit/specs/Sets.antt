@@ -6,10 +6,19 @@ use Rattle.std.specs.FinMap.{IsAntisymmetric}
 use Rattle.period_core.specs.Order.{values_cmp}
 use Rattle.period_core.specs.declared.value.Value.{Value}
 
+-- each list of values is less than all later ones
+abbrev pub IsAscending : List (List Value) → Type 0
+IsAscending = AllPairs (λ a b. values_cmp a b ≡ Less)
+
 -- the list has the members of the set and no others, in ascending order, each once
 pub record ListsSet (InSet : List Value → Type 0) (list : List (List Value)) : Type 0 where
-  pub ascending : AllPairs (λ a b. values_cmp a b ≡ Less) list
+  pub ascending : IsAscending list
   pub members : (values : List Value) → (Contains list values ↔ InSet values)
+
+-- none of the others is less than the values
+abbrev pub NoneBelow : List Value → List (List Value) → Type 0
+NoneBelow values others =
+    (other : List Value) → Contains others other → values_cmp other values ≡ Less → ⊥
 
 -- the elements of a list in ascending order, each once, where only equal elements tie
 pub record IsSortedOnce {X : Type 0} (cmp : X → X → Ordering) (items once : List X) : Type 0 where

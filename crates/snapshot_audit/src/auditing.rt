@@ -1,64 +1,101 @@
-//! The audit of an answer, change day by change day.
+//! The audit of an answer.
 
-ghost use Rattle.std.specs.Prelude.{◌↔◌, IsTrue, IfOk, MatchBool};
+ghost use Rattle.std.specs.Prelude.{◌↔◌, ◌<ℤ◌, AllPairs, IfOk, IsTrue, List, MatchBool, MatchOption};
+ghost use Rattle.catalog_core.specs.query.Queries.{plain_query};
+ghost use Rattle.history_model.specs.OrdinaryQuery.{InAnswerOver, InQuery};
 ghost use Rattle.temporal_model.specs.Snapshot.{IsDay};
-ghost use Rattle.snapshot_audit.specs.OrdinaryQueries.{InAnswerOn};
-ghost use Rattle.snapshot_audit.specs.Verdicts.{AgreesOn, IsVerdict};
+ghost use Rattle.period_core.specs.declared.value.Value.{Value as ColumnValue};
+ghost use Rattle.snapshot_audit.specs.ActiveRows.{ActiveSights, InActive};
+ghost use Rattle.snapshot_audit.specs.ChangeDays.{seen_lists};
+ghost use Rattle.snapshot_audit.specs.Verdicts.{AgreesOnAll, DiffersFirst, HaveSameMembers, IsVerdict};
 
 use crate::days::change_days;
-use crate::evaluation::eval_on;
-use crate::ordinary_query::OrdinaryQuery;
+use crate::evaluation::evaluated;
 use crate::sets::is_same;
-use crate::snapshots::rows_on;
+use crate::snapshots::values_of;
+use crate::sweep::{Sweep, by_first_day};
+use crate::table_sweeps::{all_moved_to, lists_by_first_day, sweeps_over};
 use crate::verdict::Verdict;
 use crate::witness_check::check_witnesses;
-use period_core::{Answer, Day, Items, Memory, PeriodRow};
+use catalog_core::resolved::{Query, Tables};
+use period_core::{Answer, Day, Memory, PeriodRow};
 use std::alloc::Global;
 
 /// Compares the answer's snapshot with the query's set on each change day, and then checks the
-/// witnesses. The tables are what the query's table references see, in the order of the text. The
-/// only error is out of memory.
-pub fn audit<Q: OrdinaryQuery>(
+/// witnesses. Each reference of the query sees the list in its place; none, where there is no such
+/// list. The only error is out of memory.
+pub fn audit(
     alloc: Global,
-    query: &Q,
-    tables: &[Items<PeriodRow>],
+    query: &Query,
+    tables: &Tables,
     answer: &Answer,
 ) -> Result<Verdict, Memory>
-    ensures { let InSet = InAnswerOn (Q.in_answer query.now) tables.now in
-        IfOk result (IsVerdict InSet tables.now answer.now.rows answer.now.witnesses) }
+    ensures { let plain = plain_query query.now in
+        IfOk result (IsVerdict (InAnswerOver plain tables.now) (seen_lists plain tables.now)
+        answer.now.rows answer.now.witnesses) }
 {
     let rows = answer.rows.as_slice();
-    let days = change_days(alloc, tables, rows)?;
-    for day in days.iter() {
-        let differs = differs_on(alloc, query, tables, rows, *day)?;
-        if differs {
-            return Ok(Verdict::Differs(*day));
-        }
-    }
-    match check_witnesses(rows, answer.witnesses.as_slice()) {
-        Some(row) => Ok(Verdict::BadWitness(row)),
-        None => Ok(Verdict::Agrees(days.len())),
+    let days = change_days(alloc, query, tables, rows)?;
+    match first_difference(alloc, query, tables, rows, days.as_slice())? {
+        Some(day) => Ok(Verdict::Differs(day)),
+        None => match check_witnesses(rows, answer.witnesses.as_slice()) {
+            Some(row) => Ok(Verdict::BadWitness(row)),
+            None => Ok(Verdict::Agrees(days.len())),
+        },
     }
 }
 
-// Whether the day can be covered, and the snapshot of the rows is not the query's set on it.
-fn differs_on<Q: OrdinaryQuery>(
+// The first of these days on which the snapshot of the rows is not the query's set. The days are in
+// ascending order.
+fn first_difference(
     alloc: Global,
-    query: &Q,
-    tables: &[Items<PeriodRow>],
+    query: &Query,
+    tables: &Tables,
     rows: &[PeriodRow],
-    day: Day,
-) -> Result<bool, Memory>
-    ensures { let InSet = InAnswerOn (Q.in_answer query.now) tables.now in
-        IfOk result (λ differs. MatchBool differs
-        (IsDay day × (AgreesOn InSet rows.now day → ⊥))
-        (IsDay day → AgreesOn InSet rows.now day)) }
+    days: &[Day],
+) -> Result<Option<Day>, Memory>
+    requires { AllPairs (λ a b. a <ℤ b) days.now }
+    ensures { let InSet = InAnswerOver (plain_query query.now) tables.now in
+        IfOk result (λ found. MatchOption found
+        (AgreesOnAll InSet rows.now days.now)
+        (DiffersFirst InSet rows.now days.now)) }
 {
-    if !can_be_covered(day) {
-        return Ok(false);
+    let lists = lists_by_first_day(alloc, tables)?;
+    let list = by_first_day(alloc, rows)?;
+    let mut sweeps = sweeps_over(alloc, lists.as_slice())?;
+    let mut sweep = Sweep {
+        later: list.as_slice(),
+        active: Vec::new(alloc),
+    };
+    for day in days {
+        if !can_be_covered(*day) {
+            continue;
+        }
+        let moved = all_moved_to(alloc, sweeps, *day)?;
+        let next = sweep.moved_to(*day)?;
+        let other = differs(alloc, query, moved.as_slice(), next.active.as_slice())?;
+        if other {
+            return Ok(Some(*day));
+        }
+        sweeps = moved;
+        sweep = next;
     }
-    let wanted = eval_on(alloc, query, tables, day)?;
-    let found = rows_on(alloc, rows, day)?;
+    Ok(None)
+}
+
+// Whether the values of the rows are not the query's set by the active rows.
+fn differs(
+    alloc: Global,
+    query: &Query,
+    seen: &[Sweep],
+    rows: &[&PeriodRow],
+) -> Result<bool, Memory>
+    ensures { let Same = HaveSameMembers (InActive rows.now)
+        (InQuery (ActiveSights seen.now) (plain_query query.now)) in
+        IfOk result (λ differs. MatchBool differs (Same → ⊥) Same) }
+{
+    let wanted = evaluated(alloc, query, seen)?;
+    let found = values_of(alloc, rows)?;
     Ok(!is_same(found.as_slice(), wanted.as_slice()))
 }
 

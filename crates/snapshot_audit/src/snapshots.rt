@@ -2,6 +2,7 @@
 
 ghost use Rattle.std.specs.Prelude.{◌↔◌, IsTrue, IfOk};
 ghost use Rattle.temporal_model.specs.Snapshot.{InSnapshot};
+ghost use Rattle.snapshot_audit.specs.ActiveRows.{AreActive, InActive};
 ghost use Rattle.snapshot_audit.specs.Sets.{ListsSet};
 
 use crate::sets::sorted_once;
@@ -23,16 +24,40 @@ pub(crate) fn is_held_on(rows: &[PeriodRow], values: &Values, day: i32) -> bool
     false
 }
 
+/// The rows that cover the day. The only error is out of memory.
+pub(crate) fn active_on<'a>(
+    alloc: Global,
+    rows: &'a [PeriodRow],
+    day: Day,
+) -> Result<Vec<&'a PeriodRow>, Memory>
+    ensures { IfOk result (λ active. AreActive rows.now active.items day) }
+{
+    let mut active = Vec::new(alloc);
+    for row in rows {
+        if row.period.contains_day(day) {
+            active.push(row)?;
+        }
+    }
+    Ok(active)
+}
+
+/// The values of the rows, in ascending order, each list of values once. The only error is out of
+/// memory.
+pub(crate) fn values_of(alloc: Global, active: &[&PeriodRow]) -> Result<Vec<Values>, Memory>
+    ensures { IfOk result (λ set. ListsSet (InActive active.now) set.items) }
+{
+    let mut held = Vec::with_capacity(alloc, active.len())?;
+    for row in active {
+        held.push(row.values.copy(alloc)?)?;
+    }
+    sorted_once(held)
+}
+
 /// The snapshot of the rows on a day, in ascending order, each list of values once. The only error
 /// is out of memory.
 pub fn rows_on(alloc: Global, rows: &[PeriodRow], day: Day) -> Result<Vec<Values>, Memory>
     ensures { IfOk result (λ set. ListsSet (InSnapshot rows.now day) set.items) }
 {
-    let mut held = Vec::new(alloc);
-    for row in rows {
-        if row.period.contains_day(day) {
-            held.push(row.values.copy(alloc)?)?;
-        }
-    }
-    sorted_once(held)
+    let active = active_on(alloc, rows, day)?;
+    values_of(alloc, active.as_slice())
 }

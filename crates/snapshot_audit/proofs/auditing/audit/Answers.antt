@@ -1,54 +1,51 @@
-use Rattle.std.proofs.Common.{◌≡◌, ◌∷◌, ℤ, List, length, sym, ◌∙◌, subst, arith}
+use Rattle.std.proofs.Common.{◌≡◌, ◌∷◌, ℤ, List, Option, length, sym, ◌∙◌, subst, arith}
+use Rattle.std.specs.Prelude.{MatchOption}
 use Rattle.period_core.specs.declared.value.Value.{Value}
 use Rattle.period_core.specs.declared.row.PeriodRow.{PeriodRow}
-use Rattle.snapshot_audit.specs.ChangeDays.{AreChangeDays, IsConstantBetween}
-use Rattle.snapshot_audit.specs.OrdinaryQueries.{InAnswerOn}
+use Rattle.catalog_core.specs.query.Queries.{Query, plain_query}
+use Rattle.history_model.specs.OrdinaryQuery.{InAnswerOver}
+use Rattle.snapshot_audit.specs.ChangeDays.{AreChangeDays, seen_lists}
 use Rattle.snapshot_audit.specs.Faults.{IsFirstFault, IsFaultless}
-use Rattle.snapshot_audit.specs.Verdicts.{AgreesAlways, IsFirstDifference, IsConfirmed}
-use Rattle.snapshot_audit.proofs.SameSets.{constant_by_sets}
-use Rattle.snapshot_audit.proofs.Verdicts.{checked_more, always, first_difference, confirmed}
+use Rattle.snapshot_audit.specs.Verdicts.{AgreesAlways, AgreesOnAll, DiffersFirst, IsFirstDifference, IsConfirmed}
+use Rattle.snapshot_audit.proofs.Verdicts.{always, first_difference, confirmed, constant_over}
 use Rattle.snapshot_audit.proofs.auditing.audit.Goals as goal
 
-pub loop-day-preserved : goal.loop-day-preserved
-loop-day-preserved g c =
-    let InSet : ℤ → List Value → Type 0 = InAnswerOn (g.Q.OrdinaryQuery.in_answer c.args.query.now) c.args.tables.now in
-    checked_more InSet c.as_slice-rows.result.now c.deref-day-items.result.now c.loop-day.day-index c.day-item.result (omega arith) c.day-item.is c.loop-day.invariant
-    (rw c.if-differs.false at c.in_ok-differs.ensures)
-
-pub returns-then-differs : goal.returns-then-differs
-returns-then-differs g c =
-    let InSet : ℤ → List Value → Type 0 = InAnswerOn (g.Q.OrdinaryQuery.in_answer c.args.query.now) c.args.tables.now in
-    let tables : List (List PeriodRow) = c.args.tables.now in
-    let rows : List PeriodRow = c.as_slice-rows.result.now in
-    let days : List ℤ = c.deref-day-items.result.now in
-    let constant : IsConstantBetween tables InSet = constant_by_sets (g.Q.OrdinaryQuery.in_answer c.args.query.now) (g.met.Q.OrdinaryQuery.by_sets c.args.query.now) tables in
-    let are : AreChangeDays (rows ∷ tables) days = subst (AreChangeDays (rows ∷ tables)) (sym c.deref-day-items.ensures.value) c.in_ok-days.ensures in
-    let (is_day, differs) = rw c.if-differs.true at c.in_ok-differs.ensures in
-    subst (λ rs. IsFirstDifference InSet rs c.day-item.result) c.as_slice-rows.ensures
-    (first_difference InSet tables rows days constant are c.loop-day.day-index c.day-item.result (omega arith) c.day-item.is c.loop-day.invariant is_day differs)
-
 pub returns-in-Some : goal.returns-in-Some
-returns-in-Some g c =
-    let InSet : ℤ → List Value → Type 0 = InAnswerOn (g.Q.OrdinaryQuery.in_answer c.args.query.now) c.args.tables.now in
+returns-in-Some c =
+    let query : Query = plain_query c.args.query.now in
     let tables : List (List PeriodRow) = c.args.tables.now in
+    let InSet : ℤ → List Value → Type 0 = InAnswerOver query tables in
     let rows : List PeriodRow = c.as_slice-rows.result.now in
-    let days : List ℤ = c.deref-day-items.result.now in
-    let constant : IsConstantBetween tables InSet = constant_by_sets (g.Q.OrdinaryQuery.in_answer c.args.query.now) (g.met.Q.OrdinaryQuery.by_sets c.args.query.now) tables in
-    let are : AreChangeDays (rows ∷ tables) days = subst (AreChangeDays (rows ∷ tables)) (sym c.deref-day-items.ensures.value) c.in_ok-days.ensures in
-    let fault : IsFirstFault rows c.args.answer.now.witnesses c.in-Some.row = subst (λ ws. IsFirstFault rows ws c.in-Some.row) c.as_slice.ensures c.in-Some.ensures.fault in (
-      subst (AgreesAlways InSet) c.as_slice-rows.ensures (always InSet tables rows days constant are c.loop-day.day-index (omega arith) c.loop-day.invariant),
-      subst (λ rs. IsFirstFault rs c.args.answer.now.witnesses c.in-Some.row) c.as_slice-rows.ensures fault,
+    let days : List ℤ = c.as_slice.result.now in
+    let are : AreChangeDays (rows ∷ seen_lists query tables) days = subst (AreChangeDays (rows ∷ seen_lists query tables)) (sym c.as_slice.ensures.value) c.in_ok-days.ensures in
+    let found : DiffersFirst InSet rows days c.in-Some.day = subst (λ (o : Option ℤ). MatchOption o (AgreesOnAll InSet rows days) (DiffersFirst InSet rows days)) c.in-Some.is c.in_ok-day.ensures in
+    subst (λ rs. IsFirstDifference InSet rs c.in-Some.day) c.as_slice-rows.ensures
+    (first_difference InSet (seen_lists query tables) rows days (constant_over query tables) are found.place c.in-Some.day found.inside found.found found.before found.is_day found.differs)
+
+pub returns-in-Some-check_witnesses : goal.returns-in-Some-check_witnesses
+returns-in-Some-check_witnesses c =
+    let query : Query = plain_query c.args.query.now in
+    let tables : List (List PeriodRow) = c.args.tables.now in
+    let InSet : ℤ → List Value → Type 0 = InAnswerOver query tables in
+    let rows : List PeriodRow = c.as_slice-rows.result.now in
+    let days : List ℤ = c.as_slice.result.now in
+    let are : AreChangeDays (rows ∷ seen_lists query tables) days = subst (AreChangeDays (rows ∷ seen_lists query tables)) (sym c.as_slice.ensures.value) c.in_ok-days.ensures in
+    let all : AgreesOnAll InSet rows days = subst (λ (o : Option ℤ). MatchOption o (AgreesOnAll InSet rows days) (DiffersFirst InSet rows days)) c.in-None.is c.in_ok-day.ensures in
+    let fault : IsFirstFault rows c.args.answer.now.witnesses c.in-Some-check_witnesses.row = subst (λ ws. IsFirstFault rows ws c.in-Some-check_witnesses.row) c.as_slice-in-None.ensures c.in-Some-check_witnesses.ensures.fault in (
+      subst (AgreesAlways InSet) c.as_slice-rows.ensures (always InSet (seen_lists query tables) rows days (constant_over query tables) are (length days) (omega arith) all),
+      subst (λ rs. IsFirstFault rs c.args.answer.now.witnesses c.in-Some-check_witnesses.row) c.as_slice-rows.ensures fault,
     )
 
 pub returns : goal.returns
-returns g c =
-    let InSet : ℤ → List Value → Type 0 = InAnswerOn (g.Q.OrdinaryQuery.in_answer c.args.query.now) c.args.tables.now in
+returns c =
+    let query : Query = plain_query c.args.query.now in
     let tables : List (List PeriodRow) = c.args.tables.now in
+    let InSet : ℤ → List Value → Type 0 = InAnswerOver query tables in
     let rows : List PeriodRow = c.as_slice-rows.result.now in
-    let days : List ℤ = c.deref-day-items.result.now in
-    let constant : IsConstantBetween tables InSet = constant_by_sets (g.Q.OrdinaryQuery.in_answer c.args.query.now) (g.met.Q.OrdinaryQuery.by_sets c.args.query.now) tables in
-    let are : AreChangeDays (rows ∷ tables) days = subst (AreChangeDays (rows ∷ tables)) (sym c.deref-day-items.ensures.value) c.in_ok-days.ensures in
-    let faultless : IsFaultless rows c.args.answer.now.witnesses = subst (IsFaultless rows) c.as_slice.ensures c.in-None.ensures.faultless in
-    let counted : length days ≡ c.len.result = c.deref-day-items.ensures.len ∙ sym c.len.ensures in
-    subst (λ rs. IsConfirmed InSet tables rs c.args.answer.now.witnesses c.len.result) c.as_slice-rows.ensures
-    (confirmed InSet tables rows days constant are c.loop-day.day-index c.len.result c.args.answer.now.witnesses (omega arith) c.loop-day.invariant faultless counted)
+    let days : List ℤ = c.as_slice.result.now in
+    let are : AreChangeDays (rows ∷ seen_lists query tables) days = subst (AreChangeDays (rows ∷ seen_lists query tables)) (sym c.as_slice.ensures.value) c.in_ok-days.ensures in
+    let all : AgreesOnAll InSet rows days = subst (λ (o : Option ℤ). MatchOption o (AgreesOnAll InSet rows days) (DiffersFirst InSet rows days)) c.in-None.is c.in_ok-day.ensures in
+    let faultless : IsFaultless rows c.args.answer.now.witnesses = subst (IsFaultless rows) c.as_slice-in-None.ensures c.in-None-check_witnesses.ensures.faultless in
+    let counted : length days ≡ c.len.result = c.as_slice.ensures.len ∙ sym c.len.ensures in
+    subst (λ rs. IsConfirmed InSet (seen_lists query tables) rs c.args.answer.now.witnesses c.len.result) c.as_slice-rows.ensures
+    (confirmed InSet (seen_lists query tables) rows days (constant_over query tables) are (length days) c.len.result c.args.answer.now.witnesses (omega arith) all faultless counted)

@@ -1,13 +1,13 @@
-use Rattle.std.proofs.Common.{◌≡◌, ◌∙◌, ap, subst, sym, arith}
-use Rattle.std.specs.List.{Contains}
-use Rattle.std.proofs.lemmas.List.{take_all}
+use Rattle.std.proofs.Common.{◌↔◌, sym, subst}
 use Rattle.std.proofs.lemmas.Result.{IfOk-weaker}
-use Rattle.temporal_model.specs.Snapshot.{InSnapshot, values_on}
-use Rattle.snapshot_audit.proofs.Once.{set_from_once}
+use Rattle.temporal_model.specs.Snapshot.{InSnapshot}
+use Rattle.snapshot_audit.specs.ActiveRows.{InActive}
+use Rattle.snapshot_audit.proofs.ActiveFacts.{active_snapshot}
+use Rattle.snapshot_audit.proofs.Once.{set_by}
 use Rattle.snapshot_audit.proofs.snapshots.rows_on.Goals as goal
 
 pub returns : goal.returns
 returns c =
-    let all : c.loop-row.held.items ≡ values_on c.args.rows.now c.args.day = c.loop-row.invariant ∙ ap (λ rows. values_on rows c.args.day) (take_all c.loop-row.row-index c.args.rows.now (omega arith)) in
-    IfOk-weaker c.sorted_once.result _ _ (λ once is. set_from_once (InSnapshot c.args.rows.now c.args.day) c.loop-row.held.items once.items
-    (λ values. (λ h. subst (λ l. Contains l values) all h, λ h. subst (λ l. Contains l values) (sym all) h)) is) c.sorted_once.ensures
+    IfOk-weaker c.values_of.result _ _ (λ set is. set_by (InActive c.as_slice.result.now) (InSnapshot c.args.rows.now c.args.day) set.items is
+    (λ values. subst (λ l. InActive l values ↔ InSnapshot c.args.rows.now c.args.day values) (sym c.as_slice.ensures.value)
+    (active_snapshot c.args.rows.now c.in_ok-active.active.items c.args.day c.in_ok-active.ensures values))) c.values_of.ensures

@@ -1,0 +1,163 @@
+-- Active rows: one row more, their values, and what references see by them.
+use Rattle.std.proofs.Common.{◌≡◌, ◌↔◌, ◌⊎◌, ◌≤ℤ◌, ◌<ℤ◌, ◌<◌, ◌≤◌, ℕ, ℤ, List, [], ◌∷◌, ◌++◌, length, get_or, Bor, refl, sym, ◌∙◌, ap, subst, inl, inr, arith}
+use Rattle.std.specs.List.{Contains}
+use Rattle.std.proofs.lemmas.List.{get_or-map, get_or_past, length-map}
+use Rattle.std.proofs.lemmas.List.Elements.{Contains-append_left, Contains-push, Contains-push_cases}
+use Rattle.period_core.specs.declared.row.PeriodRow.{PeriodRow}
+use Rattle.period_core.specs.declared.value.Value.{Value}
+use Rattle.temporal_model.specs.Snapshot.{InSnapshot}
+use Rattle.temporal_model.proofs.Snapshots.{CoversDay, held, in_snapshot}
+use Rattle.temporal_model.proofs.Members.{Contains-there, Contains-nil, Contains-cons_cases}
+use Rattle.catalog_core.specs.declared.query.resolved.QueryReference.{QueryReference}
+use Rattle.catalog_core.specs.query.Queries.{Query, rows_for}
+use Rattle.history_model.specs.OrdinaryQuery.{InAnswerOver, InQuery, TableSights}
+use Rattle.history_model.proofs.Sights.{query_seen}
+use Rattle.snapshot_audit.specs.declared.sweep.Sweep.{Sweep}
+use Rattle.snapshot_audit.specs.ActiveRows.{RowReferences, ContainsRow, AreActive, InActive, active_lists, active_for, ActiveSights, AllAreActive}
+use Rattle.snapshot_audit.proofs.Zips.{zip_at, zip_map}
+
+-- ---- rows by reference
+
+pub ContainsRow-nil : (row : PeriodRow) → ContainsRow [] row → ⊥
+ContainsRow-nil row (r, c, is) = Contains-nil r c
+
+pub ContainsRow-there : (r : Bor PeriodRow) (references : RowReferences) (row : PeriodRow) → ContainsRow references row → ContainsRow (r ∷ references) row
+ContainsRow-there r references row (s, c, is) = (s, Contains-there r references s c, is)
+
+pub ContainsRow-cons_cases :
+    (r : Bor PeriodRow) (references : RowReferences) (row : PeriodRow) → ContainsRow (r ∷ references) row
+    → (r.now ≡ row) ⊎ ContainsRow references row
+ContainsRow-cons_cases r references row (s, c, is) = elim (Contains-cons_cases r references s c) [
+  | inl same ↦ inl (subst (λ (x : Bor PeriodRow). x.now ≡ row) (sym same) is)
+  | inr more ↦ inr (s, more, is)
+]
+
+pub ContainsRow-push : (references : RowReferences) (r : Bor PeriodRow) → ContainsRow (references ++ r ∷ []) r.now
+ContainsRow-push references r = (r, Contains-push references r, refl)
+
+pub ContainsRow-before :
+    (references : RowReferences) (r : Bor PeriodRow) (row : PeriodRow) → ContainsRow references row
+    → ContainsRow (references ++ r ∷ []) row
+ContainsRow-before references r row (s, c, is) = (s, Contains-append_left references (r ∷ []) s c, is)
+
+pub ContainsRow-push_cases :
+    (references : RowReferences) (r : Bor PeriodRow) (row : PeriodRow) → ContainsRow (references ++ r ∷ []) row
+    → ContainsRow references row ⊎ (r.now ≡ row)
+ContainsRow-push_cases references r row (s, c, is) = elim (Contains-push_cases references r s c) [
+  | inl before ↦ inl (s, before, is)
+  | inr same ↦ inr (subst (λ (x : Bor PeriodRow). x.now ≡ row) (sym same) is)
+]
+
+-- the references are to the rows of the list, and to no others
+abbrev pub AreRows : List PeriodRow → RowReferences → Type 0
+AreRows rows references = (row : PeriodRow) → (ContainsRow references row ↔ Contains rows row)
+
+-- one more
+pub AreRows-more :
+    (rows : List PeriodRow) (references : RowReferences) (row : PeriodRow) (r : Bor PeriodRow) → r.now ≡ row
+    → AreRows rows references → AreRows (rows ++ row ∷ []) (references ++ r ∷ [])
+AreRows-more rows references row r is are other = (
+  λ h. elim (ContainsRow-push_cases references r other h) [
+    | inl before ↦ Contains-append_left rows (row ∷ []) other ((are other).0 before)
+    | inr same ↦ subst (Contains (rows ++ row ∷ [])) (sym is ∙ same) (Contains-push rows row)
+  ],
+  λ h. elim (Contains-push_cases rows row other h) [
+    | inl before ↦ ContainsRow-before references r other ((are other).1 before)
+    | inr same ↦ subst (ContainsRow (references ++ r ∷ [])) (is ∙ same) (ContainsRow-push references r)
+  ],
+)
+
+-- ---- the rows of a day
+
+pub AreActive-none : (day : ℤ) → AreActive [] [] day
+AreActive-none day row = (λ c. absurd (ContainsRow-nil row c), λ h. absurd (Contains-nil row h.0))
+
+-- one more row that covers the day
+pub AreActive-more :
+    (rows : List PeriodRow) (active : RowReferences) (day : ℤ) (row : PeriodRow) (r : Bor PeriodRow) → r.now ≡ row
+    → CoversDay row day → AreActive rows active day → AreActive (rows ++ row ∷ []) (active ++ r ∷ []) day
+AreActive-more rows active day row r is covers are other = (
+  λ h. elim (ContainsRow-push_cases active r other h) [
+    | inl before ↦ let (there, from, to) = (are other).0 before in (Contains-append_left rows (row ∷ []) other there, from, to)
+    | inr same ↦ let one : row ≡ other = sym is ∙ same in
+        subst (λ x. Contains (rows ++ row ∷ []) x × (x.period.start ≤ℤ day) × (day <ℤ x.period.end)) one (Contains-push rows row, covers.0, covers.1)
+  ],
+  λ (c, from, to). elim (Contains-push_cases rows row other c) [
+    | inl before ↦ ContainsRow-before active r other ((are other).1 (before, from, to))
+    | inr same ↦ subst (ContainsRow (active ++ r ∷ [])) (is ∙ same) (ContainsRow-push active r)
+  ],
+)
+
+-- one more that does not
+pub AreActive-skip :
+    (rows : List PeriodRow) (active : RowReferences) (day : ℤ) (row : PeriodRow) → (CoversDay row day → ⊥)
+    → AreActive rows active day → AreActive (rows ++ row ∷ []) active day
+AreActive-skip rows active day row none are other = (
+  λ h. let (there, from, to) = (are other).0 h in (Contains-append_left rows (row ∷ []) other there, from, to),
+  λ (c, from, to). elim (Contains-push_cases rows row other c) [
+    | inl before ↦ (are other).1 (before, from, to)
+    | inr same ↦ absurd (none (subst (λ x. CoversDay x day) (sym same) (from, to)))
+  ],
+)
+
+-- ---- their values
+
+pub InActive-none : (values : List Value) → InActive [] values → ⊥
+InActive-none values (r, c, is) = Contains-nil r c
+
+-- one more row's values
+pub InActive-more :
+    (set : List (List Value)) (active : RowReferences) (r : Bor PeriodRow)
+    → ((values : List Value) → (Contains set values ↔ InActive active values)) → (values : List Value)
+    → (Contains (set ++ r.now.values ∷ []) values ↔ InActive (active ++ r ∷ []) values)
+InActive-more set active r same values = (
+  λ h. elim (Contains-push_cases set r.now.values values h) [
+    | inl before ↦ let (s, c, is) = (same values).0 before in (s, Contains-append_left active (r ∷ []) s c, is)
+    | inr is ↦ (r, Contains-push active r, is)
+  ],
+  λ (s, c, is). elim (Contains-push_cases active r s c) [
+    | inl before ↦ Contains-append_left set (r.now.values ∷ []) values ((same values).1 (s, before, is))
+    | inr one ↦ subst (Contains (set ++ r.now.values ∷ [])) (ap (λ (x : Bor PeriodRow). x.now.values) one ∙ is) (Contains-push set r.now.values)
+  ],
+)
+
+-- the values of the rows of a day are the snapshot
+pub active_snapshot :
+    (rows : List PeriodRow) (active : RowReferences) (day : ℤ) → AreActive rows active day → (values : List Value)
+    → (InActive active values ↔ InSnapshot rows day values)
+active_snapshot rows active day are values = (
+  λ (r, c, is). let (there, from, to) = (are r.now).0 (r, c, refl) in in_snapshot rows day values (r.now, there, is, (from, to)),
+  λ h. let (row, there, is, (from, to)) = held rows day values h in
+      let (r, c, same) = (are row).1 (there, from, to) in
+      (r, c, ap (λ (x : PeriodRow). x.values) same ∙ is),
+)
+
+-- ---- what references see
+
+pub active_at :
+    (seen : List Sweep) (place : ℕ) (sweep : Sweep) → place < length seen → sweep ≡ get_or seen place sweep
+    → sweep.active.items ≡ get_or (active_lists seen) place []
+active_at seen place sweep inside is =
+    ap (λ (s : Sweep). s.active.items) is ∙ sym (get_or-map (λ (s : Sweep). s.active.items) seen place sweep [] inside)
+
+pub active_past : (seen : List Sweep) (place : ℕ) → length seen ≤ place → [] ≡ get_or (active_lists seen) place []
+active_past seen place past =
+    let same = length-map seen (λ (s : Sweep). s.active.items) in
+    sym (get_or_past (active_lists seen) place [] (omega arith))
+
+-- each reference sees by the active rows of a day what it sees on the day
+pub seen_alike :
+    (tables : List (List PeriodRow)) (seen : List Sweep) (day : ℤ) → AllAreActive tables seen day
+    → (reference : QueryReference) (values : List Value)
+    → (ActiveSights seen reference values ↔ TableSights tables day reference values)
+seen_alike tables seen day all reference =
+    active_snapshot (rows_for tables reference) (active_for seen reference) day
+    (zip_at (λ rows active. AreActive rows active day) [] [] (AreActive-none day) tables (active_lists seen) reference.place
+    (zip_map (λ rows active. AreActive rows active day) (λ (s : Sweep). s.active.items) tables seen all))
+
+-- so the query's set by them is that of the day
+pub answered_alike :
+    (tables : List (List PeriodRow)) (seen : List Sweep) (day : ℤ) → AllAreActive tables seen day
+    → (query : Query) (row : List Value) → (InQuery (ActiveSights seen) query row ↔ InAnswerOver query tables day row)
+answered_alike tables seen day all query row =
+    query_seen (ActiveSights seen) (TableSights tables day) query (λ reference c. seen_alike tables seen day all reference) row

@@ -1,0 +1,177 @@
+-- The steps of a difference: two ascending lists, each gone over once.
+use Rattle.std.proofs.Common.{◌≡◌, ◌↔◌, ◌⊎◌, List, [], ◌∷◌, ◌++◌, get_or, inl, inr, sym, subst, arith}
+use Rattle.std.specs.List.{Contains}
+use Rattle.std.specs.declared.cmp.Ordering.TheVariants.{Less, Equal}
+use Rattle.std.proofs.lemmas.List.Elements.{Contains-append_left, Contains-push, Contains-push_cases}
+use Rattle.std.proofs.lemmas.List.{get_or_default}
+use Rattle.std.proofs.lemmas.List.Quantifiers.{all_pairs_push}
+use Rattle.period_core.specs.Order.{values_cmp}
+use Rattle.period_core.specs.OrderLaws.{values_cmp_total, values_cmp-refl}
+use Rattle.period_core.specs.declared.value.Value.{Value}
+use Rattle.temporal_model.proofs.Members.{Contains-here, Contains-there, Contains-nil, Contains-cons_cases, AllPairs-head, AllPairs-tail}
+use Rattle.sql_statements.specs.declared.tree.SetOperator.{SetOperator}
+use Rattle.sql_statements.specs.declared.tree.SetOperator.TheVariants.{Union, Except}
+use Rattle.history_model.specs.OrdinaryQuery.{InCombined}
+use Rattle.snapshot_audit.specs.Sets.{IsAscending, ListsSet, NoneBelow}
+
+not_less_itself : (values : List Value) → values_cmp values values ≡ Less → ⊥
+not_less_itself values less = let tie : values_cmp values values ≡ Equal = values_cmp-refl values in cc
+
+-- the first of the others, of which none is less, are the values, or they are not among them
+pub first_alone :
+    (values first : List Value) (others : List (List Value)) → IsAscending (first ∷ others) → NoneBelow values (first ∷ others)
+    → Contains (first ∷ others) values → first ≡ values
+first_alone values first others up none c = elim (Contains-cons_cases first others values c) [
+  | inl same ↦ same
+  | inr more ↦ absurd (none first (Contains-here first others) (AllPairs-head (λ a b. values_cmp a b ≡ Less) first others up values more))
+]
+
+-- what of the right set is left: the rest is less than all that comes
+pub record IsDoneWith (right others rest : List (List Value)) : Type 0 where
+  pub ascending : IsAscending others
+  pub inside : (other : List Value) → Contains others other → Contains right other
+  pub passed : (other : List Value) → Contains right other
+      → (Contains others other ⊎ ((later : List Value) → Contains rest later → values_cmp other later ≡ Less))
+
+pub done_with_none : (right rest : List (List Value)) → IsAscending right → IsDoneWith right right rest
+done_with_none right rest up = record { ascending = up; inside = λ other c. c; passed = λ other c. inl c }
+
+-- the others that are not below the next values
+pub record AreNotBelow (values : List Value) (others next : List (List Value)) : Type 0 where
+  pub ascending : IsAscending next
+  pub inside : (other : List Value) → Contains next other → Contains others other
+  pub passed : (other : List Value) → Contains others other → (Contains next other ⊎ (values_cmp other values ≡ Less))
+  pub bound : NoneBelow values next
+
+pub done_with_more :
+    (right others next rest : List (List Value)) (values : List Value) → IsAscending (values ∷ rest)
+    → IsDoneWith right others (values ∷ rest) → AreNotBelow values others next → IsDoneWith right next rest
+done_with_more right others next rest values up is by = record {
+  ascending = by.ascending;
+  inside = λ other c. is.inside other (by.inside other c);
+  passed = λ other c. elim (is.passed other c) [
+    | inl here ↦ elim (by.passed other here) [
+      | inl left ↦ inl left
+      | inr less ↦ inr (λ later l. values_cmp_total.trans other values later less (AllPairs-head (λ a b. values_cmp a b ≡ Less) values rest up later l))
+    ]
+    | inr before ↦ inr (λ later l. before later (Contains-there values rest later l))
+  ];
+}
+
+-- the next values are in the right set where they are among the others that are left
+pub among_right :
+    (right others next rest : List (List Value)) (values : List Value) → IsDoneWith right others (values ∷ rest)
+    → AreNotBelow values others next → (Contains next values ↔ Contains right values)
+among_right right others next rest values is by = (
+  λ c. is.inside values (by.inside values c),
+  λ c. elim (is.passed values c) [
+    | inl here ↦ elim (by.passed values here) [
+      | inl left ↦ left
+      | inr less ↦ absurd (not_less_itself values less)
+    ]
+    | inr before ↦ absurd (not_less_itself values (before values (Contains-here values rest)))
+  ],
+)
+
+-- the values of the left set so far that the right set lacks
+pub record IsDifference (right done rest set : List (List Value)) : Type 0 where
+  pub ascending : IsAscending set
+  pub below : (a b : List Value) → Contains set a → Contains rest b → values_cmp a b ≡ Less
+  pub members : (values : List Value) → (Contains set values ↔ (Contains done values × (Contains right values → ⊥)))
+
+pub difference_none : (right rest : List (List Value)) → IsDifference right [] rest []
+difference_none right rest = record {
+  ascending = λ i j d lt below. absurd (omega arith);
+  below = λ a b c k. absurd (Contains-nil a c);
+  members = λ values. (λ c. absurd (Contains-nil values c), λ (c, none). absurd (Contains-nil values c));
+}
+
+pub difference_kept :
+    (right done rest set : List (List Value)) (values : List Value) → IsAscending (values ∷ rest) → (Contains right values → ⊥)
+    → IsDifference right done (values ∷ rest) set → IsDifference right (done ++ values ∷ []) rest (set ++ values ∷ [])
+difference_kept right done rest set values up none is = record {
+  ascending = all_pairs_push (λ a b. values_cmp a b ≡ Less) set values is.ascending
+      (λ k d h. is.below (get_or set k d) values (k, h, get_or_default set k (get_or set k d) d h) (Contains-here values rest));
+  below = λ a b c k. elim (Contains-push_cases set values a c) [
+    | inl before ↦ is.below a b before (Contains-there values rest b k)
+    | inr same ↦ subst (λ v. values_cmp v b ≡ Less) same (AllPairs-head (λ x y. values_cmp x y ≡ Less) values rest up b k)
+  ];
+  members = λ other. (
+    λ c. elim (Contains-push_cases set values other c) [
+      | inl before ↦ let (there, lacks) = (is.members other).0 before in (Contains-append_left done (values ∷ []) other there, lacks)
+      | inr same ↦ subst (λ v. Contains (done ++ values ∷ []) v × (Contains right v → ⊥)) same (Contains-push done values, none)
+    ],
+    λ (c, lacks). elim (Contains-push_cases done values other c) [
+      | inl before ↦ Contains-append_left set (values ∷ []) other ((is.members other).1 (before, lacks))
+      | inr same ↦ subst (Contains (set ++ values ∷ [])) same (Contains-push set values)
+    ],
+  );
+}
+
+pub difference_dropped :
+    (right done rest set : List (List Value)) (values : List Value) → Contains right values
+    → IsDifference right done (values ∷ rest) set → IsDifference right (done ++ values ∷ []) rest set
+difference_dropped right done rest set values there is = record {
+  ascending = is.ascending;
+  below = λ a b c k. is.below a b c (Contains-there values rest b k);
+  members = λ other. (
+    λ c. let (inside, lacks) = (is.members other).0 c in (Contains-append_left done (values ∷ []) other inside, lacks),
+    λ (c, lacks). elim (Contains-push_cases done values other c) [
+      | inl before ↦ (is.members other).1 (before, lacks)
+      | inr same ↦ absurd (lacks (subst (Contains right) same there))
+    ],
+  );
+}
+
+-- the others without some of the first ones, which are less than the values
+pub record ArePassed (values : List Value) (others rest : List (List Value)) : Type 0 where
+  pub ascending : IsAscending rest
+  pub inside : (other : List Value) → Contains rest other → Contains others other
+  pub passed : (other : List Value) → Contains others other → (Contains rest other ⊎ (values_cmp other values ≡ Less))
+
+pub passed_none : (values : List Value) (others : List (List Value)) → IsAscending others → ArePassed values others others
+passed_none values others up = record { ascending = up; inside = λ other c. c; passed = λ other c. inl c }
+
+pub passed_more :
+    (values first : List Value) (others after : List (List Value)) → values_cmp first values ≡ Less
+    → ArePassed values others (first ∷ after) → ArePassed values others after
+passed_more values first others after less is = record {
+  ascending = AllPairs-tail (λ a b. values_cmp a b ≡ Less) first after is.ascending;
+  inside = λ other c. is.inside other (Contains-there first after other c);
+  passed = λ other c. elim (is.passed other c) [
+    | inl here ↦ elim (Contains-cons_cases first after other here) [
+      | inl same ↦ inr (subst (λ v. values_cmp v values ≡ Less) same less)
+      | inr more ↦ inl more
+    ]
+    | inr before ↦ inr before
+  ];
+}
+
+-- where the first is not less, none is
+pub none_below_from :
+    (values first : List Value) (after : List (List Value)) → (values_cmp first values ≡ Less → ⊥) → IsAscending (first ∷ after)
+    → NoneBelow values (first ∷ after)
+none_below_from values first after bound up other c less = elim (Contains-cons_cases first after other c) [
+  | inl same ↦ bound (subst (λ v. values_cmp v values ≡ Less) (sym same) less)
+  | inr more ↦ bound (values_cmp_total.trans first other values (AllPairs-head (λ a b. values_cmp a b ≡ Less) first after up other more) less)
+]
+
+-- what a set operator makes of two lists is what it makes of their sets
+pub combined_lists :
+    (operator : SetOperator) (InLeft InRight : List Value → Type 0) (left right set : List (List Value)) → ListsSet InLeft left
+    → ListsSet InRight right → ListsSet (InCombined operator (Contains left) (Contains right)) set
+    → ListsSet (InCombined operator InLeft InRight) set
+combined_lists Union InLeft InRight left right set l r is = record {
+  ascending = is.ascending;
+  members = λ values. (
+    λ h. elim ((is.members values).0 h) [ inl a ↦ inl ((l.members values).0 a) | inr b ↦ inr ((r.members values).0 b) ],
+    λ h. (is.members values).1 (elim h [ inl a ↦ inl ((l.members values).1 a) | inr b ↦ inr ((r.members values).1 b) ]),
+  );
+}
+combined_lists Except InLeft InRight left right set l r is = record {
+  ascending = is.ascending;
+  members = λ values. (
+    λ h. let (a, none) = (is.members values).0 h in ((l.members values).0 a, λ b. none ((r.members values).1 b)),
+    λ (a, none). (is.members values).1 ((l.members values).1 a, λ b. none ((r.members values).0 b)),
+  );
+}
