@@ -19,6 +19,7 @@ pub mod VersionKeys
 pub mod Fixed
 pub mod PlanParts
 pub mod FaultFacts
+pub mod Partly
 pub mod Touched
 pub mod Covered
 mod KeyExamples

@@ -13,3 +13,4 @@ pub mod LawfulLaws
 pub mod FixedKeys
 pub mod Planned
 pub mod Faults
+pub mod PeriodIndexes

@@ -18,6 +18,7 @@ mod keyed_periods;
 mod keys;
 mod lawful_laws;
 mod ordered_periods;
+mod period_indexes;
 mod planning;
 mod positions;
 mod references;
