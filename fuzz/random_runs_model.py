@@ -22,8 +22,8 @@ Reference = collections.namedtuple('Reference', 'columns period table table_colu
 At = collections.namedtuple('At', 'moment')
 Create = collections.namedtuple('Create', 'name elements')
 Insert = collections.namedtuple('Insert', 'table columns rows')  # the columns may be None
-Update = collections.namedtuple('Update', 'table portion sets where')  # portion and where may be None
-Delete = collections.namedtuple('Delete', 'table portion where')
+Update = collections.namedtuple('Update', 'table portion sets where')  # the last may be None
+Delete = collections.namedtuple('Delete', 'table portion where')  # and so may a portion
 Portion = collections.namedtuple('Portion', 'period dates')  # two dates
 Assignment = collections.namedtuple('Assignment', 'column value')
 Stored = collections.namedtuple('Stored', 'table window where')  # the last two may be None
@@ -288,7 +288,8 @@ class Model:
                       for first, _ in days} | {version[1] for version in table.versions}
             for moment in MOMENTS:
                 days = table.as_of(moment)
-                current = [version for version in table.versions if version[3] <= moment < version[4]]
+                current = [version for version in table.versions
+                           if version[3] <= moment < version[4]]
                 for first in firsts:
                     rows = [values for values, start, end, _, _ in current if start <= first < end]
                     assert collections.Counter(rows) == collections.Counter(on(days, first))

@@ -103,6 +103,19 @@ fn sound(alloc: Global, connection: Connection<MemStore>) -> Result<Engine<MemSt
     }
 }
 
+// Closes a store and opens it again.
+fn reopened(alloc: Global, engine: Engine<MemStore>) -> Result<Engine<MemStore>, Fail> {
+    sound(alloc, engine.close())
+}
+
+fn rows_of(
+    alloc: Global,
+    engine: &mut Engine<MemStore>,
+    table: u8,
+) -> Result<Vec<VersionRow>, Fail> {
+    Ok(engine.rows(alloc, table)?)
+}
+
 // The database in which the statements leave their tables.
 fn made(alloc: Global, statements: &[&str]) -> Result<Connection<MemStore>, Fail> {
     let mut engine = sound(alloc, Connection::open_in_memory(alloc)?)?;
@@ -117,6 +130,16 @@ fn changed(connection: &mut Connection<MemStore>, sql: &str) -> Result<(), Fail>
     Ok(())
 }
 
+// What a query shows.
+fn shown_by(
+    alloc: Global,
+    connection: &mut Connection<MemStore>,
+    sql: &str,
+) -> Result<String, Fail> {
+    let rows = connection.query_all(sql, &[]);
+    Ok(format!(in alloc; "{rows:?}")?)
+}
+
 // What the tables of a database show.
 fn shown(alloc: Global, connection: &mut Connection<MemStore>) -> Result<String, Fail> {
     let mut shown = String::new(alloc);
@@ -126,8 +149,7 @@ fn shown(alloc: Global, connection: &mut Connection<MemStore>) -> Result<String,
         "SELECT * FROM bt_table",
         "SELECT * FROM bt_version",
     ] {
-        let rows = connection.query_all(sql, &[]);
-        shown.push_str(format!(in alloc; "{rows:?}")?.as_str())?;
+        shown.push_str(shown_by(alloc, connection, sql)?.as_str())?;
     }
     Ok(shown)
 }
@@ -170,8 +192,8 @@ fn close_and_open(rt: HostRuntime) -> Result<(), Fail> {
     assert_eq!(rt; engine.clock(), moment);
     assert_eq!(rt; engine.catalog().len(), 2);
     let row = current(vec![in alloc; Value::Int(1), Value::Int(3)]?, moment)?;
-    assert_eq!(rt; engine.rows(alloc, 1)?.as_slice(), [row].as_slice());
-    assert!(rt; engine.rows(alloc, 2)?.is_empty());
+    assert_eq!(rt; rows_of(alloc, &mut engine, 1)?.as_slice(), [row].as_slice());
+    assert!(rt; rows_of(alloc, &mut engine, 2)?.is_empty());
     Ok(())
 }
 
@@ -215,8 +237,8 @@ fn texts_and_dates(rt: HostRuntime) -> Result<(), Fail> {
          ('\n', DATE '9999-12-31', DATE '2024-01-01', DATE '2024-02-01'),
          ('\0', DATE '9999-12-31', DATE '2024-01-01', DATE '2024-02-01')",
     )?;
-    let mut engine = sound(alloc, engine.close())?;
-    let rows = engine.rows(alloc, 1)?;
+    let mut engine = reopened(alloc, engine)?;
+    let rows = rows_of(alloc, &mut engine, 1)?;
     assert_eq!(rt; rows.len(), TEXTS.len());
     for (row, text) in rows.as_slice().iter().zip(TEXTS) {
         let text = Value::Text(Text::new(String::from_str(alloc, text)?));

@@ -34,6 +34,14 @@ fn are_ok(results: &[Result<Outcome, Refusal>]) -> bool {
     true
 }
 
+/// The words of the command line.
+fn words(rt: &HostRuntime) -> Option<Vec<String>> {
+    match env::args(rt) {
+        Ok(args) => args.collect(rt.alloc()).ok(),
+        Err(_) => None,
+    }
+}
+
 /// The bytes of standard input.
 fn input(rt: &HostRuntime, alloc: Global) -> Option<Vec<u8>> {
     let mut script = Vec::new(alloc);
@@ -44,10 +52,7 @@ fn input(rt: &HostRuntime, alloc: Global) -> Option<Vec<u8>> {
 }
 
 fn main(rt: HostRuntime) -> ExitCode {
-    let Ok(words) = env::args(&rt) else {
-        return ExitCode::from(1);
-    };
-    let Ok(words) = words.collect(rt.alloc()) else {
+    let Some(words) = words(&rt) else {
         return ExitCode::from(1);
     };
     let Some(path) = words.as_slice().get(1) else {
