@@ -90,15 +90,22 @@ fn starts_by(period: &Period, day: Day) -> bool
     period.start <= day
 }
 
-/// The place of the period in the list, if it is there.
+/// The place of the period among periods in order, if it is there. Those that start on another day
+/// are passed over.
 pub fn place_of(periods: &[Period], period: &Period) -> Option<usize>
+    requires { AreInOrder periods.now }
     ensures { MatchOption result (Contains periods.now period.now → ⊥)
         (λ place. (place < length periods.now)
         × (slice_index_or periods.now place period.now ≡ period.now)) }
 {
-    for i in 0..periods.len() {
-        if periods[i] == *period {
-            return Some(i);
+    let mut place = place_after(periods, period.start);
+    while place > 0 {
+        place -= 1;
+        if periods[place].start < period.start {
+            return None;
+        }
+        if periods[place] == *period {
+            return Some(place);
         }
     }
     None

@@ -9,6 +9,7 @@ ghost use Rattle.period_core.specs.declared.row.PeriodRow.{PeriodRow as Row};
 ghost use Rattle.period_keys.specs.Keys.{HasNoClash, IsEachCovered, IsLeastOf, IsUncovered};
 ghost use Rattle.period_keys.specs.Index.{IsIndexOf};
 ghost use Rattle.period_keys.specs.Gaps.{IsGap, LacksKeyOf, ThereAfter};
+ghost use Rattle.period_keys.specs.Ordered.{AreInOrder};
 
 use crate::clashes::index_of;
 use crate::gaps::first_gap;
@@ -105,6 +106,7 @@ fn there_after(
     gone: &[Period],
     new: &[Period],
 ) -> Result<Vec<Period>, Memory>
+    requires { AreInOrder gone.now }
     ensures { IfOk result (λ there. (period : PeriodModel)
         → (Contains there.items period ↔ ThereAfter periods.now gone.now new.now period)) }
 {
@@ -118,6 +120,7 @@ fn there_after(
 
 // Adds the period where it does not go.
 fn push_kept(there: &mut Vec<Period>, gone: &[Period], period: &Period) -> Result<(), Memory>
+    requires { AreInOrder gone.now }
     ensures { OnOk result ((other : PeriodModel)
         → (Contains there.new.items other ↔ (Contains there.old.items other
         ⊎ ((period.now ≡ other) × (Contains gone.now other → ⊥))))) }

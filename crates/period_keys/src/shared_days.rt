@@ -27,6 +27,7 @@ fn first_of_both(one: &Period, other: &Period) -> Option<Day>
 
 /// The first day that both periods hold, where the other is not among those that go.
 fn first_of_kept(gone: &[Period], one: &Period, other: &Period) -> Option<Day>
+    requires { AreInOrder gone.now }
     ensures { IsLeastOf
         (λ day. BothHold day one.now other.now × (Contains gone.now other.now → ⊥)) result }
 {
@@ -53,7 +54,8 @@ pub fn earlier(one: Option<Day>, other: Option<Day>) -> Option<Day>
 /// The first day that the period shares with some of the periods that do not go, of periods that
 /// are in order and apart: those that end by its start are passed over.
 pub fn first_shared_with_kept(periods: &[Period], gone: &[Period], period: &Period) -> Option<Day>
-    requires { AreInOrder periods.now }
+    requires periods { AreInOrder periods.now }
+    requires gone { AreInOrder gone.now }
     ensures { AreApart periods.now
         → IsLeastOf (SharesDayOfKept periods.now gone.now period.now) result }
 {

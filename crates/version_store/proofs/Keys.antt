@@ -2,6 +2,7 @@
 use Rattle.std.proofs.Common.{◌≡◌, ◌∙◌, ◌∷◌, ◌&&◌, ◌==◌, pos, Bool, true, false, not, List, [], Some, map, refl, subst, sym}
 use Rattle.std.specs.List.{AllByRecursion, list_any}
 use Rattle.std.specs.Cmp.Lexicographic.{slice_cmp}
+use Rattle.std.specs.List.Sorted.{IsPermutation}
 use Rattle.std.specs.Ordering.{int_cmp, is_eq, is_ne, nat_cmp}
 use Rattle.std.specs.declared.cmp.Ordering.{Ordering}
 use Rattle.std.specs.declared.cmp.Ordering.TheVariants.{Equal, Greater, Less}
@@ -25,10 +26,11 @@ use Rattle.version_tables.proofs.Goes.{tied_turned, untied_along}
 use Rattle.version_tables.proofs.Shows.{pos_eq}
 use Rattle.version_tables.specs.Represents.{AreUntied, Version, same_key, stored, tied, version_shown}
 use Rattle.version_tables.specs.Tables.{store_schema, version_index}
-use Rattle.version_store.proofs.Opens.{KeepsKeys, stored_version}
+use Rattle.version_store.proofs.Opens.{KeepsKeys, stored_version, twice}
 use Rattle.version_store.proofs.Sweeps.{same_bytes}
-use Rattle.version_store.specs.Contents.{HaveColumnValues, TableVersion, same_version}
-use Rattle.version_store.specs.Written.{written_version}
+use Rattle.version_store.specs.Contents.{Contents, HaveColumnValues, TableVersion, same_version}
+use Rattle.version_store.specs.DistinctKeys.{HaveDistinctKeys}
+use Rattle.version_store.specs.Written.{Has, written_version}
 
 none_any : {X : Type 0} (test : X → Bool) (xs : List X) → list_any test xs ≡ false → AllByRecursion (λ x. test x ≡ false) xs
 none_any test [] none = tt
@@ -126,3 +128,9 @@ keys_kept db has sound untied ints vs held same =
     let up = rows_apart back.0 (untied_along rows back.0 back.1 untied) (all-permutation (λ r. is_int (rowid r) ≡ true) rows back.0 back.1 ints) apart in
     let shown = ascending-map (λ a b. alike b a ≡ false) version_shown back.0 (shown_apart back.0 up) in
     versions_apart vs held (ascending_from_map (λ a b. alike b a ≡ false) stored_version vs (subst (IsAscending (λ a b. alike b a ≡ false)) (sym back.2) shown))
+
+-- so the contents that it has are of distinct keys
+pub keys_of : (db : Database) (c : Contents) → Has db c → IsDatabase db → HaveDistinctKeys c.versions
+keys_of db c has sound =
+    keys_kept db has.rows.schema sound has.rows.untied has.rows.keyed c.versions has.values
+    (subst (λ (l : List Row). IsPermutation l (map version_shown (db.trees 2))) (twice c.versions) has.rows.says.versions)

@@ -63,7 +63,7 @@ rows_of_tables before (t ∷ ts) readable lawful =
 abbrev pub stored_version : TableVersion → Row
 stored_version v = stored (written_version v)
 
-twice : (vs : List TableVersion) → map stored (map written_version vs) ≡ map stored_version vs
+pub twice : (vs : List TableVersion) → map stored (map written_version vs) ≡ map stored_version vs
 twice [] = refl
 twice (v ∷ vs) = ap (λ l. stored_version v ∷ l) (twice vs)
 

@@ -1,6 +1,6 @@
 -- What a plan leaves as it was.
 use Rattle.std.proofs.Common.{◌≡◌, ◌&&◌, ◌||◌, ℕ, ℤ, Bool, true, false, not, cond, nat_eq, List, [], ◌∷◌, ◌++◌, map, refl, sym, ap, ap₂, ◌∙◌, arith, append-nil}
-use Rattle.std.specs.List.{filter, flat_map, list_any}
+use Rattle.std.specs.List.{filter, flat_map}
 use Rattle.std.specs.Ordering.{int_cmp, is_eq}
 use Rattle.std.proofs.lemmas.Bool.Decides.{nat_tests}
 use Rattle.std.proofs.lemmas.List.Elements.{filter-append}
@@ -8,7 +8,7 @@ use Rattle.period_core.specs.Moments.{forever}
 use Rattle.period_core.specs.Order.{values_cmp}
 use Rattle.period_core.specs.declared.row.PeriodRow.{PeriodRow}
 use Rattle.period_core.specs.declared.version.VersionRow.{VersionRow}
-use Rattle.version_store.specs.Contents.{Contents, TableVersion, added_in, of_table, same_version, version_in}
+use Rattle.version_store.specs.Contents.{Contents, TableVersion, added_in, of_table}
 use Rattle.version_store.specs.Changed.{closed_at, ended_at, is_ended, left_of, planned}
 
 -- a test that no ended version passes, and that does not read where a version ends, finds what it found

@@ -8,10 +8,10 @@ use Rattle.std.proofs.lemmas.Bool.{and_parts}
 use Rattle.std.proofs.lemmas.List.Concat.{flat_map-append}
 use Rattle.std.proofs.lemmas.List.Folds.{list_any_more}
 use Rattle.std.proofs.lemmas.List.{map-append, take_more}
-use Rattle.std.proofs.lemmas.List.Sorted.{IsPermutation-refl, IsPermutation-sym, IsPermutation-trans, IsPermutation-cons, IsPermutation-map, IsPermutation-middle, IsPermutation-to_front}
+use Rattle.std.proofs.lemmas.List.Sorted.{IsPermutation-refl, IsPermutation-sym, IsPermutation-trans, IsPermutation-cons, IsPermutation-map, IsPermutation-middle}
 use Rattle.std.proofs.lemmas.Map.Lookups.{exact_signed}
 use Rattle.std.proofs.lemmas.Cmp.{int_cmp_total, tied_itself}
-use Rattle.sqlite_trees.proofs.ListLemmas.{all-append, all-flat_map, all_weaker}
+use Rattle.sqlite_trees.proofs.ListLemmas.{all-flat_map, all_weaker}
 use Rattle.sqlite.specs.Effect.{Database}
 use Rattle.period_core.specs.Encoding.{IsColumnValue}
 use Rattle.period_core.proofs.EncodingOrder.{keeps_order}
@@ -19,7 +19,7 @@ use Rattle.period_core.specs.Moments.{forever}
 use Rattle.period_core.specs.Order.{values_cmp}
 use Rattle.period_core.specs.declared.row.PeriodRow.{PeriodRow}
 use Rattle.period_core.specs.declared.version.VersionRow.{VersionRow}
-use Rattle.version_tables.specs.Represents.{Records, Represents, Version, version, same_key, closing, removed, ended, added, stored, with_clock}
+use Rattle.version_tables.specs.Represents.{Records, Represents, Version, version, same_key, closing, ended, stored, with_clock}
 use Rattle.version_store.specs.Contents.{Contents, HaveColumnValues, TableVersion, added_in, same_version, version_in}
 use Rattle.version_store.specs.Changed.{added_at, closed_at, ended_at, is_ended, left_of, with_clock as clock_in}
 use Rattle.version_store.specs.Written.{Has, written, written_version}
@@ -31,7 +31,7 @@ pub same_bytes : (k v : TableVersion) → All IsColumnValue k.values → All IsC
 same_bytes k v hk hv =
     ap (λ o. (v.table == k.table) && (is_eq o && (is_eq (int_cmp v.start k.start) && is_eq (int_cmp v.from k.from)))) (keeps_order v.values k.values hv hk)
 
-equal : (o : Ordering) → is_eq o ≡ true → o ≡ Equal
+pub equal : (o : Ordering) → is_eq o ≡ true → o ≡ Equal
 equal Less h = absurd cc
 equal Equal h = refl
 equal Greater h = absurd cc
@@ -56,14 +56,14 @@ or_false : (b : Bool) → (b || false) ≡ b
 or_false true = refl
 or_false false = refl
 
-one_row : (table : ℕ) (moment : ℤ) (row : VersionRow) → left_of table moment (row ∷ []) ≡ step (version_in table row) moment
+pub one_row : (table : ℕ) (moment : ℤ) (row : VersionRow) → left_of table moment (row ∷ []) ≡ step (version_in table row) moment
 one_row table moment row = fun_ext (λ v. ap (λ b. cond b (closed_at moment v) (v ∷ [])) (or_false (same_version (version_in table row) v)))
 
 module _ (k : TableVersion) (moment : ℤ) (hk : All IsColumnValue k.values) where
   began_with : (v : TableVersion) → same_version k v ≡ true → is_eq (int_cmp v.from moment) ≡ is_eq (int_cmp k.from moment)
   began_with v h = ap (λ m. is_eq (int_cmp m moment)) (same_from k v h)
 
-  taken : is_eq (int_cmp k.from moment) ≡ true → (vs : List TableVersion) → HaveColumnValues vs → map written_version (flat_map (step k moment) vs) ≡ filter (λ v. not (same_key (written_version k) v)) (map written_version vs)
+  pub taken : is_eq (int_cmp k.from moment) ≡ true → (vs : List TableVersion) → HaveColumnValues vs → map written_version (flat_map (step k moment) vs) ≡ filter (λ v. not (same_key (written_version k) v)) (map written_version vs)
   taken began [] h = refl
   taken began (v ∷ vs) h =
       subst (λ b. map written_version (flat_map (step k moment) (v ∷ vs)) ≡ cond (not b) (written_version v ∷ filter (λ v. not (same_key (written_version k) v)) (map written_version vs)) (filter (λ v. not (same_key (written_version k) v)) (map written_version vs)))
@@ -75,7 +75,7 @@ module _ (k : TableVersion) (moment : ℤ) (hk : All IsColumnValue k.values) whe
       go true e more = rw (began_with v e ∙ began) more
       go false e more = ap (λ l. written_version v ∷ l) more
 
-  ending : is_eq (int_cmp k.from moment) ≡ false → (vs : List TableVersion) → HaveColumnValues vs
+  pub ending : is_eq (int_cmp k.from moment) ≡ false → (vs : List TableVersion) → HaveColumnValues vs
       → IsPermutation (map (closing moment) (filter (same_key (written_version k)) (map written_version vs)) ++ filter (λ v. not (same_key (written_version k) v)) (map written_version vs)) (map written_version (flat_map (step k moment) vs))
   ending began [] h = IsPermutation-refl _
   ending began (v ∷ vs) h =
@@ -125,39 +125,6 @@ permuted db m vs same was = record {
   keyed = was.keyed;
 }
 
-module _ (old new : Database) (table : ℕ) (moment : ℤ) (row : VersionRow) (values : All IsColumnValue row.values) where
-  abbrev key : TableVersion
-  key = version_in table row
-
-  pub row_taken : is_eq (int_cmp row.from moment) ≡ true → ((m : Records) → Represents old m → Represents new (removed (written_version key) m)) → (c : Contents) → Has old c → Has new (ended_at table moment (row ∷ []) c)
-  row_taken began made c was = record {
-    rows = subst (λ vs. Represents new (record (written c) { versions = vs }))
-        (sym (ap (λ f. map written_version (flat_map f c.versions)) (one_row table moment row) ∙ taken key moment values began c.versions was.values))
-        (made (written c) was.rows);
-    definitions = was.definitions;
-    values = ended_held table moment (row ∷ []) c.versions was.values;
-  }
-
-  pub row_ended : is_eq (int_cmp row.from moment) ≡ false → ((m : Records) → Represents old m → Represents new (ended (written_version key) moment m)) → (c : Contents) → Has old c → Has new (ended_at table moment (row ∷ []) c)
-  row_ended began made c was = record {
-    rows = subst (λ f. Represents new (record (written c) { versions = map written_version (flat_map f c.versions) })) (sym (one_row table moment row))
-        (permuted new (ended (written_version key) moment (written c)) _ (ending key moment values began c.versions was.values) (made (written c) was.rows));
-    definitions = was.definitions;
-    values = ended_held table moment (row ∷ []) c.versions was.values;
-  }
-
-module _ (old new : Database) (table : ℕ) (moment : ℤ) (row : PeriodRow) (values : All IsColumnValue row.values) where
-  abbrev new_version : TableVersion
-  new_version = added_in table moment forever row
-
-  pub row_added : ((m : Records) → Represents old m → Represents new (added (written_version new_version) m)) → (c : Contents) → Has old c → Has new (added_at table moment (row ∷ []) c)
-  row_added made c was = record {
-    rows = subst (λ vs. Represents new (record (written c) { versions = vs })) (sym (map-append written_version c.versions (new_version ∷ [])))
-        (permuted new (added (written_version new_version) (written c)) _ (IsPermutation-sym _ _ (IsPermutation-to_front (map written_version c.versions) (written_version new_version))) (made (written c) was.rows));
-    definitions = was.definitions;
-    values = all-append (λ (v : TableVersion). All IsColumnValue v.values) c.versions (new_version ∷ []) was.values (values, tt);
-  }
-
 -- the moments of a row and of a change
 pub same_moment : (a b : ℤ) → a ≡ b → is_eq (int_cmp a b) ≡ true
 same_moment a b e = rw e (ap is_eq (tied_itself int_cmp_total b))
@@ -170,10 +137,6 @@ other_moment a b apart = go (is_eq (int_cmp a b)) refl
     go false e = refl
 
 -- a row's key by its parts
-module _ (old new : Database) (table : ℕ) (row : VersionRow) (n : ℕ) (bytes : List ℕ) (start from : ℤ) (is_table : n ≡ table) (are_bytes : bytes ≡ (written_version (version_in table row)).values) (is_start : start ≡ row.period.start) (is_from : from ≡ row.from) where
-  pub same_removed : ((m : Records) → Represents old m → Represents new (removed (version n bytes start start from from) m)) → (m : Records) → Represents old m → Represents new (removed (written_version (version_in table row)) m)
-  same_removed made = rw (is_table, are_bytes, is_start, is_from) at made
-
 module _ (old new : Database) (table : ℕ) (moment : ℤ) (row : VersionRow) (n : ℕ) (bytes : List ℕ) (start from to : ℤ) (is_table : n ≡ table) (are_bytes : bytes ≡ (written_version (version_in table row)).values) (is_start : start ≡ row.period.start) (is_from : from ≡ row.from) (is_to : to ≡ moment) where
   pub same_ended : ((m : Records) → Represents old m → Represents new (ended (version n bytes start start from from) to m)) → (m : Records) → Represents old m → Represents new (ended (written_version (version_in table row)) moment m)
   same_ended made = rw (is_table, are_bytes, is_start, is_from, is_to) at made
@@ -183,11 +146,6 @@ pub clock_moved : (old new : Database) (moment n : ℤ) → n ≡ moment → ((m
 clock_moved old new moment n same made c was =
     let rows = subst (λ k. (m : Records) → Represents old m → Represents new (with_clock k m)) same made in
     record { rows = rows (written c) was.rows; definitions = was.definitions; values = was.values }
-
--- a row's version by its parts
-module _ (old new : Database) (table : ℕ) (moment : ℤ) (row : PeriodRow) (n : ℕ) (bytes : List ℕ) (start end from to : ℤ) (is_table : n ≡ table) (are_bytes : bytes ≡ (written_version (added_in table moment forever row)).values) (is_start : start ≡ row.period.start) (is_end : end ≡ row.period.end) (is_from : from ≡ moment) (is_to : to ≡ forever) where
-  pub same_added : ((m : Records) → Represents old m → Represents new (added (version n bytes start end from to) m)) → (m : Records) → Represents old m → Represents new (added (written_version (added_in table moment forever row)) m)
-  same_added made = rw (is_table, are_bytes, is_start, is_end, is_from, is_to) at made
 
 -- ---- one row after others
 

@@ -1,8 +1,10 @@
 pub mod Contents
+pub mod DistinctKeys
 pub mod Changed
 pub mod Written
 pub mod StoreState
 pub mod Steps
+pub mod Leaving
 pub mod Scans
 pub mod RowValues
 pub mod GoodStore

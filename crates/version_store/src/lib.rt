@@ -7,6 +7,8 @@
 mod inspecting;
 mod judging;
 pub mod laws;
+mod place;
+mod plans;
 mod reading;
 mod refused;
 mod row_values;

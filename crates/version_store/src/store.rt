@@ -13,6 +13,7 @@ ghost use Rattle.version_tables.specs.Steps.{IsAsBefore};
 ghost use Rattle.version_tables.specs.Tables.{no_schema};
 ghost use Rattle.version_store.specs.Changed.{planned, with_clock, with_table};
 ghost use Rattle.version_store.specs.Contents.{AreRowsOf, Contents, empty_contents};
+ghost use Rattle.version_store.specs.DistinctKeys.{HaveDistinctKeys};
 ghost use Rattle.version_store.specs.GoodStore.{AreGood, IsGoodStore, NothingMore};
 ghost use Rattle.version_store.specs.Scans.{Visits};
 ghost use Rattle.version_store.specs.StoreState.{Changes, IsOpenRefusal, IsOurs, IsStoreRefusal};
@@ -231,7 +232,8 @@ impl<S: Alter> VersionStore<S> {
 
     /// Makes what a plan says of the table of a number at a moment: its ended rows are closed then,
     /// or removed where they began then, and its added rows are recorded from then on. On `Err`
-    /// nothing is changed.
+    /// nothing is changed. Where the connection is usable as the call ends it was so before, and
+    /// then no two versions had one key.
     pub fn apply(
         &mut self,
         alloc: Global,
@@ -241,8 +243,13 @@ impl<S: Alter> VersionStore<S> {
     ) -> Result<(), Refusal>
         ensures changes { Changes S.Store self.old self.new result
             (planned table moment plan.now.ended plan.now.added) }
+        ensures usable { IsUsable S.Store self.new.connection
+            → IsUsable S.Store self.old.connection }
+        ensures distinct { IsUsable S.Store self.new.connection
+            → (c : Contents) → StoreRepresents S.Store self.old c → HaveDistinctKeys c.versions }
         ensures named { IfErr result IsStoreRefusal }
     {
+        let _live = self.connection.schema();
         write_plan(alloc, &mut self.connection, table, moment, plan)
     }
 

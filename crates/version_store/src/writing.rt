@@ -1,149 +1,20 @@
 //! The changes: inside a transaction, and each whole in one of its own.
 
-ghost use Rattle.std.specs.Prelude.{◌≡◌, ◌+◌, ◌∷◌, [], false, length, IfErr};
+ghost use Rattle.std.specs.Prelude.{◌≡◌, ◌+◌, false, length, IfErr};
 ghost use Rattle.version_tables.specs.Represents.{with_definition};
-ghost use Rattle.version_store.specs.Changed.{added_at, ended_at, planned, with_clock};
-ghost use Rattle.version_store.specs.StoreState.{IsStoreRefusal};
+ghost use Rattle.version_store.specs.Changed.{planned, with_clock};
+ghost use Rattle.version_store.specs.StoreState.{IsStoreRefusal, IsUsable};
 ghost use Rattle.version_store.specs.Steps.{Carries, Commits, CommitsWhere, Undoes};
 ghost use Rattle.version_tables.specs.Steps.{CommitsNothing, ChangesWhere};
 
+use crate::plans::put_plan;
 use crate::refused::refusal_of;
 use catalog_core::Plan;
-use period_core::{Moment, PeriodRow, Refusal, VersionRow, encode_values};
+use period_core::{Moment, Refusal};
 use sqlite::{Connection, Transaction};
 use sqlite_trees::store::Alter;
 use std::alloc::Global;
-use version_tables::{end_version, insert_definition, insert_version, remove_version, set_clock};
-
-/// Ends a row of a table at a moment, or removes it where it began then.
-fn end_row<S: Alter>(
-    alloc: Global,
-    transaction: &mut Transaction<'_, S>,
-    table: u8,
-    moment: Moment,
-    row: &VersionRow,
-) -> Result<(), Refusal>
-    ensures same_reference { transaction.new.conn.ghost_name ≡ transaction.old.conn.ghost_name }
-    ensures made { Carries S.Store transaction.old.conn.now transaction.new.conn.now result
-        (ended_at table moment (row.now ∷ [])) }
-    ensures inside { CommitsNothing S.Store transaction.old.conn.now transaction.new.conn.now }
-    ensures named { IfErr result IsStoreRefusal }
-{
-    let values = encode_values(alloc, row.values.as_slice())?;
-    let start = i64::from(row.period.start().number());
-    let from = row.from.number();
-    if from == moment.number() {
-        return match remove_version(
-            transaction,
-            u32::from(table),
-            values.as_slice(),
-            start,
-            from,
-        ) {
-            Ok(_) => Ok(()),
-            Err(error) => Err(refusal_of(&error)),
-        };
-    }
-    match end_version(
-        transaction,
-        u32::from(table),
-        values.as_slice(),
-        start,
-        from,
-        moment.number(),
-    ) {
-        Ok(_) => Ok(()),
-        Err(error) => Err(refusal_of(&error)),
-    }
-}
-
-/// Adds a row to a table at a moment.
-fn add_row<S: Alter>(
-    alloc: Global,
-    transaction: &mut Transaction<'_, S>,
-    table: u8,
-    moment: Moment,
-    row: &PeriodRow,
-) -> Result<(), Refusal>
-    ensures same_reference { transaction.new.conn.ghost_name ≡ transaction.old.conn.ghost_name }
-    ensures made { Carries S.Store transaction.old.conn.now transaction.new.conn.now result
-        (added_at table moment (row.now ∷ [])) }
-    ensures inside { CommitsNothing S.Store transaction.old.conn.now transaction.new.conn.now }
-    ensures named { IfErr result IsStoreRefusal }
-{
-    let values = encode_values(alloc, row.values.as_slice())?;
-    let added = insert_version(
-        transaction,
-        u32::from(table),
-        values.as_slice(),
-        i64::from(row.period.start().number()),
-        i64::from(row.period.end().number()),
-        moment.number(),
-        Moment::forever().number(),
-    );
-    match added {
-        Ok(_) => Ok(()),
-        Err(error) => Err(refusal_of(&error)),
-    }
-}
-
-/// Ends rows of a table at a moment, or removes those that began then.
-fn end_rows<S: Alter>(
-    alloc: Global,
-    transaction: &mut Transaction<'_, S>,
-    table: u8,
-    moment: Moment,
-    rows: &[VersionRow],
-) -> Result<(), Refusal>
-    ensures same_reference { transaction.new.conn.ghost_name ≡ transaction.old.conn.ghost_name }
-    ensures made { Carries S.Store transaction.old.conn.now transaction.new.conn.now result
-        (ended_at table moment rows.now) }
-    ensures inside { CommitsNothing S.Store transaction.old.conn.now transaction.new.conn.now }
-    ensures named { IfErr result IsStoreRefusal }
-{
-    for row in rows {
-        end_row(alloc, transaction, table, moment, row)?;
-    }
-    Ok(())
-}
-
-/// Adds rows to a table at a moment.
-fn add_rows<S: Alter>(
-    alloc: Global,
-    transaction: &mut Transaction<'_, S>,
-    table: u8,
-    moment: Moment,
-    rows: &[PeriodRow],
-) -> Result<(), Refusal>
-    ensures same_reference { transaction.new.conn.ghost_name ≡ transaction.old.conn.ghost_name }
-    ensures made { Carries S.Store transaction.old.conn.now transaction.new.conn.now result
-        (added_at table moment rows.now) }
-    ensures inside { CommitsNothing S.Store transaction.old.conn.now transaction.new.conn.now }
-    ensures named { IfErr result IsStoreRefusal }
-{
-    for row in rows {
-        add_row(alloc, transaction, table, moment, row)?;
-    }
-    Ok(())
-}
-
-/// Makes what a plan says of a table at a moment.
-fn put_plan<S: Alter>(
-    alloc: Global,
-    transaction: &mut Transaction<'_, S>,
-    table: u8,
-    moment: Moment,
-    plan: &Plan,
-) -> Result<(), Refusal>
-    ensures same_reference { transaction.new.conn.ghost_name ≡ transaction.old.conn.ghost_name }
-    ensures made { Carries S.Store transaction.old.conn.now transaction.new.conn.now result
-        (planned table moment plan.now.ended plan.now.added) }
-    ensures inside { CommitsNothing S.Store transaction.old.conn.now transaction.new.conn.now }
-    ensures named { IfErr result IsStoreRefusal }
-{
-    end_rows(alloc, transaction, table, moment, plan.ended.as_slice())?;
-    add_rows(alloc, transaction, table, moment, plan.added.as_slice())
-}
+use version_tables::{insert_definition, set_clock};
 
 /// Makes what a plan says in one transaction, or nothing of it.
 pub(crate) fn write_plan<S: Alter>(
@@ -157,6 +28,7 @@ pub(crate) fn write_plan<S: Alter>(
     ensures made { Commits S.Store connection.old connection.new result
         (planned table moment plan.now.ended plan.now.added) }
     ensures none { Undoes S.Store connection.old connection.new result }
+    ensures usable { IsUsable S.Store connection.new → IsUsable S.Store connection.old }
     ensures mode { connection.new.in_transaction ≡ false }
     ensures named { IfErr result IsStoreRefusal }
 {

@@ -33,6 +33,11 @@ abbrev pub update_text : List ℕ
 update_text =
     codes "UPDATE bt_version SET se = ?5 WHERE tab = ?1 AND vals = ?2 AND s = ?3 AND ss = ?4"
 
+abbrev pub move_text : List ℕ
+move_text =
+    codes "UPDATE bt_version SET e = ?5, se = ?6 "
+    ++ codes "WHERE tab = ?1 AND vals = ?2 AND s = ?3 AND ss = ?4"
+
 abbrev pub define_text : List ℕ
 define_text = codes "INSERT INTO bt_table (id, def) VALUES (?1, ?2)"
 

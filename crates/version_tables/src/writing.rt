@@ -3,8 +3,8 @@
 
 ghost use Rattle.std.specs.Prelude.{◌≡◌, ◌+◌, length};
 ghost use Rattle.version_tables.specs.Represents.{added, ended, key_of, removed, version};
-ghost use Rattle.version_tables.specs.Represents.{with_clock, with_definition};
-ghost use Rattle.version_tables.specs.Steps.{CommitsNothing, ChangesRecords, ChangesWhere};
+ghost use Rattle.version_tables.specs.Represents.{with_clock, with_definition, with_ends};
+ghost use Rattle.version_tables.specs.Steps.{CommitsNothing, ChangesKey, ChangesRecords, ChangesWhere};
 
 use sqlite::{Alter, Error, Transaction, params};
 
@@ -45,6 +45,29 @@ pub fn end_version<S: Alter>(
     transaction.execute(
         "UPDATE bt_version SET se = ?5 WHERE tab = ?1 AND vals = ?2 AND s = ?3 AND ss = ?4",
         params![table, values, start, from, to],
+    )
+}
+
+/// Moves the ends of the version that has this key, if there is one, and answers how many have it:
+/// its period ends before the day `end`, its system time before the moment `to`.
+pub fn move_ends<S: Alter>(
+    transaction: &mut Transaction<'_, S>,
+    table: u32,
+    values: &[u8],
+    start: i64,
+    from: i64,
+    end: i64,
+    to: i64,
+) -> Result<usize, Error>
+    ensures same_reference { transaction.new.conn.ghost_name ≡ transaction.old.conn.ghost_name }
+    ensures made { ChangesKey S.Store transaction.old.conn.now transaction.new.conn.now result
+        (key_of table values.now start from) (with_ends end to) }
+    ensures inside { CommitsNothing S.Store transaction.old.conn.now transaction.new.conn.now }
+{
+    transaction.execute(
+        "UPDATE bt_version SET e = ?5, se = ?6 \
+         WHERE tab = ?1 AND vals = ?2 AND s = ?3 AND ss = ?4",
+        params![table, values, start, from, end, to],
     )
 }
 

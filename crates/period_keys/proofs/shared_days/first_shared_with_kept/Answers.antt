@@ -4,7 +4,7 @@ use Rattle.period_keys.proofs.shared_days.first_shared_with_kept.Goals as goal
 
 pub returns-then-starts_past : goal.returns-then-starts_past
 returns-then-starts_past c = λ apart.
-    none_past c.args.periods.now c.args.gone.now c.args.period.now c.loop-i.i c.index-periods-i.result c.requires (omega arith) c.index-periods-i.is
+    none_past c.args.periods.now c.args.gone.now c.args.period.now c.loop-i.i c.index-periods-i.result c.requires.periods (omega arith) c.index-periods-i.is
     (c.if-starts_past.ensures.0 refl) (c.loop-i.invariant apart)
 
 pub returns-in-Some : goal.returns-in-Some

@@ -1,5 +1,6 @@
 use Rattle.std.proofs.Common.{sym, subst, refl}
 use Rattle.version_store.specs.StoreState.{StoreRepresents}
+use Rattle.version_store.proofs.Keys.{keys_of}
 use Rattle.version_store.proofs.Standing.{on_ok, on_err, stays}
 use Rattle.version_store.proofs.store.VersionStore.apply.Goals as goal
 
@@ -9,3 +10,8 @@ returns-clause-changes g k usable c stands =
       on_ok k.write_plan.result (λ made. record { now = made.0; committed = made.1; catalog = was.catalog; clock = was.clock }) (k.write_plan.ensures.made usable.0 c was.now),
       on_err k.write_plan.result (λ same. stays g.S.Store _ _ c was same refl refl) (k.write_plan.ensures.none usable.0 usable.1),
     )
+
+pub returns-clause-distinct : goal.returns-clause-distinct
+returns-clause-distinct g k usable c stands =
+    let was = subst (λ s. StoreRepresents g.S.Store s c) (sym k.self.view_is) stands in
+    keys_of _ c was.now (k.schema-live.ensures.live (k.write_plan.ensures.usable usable).1).0
