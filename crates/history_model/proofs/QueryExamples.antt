@@ -1,6 +1,6 @@
 -- Worked rows of the ordinary query on a day: a join, a union and a difference, over lists of period
 -- rows and over a history.
-use Rattle.std.proofs.Common.{◌≡◌, ◌∷◌, ◌++◌, ℕ, pos, true, List, [], inl, inr, codes, refl, arith}
+use Rattle.std.proofs.Common.{◌∷◌, ◌++◌, ℕ, pos, true, List, [], inr, codes, refl, arith}
 use Rattle.std.proofs.lemmas.Bool.{and_from}
 use Rattle.period_core.proofs.Periods.{period_over}
 use Rattle.period_core.specs.declared.period.Period.{Period}
@@ -19,7 +19,7 @@ use Rattle.catalog_core.specs.declared.condition.CompareValues.{CompareValues}
 use Rattle.catalog_core.specs.declared.query.resolved.QueryReference.{QueryReference}
 use Rattle.catalog_core.specs.declared.query.resolved.Select.{Select}
 use Rattle.catalog_core.specs.declared.table.ValueKind.TheVariants as kind
-use Rattle.catalog_core.specs.query.Queries.{Query, both, one}
+use Rattle.catalog_core.specs.query.Queries.{both, one}
 use Rattle.history_model.proofs.ChangeExamples.{history, promoted, saw, sees_now, worker}
 use Rattle.history_model.specs.OrdinaryQuery.{InAnswerOn, InAnswerOver}
 
@@ -80,7 +80,7 @@ in_join = (
 
 -- on day 10 the first does not hold any more
 not_in_join : (row : List Value) → InAnswerOver (one joined) tables (pos 10) row → ⊥
-not_in_join row (values, (first, rest, (place, inside, is), others), met, its) = omega arith
+not_in_join row (values, (first, rest, (place, inside, is), others, made), met, its) = omega arith
 
 -- a union with the same select holds it, from either side; the difference does not
 in_union : InAnswerOver (both Union (one joined) (one joined)) tables (pos 6) answer_row
