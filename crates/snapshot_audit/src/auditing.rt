@@ -1,10 +1,9 @@
 //! The audit of an answer.
 
-ghost use Rattle.std.specs.Prelude.{◌↔◌, ◌<ℤ◌, AllPairs, IfOk, IsTrue, List, MatchBool, MatchOption};
+ghost use Rattle.std.specs.Prelude.{◌↔◌, ◌<ℤ◌, AllPairs, IfOk, IsTrue, MatchBool, MatchOption};
 ghost use Rattle.catalog_core.specs.query.Queries.{plain_query};
 ghost use Rattle.history_model.specs.OrdinaryQuery.{InAnswerOver, InQuery};
 ghost use Rattle.temporal_model.specs.Snapshot.{IsDay};
-ghost use Rattle.period_core.specs.declared.value.Value.{Value as ColumnValue};
 ghost use Rattle.snapshot_audit.specs.ActiveRows.{ActiveSights, InActive};
 ghost use Rattle.snapshot_audit.specs.ChangeDays.{seen_lists};
 ghost use Rattle.snapshot_audit.specs.Verdicts.{AgreesOnAll, DiffersFirst, HaveSameMembers, IsVerdict};
