@@ -24,6 +24,7 @@ mod positions;
 mod references;
 mod shared_days;
 mod sweep;
+mod table_index;
 mod tables;
 
 pub use changes::{add_rows, apply_change, keys_of, take_rows};
@@ -41,4 +42,5 @@ pub use lawful_laws::{
 pub use planning::plan_change;
 pub use positions::positions_of;
 pub use references::{uncovered_by_children, uncovered_by_parents};
+pub use table_index::{TableIndex, TouchedKeys};
 pub use tables::{key_clash, uncovered};
