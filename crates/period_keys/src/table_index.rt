@@ -9,6 +9,7 @@ ghost use Rattle.period_keys.specs.TableRows.{AreTouchedKeys, HasTableRows};
 ghost use Rattle.period_keys.specs.Versions.{begun};
 
 use crate::changes::keys_of;
+use crate::clashes::index_of_current;
 use crate::current_rows::CurrentRows;
 use crate::keyed_periods::KeyedPeriods;
 use crate::period_indexes::{PeriodIndex, add_to_each, keys_by_each, take_from_each};
@@ -33,9 +34,9 @@ impl Model for TableIndex {
     ghost Value = { TableRows };
 
     ghost view = { λ t. record {
-        positions = t.rows.positions;
-        rows = t.rows.rows;
-        indexed = map positions_by t.indexes.items;
+      positions = t.rows.positions;
+      rows = t.rows.rows;
+      indexed = map positions_by t.indexes.items;
     } };
 
     ghost invariant = { λ t. EachIndexes (map row_of t.rows.rows) t.indexes.items };
@@ -67,6 +68,35 @@ impl TableIndex {
         ensures rows { result.now.rows ≡ self.now.rows }
     {
         &self.rows
+    }
+
+    /// The rows' periods by their values at these positions, if they are indexed so.
+    pub fn by(&self, positions: &[usize]) -> Option<&KeyedPeriods>
+        ensures found { IfSome result
+            (λ periods. IsIndexOf positions.now (map row_of self.now.rows) periods.now) }
+        ensures there { Contains self.now.indexed positions.now → IsSome result }
+    {
+        for index in self.indexes.as_slice() {
+            if index.positions.as_slice() == positions {
+                return Some(&index.periods);
+            }
+        }
+        None
+    }
+
+    /// Indexes the rows' periods by their values at these positions too. The only error is out of
+    /// memory, and changes nothing.
+    pub fn index_by(&mut self, alloc: Global, positions: Items<usize>) -> Result<(), Memory>
+        ensures ok { OnOk result (self.new ≡ record {
+          positions = self.old.positions;
+          rows = self.old.rows;
+          indexed = self.old.indexed ++ positions ∷ [];
+        }) }
+        ensures err { OnErr result (self.new ≡ self.old) }
+    {
+        let periods = index_of_current(alloc, positions.as_slice(), &self.rows)?;
+        self.indexes.push(PeriodIndex { positions, periods })?;
+        Ok(())
     }
 
     /// The rows' keys by all of the table's positions. The only error is out of memory.
