@@ -1,15 +1,19 @@
 -- Indexes that follow a change one after another.
-use Rattle.std.proofs.Common.{◌≡◌, ◌≢◌, ◌<◌, ◌≤◌, ◌+◌, ◌++◌, ◌∷◌, [], ◌∙◌, ℕ, zero, suc, List, length, set, get_or, map, refl, sym, ap, subst, inl, inr, arith}
+use Rattle.std.proofs.Common.{◌≡◌, ◌≢◌, ◌<◌, ◌≤◌, ◌+◌, ◌++◌, ◌∷◌, [], ◌∙◌, ℕ, ℤ, zero, suc, List, append-nil, drop, length, set, take, get_or, map, refl, sym, ap, subst, inl, inr, arith}
 use Rattle.std.specs.Prelude.{IsPermutation}
 use Rattle.std.proofs.lemmas.Bool.{cases_lt}
-use Rattle.std.proofs.lemmas.List.{get_or-map, get_or-set_other, get_or-set_same, length-map, length-set}
-use Rattle.std.proofs.lemmas.List.Sorted.{IsPermutation-append_comm}
+use Rattle.std.proofs.lemmas.List.{get_or-map, get_or-set_other, get_or-set_same, length-map, length-set, map-append, take_all}
+use Rattle.std.proofs.lemmas.List.Sorted.{IsPermutation-map, IsPermutation-sym}
 use Rattle.period_core.specs.declared.row.PeriodRow.{PeriodRow}
 use Rattle.period_core.specs.declared.value.Value.{Value}
+use Rattle.period_core.specs.declared.version.VersionRow.{VersionRow}
+use Rattle.history_model.specs.Versions.{row_of}
 use Rattle.period_keys.specs.declared.period_indexes.PeriodIndex.{PeriodIndex}
 use Rattle.period_keys.specs.Keys.{key_values}
 use Rattle.period_keys.specs.PeriodIndexes.{AreKeysByEach, EachIndexes, Indexes, PartlyIndex, positions_by}
+use Rattle.period_keys.specs.Versions.{begun}
 use Rattle.period_keys.proofs.Indexes.{index_moved}
+use Rattle.period_keys.proofs.Loops.{none_left}
 
 -- the keys by the index at a place
 pub keys_at_place : (rows : List PeriodRow) (indexes : List PeriodIndex) (keys : List (List (List Value))) (i : ℕ) (index : PeriodIndex) (own : List (List Value)) → AreKeysByEach rows (map positions_by indexes) keys
@@ -78,3 +82,29 @@ partly_kept first second xs i w inside partly new = λ k d below.
         | inr le ↦ let here : i ≡ k = omega arith in subst (λ n. Indexes second (get_or (set xs i w) n d)) here (subst (Indexes second) (sym (get_or-set_same xs i w d inside)) new)
       ],
     )
+
+-- what a slice of all indexes leaves in its vector
+pub written_back : (n : ℕ) (items given new : List PeriodIndex) → given ≡ items → length given ≡ n → map positions_by new ≡ map positions_by given → take n (new ++ drop (length new) items) ≡ new
+written_back n items given new is size same =
+    let lengths : length new ≡ length given = sym (length-map new positions_by) ∙ ap length same ∙ length-map given positions_by in
+    let of_items : length given ≡ length items = ap length is in
+    ap (λ (rest : List PeriodIndex). take n (new ++ rest)) (none_left items (length new) (omega arith)) ∙ ap (take n) (append-nil new) ∙ take_all n new (omega arith)
+
+-- rows that begin are the rows that were added
+pub begun_rows : (moment : ℤ) (rows : List PeriodRow) → map row_of (map (begun moment) rows) ≡ rows
+begun_rows moment [] = refl
+begun_rows moment (row ∷ rows) = ap (λ (more : List PeriodRow). row ∷ more) (begun_rows moment rows)
+
+-- the rows of two lists of versions in another order
+pub rows_joined : (all first second : List VersionRow) (rows : List PeriodRow) → IsPermutation all (first ++ second) → map row_of first ≡ rows → IsPermutation (map row_of all) (rows ++ map row_of second)
+rows_joined all first second rows moved are =
+    subst (λ (front : List PeriodRow). IsPermutation (map row_of all) (front ++ map row_of second)) are
+    (subst (IsPermutation (map row_of all)) (map-append row_of first second) (IsPermutation-map row_of all (first ++ second) moved))
+
+-- the indexes after rows went
+pub each_after_taken :
+    (old new first rest : List VersionRow) (rows : List PeriodRow) (given after : List PeriodIndex) → IsPermutation old (first ++ rest) → IsPermutation new rest → map row_of first ≡ rows
+    → ((left : List PeriodRow) → EachIndexes (rows ++ left) given → EachIndexes left after) → EachIndexes (map row_of old) given → EachIndexes (map row_of new) after
+each_after_taken old new first rest rows given after moved is are taken each =
+    each_moved (map row_of rest) (map row_of new) after (IsPermutation-sym (map row_of new) (map row_of rest) (IsPermutation-map row_of new rest is))
+    (taken (map row_of rest) (each_moved (map row_of old) (rows ++ map row_of rest) given (rows_joined old first rest rows moved are) each))

@@ -14,3 +14,4 @@ pub mod FixedKeys
 pub mod Planned
 pub mod Faults
 pub mod PeriodIndexes
+pub mod TableRows

@@ -1,7 +1,8 @@
 //! The least day on which two rows share a key after a change, judged by the rows of the keys that
 //! it adds.
 
-ghost use Rattle.std.specs.Prelude.{◌++◌, IfOk, IsPermutation, List, map};
+ghost use Rattle.std.specs.Prelude.{◌++◌, IfOk, IsPermutation, List, OnOk, map};
+ghost use Rattle.period_core.specs.declared.row.PeriodRow.{PeriodRow as Row};
 ghost use Rattle.period_core.specs.declared.version.VersionRow.{VersionRow as Version};
 ghost use Rattle.history_model.specs.Versions.{row_of};
 ghost use Rattle.period_keys.specs.Keys.{HasNoClash, IsKeyClash, IsLeastOf};
@@ -40,9 +41,39 @@ pub fn index_of_versions(
     ensures { IfOk result (IsIndexOf positions.now (map row_of versions.now)) }
 {
     let mut index = KeyedPeriods::new(alloc);
+    add_versions(alloc, positions, &mut index, versions)?;
+    Ok(index)
+}
+
+/// Adds versions to an index by these positions. The only error is out of memory.
+fn add_versions(
+    alloc: Global,
+    positions: &[usize],
+    index: &mut KeyedPeriods,
+    versions: &[VersionRow],
+) -> Result<(), Memory>
+    ensures { OnOk result ((before : List Row)
+        → IsIndexOf positions.now before index.old
+        → IsIndexOf positions.now (before ++ map row_of versions.now) index.new) }
+{
     for version in versions {
         let key = values_of(alloc, positions, version.values.as_slice())?;
         index.add(alloc, &key, version.period)?;
+    }
+    Ok(())
+}
+
+/// An index of a table's current rows by these positions. The only error is out of memory.
+pub fn index_of_current(
+    alloc: Global,
+    positions: &[usize],
+    current: &CurrentRows,
+) -> Result<KeyedPeriods, Memory>
+    ensures { IfOk result (IsIndexOf positions.now (map row_of current.now.rows)) }
+{
+    let mut index = KeyedPeriods::new(alloc);
+    for group in current.groups() {
+        add_versions(alloc, positions, &mut index, group.as_slice())?;
     }
     Ok(index)
 }

@@ -86,8 +86,8 @@ pub fn parent_fault(
     Ok(found)
 }
 
-// The versions without their system time.
-fn rows_of(alloc: Global, versions: &[VersionRow]) -> Result<Vec<PeriodRow>, Memory>
+/// The versions without their system time. The only error is out of memory.
+pub fn rows_of(alloc: Global, versions: &[VersionRow]) -> Result<Vec<PeriodRow>, Memory>
     ensures { IfOk result (λ rows. rows.items ≡ map row_of versions.now) }
 {
     let mut rows = Vec::new(alloc);

@@ -1,8 +1,14 @@
 //! Temporal keys and references: the least day on which two rows of a table share its key, or on
-//! which a child row has no parent row. Whole lists are judged by a table's definition (`tables`),
-//! and a change by the rows that it touches, with an index of the rows that were there (`clashes`,
-//! `references`), which follows each change (`changes`). The laws that make this right, and those
-//! that say it of the rows of a day, are in `key_laws`.
+//! which a child row has no parent row.
+//!
+//! - Whole lists are judged by a table's definition (`tables`, `sweep`).
+//! - A table's current rows are kept by key in memory (`current_rows`, of `groups` of `key_rows`),
+//!   and beside them their periods by the columns of references (`period_indexes`, `keyed_periods`).
+//!   `TableIndex` has both, and follows a change all or none. `planning` makes a change's plan of
+//!   the rows of the key that its condition fixes (`fixed_keys`), or of all.
+//! - A plan is judged by the rows that it touches (`faults`, by `clashes` and `references`).
+//! - `specs/Lawful` says which changes are lawful, over the traced rows of a state. The laws that
+//!   make the judgement right are in `key_laws` and `lawful_laws`.
 #![tactic(auto)]
 
 mod changes;
@@ -24,12 +30,13 @@ mod positions;
 mod references;
 mod shared_days;
 mod sweep;
+mod table_index;
 mod tables;
 
 pub use changes::{add_rows, apply_change, keys_of, take_rows};
-pub use clashes::{index_of, index_of_versions, key_clash_after};
+pub use clashes::{index_of, index_of_current, index_of_versions, key_clash_after};
 pub use current_rows::CurrentRows;
-pub use faults::{child_fault, key_fault, parent_fault};
+pub use faults::{child_fault, key_fault, parent_fault, rows_of};
 pub use fixed_keys::fixed_key;
 pub use key_laws::{clashes_after_change, clashes_are_of_days, uncovered_are_of_days};
 pub use keyed_periods::KeyedPeriods;
@@ -41,4 +48,5 @@ pub use lawful_laws::{
 pub use planning::plan_change;
 pub use positions::positions_of;
 pub use references::{uncovered_by_children, uncovered_by_parents};
+pub use table_index::{TableIndex, TouchedKeys};
 pub use tables::{key_clash, uncovered};

@@ -20,12 +20,7 @@ pub struct PeriodIndex {
 
 impl PeriodIndex {
     // Adds rows, whose keys are handed in, or none of them.
-    fn add_all(
-        &mut self,
-        alloc: Global,
-        keys: &[Values],
-        rows: &[PeriodRow],
-    ) -> Result<(), Memory>
+    fn add_all(&mut self, alloc: Global, keys: &[Values], rows: &[PeriodRow]) -> Result<(), Memory>
         requires { keys.now ≡ map (key_values self.old.positions) rows.now }
         ensures same { self.new.positions ≡ self.old.positions }
         ensures ok { OnOk result ((before : List Row)

@@ -1,0 +1,27 @@
+-- A table's current rows, with the positions by which they are looked up.
+use Rattle.std.specs.Prelude.{◌≡◌, ℕ, IsPermutation, List, map}
+use Rattle.period_core.specs.declared.row.PeriodRow.{PeriodRow}
+use Rattle.period_core.specs.declared.value.Value.{Value}
+use Rattle.period_core.specs.declared.version.VersionRow.{VersionRow}
+use Rattle.period_keys.specs.Keys.{key_values}
+use Rattle.period_keys.specs.PeriodIndexes.{AreKeysByEach}
+use Rattle.period_keys.specs.declared.table_index.TouchedKeys.{TouchedKeys}
+
+-- the positions of the key's columns among a row's values, all rows, in some order, and the
+-- positions of the columns of each reference by which the rows' periods are indexed
+pub record TableRows : Type 0 where
+  pub positions : List ℕ
+  pub rows : List VersionRow
+  pub indexed : List (List ℕ)
+
+-- the second has the same positions, and these rows, in some order
+pub record HasTableRows (wanted : List VersionRow) (old new : TableRows) : Type 0 where
+  pub positions : new.positions ≡ old.positions
+  pub indexed : new.indexed ≡ old.indexed
+  pub rows : IsPermutation new.rows wanted
+
+-- these are the rows' keys by all of the table's positions
+pub record AreTouchedKeys (table : TableRows) (rows : List PeriodRow) (keys : TouchedKeys)
+    : Type 0 where
+  pub by_key : keys.by_key.items ≡ map (key_values table.positions) rows
+  pub by_each : AreKeysByEach rows table.indexed keys.by_each.items

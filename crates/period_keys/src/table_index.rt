@@ -1,0 +1,163 @@
+//! A table's current rows by key, and beside them their periods by the columns of references.
+
+ghost use Rattle.std.specs.Prelude.{◌≡◌, ◌++◌, ◌∷◌, [], Contains, IfOk, IfSome, IsPermutation};
+ghost use Rattle.std.specs.Prelude.{IsSome, List, OnErr, OnOk, map};
+ghost use Rattle.period_core.specs.declared.version.VersionRow.{VersionRow as Version};
+ghost use Rattle.history_model.specs.Versions.{row_of};
+ghost use Rattle.period_keys.specs.Index.{IsIndexOf};
+ghost use Rattle.period_keys.specs.TableRows.{AreTouchedKeys, HasTableRows};
+ghost use Rattle.period_keys.specs.Versions.{begun};
+
+use crate::changes::keys_of;
+use crate::clashes::index_of_current;
+use crate::current_rows::CurrentRows;
+use crate::keyed_periods::KeyedPeriods;
+use crate::period_indexes::{PeriodIndex, add_to_each, keys_by_each, take_from_each};
+use period_core::{Items, Memory, Moment, PeriodRow, Values, VersionRow};
+use std::alloc::Global;
+use std::marker::Model;
+
+/// The current rows of one table by key, and their periods by the columns of each reference from
+/// the table and to it.
+#[derive(Drop)]
+pub struct TableIndex {
+    rows: CurrentRows,
+    indexes: Vec<PeriodIndex>,
+}
+
+impl Model for TableIndex {
+    ghost use Rattle.std.specs.Prelude.{map};
+    ghost use Rattle.history_model.specs.Versions.{row_of};
+    ghost use Rattle.period_keys.specs.PeriodIndexes.{EachIndexes, positions_by};
+    ghost use Rattle.period_keys.specs.TableRows.{TableRows};
+
+    ghost Value = { TableRows };
+
+    ghost view = { λ t. record {
+      positions = t.rows.positions;
+      rows = t.rows.rows;
+      indexed = map positions_by t.indexes.items;
+    } };
+
+    ghost invariant = { λ t. EachIndexes (map row_of t.rows.rows) t.indexes.items };
+}
+
+/// The keys of rows that a change touches, by the table's key and by each of its indexes.
+#[derive(Drop)]
+pub struct TouchedKeys {
+    by_key: Vec<Values>,
+    by_each: Vec<Items<Values>>,
+}
+
+impl TableIndex {
+    /// An index of these rows, by their key alone.
+    pub fn new(alloc: Global, rows: CurrentRows) -> TableIndex
+        ensures positions { result.positions ≡ rows.positions }
+        ensures rows { result.rows ≡ rows.rows }
+        ensures indexed { result.indexed ≡ [] }
+    {
+        TableIndex {
+            rows,
+            indexes: Vec::new(alloc),
+        }
+    }
+
+    /// The rows by key.
+    pub fn rows(&self) -> &CurrentRows
+        ensures positions { result.now.positions ≡ self.now.positions }
+        ensures rows { result.now.rows ≡ self.now.rows }
+    {
+        &self.rows
+    }
+
+    /// The rows' periods by their values at these positions, if they are indexed so.
+    pub fn by(&self, positions: &[usize]) -> Option<&KeyedPeriods>
+        ensures found { IfSome result
+            (λ periods. IsIndexOf positions.now (map row_of self.now.rows) periods.now) }
+        ensures there { Contains self.now.indexed positions.now → IsSome result }
+    {
+        for index in self.indexes.as_slice() {
+            if index.positions.as_slice() == positions {
+                return Some(&index.periods);
+            }
+        }
+        None
+    }
+
+    /// Indexes the rows' periods by their values at these positions too. The only error is out of
+    /// memory, and changes nothing.
+    pub fn index_by(&mut self, alloc: Global, positions: Items<usize>) -> Result<(), Memory>
+        ensures ok { OnOk result (self.new ≡ record {
+          positions = self.old.positions;
+          rows = self.old.rows;
+          indexed = self.old.indexed ++ positions ∷ [];
+        }) }
+        ensures err { OnErr result (self.new ≡ self.old) }
+    {
+        let periods = index_of_current(alloc, positions.as_slice(), &self.rows)?;
+        self.indexes.push(PeriodIndex { positions, periods })?;
+        Ok(())
+    }
+
+    /// The rows' keys by all of the table's positions. The only error is out of memory.
+    pub fn keys_of(&self, alloc: Global, rows: &[PeriodRow]) -> Result<TouchedKeys, Memory>
+        ensures { IfOk result (λ keys. AreTouchedKeys self.now rows.now keys) }
+    {
+        Ok(TouchedKeys {
+            by_key: keys_of(alloc, self.rows.positions(), rows)?,
+            by_each: keys_by_each(alloc, self.indexes.as_slice(), rows)?,
+        })
+    }
+
+    /// Adds rows that begin at a moment, whose keys are handed in, or none of them. The only error
+    /// is out of memory.
+    pub fn add_all(
+        &mut self,
+        alloc: Global,
+        moment: Moment,
+        keys: &TouchedKeys,
+        rows: &[PeriodRow],
+    ) -> Result<(), Memory>
+        requires { AreTouchedKeys self.old rows.now keys.now }
+        ensures ok { OnOk result
+            (HasTableRows (map (begun moment) rows.now ++ self.old.rows) self.old self.new) }
+        ensures err { OnErr result (HasTableRows self.old.rows self.old self.new) }
+    {
+        let by_key = keys.by_key.as_slice();
+        self.rows.add_all(alloc, moment, by_key, rows)?;
+        let by_each = keys.by_each.as_slice();
+        if let Err(refused) = add_to_each(alloc, self.indexes.as_mut_slice(), by_each, rows) {
+            self.rows.take_added(moment, by_key, rows);
+            return Err(refused);
+        }
+        Ok(())
+    }
+
+    /// Takes back what `add_all` added. It takes no memory.
+    pub fn take_added(&mut self, moment: Moment, keys: &TouchedKeys, rows: &[PeriodRow])
+        requires keys { AreTouchedKeys self.old rows.now keys.now }
+        requires there { (rest : List Version)
+            × IsPermutation self.old.rows (map (begun moment) rows.now ++ rest) }
+        ensures { (rest : List Version)
+            → IsPermutation self.old.rows (map (begun moment) rows.now ++ rest)
+            → HasTableRows rest self.old self.new }
+    {
+        self.rows.take_added(moment, keys.by_key.as_slice(), rows);
+        take_from_each(self.indexes.as_mut_slice(), keys.by_each.as_slice(), rows);
+    }
+
+    /// Takes out versions, which are there. Handed in are also their rows, without system time, and
+    /// the keys of these. It takes no memory.
+    pub fn take_all(&mut self, keys: &TouchedKeys, versions: &[VersionRow], rows: &[PeriodRow])
+        requires keys { AreTouchedKeys self.old rows.now keys.now }
+        requires rows { rows.now ≡ map row_of versions.now }
+        requires there { (rest : List Version)
+            × IsPermutation self.old.rows (versions.now ++ rest) }
+        ensures { (rest : List Version)
+            → IsPermutation self.old.rows (versions.now ++ rest)
+            → HasTableRows rest self.old self.new }
+    {
+        self.rows.take_all(keys.by_key.as_slice(), versions);
+        take_from_each(self.indexes.as_mut_slice(), keys.by_each.as_slice(), rows);
+    }
+}
