@@ -192,7 +192,10 @@ fn close_and_open(rt: HostRuntime) -> Result<(), Fail> {
     assert_eq!(rt; engine.clock(), moment);
     assert_eq!(rt; engine.catalog().len(), 2);
     let row = current(vec![in alloc; Value::Int(1), Value::Int(3)]?, moment)?;
-    assert_eq!(rt; rows_of(alloc, &mut engine, 1)?.as_slice(), [row].as_slice());
+    assert_eq!(rt;
+        rows_of(alloc, &mut engine, 1)?.as_slice(),
+        [row].as_slice()
+    );
     assert!(rt; rows_of(alloc, &mut engine, 2)?.is_empty());
     Ok(())
 }
