@@ -84,22 +84,14 @@ fn execute(alloc: Global, engine: &mut Engine<MemStore>, text: &str) -> Result<(
     Ok(())
 }
 
-// Opens a store, or tells why it is refused.
-fn opened(
-    alloc: Global,
-    connection: Connection<MemStore>,
-) -> Result<Result<Engine<MemStore>, (Refusal, Connection<MemStore>)>, Fail> {
+// Opens a store that is not refused.
+fn sound(alloc: Global, connection: Connection<MemStore>) -> Result<Engine<MemStore>, Fail> {
     if !connection.is_autocommit() {
         return Err(Fail::new("a transaction is open"));
     }
-    Ok(Engine::open(alloc, connection))
-}
-
-// Opens a store that is not refused.
-fn sound(alloc: Global, connection: Connection<MemStore>) -> Result<Engine<MemStore>, Fail> {
-    match opened(alloc, connection)? {
+    match Engine::open(alloc, connection) {
         Ok(engine) => Ok(engine),
-        Err((refusal, _)) => Err(Fail::new(refusal.name())),
+        Err(failed) => Err(Fail::new(failed.0.name())),
     }
 }
 
@@ -154,18 +146,32 @@ fn shown(alloc: Global, connection: &mut Connection<MemStore>) -> Result<String,
     Ok(shown)
 }
 
+// The name of a refusal, of a database that shows what it showed before it was opened.
+fn name_of(
+    alloc: Global,
+    before: &str,
+    refusal: Refusal,
+    connection: &mut Connection<MemStore>,
+) -> Result<&'static str, Fail> {
+    let after = shown(alloc, connection)?;
+    if after.as_str() == before {
+        Ok(refusal.name())
+    } else {
+        Ok("changed")
+    }
+}
+
 // The refusal of a database that shows then what it showed before.
 fn answer(alloc: Global, mut connection: Connection<MemStore>) -> Result<&'static str, Fail> {
     let before = shown(alloc, &mut connection)?;
-    match opened(alloc, connection)? {
+    if !connection.is_autocommit() {
+        return Err(Fail::new("a transaction is open"));
+    }
+    match Engine::open(alloc, connection) {
         Ok(_) => Ok("opened"),
-        Err((refusal, mut connection)) => {
-            let after = shown(alloc, &mut connection)?;
-            if before.as_str() == after.as_str() {
-                Ok(refusal.name())
-            } else {
-                Ok("changed")
-            }
+        Err(failed) => {
+            let (refusal, mut connection) = failed;
+            name_of(alloc, before.as_str(), refusal, &mut connection)
         }
     }
 }
