@@ -140,14 +140,16 @@ module _ (text : List ℕ) (columns : List Term) (k : Version) (more : Row) (f :
       let answered : count ≡ length edit.news =
       w.counted ∙ ap (λ (n : Tally × Database). unwrap_or n.0.rows 0) (same_value (went (went done.2).2).2) ∙ ap (λ (it : Written). length it.rows) (same_value written.2) in
       let all : length edit.news ≡ length (filter (same_key k) m.versions) =
-      sym (length-map edit.news version_shown) ∙ length_permutation _ _ gone ∙ length-map _ stored ∙ length-map _ f in
-      (record {
-        schema = ap (λ (d : Database). d.schema) now;
-        says = record {
-          meta = ap (map meta_shown) (after 0 ∙ applied.tables.0 (λ e. absurd (omega (arith, e)))) ∙ was.says.meta;
-          tables = subst (λ rows. IsPermutation (defined 1 m.tables) (map table_shown rows)) (sym (after 1 ∙ applied.tables.1.0 (λ e. absurd (omega (arith, e))))) was.says.tables;
-          versions = rw put (IsPermutation-trans _ _ _ (subst₂ IsPermutation (sym (map-append stored _ _)) (sym (map-append version_shown _ _)) (IsPermutation-append _ _ _ _ gone rest)) (IsPermutation-map version_shown _ _ (put_fresh edit.news _ applied.fresh)));
-        };
-        untied = rw put (put_table edit.news _ applied.fresh (rw left (ascending-filter _ _ (db 2) was.untied)));
-        keyed = rw put (put_keyed edit.news _ applied.keyed (rw left (all-filter _ _ (db 2) was.keyed)));
-      }, answered ∙ all)
+      sym (length-map edit.news version_shown) ∙ length_permutation _ _ gone ∙ length-map _ stored ∙ length-map _ f in (
+        record {
+          schema = ap (λ (d : Database). d.schema) now;
+          says = record {
+            meta = ap (map meta_shown) (after 0 ∙ applied.tables.0 (λ e. absurd (omega (arith, e)))) ∙ was.says.meta;
+            tables = subst (λ rows. IsPermutation (defined 1 m.tables) (map table_shown rows)) (sym (after 1 ∙ applied.tables.1.0 (λ e. absurd (omega (arith, e))))) was.says.tables;
+            versions = rw put (IsPermutation-trans _ _ _ (subst₂ IsPermutation (sym (map-append stored _ _)) (sym (map-append version_shown _ _)) (IsPermutation-append _ _ _ _ gone rest)) (IsPermutation-map version_shown _ _ (put_fresh edit.news _ applied.fresh)));
+          };
+          untied = rw put (put_table edit.news _ applied.fresh (rw left (ascending-filter _ _ (db 2) was.untied)));
+          keyed = rw put (put_keyed edit.news _ applied.keyed (rw left (all-filter _ _ (db 2) was.keyed)));
+        },
+        answered ∙ all,
+      )
