@@ -1,10 +1,9 @@
 -- The rows of a good store repeat no key.
-use Rattle.std.proofs.Common.{◌≡◌, ◌∙◌, ◌+◌, ◌<◌, ◌∷◌, ◌&&◌, ◌==◌, ℕ, zero, suc, ℤ, pos, Bool, true, false, List, [], ap, arith, length, map, refl, subst, sym}
+use Rattle.std.proofs.Common.{◌≡◌, ◌∙◌, ◌+◌, ◌<◌, ◌∷◌, ◌==◌, ℕ, zero, suc, ℤ, pos, true, false, List, [], ap, arith, length, map, refl, subst, sym}
 use Rattle.std.specs.Prelude.{slice_index_or}
 use Rattle.std.specs.List.{All, AllByRecursion}
 use Rattle.std.specs.List.Sorted.{IsPermutation}
-use Rattle.std.specs.Cmp.Lexicographic.{slice_cmp}
-use Rattle.std.specs.Ordering.{int_cmp, is_eq, nat_cmp}
+use Rattle.std.specs.Ordering.{is_eq}
 use Rattle.std.proofs.lemmas.Cmp.{int_cmp_total, nat_list_cmp_total, tied_itself}
 use Rattle.std.proofs.lemmas.List.Sorted.{IsPermutation-cons, IsPermutation-middle, IsPermutation-refl, IsPermutation-trans}
 use Rattle.sqlite_trees.proofs.ListLemmas.{all-permutation, all_weaker, along_permutation, ascending-map}
@@ -93,7 +92,7 @@ none_repeats : (rows : List Row) → AreApart rows → (k : ℕ) → k + 1 < len
 none_repeats [] up k low key = absurd (omega arith)
 none_repeats (x ∷ []) up k low key = absurd (omega arith)
 none_repeats (x ∷ y ∷ rows) up zero low key = up.0.0 key
-none_repeats (x ∷ y ∷ rows) up (suc k) low key = 
+none_repeats (x ∷ y ∷ rows) up (suc k) low key =
     let next : suc k + 1 ≡ suc (k + 1) = omega arith in
     none_repeats (y ∷ rows) up.1 k (omega (arith, low)) (subst (λ m. HaveOneKey (slice_index_or (x ∷ y ∷ rows) (suc k) []) (slice_index_or (x ∷ y ∷ rows) m [])) next key)
 

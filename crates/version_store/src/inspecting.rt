@@ -17,8 +17,10 @@ use period_core::{Moment, Refusal};
 use sqlite::Connection;
 use sqlite_trees::store::Alter;
 use std::alloc::Global;
-use version_tables::{are_numbered, are_rising, columns_there, meta_rows, repeat_key, rowids};
-use version_tables::{table_rows, version_rows};
+use version_tables::{
+    are_numbered, are_rising, columns_there, meta_rows, repeat_key, rowids, table_rows,
+    version_rows,
+};
 
 /// Judges a store that is there. On `Ok` it has its tables and its clock.
 pub(crate) fn inspect<S: Alter>(
