@@ -23,7 +23,7 @@ const STORE: [&str; 4] = [
 ];
 
 // What spoils the store, and how.
-const SPOILED: [(&str, &str); 15] = [
+const SPOILED: [(&str, &str); 17] = [
     ("no bt_version", "DROP TABLE bt_version"),
     ("two rows", "INSERT INTO bt_meta VALUES (2, 1, 0)"),
     ("the form 9", "UPDATE bt_meta SET form = 9"),
@@ -69,6 +69,21 @@ const SPOILED: [(&str, &str); 15] = [
         "UPDATE bt_version SET se = ss + 1",
     ),
     ("a day after the last", "UPDATE bt_version SET e = 2932897"),
+    (
+        "a version that begins twice",
+        "DROP TABLE bt_version;
+         CREATE TABLE bt_version (tab INTEGER NOT NULL, vals BLOB NOT NULL, s INTEGER NOT NULL,
+          e INTEGER NOT NULL, ss INTEGER NOT NULL, se INTEGER NOT NULL) STRICT;
+         INSERT INTO bt_version VALUES
+          (1, x'018000000000000001018000000000000003', 0, 1, 0, 1),
+          (1, x'018000000000000001018000000000000003', 0, 2, 0, 253402300799)",
+    ),
+    (
+        "a missing column",
+        "DROP TABLE bt_meta;
+         CREATE TABLE bt_meta (id INTEGER PRIMARY KEY, form INTEGER NOT NULL) STRICT;
+         INSERT INTO bt_meta VALUES (1, 1)",
+    ),
 ];
 
 // Texts in the order of their bytes: a byte 0, a line feed, commas and both quotes, characters of

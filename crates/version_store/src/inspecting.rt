@@ -17,7 +17,10 @@ use period_core::{Moment, Refusal};
 use sqlite::Connection;
 use sqlite_trees::store::Alter;
 use std::alloc::Global;
-use version_tables::{are_numbered, are_rising, meta_rows, rowids, table_rows, version_rows};
+use version_tables::{
+    are_numbered, are_rising, columns_there, meta_rows, repeat_key, rowids, table_rows,
+    version_rows,
+};
 
 /// Judges a store that is there. On `Ok` it has its tables and its clock.
 pub(crate) fn inspect<S: Alter>(
@@ -42,6 +45,9 @@ pub(crate) fn inspect<S: Alter>(
     ensures mode { connection.new.in_transaction ≡ false }
     ensures named { IfErr result IsOpenRefusal }
 {
+    if !columns_there(connection) {
+        return Err(Refusal::BadStore);
+    }
     let _live = connection.schema();
     let metas = match meta_rows(connection) {
         Ok(rows) => rows,
@@ -64,6 +70,9 @@ pub(crate) fn inspect<S: Alter>(
     }
     if !are_rising(&ids) {
         return Err(Refusal::Store);
+    }
+    if repeat_key(&versions) {
+        return Err(Refusal::BadStore);
     }
     judge_rows(alloc, &metas, &tables, &versions)
 }

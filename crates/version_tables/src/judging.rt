@@ -7,7 +7,8 @@ ghost use Rattle.period_core.specs.Calendar.{IsDayNumber};
 ghost use Rattle.period_core.specs.Moments.{IsMomentNumber};
 ghost use Rattle.version_tables.specs.Good.{AreDays, AreMoments, IsClock, IsDefinition, IsKnown};
 ghost use Rattle.version_tables.specs.Good.{IsPast, SayClock, SaysVersion};
-ghost use Rattle.version_tables.specs.Rows.{AreNumbered, AreRising, by_rowid};
+ghost use Rattle.version_tables.specs.Rows.{AreNumbered, AreRising, HaveOneKey, RepeatKey};
+ghost use Rattle.version_tables.specs.Rows.{ShareBytes, ShareNumber, by_rowid};
 
 use crate::columns::{bytes_at, number_at};
 use period_core::{Day, Moment};
@@ -181,4 +182,51 @@ pub fn are_rising(rows: &[Row]) -> bool
         }
     }
     true
+}
+
+fn share_number(first: &Row, second: &Row, at: usize) -> bool
+    ensures { IsTrue result ↔ ShareNumber first.now second.now at }
+{
+    let Some(one) = number_at(first, at) else {
+        return false;
+    };
+    let Some(other) = number_at(second, at) else {
+        return false;
+    };
+    one == other
+}
+
+fn share_bytes(first: &Row, second: &Row, at: usize) -> bool
+    ensures { IsTrue result ↔ ShareBytes first.now second.now at }
+{
+    let Some(one) = bytes_at(first, at) else {
+        return false;
+    };
+    let Some(other) = bytes_at(second, at) else {
+        return false;
+    };
+    one == other
+}
+
+/// Whether both rows are of one key: the table, the values, the two starts.
+fn have_one_key(first: &Row, second: &Row) -> bool
+    ensures { IsTrue result ↔ HaveOneKey first.now second.now }
+{
+    share_number(first, second, 2)
+        && share_number(first, second, 4)
+        && share_number(first, second, 0)
+        && share_bytes(first, second, 1)
+}
+
+/// Whether a row of bt_version and the row behind it are of one key. Where the rows are by key, as
+/// the query shows them, no two are of one key if this is false.
+pub fn repeat_key(rows: &[Row]) -> bool
+    ensures { IsTrue result ↔ RepeatKey rows.now }
+{
+    for at in 1..rows.len() {
+        if have_one_key(&rows[at - 1], &rows[at]) {
+            return true;
+        }
+    }
+    false
 }

@@ -1,10 +1,15 @@
-//! Which of the three tables a database has. Other tables beside them don't matter.
+//! Which of the three tables a database has, and whether they have their columns. Other tables
+//! beside them don't matter.
 
-ghost use Rattle.std.specs.Prelude.{◌≡◌, ◌↔◌};
+ghost use Rattle.std.specs.Prelude.{◌≡◌, ◌↔◌, ◌&&◌, codes, is_some};
 ghost use Rattle.sqlite.specs.Held.{state};
+ghost use Rattle.sqlite_schema.specs.Names.{column_named, same_name};
 ghost use Rattle.version_tables.specs.Presence.{AreAllThere, IsNoneThere};
+ghost use Rattle.version_tables.specs.Presence.{definition_columns, has_column, has_columns};
+ghost use Rattle.version_tables.specs.Presence.{have_columns, meta_columns, version_columns};
 
 use sqlite::{Alter, Connection};
+use sqlite_schema::schema::{Schema, Table};
 
 /// Which of the three tables are there.
 #[derive(Clone, Copy, Debug, PartialEq, Eq)]
@@ -34,4 +39,57 @@ pub fn tables_there<S: Alter>(connection: &Connection<S>) -> Presence
         (true, true, true) => Presence::Whole,
         _ => Presence::Partial,
     }
+}
+
+/// Whether a table has this name and a column of that name.
+fn is_with_column(table: &Table, name: &[u8], column: &[u8]) -> bool
+    ensures { result ≡ (same_name table.now.name name.now
+        && is_some (column_named table.now column.now)) }
+{
+    table.is_named(name) && table.column_named(column).is_some()
+}
+
+/// Whether the table of this name has a column of that name.
+fn has_column(schema: &Schema, name: &[u8], column: &[u8]) -> bool
+    ensures { result ≡ has_column schema.now name.now column.now }
+{
+    schema
+        .tables
+        .as_slice()
+        .iter()
+        .any(|table| is_with_column(table, name, column))
+}
+
+fn has_meta_columns(schema: &Schema) -> bool
+    ensures { result ≡ has_columns schema.now (codes "bt_meta") meta_columns }
+{
+    has_column(schema, b"bt_meta", b"id")
+        && has_column(schema, b"bt_meta", b"form")
+        && has_column(schema, b"bt_meta", b"clock")
+}
+
+fn has_definition_columns(schema: &Schema) -> bool
+    ensures { result ≡ has_columns schema.now (codes "bt_table") definition_columns }
+{
+    has_column(schema, b"bt_table", b"id") && has_column(schema, b"bt_table", b"def")
+}
+
+fn has_version_columns(schema: &Schema) -> bool
+    ensures { result ≡ has_columns schema.now (codes "bt_version") version_columns }
+{
+    has_column(schema, b"bt_version", b"tab")
+        && has_column(schema, b"bt_version", b"vals")
+        && has_column(schema, b"bt_version", b"s")
+        && has_column(schema, b"bt_version", b"e")
+        && has_column(schema, b"bt_version", b"ss")
+        && has_column(schema, b"bt_version", b"se")
+}
+
+/// Whether each of the three tables is there with all its columns, by their names. A column may be
+/// of any kind, and there may be others.
+pub fn columns_there<S: Alter>(connection: &Connection<S>) -> bool
+    ensures { result ≡ have_columns (state S.Store connection.now).now.schema }
+{
+    let schema = connection.schema();
+    has_meta_columns(schema) && has_definition_columns(schema) && has_version_columns(schema)
 }

@@ -3,11 +3,14 @@ use Rattle.std.specs.List.Sorted.{IsPermutation}
 use Rattle.sqlite.specs.Effect.{Database}
 use Rattle.sqlite.specs.Held.{state}
 use Rattle.sqlite.specs.Order.{Row}
+use Rattle.version_tables.proofs.ColumnFacts.{never}
+use Rattle.version_tables.proofs.There.{store_has_columns}
 use Rattle.version_tables.proofs.Ordered.{own_rowids}
 use Rattle.version_tables.specs.Rows.{AreNumbered, AreRising, InOrder, by_rowid}
 use Rattle.version_tables.specs.Represents.{meta_shown, rowid_shown, table_shown, version_shown}
 use Rattle.version_store.proofs.Keys.{keys_kept}
 use Rattle.version_store.proofs.Opens.{found_contents, judged_bad, judged_good}
+use Rattle.version_store.proofs.Twins.{good_keys}
 use Rattle.version_store.proofs.inspecting.inspect.Goals as goal
 
 pub returns-clause-good : goal.returns-clause-good
@@ -26,9 +29,9 @@ returns-clause-good g c clean on has =
     let now3 = u3.0.now_is ∙ now2 in
     let has3 = ap (λ (d : Database). d.schema) now3 ∙ has in
     let was_open = u1.0.was_open in
-    let pm = subst (IsPermutation (map meta_shown (old.trees 0))) (sym c.deref-3.ensures.value) (c.in-Ok.ensures.shows clean1 has) in
-    let pt = subst₂ (λ (d : Database) (rows : List Row). InOrder table_shown by_rowid (d.trees 1) rows) now1 (sym c.deref-4.ensures.value) (c.in-Ok-table_rows.ensures.shows clean2 has1) in
-    let pv = subst₂ (λ (d : Database) (rows : List Row). IsPermutation (map version_shown (d.trees 2)) rows) now2 (sym c.deref-5.ensures.value) (c.in-Ok-version_rows.ensures.shows clean3 has2) in
+    let pm = subst (IsPermutation (map meta_shown (old.trees 0))) (sym c.deref-4.ensures.value) (c.in-Ok.ensures.shows clean1 has) in
+    let pt = subst₂ (λ (d : Database) (rows : List Row). InOrder table_shown by_rowid (d.trees 1) rows) now1 (sym c.deref-5.ensures.value) (c.in-Ok-table_rows.ensures.shows clean2 has1) in
+    let pv = subst₂ (λ (d : Database) (rows : List Row). IsPermutation (map version_shown (d.trees 2)) rows) now2 (sym c.deref-6.ensures.value) (c.in-Ok-version_rows.ensures.shows clean3 has2) in
     let ids = c.in-Ok-rowids.rows.items in
     let same = subst (λ (d : Database). IsPermutation (map rowid_shown (d.trees 2)) ids) now3 (c.in-Ok-rowids.ensures.shows clean has3) in
     let numbered = subst AreNumbered c.deref.ensures.value (c.are_numbered.ensures c.if-not-are_numbered.false) in
@@ -36,7 +39,7 @@ returns-clause-good g c clean on has =
     let own = own_rowids (old.trees 2) ids same numbered rising in
     let keys = keys_kept old has (c.schema-live.ensures.live was_open).0 own.0 own.1 in
     found_contents old own.0 own.1 c.judge_rows.result
-    (judged_good old c.deref-3.result.now c.deref-4.result.now c.deref-5.result.now pm pt pv has keys c.judge_rows.result c.judge_rows.ensures.good)
+    (judged_good old c.deref-4.result.now c.deref-5.result.now c.deref-6.result.now pm pt pv has keys c.judge_rows.result c.judge_rows.ensures.good)
 
 pub returns-clause-bad : goal.returns-clause-bad
 returns-clause-bad g c clean on has =
@@ -50,7 +53,28 @@ returns-clause-bad g c clean on has =
     let u2 = c.in-Ok-table_rows.ensures.reads.unchanged clean2 in
     let now2 = u2.0.now_is ∙ now1 in
     let has2 = ap (λ (d : Database). d.schema) now2 ∙ has in
-    let pm = subst (IsPermutation (map meta_shown (old.trees 0))) (sym c.deref-3.ensures.value) (c.in-Ok.ensures.shows clean1 has) in
-    let pt = subst₂ (λ (d : Database) (rows : List Row). InOrder table_shown by_rowid (d.trees 1) rows) now1 (sym c.deref-4.ensures.value) (c.in-Ok-table_rows.ensures.shows clean2 has1) in
-    let pv = subst₂ (λ (d : Database) (rows : List Row). IsPermutation (map version_shown (d.trees 2)) rows) now2 (sym c.deref-5.ensures.value) (c.in-Ok-version_rows.ensures.shows clean3 has2) in
-    judged_bad old c.deref-3.result.now c.deref-4.result.now c.deref-5.result.now pm pt pv c.judge_rows.result c.judge_rows.ensures.bad
+    let pm = subst (IsPermutation (map meta_shown (old.trees 0))) (sym c.deref-4.ensures.value) (c.in-Ok.ensures.shows clean1 has) in
+    let pt = subst₂ (λ (d : Database) (rows : List Row). InOrder table_shown by_rowid (d.trees 1) rows) now1 (sym c.deref-5.ensures.value) (c.in-Ok-table_rows.ensures.shows clean2 has1) in
+    let pv = subst₂ (λ (d : Database) (rows : List Row). IsPermutation (map version_shown (d.trees 2)) rows) now2 (sym c.deref-6.ensures.value) (c.in-Ok-version_rows.ensures.shows clean3 has2) in
+    judged_bad old c.deref-4.result.now c.deref-5.result.now c.deref-6.result.now pm pt pv c.judge_rows.result c.judge_rows.ensures.bad
+
+-- a good store's tables have their columns
+pub returns-then-not-columns_there-clause-bad : goal.returns-then-not-columns_there-clause-bad
+returns-then-not-columns_there-clause-bad g c clean on has = λ _ _.
+    let all = store_has_columns (state g.S.Store c.args.connection.now).now.schema has in
+    never (sym c.if-not-columns_there.true ∙ c.columns_there.ensures ∙ all)
+
+-- and no two of its versions are of one key
+pub returns-then-repeat_key-clause-bad : goal.returns-then-repeat_key-clause-bad
+returns-then-repeat_key-clause-bad g c clean on has = λ _ good.
+    let old = (state g.S.Store c.args.connection.now).now in
+    let clean3 = c.in-Ok-rowids.ensures.reads.clean clean in
+    let clean2 = c.in-Ok-version_rows.ensures.reads.clean clean3 in
+    let clean1 = c.in-Ok-table_rows.ensures.reads.clean clean2 in
+    let u1 = c.in-Ok.ensures.reads.unchanged clean1 in
+    let now1 = u1.0.now_is in
+    let u2 = c.in-Ok-table_rows.ensures.reads.unchanged clean2 in
+    let now2 = u2.0.now_is ∙ now1 in
+    let has2 = ap (λ (d : Database). d.schema) now2 ∙ has in
+    let pv = subst₂ (λ (d : Database) (rows : List Row). IsPermutation (map version_shown (d.trees 2)) rows) now2 (sym c.deref-3.ensures.value) (c.in-Ok-version_rows.ensures.shows clean3 has2) in
+    good_keys old c.deref-3.result.now pv (c.repeat_key.ensures.0 c.if-repeat_key.true) good
