@@ -5,6 +5,4 @@
 #[cfg(test)]
 mod definitions;
 #[cfg(test)]
-mod stores;
-#[cfg(test)]
 mod values;

@@ -1,6 +1,8 @@
 //! Runs the script on standard input over a store in the file that the first word names, and prints
 //! nothing. It is a tool of a test: tests/store_file reads the file then with `sqlite3`. The status is
-//! 0 where each statement ran, and else 1; 0 too where no file is named.
+//! 0 where each statement ran, 1 where one was refused, and the refusal's number where the script was
+//! not run at all: 60 for a store that is not a good one. It is 0 too where no file is named, and 2
+//! where the words, the file or the script can't be read.
 #![tactic(auto)]
 
 use period_core::Refusal;
@@ -11,20 +13,22 @@ use std::env;
 use std::io::Read;
 use std::process::ExitCode;
 
-/// Whether each statement of a script ran, over a store in a file.
-fn runs(rt: &HostRuntime, path: &str, script: &[u8]) -> bool {
+/// How a script ends over a store in a file.
+fn status_of(rt: &HostRuntime, path: &str, script: &[u8]) -> u8 {
     let Ok(connection) = Connection::open(rt, path) else {
-        return false;
+        return 2;
     };
     if !connection.is_autocommit() {
-        return false;
+        return 2;
     }
     match run_script(rt.alloc(), connection, script) {
-        Ok(results) => are_ok(results.as_slice()),
-        Err(_) => false,
+        Ok(results) if are_ok(results.as_slice()) => 0,
+        Ok(_) => 1,
+        Err(refusal) => refusal.code(),
     }
 }
 
+/// Whether each statement ran.
 fn are_ok(results: &[Result<Outcome, Refusal>]) -> bool {
     for result in results {
         if result.is_err() {
@@ -53,17 +57,13 @@ fn input(rt: &HostRuntime, alloc: Global) -> Option<Vec<u8>> {
 
 fn main(rt: HostRuntime) -> ExitCode {
     let Some(words) = words(&rt) else {
-        return ExitCode::from(1);
+        return ExitCode::from(2);
     };
     let Some(path) = words.as_slice().get(1) else {
         return ExitCode::from(0);
     };
     let Some(script) = input(&rt, rt.alloc()) else {
-        return ExitCode::from(1);
+        return ExitCode::from(2);
     };
-    if runs(&rt, path.as_str(), script.as_slice()) {
-        ExitCode::from(0)
-    } else {
-        ExitCode::from(1)
-    }
+    ExitCode::from(status_of(&rt, path.as_str(), script.as_slice()))
 }
