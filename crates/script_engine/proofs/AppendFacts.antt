@@ -1,16 +1,20 @@
 -- What calls append, one after the other.
-use Rattle.std.proofs.Common.{◌≡◌, ◌⊎◌, ◌+◌, ◌∷◌, ◌++◌, ◌∙◌, ℕ, List, [], Option, Result, Ok, inl, inr, length, map, flat_map, refl, arith, append_assoc}
+use Rattle.std.proofs.Common.{◌≡◌, ◌⊎◌, ◌+◌, ◌<◌, ◌≤◌, ◌∷◌, ◌++◌, ◌∙◌, ℕ, List, [], Option, Result, Ok, inl, inr, length, map, flat_map, get_or, take, refl, ap, sym, subst, arith, append_assoc}
 use Rattle.std.specs.Io.KnownBytes.{Appends}
 use Rattle.std.specs.List.{zip}
-use Rattle.std.proofs.lemmas.List.{append-nil}
+use Rattle.std.proofs.lemmas.List.{append-nil, map-append, take_all, take_more}
+use Rattle.std.proofs.lemmas.List.Concat.{flat_map-append}
 use Rattle.csv.proofs.WriteFacts.{appends-more}
 use Rattle.period_core.specs.declared.answer.Answer.{Answer}
 use Rattle.period_core.specs.declared.answer.Witness.{Witness}
 use Rattle.period_core.specs.declared.refusal.Refusal.{Refusal}
 use Rattle.period_core.specs.declared.row.PeriodRow.{PeriodRow}
-use Rattle.script_engine.specs.report.Report.{answer_record, columns_record, record_text, report_from, row_record, text_of}
+use Rattle.period_core.specs.declared.version.VersionRow.{VersionRow}
+use Rattle.script_engine.specs.report.Report.{answer_record, columns_record, names_record, record_text, report_from, row_record, text_of, version_record, versions_record}
 use Rattle.script_engine.specs.declared.engine.outcome.Outcome.{Outcome}
 use Rattle.script_engine.specs.declared.engine.outcome.Outcome.TheVariants as outcome
+use Rattle.script_engine.specs.declared.engine.outcome.VersionColumn.{VersionColumn}
+use Rattle.script_engine.specs.declared.engine.outcome.VersionList.{VersionList}
 
 -- the text of a list that ends in one more result
 pub report-more : (n k : ℕ) (results : List (Result Outcome Refusal)) (result : Result Outcome Refusal) → n + length results ≡ k → report_from n (results ++ result ∷ []) ≡ report_from n results ++ text_of k result
@@ -68,3 +72,45 @@ rows-end n old new whole rows witnesses (inl e) left =
 rows-end n old new whole rows witnesses (inr e) left =
     let is = rw (e, no-rows n rows, append-nil left.written) at left.whole_is in
     rw (← is) left.appends
+
+-- ---- lists of versions
+
+-- the text of a list of versions, with these columns, up to some of its versions
+abbrev pub versions_text : ℕ → VersionList → List VersionColumn → List VersionRow → List ℕ
+versions_text n list columns rows =
+    (record_text (versions_record n list) ++ record_text (names_record n columns)) ++ flat_map record_text (map (version_record n columns) rows)
+
+-- before the first version
+pub versions-start : (n : ℕ) (list : VersionList) (columns : List VersionColumn) (old mid new : Option (List ℕ)) → Appends old mid (record_text (versions_record n list)) → Appends mid new (record_text (names_record n columns)) →
+    Appends old new (versions_text n list columns [])
+versions-start n list columns old mid new first second =
+    let heads : List ℕ = record_text (versions_record n list) ++ record_text (names_record n columns) in
+    rw (append-nil heads) (appends-more old mid new (record_text (versions_record n list)) (record_text (names_record n columns)) first second)
+
+-- one version more
+pub versions-step : (n : ℕ) (list : VersionList) (columns : List VersionColumn) (rows : List VersionRow) (place : ℕ) (row : VersionRow) (old mid new : Option (List ℕ)) → place < length rows → row ≡ get_or rows place row →
+    Appends old mid (versions_text n list columns (take place rows)) → Appends mid new (record_text (version_record n columns row)) → Appends old new (versions_text n list columns (take (place + 1) rows))
+versions-step n list columns rows place row old mid new inside its so_far more =
+    let shown : VersionRow → List (List ℕ) = version_record n columns in
+    let heads : List ℕ = record_text (versions_record n list) ++ record_text (names_record n columns) in
+    let these : List ℕ = flat_map record_text (map shown (take place rows)) in
+    let it : List ℕ = record_text (shown row) in
+    let all : flat_map record_text (map shown (take (place + 1) rows)) ≡ these ++ it =
+    ap (λ (l : List VersionRow). flat_map record_text (map shown l)) (take_more rows place row inside ∙ ap (λ (r : VersionRow). take place rows ++ r ∷ []) (sym its))
+    ∙ ap (flat_map record_text) (map-append shown (take place rows) (row ∷ []))
+    ∙ flat_map-append record_text (map shown (take place rows)) (shown row ∷ [])
+    ∙ ap (λ (l : List ℕ). these ++ l) (append-nil it) in
+    let whole : versions_text n list columns (take place rows) ++ it ≡ versions_text n list columns (take (place + 1) rows) =
+    append_assoc heads these it ∙ ap (λ (l : List ℕ). heads ++ l) (sym all) in
+    subst (Appends old new) whole (appends-more old mid new (versions_text n list columns (take place rows)) it so_far more)
+
+-- after the last
+pub versions-end : (n : ℕ) (list : VersionList) (columns : List VersionColumn) (rows : List VersionRow) (place : ℕ) (old new : Option (List ℕ)) → columns ≡ list.columns → rows ≡ list.rows → length rows ≤ place →
+    Appends old new (versions_text n list columns (take place rows)) → Appends old new (text_of n (Ok (outcome.Versions list)))
+versions-end n list columns rows place old new same these over so_far =
+    let heads : List ℕ = record_text (versions_record n list) ++ record_text (names_record n list.columns) in
+    let whole : versions_text n list columns (take place rows) ≡ text_of n (Ok (outcome.Versions list)) =
+    ap (versions_text n list columns) (take_all place rows over ∙ these)
+    ∙ ap (λ (c : List VersionColumn). versions_text n list c list.rows) same
+    ∙ append_assoc (record_text (versions_record n list)) (record_text (names_record n list.columns)) (flat_map record_text (map (version_record n list.columns) list.rows)) in
+    subst (Appends old new) whole so_far

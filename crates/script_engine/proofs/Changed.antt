@@ -1,104 +1,148 @@
 -- A change that is run is a step of the histories that the engine represents.
-use Rattle.std.proofs.Common.{◌≡◌, ◌∷◌, ◌++◌, ◌⊎◌, ℤ, true, false, List, [], length, map, Ok, Err, refl, sym, ap, ◌∙◌, subst, inl, inr}
-use Rattle.std.proofs.lemmas.List.{length-map}
+use Rattle.std.proofs.Common.{◌≡◌, ◌∷◌, ◌++◌, ◌<◌, ◌⊎◌, ℤ, Bool, true, false, List, [], Ok, Err, refl, sym, ap, ◌∙◌, subst, inl, inr, arith}
+use Rattle.period_core.specs.Codes.{code_of}
 use Rattle.period_core.specs.Leasts.{MayAnswer, NoneApplies}
 use Rattle.period_core.specs.declared.refusal.Refusal.{Refusal}
-use Rattle.period_core.specs.declared.refusal.Refusal.TheVariants.{EmptyPeriod, Memory}
-use Rattle.period_core.specs.declared.row.PeriodRow.{PeriodRow}
+use Rattle.period_core.specs.declared.refusal.Refusal.TheVariants.{EmptyPeriod}
 use Rattle.sqlite.specs.Store.{Ghosts}
+use Rattle.sql_statements.specs.Trees.{Statement}
 use Rattle.sql_statements.specs.Trees as statement
-use Rattle.sql_statements.specs.declared.statement.InsertRows.{InsertRows}
-use Rattle.catalog_core.specs.Judged.{Holds}
-use Rattle.catalog_core.specs.change.Insertion.{gives_empty_row, insert_conditions}
-use Rattle.catalog_core.specs.change.Resolution.{ResolvesAction, ResolvesInsert, has_empty_row}
-use Rattle.catalog_core.specs.declared.table.TableDef.{TableDef}
-use Rattle.catalog_core.specs.declared.change.Action.{Action}
-use Rattle.catalog_core.specs.declared.change.Action.TheVariants.{Delete, Insert, Update}
+use Rattle.catalog_core.specs.Judged.{Holds, Judged}
+use Rattle.catalog_core.specs.change.Resolution.{IsChange, ResolvesChange, change_conditions, empty_period, has_empty_row}
 use Rattle.catalog_core.specs.declared.change.Change.{Change}
+use Rattle.catalog_core.specs.declared.change.Plan.{Plan}
+use Rattle.catalog_core.specs.declared.table.TableDef.{TableDef}
 use Rattle.version_store.specs.Changed.{planned}
+use Rattle.version_store.specs.DistinctKeys.{HaveDistinctKeys}
 use Rattle.version_store.specs.StoreState.{IsStoreRefusal, StoreRepresents, StoreState}
-use Rattle.history_model.specs.Effects.{given_of}
 use Rattle.history_model.specs.Histories.{Changed, History, catalog_of, with_event}
-use Rattle.script_engine.specs.engine.Projected.{AreGiven, as_given}
-use Rattle.script_engine.specs.engine.Runs.{MayRefuse, StatementApplies, StepsTo}
+use Rattle.script_engine.specs.engine.Planned.{IsPlanOf, planned_count, word_of}
+use Rattle.script_engine.specs.engine.Runs.{Accepts, ChangeApplies, Changes, MayRefuse, NoneBeforeStore, StatementApplies, StepsTo}
 use Rattle.script_engine.specs.engine.Stored.{EngineRepresents}
+use Rattle.script_engine.specs.declared.engine.outcome.Outcome.{Outcome}
 use Rattle.script_engine.specs.declared.engine.outcome.Outcome.TheVariants.{Done}
-use Rattle.script_engine.specs.declared.engine.outcome.Word.TheVariants as word
-use Rattle.script_engine.proofs.Contents.{said-changed}
-use Rattle.script_engine.proofs.LeftSteps.{IsInsert}
-use Rattle.script_engine.proofs.Refused.{are_at_most, days-action, holds_cases, may_answer-before, may_answer-empty}
-use Rattle.script_engine.proofs.Steps.{clock_is, failed_step, refused_step, tables_of}
+use Rattle.script_engine.proofs.Contents.{count_said, said-changed}
+use Rattle.script_engine.proofs.Refused.{are_at_most, days-planned, holds_cases, may_answer-before, may_answer-empty}
+use Rattle.script_engine.proofs.Steps.{failed_step, refused_step, tables_of}
 
--- the numbers of an INSERT's conditions on names and values are below that of an empty period
-insert_numbers : (tables : List TableDef) (insert : InsertRows) → are_at_most 41 (insert_conditions tables insert) ≡ true
-insert_numbers tables insert = refl
+-- ---- the forms of changes
 
--- what an INSERT is with positions for names is an INSERT
-insert_is : (definition : TableDef) (insert : InsertRows) (action : Action) → ResolvesAction definition insert action → IsInsert action
-insert_is definition insert (Insert given) resolved = tt
-insert_is definition insert (Update portion assignments condition) resolved = absurd resolved
-insert_is definition insert (Delete portion condition) resolved = absurd resolved
+-- what may be refused, and what follows, is the same of each form
+may_change : (history : History) (s : Statement) (refusal : Refusal) → IsChange s → MayRefuse (ChangeApplies (catalog_of history) s) refusal → MayRefuse (StatementApplies history s) refusal
+may_change history (statement.insert i) refusal is may = may
+may_change history (statement.update u) refusal is may = may
+may_change history (statement.delete d) refusal is may = may
+may_change history _ refusal is may = absurd is
 
--- the conditions of an INSERT over tables
-abbrev Applies : List TableDef → InsertRows → Refusal → Type 0
-Applies tables insert = Holds (insert_conditions tables insert ++ (EmptyPeriod, gives_empty_row tables insert) ∷ [])
+none_of_change : (history : History) (s : Statement) → IsChange s → NoneApplies (ChangeApplies (catalog_of history) s) → NoneApplies (StatementApplies history s)
+none_of_change history (statement.insert i) is none = none
+none_of_change history (statement.update u) is none = none
+none_of_change history (statement.delete d) is none = none
+none_of_change history _ is none = absurd is
 
--- no condition of an INSERT holds where none of those on its names and values does and its rows have days
-none_of_insert : (tables : List TableDef) (insert : InsertRows) (change : Change) (added : List PeriodRow) → NoneApplies (Holds (insert_conditions tables insert)) →
-    gives_empty_row tables insert ≡ has_empty_row change.action → AreGiven (given_of change.action) added → NoneApplies (Applies tables insert)
-none_of_insert tables insert change added sound empty given refusal h =
-    elim (holds_cases (insert_conditions tables insert) ((EmptyPeriod, gives_empty_row tables insert) ∷ []) refusal h) [
-      | inl k ↦ sound refusal k
-      | inr k ↦
-          let none : gives_empty_row tables insert ≡ false = empty ∙ days-action change.action added given in
-          elim k [ inl both ↦ absurd cc | inr nothing ↦ nothing ]
+accepts_change : (history new : History) (s : Statement) (outcome : Outcome) → IsChange s → Changes history s outcome new → Accepts history s outcome new
+accepts_change history new (statement.insert i) outcome is changes = changes
+accepts_change history new (statement.update u) outcome is changes = changes
+accepts_change history new (statement.delete d) outcome is changes = changes
+accepts_change history new _ outcome is changes = absurd is
+
+-- the numbers of a change's conditions are at most that of an empty period
+change_numbers : (tables : List TableDef) (s : Statement) → are_at_most 41 (change_conditions tables s) ≡ true
+change_numbers tables (statement.insert i) = refl
+change_numbers tables (statement.update u) = refl
+change_numbers tables (statement.delete d) = refl
+change_numbers tables _ = refl
+
+-- the condition of an empty period of a given row is one of EmptyPeriod
+abbrev gives_empty : List TableDef → Statement → Bool
+gives_empty tables s = (empty_period tables s).1
+
+empty_form : (tables : List TableDef) (s : Statement) → empty_period tables s ≡ (EmptyPeriod, gives_empty tables s)
+empty_form tables (statement.insert i) = refl
+empty_form tables _ = refl
+
+-- the same conditions, with that form
+abbrev Applies : List TableDef → Statement → Refusal → Type 0
+Applies tables s = Holds (change_conditions tables s ++ (EmptyPeriod, gives_empty tables s) ∷ [])
+
+formed : (P : (Refusal → Type 0) → Type 0) (tables : List TableDef) (s : Statement) → P (Applies tables s) → P (ChangeApplies tables s)
+formed P tables s p = subst (λ (j : Judged). P (Holds (change_conditions tables s ++ j ∷ []))) (sym (empty_form tables s)) p
+
+-- where no other condition holds, one that does is that of an empty period
+only_empty : (tables : List TableDef) (s : Statement) → NoneApplies (Holds (change_conditions tables s)) → (refusal : Refusal) → Applies tables s refusal → (EmptyPeriod ≡ refusal) × (gives_empty tables s ≡ true)
+only_empty tables s sound refusal h =
+    elim (holds_cases (change_conditions tables s) ((EmptyPeriod, gives_empty tables s) ∷ []) refusal h) [
+      | inl k ↦ absurd (sound refusal k)
+      | inr k ↦ elim k [ inl both ↦ both | inr nothing ↦ absurd nothing ]
     ]
 
-module _ {S : Type 0} (g : Ghosts S) (history : History) (old : StoreState S) (insert : InsertRows) (kept : EngineRepresents g history old) where
-  pub unresolved_step : (refusal : Refusal) → MayAnswer (Holds (insert_conditions old.catalog.tables insert)) refusal → StepsTo g history (statement.insert insert) (Err refusal) old
+-- ---- steps
+
+module _ {S : Type 0} (g : Ghosts S) (history : History) (old : StoreState S) (s : Statement) (is : IsChange s) (kept : EngineRepresents g history old) where
+  -- what the tables in memory say, the history does
+  of_history : (refusal : Refusal) → MayRefuse (Applies old.catalog.tables s) refusal → MayRefuse (StatementApplies history s) refusal
+  of_history refusal may =
+      may_change history s refusal is
+      (subst (λ (tables : List TableDef). MayRefuse (ChangeApplies tables s) refusal) (tables_of g history old kept)
+      (formed (λ A. MayRefuse A refusal) old.catalog.tables s may))
+
+  pub unresolved_step : (refusal : Refusal) → MayAnswer (Holds (change_conditions old.catalog.tables s)) refusal → StepsTo g history s (Err refusal) old
   unresolved_step refusal may =
-      refused_step g history old (statement.insert insert) refusal kept
-      (inl (subst (λ (tables : List TableDef). MayAnswer (Applies tables insert) refusal) (tables_of g history old kept)
-      (may_answer-before (insert_conditions old.catalog.tables insert) (gives_empty_row old.catalog.tables insert) refusal (insert_numbers old.catalog.tables insert) may)))
+      refused_step g history old s refusal kept
+      (of_history refusal (inl (may_answer-before (change_conditions old.catalog.tables s) (gives_empty old.catalog.tables s) refusal (change_numbers old.catalog.tables s) may)))
 
-  pub empty_step : (change : Change) (refusal : Refusal) → NoneApplies (Holds (insert_conditions old.catalog.tables insert)) → gives_empty_row old.catalog.tables insert ≡ has_empty_row change.action →
-      ((refusal ≡ EmptyPeriod) × (has_empty_row change.action ≡ true)) ⊎ (refusal ≡ Memory) → StepsTo g history (statement.insert insert) (Err refusal) old
-  empty_step change refusal sound empty (inr memory) = refused_step g history old (statement.insert insert) refusal kept (inl (inr memory))
-  empty_step change refusal sound empty (inl why) =
-      refused_step g history old (statement.insert insert) refusal kept
-      (inl (subst (λ (tables : List TableDef). MayAnswer (Applies tables insert) refusal) (tables_of g history old kept)
-      (subst (λ r. MayAnswer (Applies old.catalog.tables insert) r) (sym why.0)
-      (may_answer-empty (insert_conditions old.catalog.tables insert) (gives_empty_row old.catalog.tables insert) sound (empty ∙ why.1)))))
+  module _ (change : Change) (sound : NoneApplies (Holds (change_conditions old.catalog.tables s))) (empty : gives_empty old.catalog.tables s ≡ has_empty_row change.action) where
+    -- an empty period has a number above 40
+    before_store : NoneBeforeStore (Applies old.catalog.tables s)
+    before_store refusal h = let same = (only_empty old.catalog.tables s sound refusal h).0 in subst (λ (r : Refusal). 40 < code_of r) same (omega arith)
 
-  module _ (change : Change) (added : List PeriodRow) (sound : NoneApplies (Holds (insert_conditions old.catalog.tables insert))) (empty : gives_empty_row old.catalog.tables insert ≡ has_empty_row change.action)
-      (given : AreGiven (given_of change.action) added) where
-    none_holds : NoneApplies (StatementApplies history (statement.insert insert))
-    none_holds =
-        subst (λ (tables : List TableDef). NoneApplies (Applies tables insert)) (tables_of g history old kept)
-        (none_of_insert old.catalog.tables insert change added sound empty given)
+    -- there is no plan, where a given row has no day or the database fails
+    pub unplanned_step : (new : StoreState S) (refusal : Refusal) → StoreRepresents g new kept.contents →
+        ((refusal ≡ EmptyPeriod) × (has_empty_row change.action ≡ true)) ⊎ IsStoreRefusal refusal → StepsTo g history s (Err refusal) new
+    unplanned_step new refusal stored why =
+        refused_step g history new s refusal (record { contents = kept.contents; stored = stored; said = kept.said }) (of_history refusal (may why))
+      where
+        may : ((refusal ≡ EmptyPeriod) × (has_empty_row change.action ≡ true)) ⊎ IsStoreRefusal refusal → MayRefuse (Applies old.catalog.tables s) refusal
+        may (inl none) =
+            inl (subst (λ (r : Refusal). MayAnswer (Applies old.catalog.tables s) r) (sym none.0)
+            (may_answer-empty (change_conditions old.catalog.tables s) (gives_empty old.catalog.tables s) sound (empty ∙ none.1)))
+        may (inr (inl memory)) = inl (inr memory)
+        may (inr (inr store)) = inr (store, before_store)
 
-    -- an INSERT whose rows are added to its table is a step
-    pub changed_step : (new : StoreState S) → ResolvesInsert old.catalog.tables insert change → StoreRepresents g new (planned change.table old.clock [] added kept.contents) →
-        StepsTo g history (statement.insert insert) (Ok (Done word.Insert (length added))) new
-    changed_step new resolved stored =
-        let clock = kept.stored.clock in (
-          with_event history (Changed kept.contents.clock change),
-          (
-            none_holds,
+    module _ (plan : Plan) (of : IsPlanOf kept.contents change plan) where
+      none_holds : NoneApplies (StatementApplies history s)
+      none_holds =
+          none_of_change history s is
+          (subst (λ (tables : List TableDef). NoneApplies (ChangeApplies tables s)) (tables_of g history old kept)
+          (formed NoneApplies old.catalog.tables s
+          (λ refusal h.
+          let found : gives_empty old.catalog.tables s ≡ true = (only_empty old.catalog.tables s sound refusal h).1 in
+          let off : gives_empty old.catalog.tables s ≡ false = empty ∙ days-planned change.action of.listed plan of.plans in
+          absurd cc)))
+
+      -- a change whose plan is applied is a step
+      pub changed_step : (new : StoreState S) → ResolvesChange old.catalog.tables s change → HaveDistinctKeys kept.contents.versions →
+          StoreRepresents g new (planned change.table old.clock plan.ended plan.added kept.contents) →
+          StepsTo g history s (Ok (Done (word_of change.action) (planned_count change.action plan))) new
+      changed_step new resolved apart stored =
+          let clock = kept.stored.clock in (
+            with_event history (Changed kept.contents.clock change),
+            (
+              none_holds,
+              accepts_change history (with_event history (Changed kept.contents.clock change)) s (Done (word_of change.action) (planned_count change.action plan)) is (record {
+                change = change;
+                resolved = subst (λ (tables : List TableDef). ResolvesChange tables s change) (tables_of g history old kept) resolved;
+                done = ap (λ n. Done (word_of change.action) n) (sym (count_said history kept.contents change plan kept.said of));
+                after = ap (λ (c : ℤ). with_event history (Changed c change)) kept.said.clock;
+              }),
+            ),
             record {
-              change = change;
-              resolved = subst (λ (tables : List TableDef). ResolvesInsert tables insert change) (tables_of g history old kept) resolved;
-              done = ap (λ n. Done word.Insert n) (sym (length-map added as_given) ∙ ap length given);
-              after = ap (λ (c : ℤ). with_event history (Changed c change)) kept.said.clock;
+              contents = planned change.table kept.contents.clock plan.ended plan.added kept.contents;
+              stored = subst (λ (m : ℤ). StoreRepresents g new (planned change.table m plan.ended plan.added kept.contents)) clock stored;
+              said = said-changed history kept.contents change plan kept.said of apart;
             },
-          ),
-          record {
-            contents = planned change.table kept.contents.clock [] added kept.contents;
-            stored = subst (λ (m : ℤ). StoreRepresents g new (planned change.table m [] added kept.contents)) clock stored;
-            said = said-changed history kept.contents change (insert_is resolved.definition insert change.action resolved.action) added given kept.said;
-          },
-        )
+          )
 
-    -- or the database fails
-    pub unchanged_step : (new : StoreState S) (refusal : Refusal) → StoreRepresents g new kept.contents → IsStoreRefusal refusal → StepsTo g history (statement.insert insert) (Err refusal) new
-    unchanged_step new refusal stored failure = failed_step g history old new (statement.insert insert) refusal kept stored failure none_holds
+      -- or the database fails
+      pub unchanged_step : (new : StoreState S) (refusal : Refusal) → StoreRepresents g new kept.contents → IsStoreRefusal refusal → StepsTo g history s (Err refusal) new
+      unchanged_step new refusal stored failure = failed_step g history old new s refusal kept stored failure none_holds

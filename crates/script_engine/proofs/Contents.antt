@@ -1,33 +1,42 @@
 -- The contents of a store after each event go on being what the history says.
-use Rattle.std.proofs.Common.{◌≡◌, ◌++◌, ◌∷◌, ◌<ℤ◌, ◌≤ℤ◌, ◌==◌, ℕ, ℤ, Bool, true, false, List, [], map, nat_eq, refl, sym, ap, ◌∙◌, append-nil, subst, inl, inr, ◌⊎◌, arith}
-use Rattle.std.specs.List.{All, AllByRecursion, flat_map}
+use Rattle.std.proofs.Common.{◌≡◌, ◌++◌, ◌∷◌, ◌<ℤ◌, ◌≤ℤ◌, ◌==◌, ℕ, ℤ, Bool, true, false, not, List, [], map, nat_eq, refl, sym, ap, ap₂, ◌∙◌, append-nil, append_assoc, subst, subst₂, inl, inr, ◌⊎◌, arith}
+use Rattle.std.specs.List.{All, AllByRecursion, filter, flat_map}
 use Rattle.std.specs.List.Sorted.{IsPermutation}
 use Rattle.std.proofs.lemmas.Bool.Decides.{nat_tests}
 use Rattle.std.proofs.lemmas.Int.{ints}
 use Rattle.std.proofs.lemmas.List.{map-append}
+use Rattle.std.proofs.lemmas.List.Concat.{flat_map-append}
 use Rattle.std.proofs.lemmas.List.Elements.{All-from_recursion, filter-append}
-use Rattle.std.proofs.lemmas.List.Sorted.{IsPermutation-append_left, IsPermutation-refl}
-use Rattle.sqlite_trees.proofs.ListLemmas.{all-append, all-filter, all-map, all-permutation, all_from_map, all_of, all_weaker, filter_all, filter_none, flat_map_same, map-map}
+use Rattle.std.proofs.lemmas.List.Sorted.{IsPermutation-append_left, IsPermutation-filter_both, IsPermutation-map, IsPermutation-refl, IsPermutation-trans}
+use Rattle.sqlite_trees.proofs.ListLemmas.{IsPermutation-flat_map, IsPermutation-same, all-filter, all-map, all-permutation, all_from_map, all_of, all_weaker, ascending-filter, filter_all, map-map}
 use Rattle.period_core.specs.Moments.{first_moment, forever}
 use Rattle.period_core.specs.declared.row.PeriodRow.{PeriodRow}
 use Rattle.period_core.specs.declared.version.VersionRow.{VersionRow}
 use Rattle.catalog_core.specs.declared.change.Action.{Action}
 use Rattle.catalog_core.specs.declared.change.Action.TheVariants.{Delete, Insert, Update}
 use Rattle.catalog_core.specs.declared.change.Change.{Change}
-use Rattle.catalog_core.specs.declared.change.GivenRow.{GivenRow}
+use Rattle.catalog_core.specs.declared.change.Plan.{Plan}
 use Rattle.catalog_core.specs.declared.table.TableDef.{TableDef}
 use Rattle.version_tables.specs.Good.{AreMoments, IsClock}
-use Rattle.version_store.specs.Changed.{added_at, left_of, planned, with_clock, with_table}
-use Rattle.version_store.specs.Contents.{Contents, TableVersion, added_in, of_table, version_in}
-use Rattle.history_model.specs.Effects.{given_of}
+use Rattle.version_store.specs.Changed.{is_ended, left_of, planned, with_clock, with_table}
+use Rattle.version_store.specs.Contents.{Contents, TableVersion, added_in, of_table, same_version, version_in}
+use Rattle.version_store.specs.DistinctKeys.{HaveDistinctKeys}
+use Rattle.version_store.proofs.Spared.{other_tables}
 use Rattle.history_model.specs.Histories.{Advanced, Asked, Changed, Created, History, catalog_of, clock_of, with_event}
-use Rattle.history_model.specs.Left.{Makes, begun_at}
-use Rattle.history_model.specs.Portions.{plain_given}
-use Rattle.history_model.specs.Versions.{IsRecorded, plain_version}
+use Rattle.history_model.specs.Left.{Makes, begun_at, closed_at, versions_of}
+use Rattle.history_model.specs.Portions.{plain_row}
+use Rattle.history_model.specs.Versions.{IsRecorded, PlainVersion, current, plain_version}
 use Rattle.history_model.proofs.HistoryLemmas.{catalog_of-event, clock_of-event}
-use Rattle.script_engine.specs.engine.Projected.{AreGiven, as_given}
+use Rattle.history_model.proofs.Lists.{exchange}
+use Rattle.portion_dml.specs.Plans.{Plans}
+use Rattle.portion_dml.proofs.Applied.{applied_makes}
+use Rattle.portion_dml.proofs.Planned.{none_touched}
+use Rattle.script_engine.specs.engine.Planned.{AreListedFor, IsPlanOf, count_of, planned_count}
 use Rattle.script_engine.specs.engine.Stored.{AreOfHistory, AreRecorded, HoldsTable}
-use Rattle.script_engine.proofs.LeftSteps.{IsInsert, left-advanced, left-asked, left-changed_elsewhere, left-changed_there, left-created, makes_given, order-event}
+use Rattle.script_engine.proofs.Ended.{all_closed, closed_in, closed_plain, closed_row, none_closed, of_left, recorded_planned}
+use Rattle.script_engine.proofs.KeyFacts.{are_ended, distinct_along, rest_stays}
+use Rattle.script_engine.proofs.LeftSteps.{left-advanced, left-asked, left-changed_elsewhere, left-changed_there, left-created, order-event}
+use Rattle.script_engine.proofs.PlanFacts.{counted, current_listed, hits_end, is_hit}
 
 -- ---- AT
 
@@ -112,21 +121,8 @@ recorded_rows c table rows recorded all =
 abbrev begun : ℤ → PeriodRow → VersionRow
 begun moment row = record { values = row.values; period = row.period; from = moment; to = forever }
 
-begun_given : (moment : ℤ) (given : List GivenRow) (added : List PeriodRow) → AreGiven given added → map plain_version (map (begun moment) added) ≡ map (begun_at moment) (map plain_given given)
-begun_given moment given added same =
-    map-map plain_version (begun moment) added
-    ∙ sym (map-map (λ (g : GivenRow). begun_at moment (plain_given g)) as_given added)
-    ∙ ap (map (λ (g : GivenRow). begun_at moment (plain_given g))) same
-    ∙ sym (map-map (begun_at moment) plain_given given)
-
-makes_added : (moment : ℤ) (action : Action) → IsInsert action → (rows : List VersionRow) (added : List PeriodRow) → AreGiven (given_of action) added → Makes moment action rows (rows ++ map (begun moment) added)
-makes_added moment (Insert given) is rows added same = makes_given moment given rows (map (begun moment) added) (begun_given moment given added same)
-makes_added moment (Update portion assignments condition) is rows added same = absurd is
-makes_added moment (Delete portion condition) is rows added same = absurd is
-
--- where no row ends, the versions stay
-none_ended : (table : ℕ) (moment : ℤ) (versions : List TableVersion) → flat_map (left_of table moment []) versions ≡ versions
-none_ended table moment versions = flat_map_same (left_of table moment []) versions (all_of (λ (v : TableVersion). left_of table moment [] v ≡ v ∷ []) (λ v. refl) versions)
+begun_plain : (moment : ℤ) (added : List PeriodRow) → map plain_version (map (begun moment) added) ≡ map (begun_at moment) (map plain_row added)
+begun_plain moment added = map-map plain_version (begun moment) added ∙ sym (map-map (begun_at moment) plain_row added)
 
 -- the added versions of a table, and of another
 added_there : (table other : ℕ) (moment : ℤ) (added : List PeriodRow) → (table == other) ≡ true → of_table other (map (added_in table moment forever) added) ≡ map (added_in table moment forever) added
@@ -135,78 +131,154 @@ added_there table other moment added here =
     (all-map (λ (v : TableVersion). (v.table == other) ≡ true) (added_in table moment forever) added
     (all_of (λ (r : PeriodRow). (table == other) ≡ true) (λ r. here) added))
 
-added_elsewhere : (table other : ℕ) (moment : ℤ) (added : List PeriodRow) → (table == other) ≡ false → of_table other (map (added_in table moment forever) added) ≡ []
-added_elsewhere table other moment added off =
-    filter_none (λ (v : TableVersion). v.table == other) (map (added_in table moment forever) added)
-    (all-map (λ (v : TableVersion). (v.table == other) ≡ false) (added_in table moment forever) added
-    (all_of (λ (r : PeriodRow). (table == other) ≡ false) (λ r. off) added))
+-- a plan over the current ones of a table's versions
+pub record IsOver (rows : List VersionRow) (action : Action) (plan : Plan) : Type 0 where
+  pub listed : List VersionRow
+  pub are_current : IsPermutation (current rows) listed
+  pub plans : Plans action listed plan
 
--- what a plan that ends nothing makes of a table's versions
-of_planned : (table other : ℕ) (moment : ℤ) (added : List PeriodRow) (c : Contents) →
-    of_table other (planned table moment [] added c).versions ≡ of_table other c.versions ++ of_table other (map (added_in table moment forever) added)
-of_planned table other moment added c =
-    ap (λ (versions : List TableVersion). of_table other (versions ++ map (added_in table moment forever) added)) (none_ended table moment c.versions)
-    ∙ filter-append (λ (v : TableVersion). v.table == other) c.versions (map (added_in table moment forever) added)
+-- the versions after it: those that stay, those that are closed, and those that begin
+abbrev stay_in : Action → List VersionRow → List VersionRow
+stay_in action rows = filter (λ (v : VersionRow). not (is_hit action v)) rows
 
-module _ (history : History) (c : Contents) (change : Change) (is : IsInsert change.action) (added : List PeriodRow) (given : AreGiven (given_of change.action) added) where
+abbrev rows_after : ℤ → Action → Plan → List VersionRow → List VersionRow
+rows_after moment action plan rows = stay_in action rows ++ (flat_map (closed_row moment) plan.ended ++ map (begun moment) plan.added)
+
+module _ (moment : ℤ) (action : Action) (plan : Plan) (rows : List VersionRow) (over : IsOver rows action plan) where
+  abbrev E : List VersionRow
+  E = plan.ended
+
+  abbrev S : List VersionRow
+  S = stay_in action rows
+
+  -- the versions are those that end and those that stay
+  taken : IsPermutation rows (E ++ S)
+  taken =
+      IsPermutation-trans rows (filter (is_hit action) rows ++ S) (E ++ S)
+      (IsPermutation-filter_both (is_hit action) (λ (v : VersionRow). not (is_hit action v)) (λ v. refl) rows)
+      (IsPermutation-append_left S (filter (is_hit action) rows) E (hits_end action rows over.listed plan over.are_current over.plans))
+
+  -- what stands after the plan is what the action makes
+  makes_planned : Makes moment action rows (rows_after moment action plan rows)
+  makes_planned =
+      let C : List VersionRow = flat_map (closed_row moment) E in
+      let B : List VersionRow = map (begun moment) plan.added in
+      let made : map plain_version (S ++ (C ++ B)) ≡ map plain_version S ++ (flat_map (closed_at moment) (map plain_version E) ++ map (begun_at moment) (map plain_row plan.added)) =
+      map-append plain_version S (C ++ B)
+      ∙ ap (λ (l : List PlainVersion). map plain_version S ++ l)
+      (map-append plain_version C B ∙ ap₂ (λ (a b : List PlainVersion). a ++ b) (sym (closed_plain moment E)) (begun_plain moment plan.added)) in
+      applied_makes moment action rows (S ++ (C ++ B)) (record {
+        listed = over.listed;
+        are_current = over.are_current;
+        plan = plan;
+        plans = over.plans;
+        applies = record { stay = S; taken = taken; made = IsPermutation-same _ _ made };
+      })
+
+  -- and it is what the store then has of the table
+  module _ (table : ℕ) (versions : List TableVersion) (all : IsPermutation (of_table table versions) (map (version_in table) rows)) (apart : HaveDistinctKeys versions) where
+    abbrev left : List TableVersion → List TableVersion
+    left = flat_map (left_of table moment E)
+
+    parted : IsPermutation (of_table table versions) (map (version_in table) (E ++ S))
+    parted = IsPermutation-trans (of_table table versions) (map (version_in table) rows) (map (version_in table) (E ++ S)) all (IsPermutation-map (version_in table) rows (E ++ S) taken)
+
+    -- no other version has the key of one that ends
+    stays : AllByRecursion (λ (v : VersionRow). is_ended table E (version_in table v) ≡ false) S
+    stays =
+        rest_stays table E S
+        (distinct_along (of_table table versions) (map (version_in table) (E ++ S)) parted
+        (ascending-filter (λ (a b : TableVersion). same_version a b ≡ false) (λ (v : TableVersion). v.table == table) versions apart))
+
+    left_planned : IsPermutation (left (of_table table versions)) (map (version_in table) (flat_map (closed_row moment) E) ++ map (version_in table) S)
+    left_planned =
+        let both : left (map (version_in table) (E ++ S)) ≡ map (version_in table) (flat_map (closed_row moment) E) ++ map (version_in table) S =
+        ap left (map-append (version_in table) E S)
+        ∙ flat_map-append (left_of table moment E) (map (version_in table) E) (map (version_in table) S)
+        ∙ ap₂ (λ (a b : List TableVersion). a ++ b) (all_closed table moment E E (are_ended table E) ∙ closed_in table moment E) (none_closed table moment E S stays) in
+        subst (IsPermutation (left (of_table table versions))) both (IsPermutation-flat_map (left_of table moment E) (of_table table versions) (map (version_in table) (E ++ S)) parted)
+
+    begun_in : map (version_in table) (map (begun moment) plan.added) ≡ map (added_in table moment forever) plan.added
+    begun_in = map-map (version_in table) (begun moment) plan.added
+
+    held_planned : IsPermutation (of_table table (left versions ++ map (added_in table moment forever) plan.added)) (map (version_in table) (rows_after moment action plan rows))
+    held_planned =
+        let C : List TableVersion = map (version_in table) (flat_map (closed_row moment) E) in
+        let Q : List TableVersion = map (version_in table) S in
+        let A : List TableVersion = map (added_in table moment forever) plan.added in
+        let same : (table == table) ≡ true = grind (arith, nat_tests) in
+        let now : of_table table (left versions ++ A) ≡ left (of_table table versions) ++ A =
+        filter-append (λ (v : TableVersion). v.table == table) (left versions) A
+        ∙ ap₂ (λ (a b : List TableVersion). a ++ b) (of_left table table moment E versions) (added_there table table moment plan.added same) in
+        let whole : map (version_in table) (rows_after moment action plan rows) ≡ Q ++ (C ++ A) =
+        map-append (version_in table) S (flat_map (closed_row moment) E ++ map (begun moment) plan.added)
+        ∙ ap (λ (l : List TableVersion). Q ++ l)
+        (map-append (version_in table) (flat_map (closed_row moment) E) (map (begun moment) plan.added) ∙ ap (λ (l : List TableVersion). C ++ l) begun_in) in
+        subst₂ IsPermutation (sym now) (sym whole)
+        (IsPermutation-trans (left (of_table table versions) ++ A) ((C ++ Q) ++ A) (Q ++ (C ++ A))
+        (IsPermutation-append_left A (left (of_table table versions)) (C ++ Q) left_planned)
+        (subst (λ (l : List TableVersion). IsPermutation l (Q ++ (C ++ A))) (sym (append_assoc C Q A)) (exchange C Q A)))
+
+-- a plan of a change over the contents of a store is one over the versions that the history leaves
+pub over_history : (history : History) (c : Contents) (table : ℕ) (action : Action) (listed : List VersionRow) (plan : Plan) (holds : HoldsTable history c.versions table) → AreListedFor c table action listed → Plans action listed plan →
+    IsOver holds.rows action plan
+over_history history c table (Insert given) listed plan holds none plans = record {
+  listed = current holds.rows;
+  are_current = IsPermutation-refl (current holds.rows);
+  plans = record {
+    ended = plans.ended ∙ none_touched given listed ∙ sym (none_touched given (current holds.rows));
+    added = plans.added;
+  };
+}
+over_history history c table (Update portion assignments condition) listed plan holds are plans = record { listed = listed; are_current = current_listed table c.versions holds.rows listed holds.all are; plans = plans }
+over_history history c table (Delete portion condition) listed plan holds are plans = record { listed = listed; are_current = current_listed table c.versions holds.rows listed holds.all are; plans = plans }
+
+module _ (history : History) (c : Contents) (change : Change) (plan : Plan) (said : AreOfHistory history c) (of : IsPlanOf c change plan) where
   abbrev after : Contents
-  after = planned change.table c.clock [] added c
+  after = planned change.table c.clock plan.ended plan.added c
 
-  holds_there : (table : ℕ) → HoldsTable history c.versions table → nat_eq table change.table ≡ true → HoldsTable (with_event history (Changed c.clock change)) after.versions table
-  holds_there table holds here =
-      let same : table ≡ change.table = grind (arith, nat_tests, here) in
-      let at : (change.table == table) ≡ true = grind (arith, nat_tests, same) in
-      let made = map (begun c.clock) added in
-      let its : map (version_in table) made ≡ map (added_in change.table c.clock forever) added =
-      map-map (version_in table) (begun c.clock) added ∙ ap (λ (n : ℕ). map (added_in n c.clock forever) added) same in
-      let all : of_table table after.versions ≡ of_table table c.versions ++ map (version_in table) made =
-      of_planned change.table table c.clock added c ∙ ap (λ (l : List TableVersion). of_table table c.versions ++ l) (added_there change.table table c.clock added at ∙ sym its) in
-      record {
-        rows = holds.rows ++ made;
-        left = left-changed_there history c.clock change table holds.rows (holds.rows ++ made) holds.left here (makes_added c.clock change.action is holds.rows added given);
-        all =
-            subst (λ (l : List TableVersion). IsPermutation l (map (version_in table) (holds.rows ++ made))) (sym all)
-            (subst (IsPermutation (of_table table c.versions ++ map (version_in table) made)) (sym (map-append (version_in table) holds.rows made))
-            (IsPermutation-append_left (map (version_in table) made) (of_table table c.versions) (map (version_in table) holds.rows) holds.all));
-      }
+  over_said : IsOver (said.versions change.table).rows change.action plan
+  over_said = over_history history c change.table change.action of.listed plan (said.versions change.table) of.are_listed of.plans
 
-  holds_elsewhere : (table : ℕ) → HoldsTable history c.versions table → nat_eq table change.table ≡ false → HoldsTable (with_event history (Changed c.clock change)) after.versions table
-  holds_elsewhere table holds off =
-      let out : (change.table == table) ≡ false = grind (arith, nat_tests, off) in
-      let all : of_table table after.versions ≡ of_table table c.versions =
-      of_planned change.table table c.clock added c ∙ ap (λ (l : List TableVersion). of_table table c.versions ++ l) (added_elsewhere change.table table c.clock added out) ∙ append-nil (of_table table c.versions) in
-      record {
-        rows = holds.rows;
-        left = left-changed_elsewhere history c.clock change table holds.rows holds.left off;
-        all = subst (λ (l : List TableVersion). IsPermutation l (map (version_in table) holds.rows)) (sym all) holds.all;
-      }
+  -- what is counted of the plan is what the history tells
+  pub count_said : count_of change.action (versions_of history change.table) ≡ planned_count change.action plan
+  count_said =
+      let holds = said.versions change.table in
+      counted change.action holds.rows (versions_of history change.table) plan over_said.listed over_said.are_current over_said.plans holds.left
 
-  holds_after : (table : ℕ) → HoldsTable history c.versions table → (b : Bool) → nat_eq table change.table ≡ b → HoldsTable (with_event history (Changed c.clock change)) after.versions table
-  holds_after table holds true here = holds_there table holds here
-  holds_after table holds false off = holds_elsewhere table holds off
+  module _ (apart : HaveDistinctKeys c.versions) where
+    holds_there : HoldsTable (with_event history (Changed c.clock change)) after.versions change.table
+    holds_there =
+        let holds = said.versions change.table in
+        let same : nat_eq change.table change.table ≡ true = grind (arith, nat_tests) in
+        record {
+          rows = rows_after c.clock change.action plan holds.rows;
+          left = left-changed_there history c.clock change change.table holds.rows (rows_after c.clock change.action plan holds.rows) holds.left same (makes_planned c.clock change.action plan holds.rows over_said);
+          all = held_planned c.clock change.action plan holds.rows over_said change.table c.versions holds.all apart;
+        }
 
-  -- a row that is added at the clock is recorded
-  recorded_now : IsClock c.clock → AreMoments c.clock c.clock forever
-  recorded_now clock =
-      let first : first_moment ≤ℤ c.clock = clock.0 in
-      let before : c.clock <ℤ forever = clock.1 in
-      record {
-        from_is = (first, omega (arith, ints));
-        to_is = (omega (arith, ints), omega (arith, ints));
-        rise = before;
-        past = (omega (arith, ints), inr refl);
-      }
+    holds_elsewhere : (table : ℕ) → HoldsTable history c.versions table → nat_eq table change.table ≡ false → HoldsTable (with_event history (Changed c.clock change)) after.versions table
+    holds_elsewhere table holds off =
+        let others : of_table table after.versions ≡ of_table table c.versions =
+        other_tables change.table table c.clock plan.ended plan.added c (λ e. let same : nat_eq table change.table ≡ true = grind (arith, nat_tests, e) in cc) in
+        record {
+          rows = holds.rows;
+          left = left-changed_elsewhere history c.clock change table holds.rows holds.left off;
+          all = subst (λ (l : List TableVersion). IsPermutation l (map (version_in table) holds.rows)) (sym others) holds.all;
+        }
 
-  pub said-changed : AreOfHistory history c → AreOfHistory (with_event history (Changed c.clock change)) after
-  said-changed said = record {
-    order = order-event history (Changed c.clock change) said.order (said.clock, tt);
-    clock = said.clock ∙ sym (clock_of-event history (Changed c.clock change));
-    tables = said.tables ∙ sym (catalog_of-event history (Changed c.clock change) ∙ append-nil (catalog_of history));
-    versions = λ table. holds_after table (said.versions table) (nat_eq table change.table) refl;
-    is_clock = said.is_clock;
-    recorded =
-        subst (λ (l : List TableVersion). AllByRecursion (λ (v : TableVersion). AreMoments c.clock v.from v.to) (l ++ map (added_in change.table c.clock forever) added)) (sym (none_ended change.table c.clock c.versions))
-        (all-append (λ (v : TableVersion). AreMoments c.clock v.from v.to) c.versions (map (added_in change.table c.clock forever) added) said.recorded
-        (all-map (λ (v : TableVersion). AreMoments c.clock v.from v.to) (added_in change.table c.clock forever) added
-        (all_of (λ (r : PeriodRow). AreMoments c.clock c.clock forever) (λ r. recorded_now said.is_clock) added)));
-  }
+    holds_after : (table : ℕ) → HoldsTable history c.versions table → (b : Bool) → nat_eq table change.table ≡ b → HoldsTable (with_event history (Changed c.clock change)) after.versions table
+    holds_after table holds true here =
+        let same : change.table ≡ table = grind (arith, nat_tests, here) in
+        subst (HoldsTable (with_event history (Changed c.clock change)) after.versions) same holds_there
+    holds_after table holds false off = holds_elsewhere table holds off
+
+    pub said-changed : AreOfHistory (with_event history (Changed c.clock change)) after
+    said-changed = record {
+      order = order-event history (Changed c.clock change) said.order (said.clock, tt);
+      clock = said.clock ∙ sym (clock_of-event history (Changed c.clock change));
+      tables = said.tables ∙ sym (catalog_of-event history (Changed c.clock change) ∙ append-nil (catalog_of history));
+      versions = λ table. holds_after table (said.versions table) (nat_eq table change.table) refl;
+      is_clock = said.is_clock;
+      recorded = recorded_planned c change.table plan.ended plan.added said.is_clock said.recorded;
+    }

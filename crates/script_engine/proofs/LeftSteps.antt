@@ -1,21 +1,13 @@
 -- What one more event makes of the versions that a history leaves, and of its order.
-use Rattle.std.proofs.Common.{◌≡◌, ◌++◌, ◌∷◌, ◌&&◌, ◌∙◌, ℕ, ℤ, Bool, true, false, List, [], append-nil, ap, fold, map, nat_eq, refl, subst, sym}
-use Rattle.std.specs.List.{flat_map}
+use Rattle.std.proofs.Common.{◌≡◌, ◌++◌, ◌∷◌, ◌∙◌, ℕ, ℤ, Bool, true, false, List, [], fold, map, nat_eq, refl, subst, sym}
 use Rattle.std.specs.List.Sorted.{IsPermutation}
-use Rattle.std.proofs.lemmas.List.{map-append}
 use Rattle.std.proofs.lemmas.List.Sorted.{IsPermutation-refl}
-use Rattle.period_core.specs.Windows.{window_sees}
 use Rattle.period_core.specs.declared.version.VersionRow.{VersionRow}
-use Rattle.period_core.specs.declared.window.Window.TheVariants.{Now}
-use Rattle.catalog_core.specs.declared.change.Action.{Action}
-use Rattle.catalog_core.specs.declared.change.Action.TheVariants.{Delete, Insert, Update}
 use Rattle.catalog_core.specs.declared.change.Change.{Change}
-use Rattle.catalog_core.specs.declared.change.GivenRow.{GivenRow}
 use Rattle.catalog_core.specs.declared.table.TableDef.{TableDef}
 use Rattle.history_model.specs.Histories.{Advanced, AreInOrder, Asked, Changed, Created, Event, History, IsInOrder, clock_after, clock_of, with_event}
-use Rattle.history_model.specs.Left.{AreLeftBy, Makes, MakesIf, after_event, begun_at, is_touched, left_of, touched_rows, versions_after, versions_of}
-use Rattle.history_model.specs.Portions.{PlainRow, added, plain_given}
-use Rattle.history_model.specs.Versions.{PlainVersion, plain_version}
+use Rattle.history_model.specs.Left.{AreLeftBy, Makes, MakesIf, after_event, versions_of}
+use Rattle.history_model.specs.Versions.{plain_version}
 use Rattle.history_model.proofs.LeftFacts.{left_more, versions_of-event}
 
 -- ---- the versions
@@ -44,41 +36,6 @@ pub left-changed_elsewhere : (history : History) (moment : ℤ) (change : Change
     AreLeftBy (with_event history (Changed moment change)) table rows
 left-changed_elsewhere history moment change table rows left off =
     left_more history moment change table rows rows left (subst (λ (b : Bool). MakesIf b moment change.action rows rows) (sym off) (IsPermutation-refl rows))
-
--- ---- INSERT
-
-abbrev pub IsInsert : Action → Type 0
-IsInsert (Insert given) = Unit {0}
-IsInsert (Update portion assignments condition) = ⊥
-IsInsert (Delete portion condition) = ⊥
-
-and_false : (b : Bool) → (b && false) ≡ false
-and_false true = refl
-and_false false = refl
-
--- it touches no version
-untouched : (given : List GivenRow) (v : PlainVersion) → is_touched (Insert given) v ≡ false
-untouched given v = and_false (window_sees Now v.from v.to)
-
-none_closed : (moment : ℤ) (given : List GivenRow) (versions : List PlainVersion) → flat_map (left_of moment (Insert given)) versions ≡ versions
-none_closed moment given [] = refl
-none_closed moment given (v ∷ versions) = rw (untouched given v) (ap (λ (l : List PlainVersion). v ∷ l) (none_closed moment given versions))
-
-none_touched : (given : List GivenRow) (versions : List PlainVersion) → touched_rows (Insert given) versions ≡ []
-none_touched given [] = refl
-none_touched given (v ∷ versions) = rw (untouched given v) (none_touched given versions)
-
--- its rows begin behind the versions that were there
-pub makes_given : (moment : ℤ) (given : List GivenRow) (old more : List VersionRow) → map plain_version more ≡ map (begun_at moment) (map plain_given given) → Makes moment (Insert given) old (old ++ more)
-makes_given moment given old more same =
-    let its = map plain_version old in
-    let right : versions_after moment (Insert given) its ≡ map plain_version (old ++ more) =
-    ap (λ (l : List PlainVersion). l ++ map (begun_at moment) (added (Insert given) (touched_rows (Insert given) its))) (none_closed moment given its)
-    ∙ ap (λ (l : List PlainRow). its ++ map (begun_at moment) (added (Insert given) l)) (none_touched given its)
-    ∙ ap (λ (l : List PlainRow). its ++ map (begun_at moment) l) (append-nil (map plain_given given))
-    ∙ ap (λ (l : List PlainVersion). its ++ l) (sym same)
-    ∙ sym (map-append plain_version old more) in
-    subst (IsPermutation (map plain_version (old ++ more))) (sym right) (IsPermutation-refl (map plain_version (old ++ more)))
 
 -- ---- the order
 

@@ -5,17 +5,24 @@ mod CheckSteps
 mod Given
 mod PieceFacts
 mod PieceSteps
+mod PlanFacts
 mod Refused
 mod ScriptFacts
+mod Shown
+mod ShownFacts
 mod Images
 mod Steps
 mod TableNumbers
+mod ColumnFacts
 mod Contents
+mod Ended
+mod KeyFacts
 mod LeftSteps
 mod NewStore
 mod Openings
 pub mod AppendFacts
 pub mod BufferFacts
+pub mod ChangeExamples
 pub mod CheckExamples
 pub mod CsvFacts
 pub mod PieceExamples

@@ -7,13 +7,16 @@ use Rattle.period_core.specs.Leasts.{MayAnswer, NoneApplies}
 use Rattle.period_core.specs.declared.refusal.Refusal.{Refusal}
 use Rattle.period_core.specs.declared.refusal.Refusal.TheVariants.{EmptyPeriod}
 use Rattle.period_core.specs.declared.row.PeriodRow.{PeriodRow}
+use Rattle.period_core.specs.declared.version.VersionRow.{VersionRow}
 use Rattle.catalog_core.specs.Judged.{Holds, Judged}
 use Rattle.catalog_core.specs.change.Resolution.{has_empty_row, is_empty_row}
-use Rattle.history_model.specs.Effects.{given_of}
+use Rattle.history_model.specs.Portions.{PlainRow, plain_given, plain_row}
+use Rattle.portion_dml.specs.Plans.{Plans}
 use Rattle.catalog_core.specs.declared.change.Action.{Action}
 use Rattle.catalog_core.specs.declared.change.Action.TheVariants.{Delete, Insert, Update}
 use Rattle.catalog_core.specs.declared.change.GivenRow.{GivenRow}
-use Rattle.script_engine.specs.engine.Projected.{AreGiven, as_given}
+use Rattle.catalog_core.specs.declared.change.Plan.{Plan}
+use Rattle.script_engine.proofs.PlanFacts.{rows_given}
 
 -- a refusal among more conditions
 pub holds_before : (conditions more : List Judged) (refusal : Refusal) → Holds conditions refusal → Holds (conditions ++ more) refusal
@@ -40,23 +43,23 @@ code-at_most number ((judged, holds) ∷ conditions) refusal all (inl (same, hel
 code-at_most number ((judged, holds) ∷ conditions) refusal all (inr h) = code-at_most number conditions refusal (grind (arith, all)) h
 
 -- given rows of which there are period rows have days
-days-given : (given : List GivenRow) (rows : List PeriodRow) → AreGiven given rows → list_any is_empty_row given ≡ false
-days-given [] [] e = refl
-days-given [] (row ∷ rows) e = cc
+days-given : (given : List GivenRow) (rows : List PeriodRow) → map plain_row rows ≡ map plain_given given → list_any is_empty_row given ≡ false
+days-given [] rows e = refl
 days-given (first ∷ given) [] e = cc
 days-given (first ∷ given) (row ∷ rows) e =
-    let head : as_given row ≡ first = cc in
-    let tail : map as_given rows ≡ given = cc in
-    let start : row.period.start ≡ first.start = ap (λ (r : GivenRow). r.start) head in
-    let end : row.period.end ≡ first.end = ap (λ (r : GivenRow). r.end) head in
+    let head : plain_row row ≡ plain_given first = cc in
+    let tail : map plain_row rows ≡ map plain_given given = cc in
+    let start : row.period.start ≡ first.start = ap (λ (r : PlainRow). r.start) head in
+    let end : row.period.end ≡ first.end = ap (λ (r : PlainRow). r.end) head in
     let ordered = row.period.ordered in
     let here : is_empty_row first ≡ false = grind (arith, ints, start, end, ordered) in
     rw here (days-given given rows tail)
 
-pub days-action : (action : Action) (rows : List PeriodRow) → AreGiven (given_of action) rows → has_empty_row action ≡ false
-days-action (Insert given) rows e = days-given given rows e
-days-action (Update portion assignments condition) rows e = refl
-days-action (Delete portion condition) rows e = refl
+-- so the rows of an action of which there is a plan have days
+pub days-planned : (action : Action) (listed : List VersionRow) (plan : Plan) → Plans action listed plan → has_empty_row action ≡ false
+days-planned (Insert given) listed plan plans = days-given given plan.added (rows_given given listed plan plans)
+days-planned (Update portion assignments condition) listed plan plans = refl
+days-planned (Delete portion condition) listed plan plans = refl
 
 -- what may be answered by the conditions alone may be answered where that of an empty period stands behind them
 pub may_answer-before : (conditions : List Judged) (holds : Bool) (refusal : Refusal) → are_at_most 41 conditions ≡ true → MayAnswer (Holds conditions) refusal → MayAnswer (Holds (conditions ++ (EmptyPeriod, holds) ∷ [])) refusal

@@ -1,5 +1,5 @@
 -- Worked rows: CREATE TABLE and INSERT, accepted and refused, each as a step of the history.
-use Rattle.std.proofs.Common.{◌≡◌, ◌∷◌, ◌++◌, [], ℕ, pos, true, false, List, None, Some, Ok, Err, codes, refl, inl, inr, length, arith, lit≤}
+use Rattle.std.proofs.Common.{◌≡◌, ◌∷◌, ◌++◌, [], ℕ, pos, true, false, List, None, Some, Ok, Err, codes, refl, inl, inr, arith, lit≤}
 use Rattle.std.proofs.lemmas.Bool.{false≢true}
 use Rattle.std.specs.Str.{chars}
 use Rattle.period_core.specs.Moments.{first_moment}
@@ -15,8 +15,10 @@ use Rattle.sql_statements.specs.declared.create.TypeName.TheVariants as type_nam
 use Rattle.sql_statements.specs.declared.statement.InsertRows.{InsertRows}
 use Rattle.catalog_core.specs.create.Creation.{create_conditions, period_matches, some_parent_match, some_match, has_sort, sort_count, exceeds_limits, is_there, lacks_parent, names_other_period, lacks_period, lacks_name, is_ambiguous, is_shared, repeats_name, is_no_value_column, some_no_value, keys_period_column, lacks_one_of_each, has_bad_period, has_bad_system_period, is_bad_type, has_bad_column, is_used_otherwise, has_other_period, is_at, is_key_name, is_named, are_key, names_no_key, references_no_key, is_bad_definition, has_unequal_lists, own_kind, have_other_kinds, names_other_kind, references_other_kind}
 use Rattle.catalog_core.specs.create.Definition.{declared_kind, declared_reference}
-use Rattle.history_model.specs.Effects.{given_of}
 use Rattle.history_model.specs.Histories.{Changed, Created, History, new_database, opened, with_event}
+use Rattle.history_model.specs.Left.{versions_of}
+use Rattle.history_model.specs.Versions.{PlainVersion}
+use Rattle.script_engine.specs.engine.Planned.{count_of}
 use Rattle.catalog_core.specs.change.Insertion.{gives_empty_row, wanted_names, given_names, lacks_table, lists_unknown, lists_ambiguous, lists_twice, is_system_name, some_system_name, lists_system, lacks_some, some_other_length, has_other_count, is_of_other_kind, is_longer, is_too_long, is_wrong, gives_wrong, has_wrong, given_value, value_for, is_no_period, gives_no_period, has_no_period}
 use Rattle.catalog_core.specs.Judged.{Holds, Judged, first_holding}
 use Rattle.catalog_core.specs.table.Kinds.{kind_of_type, kind_of_column, same_kind, differ}
@@ -180,20 +182,21 @@ inserted = (
   },
 )
 
--- a change that is the same statement gives one row
-given_one : (definition : TableDef) (action : Action) → ResolvesAction definition insertion action → length (given_of action) ≡ 1
-given_one definition (Insert []) e = cc
-given_one definition (Insert (given ∷ [])) e = refl
-given_one definition (Insert (given ∷ other ∷ more)) e = cc
-given_one definition (Update portion assignments condition) e = absurd e
-given_one definition (Delete portion condition) e = absurd e
+-- a change that is the same statement counts one row
+given_one : (definition : TableDef) (action : Action) (versions : List PlainVersion) → ResolvesAction definition insertion action → count_of action versions ≡ 1
+given_one definition (Insert []) versions e = cc
+given_one definition (Insert (given ∷ [])) versions e = refl
+given_one definition (Insert (given ∷ other ∷ more)) versions e = cc
+given_one definition (Update portion assignments condition) versions e = absurd e
+given_one definition (Delete portion condition) versions e = absurd e
 
 -- so the statement does not report two
 inserted_counts_one : (new : History) → Step with_table (statement.insert insertion) (Ok (Done word.Insert 2)) new → ⊥
 inserted_counts_one new (sound, changes) =
-    let one : length (given_of changes.change.action) ≡ 1 = given_one changes.resolved.definition changes.change.action changes.resolved.action in
+    let versions : List PlainVersion = versions_of with_table changes.change.table in
+    let one : count_of changes.change.action versions ≡ 1 = given_one changes.resolved.definition changes.change.action versions changes.resolved.action in
     let done = changes.done in
-    let two : 2 ≡ length (given_of changes.change.action) = cc in
+    let two : 2 ≡ count_of changes.change.action versions = cc in
     omega arith
 
 -- INSERT INTO EMP VALUES (1, 7, DATE '1970-01-06', DATE '1970-01-09'), (2, 7, DATE '1970-01-09', DATE '1970-01-09')

@@ -1,3 +1,5 @@
 pub mod Stored
+pub mod Planned
+pub mod Shown
 pub mod Runs
 pub mod Projected

@@ -4,6 +4,7 @@ ghost use Rattle.std.specs.Prelude.{◌≡◌, ◌⊎◌, ◌<ℤ◌, ◌≤ℤ�
 ghost use Rattle.std.specs.Prelude.{IfErr, IfOk, OnErr, OnOk, ℤ};
 ghost use Rattle.period_core.specs.Moments.{forever};
 ghost use Rattle.period_core.specs.declared.refusal.Refusal.TheVariants.{BadStore};
+ghost use Rattle.catalog_core.specs.change.Resolution.{IsChange};
 ghost use Rattle.sqlite.specs.Held.{state};
 ghost use Rattle.version_tables.specs.Presence.{IsNoneThere};
 ghost use Rattle.version_tables.specs.Steps.{IsAsBefore};
@@ -16,18 +17,22 @@ ghost use Rattle.history_model.specs.Versions.{values_at};
 ghost use Rattle.script_engine.specs.engine.Runs.{MayRefuseMoment, StepsTo};
 ghost use Rattle.script_engine.specs.engine.Stored.{DatabaseRepresents, EngineRepresents};
 ghost use Rattle.script_engine.specs.engine.Stored.{KeepsOnErr};
-ghost use Rattle.sql_statements.specs.Plain.{plain, plain_query};
+ghost use Rattle.sql_statements.specs.Plain.{plain, plain_query, plain_stored};
 ghost use Rattle.sql_statements.specs.Trees as statement;
 
 pub mod outcome;
+mod planning;
 mod rows;
+mod shown;
 
-use crate::engine::outcome::{Outcome, Word};
-use crate::engine::rows::{answer_of, inserted_rows};
-use catalog_core::{Catalog, Change, Plan, define, resolve_insert, resolve_sequenced};
+use crate::engine::outcome::{Outcome, VersionList, Word, done};
+use crate::engine::planning::plan_change;
+use crate::engine::rows::answer_of;
+use crate::engine::shown::{shown_rows, table_of_number, version_columns};
+use catalog_core::{Catalog, define, resolve_change, resolve_sequenced, resolve_stored_query};
 use period_core::{Items, Moment, Refusal, VersionRow};
 use sql_statements::{
-    ClockMoment, CreateTable, InsertRows, QueryTree, SelectDistinct, Statement, StatementForm,
+    ClockMoment, CreateTable, QueryTree, SelectDistinct, Statement, StatementForm, StoredQuery,
 };
 use sqlite::Connection;
 use sqlite_trees::store::Alter;
@@ -180,28 +185,25 @@ impl<S: Alter> Engine<S> {
         }
     }
 
-    /// Runs an INSERT: its rows are added in one transaction. An `Err` changes nothing.
-    fn insert(&mut self, alloc: Global, insert: &InsertRows) -> Result<Outcome, Refusal>
+    /// Runs an INSERT, an UPDATE or a DELETE: what its plan ends and adds is ended and added in one
+    /// transaction. An `Err` changes nothing.
+    fn change(&mut self, alloc: Global, statement: &Statement) -> Result<Outcome, Refusal>
+        requires { IsChange (plain statement.now) }
         ensures step { IsUsable S.Store self.new.connection
             → (history : History) → EngineRepresents S.Store history self.old
-            → StepsTo S.Store history (statement.insert insert.now) result self.new }
+            → StepsTo S.Store history (plain statement.now) result self.new }
         ensures kept { KeepsOnErr S.Store self.old self.new result }
     {
-        let Change { table, action } = match resolve_insert(alloc, self.store.catalog(), insert) {
+        let change = match resolve_change(alloc, self.store.catalog(), statement) {
             Ok(change) => change,
             Err(refusal) => return Err(refusal),
         };
-        let added = match inserted_rows(alloc, action) {
-            Ok(added) => added,
+        let plan = match plan_change(alloc, &mut self.store, &change) {
+            Ok(plan) => plan,
             Err(refusal) => return Err(refusal),
         };
-        let count = added.len() as u64;
-        let plan = Plan {
-            ended: Items::empty(alloc),
-            added,
-        };
-        match self.store.apply(alloc, table, self.store.clock(), &plan) {
-            Ok(()) => Ok(Outcome::Done(Word::Insert, count)),
+        match self.store.apply(alloc, change.table, self.store.clock(), &plan) {
+            Ok(()) => Ok(done(&change.action, &plan)),
             Err(refusal) => Err(refusal),
         }
     }
@@ -232,9 +234,36 @@ impl<S: Alter> Engine<S> {
         }
     }
 
+    /// Shows the versions of a stored query. Nothing is changed.
+    fn show(&mut self, alloc: Global, query: &StoredQuery) -> Result<Outcome, Refusal>
+        ensures step { IsUsable S.Store self.new.connection
+            → (history : History) → EngineRepresents S.Store history self.old
+            → StepsTo S.Store history (statement.stored (plain_stored query.now)) result
+            self.new }
+        ensures kept { KeepsOnErr S.Store self.old self.new result }
+    {
+        let query = match resolve_stored_query(alloc, self.store.catalog(), query) {
+            Ok(query) => query,
+            Err(refusal) => return Err(refusal),
+        };
+        let Some(table) = table_of_number(self.store.catalog(), query.table) else {
+            unreachable!()
+        };
+        let Ok(columns) = version_columns(alloc, table) else {
+            return Err(Refusal::Memory);
+        };
+        match shown_rows(alloc, &mut self.store, query) {
+            Ok(rows) => Ok(Outcome::Versions(VersionList {
+                columns,
+                rows: Items::from_vec(rows),
+            })),
+            Err(refusal) => Err(refusal),
+        }
+    }
+
     /// Runs a statement. An `Err` changes nothing: it is the refusal of the least number whose
-    /// condition holds, 10 where statements of its form are not run yet; out of memory; or another
-    /// failure of the database, only where no condition of 1 to 31 or 40 holds.
+    /// condition holds; out of memory; or another failure of the database, only where no condition
+    /// of 1 to 31 or 40 holds.
     pub fn execute(&mut self, alloc: Global, statement: &Statement) -> Result<Outcome, Refusal>
         // Whatever history the engine represents, the call is a step of it, and the engine then
         // represents the new one.
@@ -246,12 +275,11 @@ impl<S: Alter> Engine<S> {
         match statement.form() {
             StatementForm::At(moment) => self.advance(*moment),
             StatementForm::Create(create) => self.create(alloc, create.table()),
-            StatementForm::Insert(insert) => self.insert(alloc, insert),
+            StatementForm::Insert(_) => self.change(alloc, statement),
+            StatementForm::Update(_) => self.change(alloc, statement),
+            StatementForm::Delete(_) => self.change(alloc, statement),
             StatementForm::Sequenced(query) => self.answer(alloc, query),
-            // The other forms are not run yet.
-            StatementForm::Update(_) | StatementForm::Delete(_) | StatementForm::Stored(_) => {
-                Err(Refusal::Syntax)
-            }
+            StatementForm::Stored(query) => self.show(alloc, query),
         }
     }
 }

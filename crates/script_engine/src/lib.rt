@@ -1,7 +1,13 @@
 //! The engine, the scripts that it runs, their checks, and the reports of both. What to touch in
-//! order to add a form of statement that runs: `Engine::execute` in `engine.rt`, `Accepts` and
-//! `StatementApplies` in `specs/engine/Runs`; where it has an outcome of its own,
-//! `engine/outcome.rt` and the record in `report.rt` and `specs/report/Report`.
+//! order to add
+//!
+//! - a form of statement that runs: `Engine::execute` in `engine.rt`, `Accepts` and
+//!   `StatementApplies` in `specs/engine/Runs`; where it has an outcome of its own,
+//!   `engine/outcome.rt` and the record in `report.rt` and `specs/report/Report`;
+//! - a form of change: `engine/planning.rt`, its word and its count in `engine/outcome.rt` and
+//!   `specs/engine/Planned`;
+//! - a column of a list of versions: `Cell`, `engine/shown.rt` and `specs/engine/Shown`, and its
+//!   text in `report/record.rt` and `specs/report/Report`.
 #![tactic(auto)]
 
 pub mod engine;
@@ -10,7 +16,7 @@ pub mod report;
 pub mod script;
 
 pub use engine::Engine;
-pub use engine::outcome::{Outcome, Word};
+pub use engine::outcome::{Cell, Outcome, VersionColumn, VersionList, Word};
 pub use report::check::{write_check, write_check_with_capacity};
 pub use report::writer::{ReportWriter, WriteRefused};
 pub use report::{ReportFault, write_report, write_report_with_capacity};

@@ -4,16 +4,17 @@ ghost use Rattle.std.specs.Prelude.{◌≡◌, IfErr, Ok, OnOk};
 ghost use Rattle.std.specs.Io.KnownBytes.{Appends, append_known};
 ghost use Rattle.script_engine.specs.report.Report.{MayFail, report, text_of, word_text};
 ghost use Rattle.script_engine.specs.report.Report.{answer_record, columns_record, done_record};
-ghost use Rattle.script_engine.specs.report.Report.{refused_record, row_record};
+ghost use Rattle.script_engine.specs.report.Report.{names_record, refused_record, row_record};
+ghost use Rattle.script_engine.specs.report.Report.{version_record, versions_record};
 
 pub(crate) mod buffer;
 pub mod check;
 pub(crate) mod record;
 pub mod writer;
 
-use crate::engine::outcome::{Outcome, Word};
+use crate::engine::outcome::{Outcome, VersionColumn, VersionList, Word};
 use buffer::{CAPACITY, ReportBuffer};
-use period_core::{Answer, PeriodRow, Refusal, Text, Witness};
+use period_core::{Answer, PeriodRow, Refusal, Text, VersionRow, Witness};
 use record::Record;
 use std::alloc::Global;
 use thiserror::Error;
@@ -39,6 +40,8 @@ impl Word {
             Word::At => "at",
             Word::Create => "create",
             Word::Insert => "insert",
+            Word::Update => "update",
+            Word::Delete => "delete",
         }
     }
 }
@@ -159,6 +162,80 @@ fn write_answer<W: ReportWriter>(
     Ok(())
 }
 
+// How many columns and versions follow.
+fn fill_versions_head(
+    alloc: Global,
+    line: &mut Record,
+    number: u64,
+    list: &VersionList,
+) -> Result<(), ReportFault>
+    ensures ok { OnOk result (line.new ≡ versions_record number list.now) }
+    ensures err { IfErr result (λ e. e ≡ ReportFault.Memory) }
+{
+    line.start("versions")?;
+    line.push_number(alloc, number)?;
+    line.push_number(alloc, list.columns.len() as u64)?;
+    line.push_number(alloc, list.rows.len() as u64)
+}
+
+// The names of the columns.
+fn fill_names(
+    alloc: Global,
+    line: &mut Record,
+    number: u64,
+    columns: &[VersionColumn],
+) -> Result<(), ReportFault>
+    ensures ok { OnOk result (line.new ≡ names_record number columns.now) }
+    ensures err { IfErr result (λ e. e ≡ ReportFault.Memory) }
+{
+    line.start("columns")?;
+    line.push_number(alloc, number)?;
+    line.push_names(columns)
+}
+
+// One version.
+fn fill_version(
+    alloc: Global,
+    line: &mut Record,
+    number: u64,
+    columns: &[VersionColumn],
+    version: &VersionRow,
+) -> Result<(), ReportFault>
+    ensures ok { OnOk result (line.new ≡ version_record number columns.now version.now) }
+    ensures err { IfErr result (λ e. e ≡ ReportFault.Memory) }
+{
+    line.start("version")?;
+    line.push_number(alloc, number)?;
+    line.push_cells(alloc, columns, version)
+}
+
+fn write_versions<W: ReportWriter>(
+    alloc: Global,
+    line: &mut Record,
+    buffer: &mut ReportBuffer,
+    out: &mut W,
+    number: u64,
+    list: &VersionList,
+) -> Result<(), ReportFault>
+    ensures ok { OnOk result
+        (Appends (append_known (W.contents out.old) buffer.old)
+        (append_known (W.contents out.new) buffer.new)
+        (text_of number (Ok (Outcome.Versions list.now)))) }
+    ensures err { IfErr result (MayFail (W.has_failed out.new)) }
+{
+    fill_versions_head(alloc, line, number, list)?;
+    buffer.write(alloc, out, line)?;
+    let columns = list.columns.as_slice();
+    fill_names(alloc, line, number, columns)?;
+    buffer.write(alloc, out, line)?;
+    let rows = list.rows.as_slice();
+    for version in rows {
+        fill_version(alloc, line, number, columns, version)?;
+        buffer.write(alloc, out, line)?;
+    }
+    Ok(())
+}
+
 fn write_result<W: ReportWriter>(
     alloc: Global,
     line: &mut Record,
@@ -176,6 +253,9 @@ fn write_result<W: ReportWriter>(
         Ok(Outcome::Done(word, count)) => fill_done(alloc, line, number, *word, *count)?,
         Ok(Outcome::Answer(answer)) => {
             return write_answer(alloc, line, buffer, out, number, answer);
+        }
+        Ok(Outcome::Versions(list)) => {
+            return write_versions(alloc, line, buffer, out, number, list);
         }
         Err(refusal) => fill_refused(alloc, line, number, refusal)?,
     }

@@ -1,5 +1,4 @@
--- Rows made of rows: those that an INSERT gives, those that a select list projects, and the answer
--- that these give.
+-- Rows made of rows: those that a select list projects, and the answer that these give.
 use Rattle.std.specs.Prelude.{◌≡◌, ℤ, List, Option, Some, map}
 use Rattle.period_core.specs.declared.answer.Answer.{Answer}
 use Rattle.period_core.specs.declared.row.PeriodRow.{PeriodRow}
@@ -10,17 +9,7 @@ use Rattle.temporal_model.specs.Snapshot.{Equivalent}
 use Rattle.temporal_model.specs.Witness.{witness_of}
 use Rattle.history_model.specs.Answers.{read_items}
 use Rattle.history_model.specs.Versions.{current}
-use Rattle.catalog_core.specs.declared.change.GivenRow.{GivenRow}
 use Rattle.catalog_core.specs.declared.query.AnswerColumn.{AnswerColumn}
-
--- a period row, as one that is given
-abbrev pub as_given : PeriodRow → GivenRow
-as_given row =
-    record { values = row.values; start = row.period.start; end = row.period.end }
-
--- the rows are the given ones
-abbrev pub AreGiven : List GivenRow → List PeriodRow → Type 0
-AreGiven given rows = map as_given rows ≡ given
 
 -- what a select list reads in a version, over its period
 pub record ReadRow : Type 0 where

@@ -1,13 +1,13 @@
 -- Which outcomes a statement may have in a history, and which history follows.
 use Rattle.std.specs.Prelude.{◌≡◌, ◌⊎◌, ◌<◌, ◌<ℤ◌, ◌≤ℤ◌, ◌++◌, ◌∷◌, ℤ, [], Result, Ok, Err}
-use Rattle.std.specs.Prelude.{int_lt, true, length, map}
+use Rattle.std.specs.Prelude.{List, Some, int_lt, map}
 use Rattle.period_core.specs.Codes.{code_of}
 use Rattle.period_core.specs.Leasts.{MayAnswer, NoneApplies}
 use Rattle.period_core.specs.Moments.{forever}
 use Rattle.period_core.specs.declared.answer.Answer.{Answer}
 use Rattle.period_core.specs.declared.refusal.Refusal.{Refusal}
 use Rattle.period_core.specs.declared.refusal.Refusal.TheVariants.{BadMoment, MomentBack, Store}
-use Rattle.period_core.specs.declared.refusal.Refusal.TheVariants.{Syntax}
+use Rattle.period_core.specs.declared.version.VersionRow.{VersionRow}
 use Rattle.sql_statements.specs.declared.create.CreateTable.{CreateTable}
 use Rattle.sql_statements.specs.Trees.{Statement}
 use Rattle.sql_statements.specs.Trees as statement
@@ -16,35 +16,49 @@ use Rattle.catalog_core.specs.create.Definition.{Defines}
 use Rattle.catalog_core.specs.Judged.{Holds}
 use Rattle.catalog_core.specs.change.Resolution.{ResolvesChange, change_conditions, empty_period}
 use Rattle.catalog_core.specs.query.Selection.{ResolvesQuery, query_conditions}
+use Rattle.catalog_core.specs.stored.StoredQueries.{ResolvesStored, stored_conditions}
+use Rattle.catalog_core.specs.table.TableWords.{table_of}
 use Rattle.history_model.specs.Answers.{InAnswerOn}
-use Rattle.history_model.specs.Effects.{given_of}
 use Rattle.history_model.specs.Histories.{Advanced, Asked, Changed, Created, History}
 use Rattle.history_model.specs.Histories.{catalog_of, clock_of, with_event}
+use Rattle.history_model.specs.Left.{AreLeftBy, versions_of}
 use Rattle.sqlite.specs.Store.{Ghosts}
 use Rattle.version_store.specs.StoreState.{IsStoreRefusal, StoreState}
 use Rattle.script_engine.specs.engine.Stored.{EngineRepresents}
 use Rattle.catalog_core.specs.declared.change.Change.{Change}
 use Rattle.catalog_core.specs.declared.query.AnswerColumn.{AnswerColumn}
 use Rattle.catalog_core.specs.declared.query.Select.{Select}
+use Rattle.catalog_core.specs.declared.stored.Stored.{Stored}
 use Rattle.catalog_core.specs.declared.table.TableDef.{TableDef}
 use Rattle.script_engine.specs.Headline.{IsSequencedAnswer}
+use Rattle.script_engine.specs.engine.Planned.{count_of, word_of}
+use Rattle.script_engine.specs.engine.Shown.{AreShown, version_columns}
 use Rattle.script_engine.specs.declared.engine.outcome.Outcome.{Outcome}
 use Rattle.script_engine.specs.declared.engine.outcome.Outcome.TheVariants.{Done}
 use Rattle.script_engine.specs.declared.engine.outcome.Outcome.TheVariants.{Answer as Answered}
+use Rattle.script_engine.specs.declared.engine.outcome.Outcome.TheVariants.{Versions}
+use Rattle.script_engine.specs.declared.engine.outcome.VersionList.{VersionList}
 use Rattle.script_engine.specs.declared.engine.outcome.Word.TheVariants as word
 
--- the condition of each refusal, for a statement in a history; statements of the other forms do
--- not run yet, and are refused with 10 Syntax
+-- the conditions of a change, with that of an empty period of a row that INSERT gives
+abbrev pub ChangeApplies : List TableDef → Statement → Refusal → Type 0
+ChangeApplies catalog s = Holds (change_conditions catalog s ++ empty_period catalog s ∷ [])
+
+-- the condition of each refusal, for a statement in a history
 abbrev pub StatementApplies : History → Statement → Refusal → Type 0
 StatementApplies history (statement.at moment) =
     Holds ((MomentBack, int_lt moment (clock_of history)) ∷ [])
 StatementApplies history (statement.create c) = Holds (create_conditions (catalog_of history) c)
 StatementApplies history (statement.insert i) =
-    Holds (change_conditions (catalog_of history) (statement.insert i)
-    ++ empty_period (catalog_of history) (statement.insert i) ∷ [])
+    ChangeApplies (catalog_of history) (statement.insert i)
+StatementApplies history (statement.update u) =
+    ChangeApplies (catalog_of history) (statement.update u)
+StatementApplies history (statement.delete d) =
+    ChangeApplies (catalog_of history) (statement.delete d)
 StatementApplies history (statement.sequenced q) =
     Holds (query_conditions (catalog_of history) (statement.sequenced q))
-StatementApplies history _ = Holds ((Syntax, true) ∷ [])
+StatementApplies history (statement.stored q) =
+    Holds (stored_conditions (catalog_of history) (statement.stored q))
 
 -- no condition of 1 to 31 or 40 holds
 abbrev pub NoneBeforeStore : (Refusal → Type 0) → Type 0
@@ -81,7 +95,7 @@ pub record Creates
   pub done : outcome ≡ Done word.Create 0
   pub after : new ≡ with_event history (Created definition)
 
--- a change is made as it is resolved, at the clock; its count is that of the rows that it gives
+-- a change is made as it is resolved, at the clock; the history as it was tells what is counted
 pub record Changes
     (history : History)
     (s : Statement)
@@ -89,7 +103,8 @@ pub record Changes
     (new : History) : Type 0 where
   pub change : Change
   pub resolved : ResolvesChange (catalog_of history) s change
-  pub done : outcome ≡ Done word.Insert (length (given_of change.action))
+  pub done : outcome
+      ≡ Done (word_of change.action) (count_of change.action (versions_of history change.table))
   pub after : new ≡ with_event history (Changed (clock_of history) change)
 
 -- a sequenced query is answered by the sets that the ordinary query gives on each day
@@ -104,16 +119,39 @@ pub record Answers
   pub right : IsSequencedAnswer (InAnswerOn history query) answer
   pub after : new ≡ with_event history Asked
 
+-- a stored query shows the versions, of those that the history leaves of its table, that its window
+-- sees and its condition holds of, with the table's columns
+pub record Shows
+    (history : History)
+    (s : Statement)
+    (list : VersionList)
+    (new : History) : Type 0 where
+  pub query : Stored
+  pub resolved : ResolvesStored (catalog_of history) s query
+  pub definition : TableDef
+  pub table : table_of (catalog_of history) query.table ≡ Some definition
+  pub columns : list.columns ≡ version_columns definition
+  pub versions : List VersionRow
+  pub left : AreLeftBy history query.table versions
+  pub rows : AreShown query versions list.rows
+  pub after : new ≡ with_event history Asked
+
 -- what follows where no condition of a refusal holds
 abbrev pub Accepts : History → Statement → Outcome → History → Type 0
 Accepts history (statement.at moment) outcome new = Advances history moment outcome new
 Accepts history (statement.create c) outcome new = Creates history c outcome new
 Accepts history (statement.insert i) outcome new =
     Changes history (statement.insert i) outcome new
+Accepts history (statement.update u) outcome new =
+    Changes history (statement.update u) outcome new
+Accepts history (statement.delete d) outcome new =
+    Changes history (statement.delete d) outcome new
 Accepts history (statement.sequenced q) outcome new =
     (answer : Answer) × (outcome ≡ Answered answer)
     × Answers history (statement.sequenced q) answer new
-Accepts history _ outcome new = ⊥
+Accepts history (statement.stored q) outcome new =
+    (list : VersionList) × (outcome ≡ Versions list)
+    × Shows history (statement.stored q) list new
 
 -- a statement's result: refused, and the history stays; or accepted, and added to the history
 abbrev pub Step : History → Statement → Result Outcome Refusal → History → Type 0

@@ -1,10 +1,12 @@
 -- The report as bytes, a function of the list of results.
 use Rattle.std.specs.Prelude.{◌==◌, ◌||◌, ◌+◌, ◌∷◌, ◌++◌, ℕ, ℤ, Bool, List, [], ⊤, if◌then◌else◌}
 use Rattle.std.specs.Prelude.{Option, Some, None, Result, Ok, Err, flat_map, length, map, codes}
+use Rattle.std.specs.Prelude.{slice_get}
 use Rattle.std.specs.Fmt.{decimal, signed_decimal}
 use Rattle.std.specs.List.{list_any, zip}
 use Rattle.period_core.specs.Calendar.{day_text}
 use Rattle.period_core.specs.Codes.{code_of, name_of}
+use Rattle.period_core.specs.Moments.{moment_text}
 use Rattle.period_core.specs.declared.answer.Answer.{Answer}
 use Rattle.period_core.specs.declared.answer.Witness.{Witness}
 use Rattle.period_core.specs.declared.refusal.Refusal.{Refusal}
@@ -12,10 +14,16 @@ use Rattle.period_core.specs.declared.refusal.Refusal.TheVariants.{KeyOverlap, P
 use Rattle.period_core.specs.declared.row.PeriodRow.{PeriodRow}
 use Rattle.period_core.specs.declared.value.Value.{Value}
 use Rattle.period_core.specs.declared.value.Value.TheVariants.{Int, Text, Date}
+use Rattle.period_core.specs.declared.version.VersionRow.{VersionRow}
+use Rattle.script_engine.specs.declared.engine.outcome.Cell.{Cell}
+use Rattle.script_engine.specs.declared.engine.outcome.Cell.TheVariants as cell
 use Rattle.script_engine.specs.declared.engine.outcome.Outcome.{Outcome}
 use Rattle.script_engine.specs.declared.engine.outcome.Outcome.TheVariants as outcome
+use Rattle.script_engine.specs.declared.engine.outcome.VersionColumn.{VersionColumn}
+use Rattle.script_engine.specs.declared.engine.outcome.VersionList.{VersionList}
 use Rattle.script_engine.specs.declared.engine.outcome.Word.{Word}
-use Rattle.script_engine.specs.declared.engine.outcome.Word.TheVariants.{At, Create, Insert}
+use Rattle.script_engine.specs.declared.engine.outcome.Word.TheVariants.{At, Create, Delete}
+use Rattle.script_engine.specs.declared.engine.outcome.Word.TheVariants.{Insert, Update}
 use Rattle.script_engine.specs.declared.report.ReportFault.{ReportFault}
 use Rattle.script_engine.specs.declared.report.ReportFault.TheVariants.{Memory, Write}
 
@@ -65,10 +73,16 @@ abbrev pub word_text : Word → List ℕ
 word_text At = codes "at"
 word_text Create = codes "create"
 word_text Insert = codes "insert"
+word_text Update = codes "update"
+word_text Delete = codes "delete"
 
 -- a day as YYYY-MM-DD
 unfoldable pub printed_day : ℤ → List ℕ
 printed_day day = day_text day
+
+-- a moment as YYYY-MM-DD HH:MM:SS
+unfoldable pub printed_moment : ℤ → List ℕ
+printed_moment moment = moment_text moment
 
 -- an integer in decimal with `-` where it is negative, a text as it is
 abbrev pub value_text : Value → List ℕ
@@ -81,13 +95,26 @@ abbrev pub absent_text : Option ℤ → List ℕ
 absent_text None = codes "none"
 absent_text (Some day) = printed_day day
 
+-- the value at a position; nothing where there is none, as in no version of its table
+abbrev pub value_cell : Option Value → List ℕ
+value_cell None = []
+value_cell (Some value) = value_text value
+
+-- a cell of a version
+abbrev pub cell_text : VersionRow → Cell → List ℕ
+cell_text v (cell.Value position) = value_cell (slice_get v.values position)
+cell_text v cell.Start = printed_day v.period.start
+cell_text v cell.End = printed_day v.period.end
+cell_text v cell.From = printed_moment v.from
+cell_text v cell.To = printed_moment v.to
+
 -- the day of a refusal that names one, else nothing
 abbrev pub detail_of : Refusal → List ℕ
 detail_of (KeyOverlap day) = printed_day day
 detail_of (PeriodReference day) = printed_day day
 detail_of _ = []
 
--- the word, and the number of rows that were given
+-- the word, and the number of rows that were given or touched
 abbrev pub done_record : ℕ → Word → ℕ → List (List ℕ)
 done_record n word count = codes "done" ∷ decimal n ∷ word_text word ∷ decimal count ∷ []
 
@@ -117,6 +144,23 @@ row_record n (row, witness) =
     ++ printed_day row.period.start ∷ printed_day row.period.end
     ∷ printed_day witness.held ∷ absent_text witness.absent ∷ [])
 
+-- how many columns the table has, and how many versions are shown
+abbrev pub versions_record : ℕ → VersionList → List (List ℕ)
+versions_record n list =
+    codes "versions" ∷ decimal n
+    ∷ decimal (length list.columns) ∷ decimal (length list.rows) ∷ []
+
+-- the names of the table's columns
+abbrev pub names_record : ℕ → List VersionColumn → List (List ℕ)
+names_record n columns =
+    codes "columns" ∷ decimal n ∷ map (λ (column : VersionColumn). column.name) columns
+
+-- a version's cells
+abbrev pub version_record : ℕ → List VersionColumn → VersionRow → List (List ℕ)
+version_record n columns v =
+    codes "version" ∷ decimal n
+    ∷ map (λ (column : VersionColumn). cell_text v column.cell) columns
+
 -- the records of the n-th result; of an answer's rows those are printed that have a witness in
 -- their place
 abbrev pub records_of : ℕ → Result Outcome Refusal → List (List (List ℕ))
@@ -124,6 +168,9 @@ records_of n (Ok (outcome.Done word count)) = done_record n word count ∷ []
 records_of n (Ok (outcome.Answer answer)) =
     answer_record n answer ∷ columns_record n answer.columns
     ∷ map (row_record n) (zip answer.rows answer.witnesses)
+records_of n (Ok (outcome.Versions list)) =
+    versions_record n list ∷ names_record n list.columns
+    ∷ map (version_record n list.columns) list.rows
 records_of n (Err refusal) = refused_record n refusal ∷ []
 
 -- the texts of these records, one after the other

@@ -1,54 +1,16 @@
-//! Rows made of rows: those that an INSERT gives, those that a select list projects, and the answer
-//! that these give.
+//! Rows made of rows: those that a select list projects, and the answer that these give.
 
-ghost use Rattle.std.specs.Prelude.{◌≡◌, ◌⊎◌, map, IfOk, IfErr, true};
-ghost use Rattle.std.specs.List.{list_any};
-ghost use Rattle.history_model.specs.Effects.{given_of};
-ghost use Rattle.period_core.specs.declared.refusal.Refusal.TheVariants.{EmptyPeriod};
-ghost use Rattle.period_core.specs.declared.refusal.Refusal.TheVariants.{Memory as OutOfMemory};
+ghost use Rattle.std.specs.Prelude.{◌≡◌, map, IfOk, IfErr};
 ghost use Rattle.history_model.specs.Answers.{IsProjection};
-ghost use Rattle.catalog_core.specs.change.Resolution.{has_empty_row, is_empty_row};
 ghost use Rattle.version_store.specs.StoreState.{IsStoreRefusal};
-ghost use Rattle.script_engine.specs.engine.Projected.{AreGiven, AreProjected, IsAnswerTo};
+ghost use Rattle.script_engine.specs.engine.Projected.{AreProjected, IsAnswerTo};
 
-use catalog_core::{Action, AnswerColumn, GivenRow};
+use catalog_core::AnswerColumn;
 use coalesce_core::{coalesce, witnesses};
 use period_core::{
-    Answer, Items, Memory, Period, PeriodRow, Refusal, Text, Value, Values, VersionRow, Window,
+    Answer, Items, Memory, PeriodRow, Refusal, Text, Value, Values, VersionRow, Window,
 };
 use std::alloc::Global;
-
-/// The rows that an action gives, or EmptyPeriod where one of these has no day.
-pub fn inserted_rows(alloc: Global, action: Action) -> Result<Items<PeriodRow>, Refusal>
-    ensures rows { IfOk result (λ rows. AreGiven (given_of action) rows) }
-    ensures refused { IfErr result (λ refusal.
-        ((refusal ≡ EmptyPeriod) × (has_empty_row action ≡ true)) ⊎ (refusal ≡ OutOfMemory)) }
-{
-    let Action::Insert(given) = action else {
-        return Ok(Items::empty(alloc));
-    };
-    rows_of_given(alloc, given)
-}
-
-/// The given rows over their periods.
-fn rows_of_given(alloc: Global, given: Items<GivenRow>) -> Result<Items<PeriodRow>, Refusal>
-    ensures rows { IfOk result (λ rows. AreGiven given rows) }
-    ensures refused { IfErr result (λ refusal.
-        ((refusal ≡ EmptyPeriod) × (list_any is_empty_row given ≡ true))
-        ⊎ (refusal ≡ OutOfMemory)) }
-{
-    let mut rows = Vec::new(alloc);
-    for row in given.into_vec() {
-        let Some(period) = Period::new(row.start, row.end) else {
-            return Err(Refusal::EmptyPeriod);
-        };
-        rows.push(PeriodRow {
-            values: row.values,
-            period,
-        })?;
-    }
-    Ok(Items::from_vec(rows))
-}
 
 /// The values of a select list. A row that is too short for it is none of its table: a failure of
 /// the database.

@@ -1,13 +1,16 @@
 //! One record of the report: its fields.
 
-ghost use Rattle.std.specs.Prelude.{◌≡◌, ◌++◌, ◌∷◌, [], IfErr, OnOk, map};
+ghost use Rattle.std.specs.Prelude.{◌≡◌, ◌++◌, ◌∷◌, [], IfErr, OnOk, map, slice_get};
 ghost use Rattle.std.specs.Fmt.{decimal, signed_decimal};
 ghost use Rattle.csv.specs.Records.{fields_of};
-ghost use Rattle.script_engine.specs.report.Report.{absent_text, printed_day, value_text};
+ghost use Rattle.script_engine.specs.report.Report.{absent_text, cell_text, printed_day};
+ghost use Rattle.script_engine.specs.report.Report.{printed_moment, value_cell, value_text};
+ghost use Rattle.script_engine.specs.declared.engine.outcome.VersionColumn as any;
 
+use crate::engine::outcome::{Cell, VersionColumn};
 use crate::report::ReportFault;
 use csv::ByteRecord;
-use period_core::{Day, Text, Value};
+use period_core::{Day, Moment, Text, Value, VersionRow};
 use std::alloc::Global;
 use std::marker::Model;
 
@@ -91,6 +94,16 @@ impl Record {
         self.push(&text)
     }
 
+    /// Adds a moment as YYYY-MM-DD HH:MM:SS.
+    fn push_moment(&mut self, moment: Moment) -> Result<(), ReportFault>
+        ensures ok { OnOk result (self.new ≡ self.old ++ printed_moment moment ∷ []) }
+        ensures err { IfErr result (λ e. e ≡ ReportFault.Memory) }
+    {
+        let mut text = [0; 19];
+        moment.write_text(&mut text);
+        self.push(&text)
+    }
+
     /// Adds a day, or `none` where there is none.
     pub(crate) fn push_absent(&mut self, day: Option<Day>) -> Result<(), ReportFault>
         ensures ok { OnOk result (self.new ≡ self.old ++ absent_text day ∷ []) }
@@ -132,6 +145,73 @@ impl Record {
     {
         for value in values {
             self.push_value(alloc, value)?;
+        }
+        Ok(())
+    }
+
+    /// Adds the value at a position, or nothing where there is none.
+    fn push_value_at(
+        &mut self,
+        alloc: Global,
+        values: &[Value],
+        position: usize,
+    ) -> Result<(), ReportFault>
+        ensures ok { OnOk result
+            (self.new ≡ self.old ++ value_cell (slice_get values.now position) ∷ []) }
+        ensures err { IfErr result (λ e. e ≡ ReportFault.Memory) }
+    {
+        match values.get(position) {
+            Some(value) => self.push_value(alloc, value),
+            None => self.push(b""),
+        }
+    }
+
+    /// Adds a cell of a version.
+    fn push_cell(
+        &mut self,
+        alloc: Global,
+        version: &VersionRow,
+        cell: Cell,
+    ) -> Result<(), ReportFault>
+        ensures ok { OnOk result (self.new ≡ self.old ++ cell_text version.now cell ∷ []) }
+        ensures err { IfErr result (λ e. e ≡ ReportFault.Memory) }
+    {
+        match cell {
+            Cell::Value(position) => {
+                self.push_value_at(alloc, version.values.as_slice(), position)
+            }
+            Cell::Start => self.push_day(version.period.start()),
+            Cell::End => self.push_day(version.period.end()),
+            Cell::From => self.push_moment(version.from),
+            Cell::To => self.push_moment(version.to),
+        }
+    }
+
+    /// Adds the names of columns.
+    pub(crate) fn push_names(&mut self, columns: &[VersionColumn]) -> Result<(), ReportFault>
+        ensures ok { OnOk result
+            (self.new ≡ self.old ++ map (λ (column : any.VersionColumn). column.name) columns.now) }
+        ensures err { IfErr result (λ e. e ≡ ReportFault.Memory) }
+    {
+        for column in columns {
+            self.push(column.name.as_str().as_bytes())?;
+        }
+        Ok(())
+    }
+
+    /// Adds the cells of a version, column by column.
+    pub(crate) fn push_cells(
+        &mut self,
+        alloc: Global,
+        columns: &[VersionColumn],
+        version: &VersionRow,
+    ) -> Result<(), ReportFault>
+        ensures ok { OnOk result (self.new ≡ self.old
+            ++ map (λ (column : any.VersionColumn). cell_text version.now column.cell) columns.now) }
+        ensures err { IfErr result (λ e. e ≡ ReportFault.Memory) }
+    {
+        for column in columns {
+            self.push_cell(alloc, version, column.cell)?;
         }
         Ok(())
     }

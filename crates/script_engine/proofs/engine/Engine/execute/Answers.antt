@@ -1,7 +1,8 @@
 use Rattle.std.proofs.Common.{◌≡◌, ◌∙◌, ap, subst, sym}
-use Rattle.sql_statements.specs.Plain.{plain, plain_form, plain_query}
+use Rattle.sql_statements.specs.Plain.{plain, plain_form, plain_query, plain_stored}
 use Rattle.sql_statements.specs.Trees.{Statement}
 use Rattle.sql_statements.specs.Trees as statement
+use Rattle.catalog_core.specs.change.Resolution.{IsChange}
 use Rattle.script_engine.specs.engine.Runs.{StepsTo}
 use Rattle.script_engine.proofs.engine.Engine.execute.Goals as goal
 
@@ -22,7 +23,10 @@ returns-in-Create-clause-step g c usable history kept =
     ap statement.create c.table.ensures.value ∙ ap plain_form (sym c.in-Create.is) ∙ c.form.ensures in
     subst (λ (s : Statement). StepsTo g.S.Store history s c.create.result c.create.new.self) said (c.create.ensures.step usable history kept)
 
-pub returns-in-Insert-clause-step : goal.returns-in-Insert-clause-step
-returns-in-Insert-clause-step g c usable history kept =
-    let said : statement.insert c.in-Insert.insert ≡ plain c.args.statement.now = ap plain_form (sym c.in-Insert.is) ∙ c.form.ensures in
-    subst (λ (s : Statement). StepsTo g.S.Store history s c.insert.result c.insert.new.self) said (c.insert.ensures.step usable history kept)
+pub returns-in-Stored-clause-step : goal.returns-in-Stored-clause-step
+returns-in-Stored-clause-step g c usable history kept =
+    let said : statement.stored (plain_stored c.in-Stored.query) ≡ plain c.args.statement.now = ap plain_form (sym c.in-Stored.is) ∙ c.form.ensures in
+    subst (λ (s : Statement). StepsTo g.S.Store history s c.show.result c.show.new.self) said (c.show.ensures.step usable history kept)
+
+pub change-requires : goal.change-requires
+change-requires g c = subst IsChange (ap plain_form (sym c.in-Insert.is) ∙ c.form.ensures) tt

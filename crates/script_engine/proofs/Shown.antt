@@ -1,0 +1,80 @@
+-- A stored query that is answered is a step of the histories that the engine represents.
+use Rattle.std.proofs.Common.{◌≡◌, ◌∙◌, List, [], Some, Ok, Err, refl, sym, ap, subst, subst₂, fold, inl, inr}
+use Rattle.period_core.specs.Leasts.{MayAnswer, NoneApplies}
+use Rattle.period_core.specs.declared.refusal.Refusal.{Refusal}
+use Rattle.period_core.specs.declared.version.VersionRow.{VersionRow}
+use Rattle.sqlite.specs.Store.{Ghosts}
+use Rattle.sql_statements.specs.Trees.{Statement}
+use Rattle.sql_statements.specs.Trees as statement
+use Rattle.catalog_core.specs.Judged.{Holds}
+use Rattle.catalog_core.specs.stored.StoredAnswers.{shown_versions}
+use Rattle.catalog_core.specs.stored.StoredQueries.{ResolvesStoredQuery, stored_query_conditions}
+use Rattle.catalog_core.specs.table.TableWords.{table_of}
+use Rattle.catalog_core.specs.declared.stored.Stored.{Stored}
+use Rattle.catalog_core.specs.declared.table.TableDef.{TableDef}
+use Rattle.version_store.specs.Contents.{Contents}
+use Rattle.version_store.specs.Scans.{AreFirstSeen, Visits}
+use Rattle.version_store.specs.StoreState.{IsStoreRefusal, StoreRepresents, StoreState}
+use Rattle.history_model.specs.Histories.{Asked, History, catalog_of, with_event}
+use Rattle.script_engine.specs.engine.Runs.{StepsTo}
+use Rattle.script_engine.specs.engine.Shown.{AreShown, AreShownOf, version_columns}
+use Rattle.script_engine.specs.engine.Stored.{EngineRepresents}
+use Rattle.script_engine.specs.declared.engine.outcome.Outcome.TheVariants.{Versions}
+use Rattle.script_engine.specs.declared.engine.outcome.VersionColumn.{VersionColumn}
+use Rattle.script_engine.specs.declared.engine.outcome.VersionList.{VersionList}
+use Rattle.script_engine.proofs.Contents.{said-asked}
+use Rattle.script_engine.proofs.ShownFacts.{kept_next, kept_rows, shown_of_scan}
+use Rattle.script_engine.proofs.Steps.{failed_step, refused_step, tables_of}
+
+-- what a scan leaves in a visitor that had none
+pub scanned : {X : Type 0} (c : Contents) (query : Stored) (old new : Stored × List VersionRow) (x : X) → old ≡ (query, []) → Visits kept_next c query.table query.window old new (Ok x) → AreShownOf c query new.1
+scanned c query old new x none visits =
+    let rows : List VersionRow = visits.0 in
+    let whole : visits.1 ≡ [] = visits.4 in
+    record {
+      seen = rows;
+      all = subst (AreFirstSeen c query.table query.window rows) whole visits.2;
+      shown = ap (λ (k : Stored × List VersionRow). k.1) (visits.3 ∙ ap (λ (k : Stored × List VersionRow). fold kept_next k rows) none ∙ kept_rows query [] rows);
+    }
+
+module _ {S : Type 0} (g : Ghosts S) (history : History) (old : StoreState S) (asked : statement.Stored) (kept : EngineRepresents g history old) where
+  abbrev s : Statement
+  s = statement.stored asked
+
+  pub unshown_step : (refusal : Refusal) → MayAnswer (Holds (stored_query_conditions old.catalog.tables asked)) refusal → StepsTo g history s (Err refusal) old
+  unshown_step refusal may =
+      refused_step g history old s refusal kept
+      (inl (subst (λ (tables : List TableDef). MayAnswer (Holds (stored_query_conditions tables asked)) refusal) (tables_of g history old kept) may))
+
+  pub failed_show : (new : StoreState S) (refusal : Refusal) → NoneApplies (Holds (stored_query_conditions old.catalog.tables asked)) → StoreRepresents g new kept.contents → IsStoreRefusal refusal → StepsTo g history s (Err refusal) new
+  failed_show new refusal sound stored failure =
+      failed_step g history old new s refusal kept stored failure
+      (subst (λ (tables : List TableDef). NoneApplies (Holds (stored_query_conditions tables asked))) (tables_of g history old kept) sound)
+
+  pub shown_step : (new : StoreState S) (query : Stored) (definition : TableDef) (columns : List VersionColumn) (rows : List VersionRow) → NoneApplies (Holds (stored_query_conditions old.catalog.tables asked)) →
+      ResolvesStoredQuery old.catalog.tables asked query → table_of old.catalog.tables query.table ≡ Some definition → columns ≡ version_columns definition → StoreRepresents g new kept.contents → AreShownOf kept.contents query rows →
+      StepsTo g history s (Ok (Versions (record { columns = columns; rows = rows }))) new
+  shown_step new query definition columns rows sound resolved there are stored scan =
+      let holds = kept.said.versions query.table in
+      let list : VersionList = record { columns = columns; rows = rows } in (
+        with_event history Asked,
+        (
+          subst (λ (tables : List TableDef). NoneApplies (Holds (stored_query_conditions tables asked))) (tables_of g history old kept) sound,
+          (
+            list,
+            refl,
+            record {
+              query = query;
+              resolved = subst (λ (tables : List TableDef). ResolvesStoredQuery tables asked query) (tables_of g history old kept) resolved;
+              definition = definition;
+              table = subst (λ (tables : List TableDef). table_of tables query.table ≡ Some definition) (tables_of g history old kept) there;
+              columns = are;
+              versions = holds.rows;
+              left = holds.left;
+              rows = subst (AreShown query holds.rows) (sym scan.shown) (shown_of_scan kept.contents query holds.rows scan.seen holds.all scan.all);
+              after = refl;
+            },
+          ),
+        ),
+        record { contents = kept.contents; stored = stored; said = said-asked history kept.contents kept.said },
+      )

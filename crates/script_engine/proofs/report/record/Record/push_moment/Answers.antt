@@ -1,0 +1,12 @@
+use Rattle.std.proofs.Common.{◌≡◌, ℕ, ℤ, List}
+use Rattle.period_core.specs.Moments.{moment_text}
+use Rattle.script_engine.specs.report.Report.{printed_moment}
+use Rattle.script_engine.proofs.report.record.Record.push_moment.Goals as goal
+
+printed : (text : List ℕ) (moment : ℤ) → text ≡ moment_text moment → text ≡ printed_moment moment
+unfolding printed_moment
+printed text moment e = e
+
+pub returns-clause-ok : goal.returns-clause-ok
+returns-clause-ok c =
+    rw (← printed c.write_text.new.text c.args.moment c.write_text.ensures.text) c.push.ensures.ok
