@@ -14,8 +14,8 @@ use Rattle.temporal_model.proofs.Members.{Contains-here, Contains-one}
 use Rattle.period_keys.specs.declared.keyed_periods.KeyedPeriods.{KeyedPeriods}
 use Rattle.period_keys.specs.declared.ordered_periods.OrderedPeriods.{OrderedPeriods}
 use Rattle.period_keys.specs.Keys.{BothHold, HasNoClash, ShareKeyOn, SomePair, key_values}
-use Rattle.period_keys.specs.Ordered.{AreInOrder}
-use Rattle.period_keys.specs.Index.{IsApart, IsIndexOf, has_key, periods_at, periods_of_key}
+use Rattle.period_keys.specs.Ordered.{AreApart, AreInOrder}
+use Rattle.period_keys.specs.Index.{AreAtKeys, has_key, periods_at, periods_of_key}
 use Rattle.period_keys.proofs.Members.{from_filter}
 use Rattle.period_keys.proofs.Locality.{period_of}
 use Rattle.period_keys.proofs.Pairs.{SomePair-append, SomePair-cross, SomePair-nil, SomePair-one, SomePair-permutation, SomePair-right}
@@ -67,27 +67,20 @@ no_pair positions rows key none day h =
     (λ x y p q both. (sym ((values_eq key (key_values positions x)).0 p) ∙ (values_eq key (key_values positions y)).0 q, both))
     rows (pair_of_map (BothHold day) period_of (filter test rows) h))
 
-pub apart_where_none :
-    (positions : List ℕ) (rows : List PeriodRow) (index : KeyedPeriods) → IsIndexOf positions rows index → HasNoClash positions rows
-    → ((key : List Value) → AreInOrder (periods_at index key)) → IsApart index
-apart_where_none positions rows index is none order = λ key i j d lt below.
-    let xs : List Period = periods_at index key in
+-- the periods of a key, which are in order, are apart where no two rows clash
+pub apart_at :
+    (positions : List ℕ) (rows : List PeriodRow) (at : List Value → List Period) → AreAtKeys positions rows at → HasNoClash positions rows
+    → (key : List Value) → AreInOrder (at key) → AreApart (at key)
+apart_at positions rows at is none key order = λ i j d lt below.
+    let xs : List Period = at key in
     let a : Period = get_or xs i d in
     let b : Period = get_or xs j d in
     by_lt_z {P = a.end ≤ℤ b.start} b.start a.end
     (λ less.
-    let upto : a.start ≤ℤ b.start = order key i j d lt below in
+    let upto : a.start ≤ℤ b.start = order i j d lt below in
     let mine : b.start <ℤ b.end = b.ordered in
     let both : BothHold b.start a b = ((upto, less), (omega (arith, ints), mine)) in
     let pair : SomePair (BothHold b.start) xs =
     (i, j, lt, below, λ e. subst (λ x. BothHold b.start x (get_or xs j e)) (get_or_default xs i d e (omega arith)) (subst (BothHold b.start a) (get_or_default xs j d e below) both)) in
     absurd (no_pair positions rows key none b.start (SomePair-permutation (BothHold b.start) (BothHold-sym b.start) xs (periods_of_key positions rows key) (is key) pair)))
     (λ upto. upto)
-
--- what each entry keeps: the periods of each key are in order
-pub in_order_at : (index : KeyedPeriods) (key : List Value) → AreInOrder (periods_at index key)
-in_order_at index key = by_case (get values_cmp index.entries key)
-  where
-    by_case : (entry : Option OrderedPeriods) → AreInOrder (option_map_or (λ (periods : OrderedPeriods). periods.items.items) entry [])
-    by_case None = λ i j d lt below. absurd (omega arith)
-    by_case (Some periods) = periods.ordered

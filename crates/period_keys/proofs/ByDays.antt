@@ -14,7 +14,7 @@ use Rattle.period_keys.proofs.Members.{in_filter}
 use Rattle.period_keys.proofs.Pairs.{SomeCross, SomePair-append, SomePair-cross, SomePair-nil, SomePair-one, SomePair-right}
 
 -- a pair of the list is one of a mapped list
-pair_in_map : {X Y : Type 0} (R : Y → Y → Type 0) (f : X → Y) (xs : List X) → SomePair (λ a b. R (f a) (f b)) xs → SomePair R (map f xs)
+pub pair_in_map : {X Y : Type 0} (R : Y → Y → Type 0) (f : X → Y) (xs : List X) → SomePair (λ a b. R (f a) (f b)) xs → SomePair R (map f xs)
 pair_in_map {X} R f [] h = let S : X → X → Type 0 = λ a b. R (f a) (f b) in absurd (SomePair-nil S h)
 pair_in_map R f (x ∷ xs) (i, j, lt, below, both) =
     let size : length (map f (x ∷ xs)) ≡ length (x ∷ xs) = length-map (x ∷ xs) f in (

@@ -4,12 +4,20 @@ pub mod Members
 pub mod Pairs
 pub mod SweepSteps
 pub mod InOrder
+pub mod Edited
+pub mod Loops
+pub mod Grouped
 pub mod Neighbours
 pub mod Periods
 pub mod Locality
 pub mod Indexes
 pub mod Apart
 pub mod ByDays
+pub mod Origins
+pub mod LawfulFacts
+pub mod VersionKeys
+pub mod Fixed
+pub mod PlanParts
 pub mod Touched
 pub mod Covered
 mod KeyExamples

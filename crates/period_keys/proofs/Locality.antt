@@ -10,7 +10,7 @@ use Rattle.period_core.specs.declared.period.Period.{Period}
 use Rattle.period_core.specs.declared.row.PeriodRow.{PeriodRow}
 use Rattle.period_keys.specs.declared.keyed_periods.KeyedPeriods.{KeyedPeriods}
 use Rattle.period_keys.specs.Keys.{IsWithin, BothHold, key_values, ShareKeyOn, IsKeyClash, HasNoClash}
-use Rattle.period_keys.specs.Index.{periods_at, has_key, periods_of_key, IsIndexOf, SharesDayOfKept, MeetsKept, AddsClash}
+use Rattle.period_keys.specs.Index.{periods_at, has_key, periods_of_key, AreAtKeys, IsIndexOf, SharesDayOfKept, MeetsKept, AddsClash}
 use Rattle.period_keys.proofs.Members.{some_member, member_of, Any-one, in_filter, from_filter, in_map, from_map}
 use Rattle.period_keys.proofs.Pairs.{SomeCross, SomePair-append, SomePair-left, SomePair-right, SomePair-cross, SomePair-one, SomePair-permutation}
 
@@ -92,26 +92,31 @@ clash_of_more positions rows row day =
       ]),
     )
 
--- what an index has at a key is what its rows have
+-- what is at a key is what its rows have
+at_has : (positions : List ℕ) (rows : List PeriodRow) (at : List Value → List Period) → AreAtKeys positions rows at → (key : List Value) (period : Period)
+    → (Contains (at key) period ↔ Contains (periods_of_key positions rows key) period)
+at_has positions rows at is key period = (
+  λ c. Contains-permutation (at key) (periods_of_key positions rows key) period (is key) c,
+  λ c. Contains-permutation (periods_of_key positions rows key) (at key) period (IsPermutation-sym (at key) (periods_of_key positions rows key) (is key)) c,
+)
+
+-- the same of an index
 pub index_has : (positions : List ℕ) (rows : List PeriodRow) (index : KeyedPeriods) → IsIndexOf positions rows index → (key : List Value) (period : Period)
     → (Contains (periods_at index key) period ↔ Contains (periods_of_key positions rows key) period)
-index_has positions rows index is key period = (
-  λ c. Contains-permutation (periods_at index key) (periods_of_key positions rows key) period (is key) c,
-  λ c. Contains-permutation (periods_of_key positions rows key) (periods_at index key) period (IsPermutation-sym (periods_at index key) (periods_of_key positions rows key) (is key)) c,
-)
+index_has positions rows index is key period = at_has positions rows (periods_at index) is key period
 
 -- where no two rows of a key share a day, a key's periods that do not go are those of its rows that stay
 pub kept_are_staying :
-    (positions : List ℕ) (index : KeyedPeriods) (before ended stay : List PeriodRow)
-    → IsIndexOf positions before index → HasNoClash positions before → IsPermutation before (ended ++ stay)
+    (positions : List ℕ) (at : List Value → List Period) (before ended stay : List PeriodRow)
+    → AreAtKeys positions before at → HasNoClash positions before → IsPermutation before (ended ++ stay)
     → (key : List Value) (period : Period) (day : ℤ)
-    → (SharesDayOfKept (periods_at index key) (periods_of_key positions ended key) period day
+    → (SharesDayOfKept (at key) (periods_of_key positions ended key) period day
     ↔ SharesDay (periods_of_key positions stay key) period day)
-kept_are_staying positions index before ended stay is none moved key period day =
+kept_are_staying positions at before ended stay is none moved key period day =
     let Kept : Period → Type 0 = λ other. BothHold day period other × (Contains (periods_of_key positions ended key) other → ⊥) in (
       λ h.
-          let (p, at_key, (both, kept)) = member_of Kept (periods_at index key) h in
-          let (row, there, same, period_is) = from_key positions before key p ((index_has positions before index is key p).0 at_key) in
+          let (p, at_key, (both, kept)) = member_of Kept (at key) h in
+          let (row, there, same, period_is) = from_key positions before key p ((at_has positions before at is key p).0 at_key) in
           elim (Contains-append_cases ended stay row (Contains-permutation before (ended ++ stay) row moved there)) [
             | inl goes ↦ absurd (kept (subst (Contains (periods_of_key positions ended key)) period_is (in_key positions ended key row goes same)))
             | inr stays ↦ some_member (BothHold day period) (periods_of_key positions stay key) p (subst (Contains (periods_of_key positions stay key)) period_is (in_key positions stay key row stays same)) both
@@ -120,14 +125,14 @@ kept_are_staying positions index before ended stay is none moved key period day 
           let (p, at_key, both) = member_of (BothHold day period) (periods_of_key positions stay key) h in
           let (row, stays, same, period_is) = from_key positions stay key p at_key in
           let there : Contains before row = Contains-permutation (ended ++ stay) before row (IsPermutation-sym before (ended ++ stay) moved) (Contains-append_right ended stay row stays) in
-          let in_index : Contains (periods_at index key) p = (index_has positions before index is key p).1 (subst (Contains (periods_of_key positions before key)) period_is (in_key positions before key row there same)) in
+          let in_index : Contains (at key) p = (at_has positions before at is key p).1 (subst (Contains (periods_of_key positions before key)) period_is (in_key positions before key row there same)) in
           let kept : Contains (periods_of_key positions ended key) p → ⊥ =
           λ goes.
           let (gone, in_ended, gone_same, gone_is) = from_key positions ended key p goes in
           let pair : ShareKeyOn positions day gone row = (sym gone_same ∙ same, (subst (λ q. IsWithin q day) (sym gone_is) both.1, subst (λ q. IsWithin q day) (sym period_is) both.1)) in
           let clash : IsKeyClash positions (ended ++ stay) day = SomePair-cross (ShareKeyOn positions day) ended stay (gone, row, in_ended, stays, pair) in
           none day (IsKeyClash-permutation positions day (ended ++ stay) before (IsPermutation-sym before (ended ++ stay) moved) clash) in
-          some_member Kept (periods_at index key) p in_index (both, kept),
+          some_member Kept (at key) p in_index (both, kept),
     )
 
 -- rows that stay do not clash where none did before
@@ -137,13 +142,13 @@ none_of_staying positions before ended stay none moved day h =
 
 -- the law: given none before, the clashes after a change are those that its added rows make
 pub clashes_after :
-    (positions : List ℕ) (index : KeyedPeriods) (before ended stay added : List PeriodRow)
-    → IsIndexOf positions before index → HasNoClash positions before → IsPermutation before (ended ++ stay)
-    → (day : ℤ) → (AddsClash positions index ended added day ↔ IsKeyClash positions (stay ++ added) day)
-clashes_after positions index before ended stay added is none moved day =
-    let Meets : PeriodRow → Type 0 = MeetsKept positions index ended day in
+    (positions : List ℕ) (at : List Value → List Period) (before ended stay added : List PeriodRow)
+    → AreAtKeys positions before at → HasNoClash positions before → IsPermutation before (ended ++ stay)
+    → (day : ℤ) → (AddsClash positions at ended added day ↔ IsKeyClash positions (stay ++ added) day)
+clashes_after positions at before ended stay added is none moved day =
+    let Meets : PeriodRow → Type 0 = MeetsKept positions at ended day in
     let Shares : PeriodRow → Type 0 = λ (row : PeriodRow). SharesDay (periods_of_key positions stay (key_values positions row)) row.period day in
-    let same : (row : PeriodRow) → (Meets row ↔ Shares row) = λ row. kept_are_staying positions index before ended stay is none moved (key_values positions row) row.period day in (
+    let same : (row : PeriodRow) → (Meets row ↔ Shares row) = λ row. kept_are_staying positions at before ended stay is none moved (key_values positions row) row.period day in (
       λ h. (clash_of_both positions stay added day).1 (elim h [
         | inl meets ↦ let (row, there, m) = member_of Meets added meets in inr (inl (some_member Shares added row there ((same row).0 m)))
         | inr among ↦ inr (inr among)

@@ -14,12 +14,12 @@ use Rattle.period_keys.proofs.Leasts.{IsLeastOf-same}
 
 -- the day that a row shares with those that are kept, found in an index of those that go
 pub meets_kept :
-    (positions : List ℕ) (index gone : KeyedPeriods) (ended : List PeriodRow) (row : PeriodRow) (key : List Value) (periods going : List Period) (found : Option ℤ)
-    → key ≡ key_values positions row → periods ≡ periods_at index key → going ≡ periods_at gone key → IsIndexOf positions ended gone
-    → IsLeastOf (SharesDayOfKept periods going row.period) found → IsLeastOf (λ day. MeetsKept positions index ended day row) found
-meets_kept positions index gone ended row key periods going found key_is periods_is going_is indexed least =
+    (positions : List ℕ) (at : List Value → List Period) (gone : KeyedPeriods) (ended : List PeriodRow) (row : PeriodRow) (key : List Value) (periods going : List Period) (found : Option ℤ)
+    → key ≡ key_values positions row → periods ≡ at key → going ≡ periods_at gone key → IsIndexOf positions ended gone
+    → IsLeastOf (SharesDayOfKept periods going row.period) found → IsLeastOf (λ day. MeetsKept positions at ended day row) found
+meets_kept positions at gone ended row key periods going found key_is periods_is going_is indexed least =
     let own : List Value = key_values positions row in
-    let at_key : periods ≡ periods_at index own = periods_is ∙ ap (periods_at index) key_is in
+    let at_key : periods ≡ at own = periods_is ∙ ap at key_is in
     let moved : IsPermutation going (periods_of_key positions ended own) =
     subst (λ (xs : List Period). IsPermutation xs (periods_of_key positions ended own)) (sym (going_is ∙ ap (periods_at gone) key_is)) (indexed own) in
     let Kept : List Period → ℤ → Period → Type 0 = λ gone day other. BothHold day row.period other × (Contains gone other → ⊥) in

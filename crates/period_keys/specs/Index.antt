@@ -26,10 +26,14 @@ abbrev pub periods_of_key : List ℕ → List PeriodRow → List Value → List 
 periods_of_key positions rows key =
     map (λ (row : PeriodRow). row.period) (filter (has_key positions key) rows)
 
--- for each key the periods are those of its rows, in some order
+-- for each key the periods at it are those of its rows, in some order
+abbrev pub AreAtKeys : List ℕ → List PeriodRow → (List Value → List Period) → Type 0
+AreAtKeys positions rows at =
+    (key : List Value) → IsPermutation (at key) (periods_of_key positions rows key)
+
+-- the same of an index
 abbrev pub IsIndexOf : List ℕ → List PeriodRow → KeyedPeriods → Type 0
-IsIndexOf positions rows index =
-    (key : List Value) → IsPermutation (periods_at index key) (periods_of_key positions rows key)
+IsIndexOf positions rows index = AreAtKeys positions rows (periods_at index)
 
 -- the earlier of two days that may be there
 abbrev pub earlier : Option ℤ → Option ℤ → Option ℤ
@@ -43,17 +47,14 @@ SharesDayOfKept periods gone period day =
     Any (λ other. BothHold day period other × (Contains gone other → ⊥)) periods
 
 -- the added row and a row of its key that is kept both hold on the day
-abbrev pub MeetsKept : List ℕ → KeyedPeriods → List PeriodRow → ℤ → PeriodRow → Type 0
-MeetsKept positions index ended day row =
-    SharesDayOfKept (periods_at index (key_values positions row))
+abbrev pub MeetsKept : List ℕ → (List Value → List Period) → List PeriodRow → ℤ → PeriodRow
+    → Type 0
+MeetsKept positions at ended day row =
+    SharesDayOfKept (at (key_values positions row))
     (periods_of_key positions ended (key_values positions row)) row.period day
 
 -- an added row clashes with a row that is kept, or with another added one
-abbrev pub AddsClash : List ℕ → KeyedPeriods → List PeriodRow → List PeriodRow → ℤ
-    → Type 0
-AddsClash positions index ended added day =
-    Any (MeetsKept positions index ended day) added ⊎ IsKeyClash positions added day
-
--- the periods of each key are apart
-abbrev pub IsApart : KeyedPeriods → Type 0
-IsApart index = (key : List Value) → AreApart (periods_at index key)
+abbrev pub AddsClash : List ℕ → (List Value → List Period) → List PeriodRow → List PeriodRow
+    → ℤ → Type 0
+AddsClash positions at ended added day =
+    Any (MeetsKept positions at ended day) added ⊎ IsKeyClash positions added day

@@ -1,11 +1,12 @@
 -- The laws of keys and references. Each is the contract of a function of this crate.
 use Rattle.std.specs.Prelude.{◌↔◌, ◌++◌, ℕ, ℤ, List, IsPermutation}
+use Rattle.period_core.specs.declared.period.Period.{Period}
+use Rattle.period_core.specs.declared.value.Value.{Value}
 use Rattle.period_core.specs.declared.row.PeriodRow.{PeriodRow}
 use Rattle.temporal_model.specs.Snapshot.{values_on}
-use Rattle.period_keys.specs.declared.keyed_periods.KeyedPeriods.{KeyedPeriods}
 use Rattle.period_keys.specs.Keys.{HasNoClash, IsKeyClash, IsUncovered}
 use Rattle.period_keys.specs.Days.{LacksParent, ShareKey}
-use Rattle.period_keys.specs.Index.{IsIndexOf, AddsClash}
+use Rattle.period_keys.specs.Index.{AddsClash, AreAtKeys}
 
 -- period rows clash on a day where two of the rows that hold on it have equal keys
 abbrev pub ClashesAreOfDays : Type 0
@@ -24,9 +25,9 @@ UncoveredAreOfDays =
 -- given no clash before, the clashes after a change are those that its added rows make
 abbrev pub ClashesAfterChange : Type 0
 ClashesAfterChange =
-    (positions : List ℕ) (index : KeyedPeriods) (before ended stay added : List PeriodRow)
-    → IsIndexOf positions before index
+    (positions : List ℕ) (at : List Value → List Period) (before ended stay added : List PeriodRow)
+    → AreAtKeys positions before at
     → HasNoClash positions before
     → IsPermutation before (ended ++ stay)
     → (day : ℤ)
-    → (AddsClash positions index ended added day ↔ IsKeyClash positions (stay ++ added) day)
+    → (AddsClash positions at ended added day ↔ IsKeyClash positions (stay ++ added) day)

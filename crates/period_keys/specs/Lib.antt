@@ -4,5 +4,11 @@ pub mod Days
 pub mod Ordered
 pub mod Index
 pub mod Gaps
+pub mod Versions
+pub mod Rows
 pub mod Laws
 pub mod Repeats
+pub mod Lawful
+pub mod LawfulLaws
+pub mod FixedKeys
+pub mod Planned

@@ -1,16 +1,18 @@
 //! The least day on which two rows share a key after a change, judged by the rows of the keys that
 //! it adds.
 
-ghost use Rattle.std.specs.Prelude.{◌++◌, IfOk, IsPermutation, List};
-ghost use Rattle.period_core.specs.declared.row.PeriodRow.{PeriodRow as Row};
+ghost use Rattle.std.specs.Prelude.{◌++◌, IfOk, IsPermutation, List, map};
+ghost use Rattle.period_core.specs.declared.version.VersionRow.{VersionRow as Version};
+ghost use Rattle.history_model.specs.Versions.{row_of};
 ghost use Rattle.period_keys.specs.Keys.{HasNoClash, IsKeyClash, IsLeastOf};
-ghost use Rattle.period_keys.specs.Index.{AddsClash, IsApart, IsIndexOf};
+ghost use Rattle.period_keys.specs.Index.{IsIndexOf};
 
+use crate::current_rows::CurrentRows;
 use crate::keyed_periods::KeyedPeriods;
-use crate::keys::key_of;
+use crate::keys::{key_of, values_of};
 use crate::shared_days::{earlier, first_shared_with_kept};
 use crate::sweep::rows_clash;
-use period_core::{Day, Memory, PeriodRow};
+use period_core::{Day, Memory, PeriodRow, VersionRow};
 use std::alloc::Global;
 
 /// An index of the rows by their values at these positions. The only error is out of memory.
@@ -29,30 +31,43 @@ pub fn index_of(
     Ok(index)
 }
 
-/// The least day on which two rows share a key once the ended rows are gone and the added ones are
-/// there, for an index of the rows that were there before. The only error is out of memory.
-pub fn key_clash_after(
+/// An index of versions by their values at these positions. The only error is out of memory.
+pub fn index_of_versions(
     alloc: Global,
     positions: &[usize],
-    index: &KeyedPeriods,
-    ended: &[PeriodRow],
+    versions: &[VersionRow],
+) -> Result<KeyedPeriods, Memory>
+    ensures { IfOk result (IsIndexOf positions.now (map row_of versions.now)) }
+{
+    let mut index = KeyedPeriods::new(alloc);
+    for version in versions {
+        let key = values_of(alloc, positions, version.values.as_slice())?;
+        index.add(alloc, &key, version.period)?;
+    }
+    Ok(index)
+}
+
+/// The least day on which two rows of a table share its key once the ended rows are gone and the
+/// added ones are there: what a look at all rows would find, where no two shared it before. The
+/// ended ones are among the current rows. The only error is out of memory.
+pub fn key_clash_after(
+    alloc: Global,
+    current: &CurrentRows,
+    ended: &[VersionRow],
     added: &[PeriodRow],
 ) -> Result<Option<Day>, Memory>
-    ensures by_touched { IfOk result (λ found. IsApart index.now
-        → IsLeastOf (AddsClash positions.now index.now ended.now added.now) found) }
-
-    // What a look at all rows would find, where no two shared a key before.
-    ensures of_whole { IfOk result (λ found. (before stay : List Row)
-        → IsIndexOf positions.now before index.now
-        → HasNoClash positions.now before
-        → IsPermutation before (ended.now ++ stay)
-        → IsLeastOf (IsKeyClash positions.now (stay ++ added.now)) found) }
+    ensures { IfOk result (λ found. (stay : List Version)
+        → HasNoClash current.now.positions (map row_of current.now.rows)
+        → IsPermutation current.now.rows (ended.now ++ stay)
+        → IsLeastOf (IsKeyClash current.now.positions (map row_of stay ++ added.now)) found) }
 {
-    let gone = index_of(alloc, positions, ended)?;
+    let positions = current.positions();
+    let gone = index_of_versions(alloc, positions, ended)?;
     let mut with_kept = None;
     for row in added {
         let key = key_of(alloc, positions, row)?;
-        let kept = first_shared_with_kept(index.of_key(&key), gone.of_key(&key), &row.period);
+        let there = current.periods_of_key(&key);
+        let kept = first_shared_with_kept(there, gone.of_key(&key), &row.period);
         with_kept = earlier(with_kept, kept);
     }
     let among = rows_clash(alloc, positions, added)?;

@@ -2,7 +2,7 @@
 
 ghost use Rattle.std.specs.Prelude.{◌≡◌, ◌++◌, ◌∷◌, [], IfOk, OnOk, slice_get};
 ghost use Rattle.std.specs.List.{filter_map};
-ghost use Rattle.period_keys.specs.Keys.{key_values};
+ghost use Rattle.period_keys.specs.Keys.{key_values, values_at};
 
 use period_core::{Memory, PeriodRow, Value, Values};
 use std::alloc::Global;
@@ -11,9 +11,16 @@ use std::alloc::Global;
 pub fn key_of(alloc: Global, positions: &[usize], row: &PeriodRow) -> Result<Values, Memory>
     ensures { IfOk result (λ key. key ≡ key_values positions.now row.now) }
 {
+    values_of(alloc, positions, row.values.as_slice())
+}
+
+/// The values at these positions, in this order. The only error is out of memory.
+pub fn values_of(alloc: Global, positions: &[usize], values: &[Value]) -> Result<Values, Memory>
+    ensures { IfOk result (λ key. key ≡ values_at positions.now values.now) }
+{
     let mut key = Vec::new(alloc);
     for position in positions {
-        push_value_at(alloc, &mut key, row.values.as_slice(), *position)?;
+        push_value_at(alloc, &mut key, values, *position)?;
     }
     Ok(Values::from_vec(key))
 }

@@ -7,11 +7,17 @@
 
 mod changes;
 mod clashes;
+mod current_rows;
+mod fixed_keys;
 mod gaps;
+mod groups;
 mod key_laws;
+mod key_rows;
 mod keyed_periods;
 mod keys;
+mod lawful_laws;
 mod ordered_periods;
+mod planning;
 mod positions;
 mod references;
 mod shared_days;
@@ -19,10 +25,17 @@ mod sweep;
 mod tables;
 
 pub use changes::{add_rows, apply_change, keys_of, take_rows};
-pub use clashes::{index_of, key_clash_after};
+pub use clashes::{index_of, index_of_versions, key_clash_after};
+pub use current_rows::CurrentRows;
+pub use fixed_keys::fixed_key;
 pub use key_laws::{clashes_after_change, clashes_are_of_days, uncovered_are_of_days};
 pub use keyed_periods::KeyedPeriods;
-pub use keys::key_of;
+pub use keys::{key_of, values_of};
+pub use lawful_laws::{
+    changes_break_their_own_references, key_faults_are_clashes, lacking_parents_are_uncovered,
+    states_stay_lawful,
+};
+pub use planning::plan_change;
 pub use positions::positions_of;
 pub use references::{uncovered_by_children, uncovered_by_parents};
 pub use tables::{key_clash, uncovered};

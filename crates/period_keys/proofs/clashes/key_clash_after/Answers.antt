@@ -1,40 +1,53 @@
-use Rattle.std.proofs.Common.{◌≡◌, ◌++◌, List, ℤ, take, sym, subst, arith}
+use Rattle.std.proofs.Common.{◌≡◌, ◌++◌, List, ℕ, ℤ, map, take, sym, subst, arith}
 use Rattle.std.specs.List.{Any}
 use Rattle.std.proofs.lemmas.List.{take_all}
+use Rattle.period_core.specs.declared.period.Period.{Period}
+use Rattle.period_core.specs.declared.value.Value.{Value}
 use Rattle.period_core.specs.declared.row.PeriodRow.{PeriodRow}
-use Rattle.period_keys.specs.Keys.{IsKeyClash, IsLeastOf}
-use Rattle.period_keys.specs.Index.{AddsClash, IsApart, MeetsKept}
-use Rattle.period_keys.specs.Ordered.{AreApart}
-use Rattle.period_keys.proofs.Apart.{apart_where_none, in_order_at}
+use Rattle.history_model.specs.Versions.{row_of}
+use Rattle.period_keys.specs.Keys.{HasNoClash, IsKeyClash, IsLeastOf, key_values}
+use Rattle.period_keys.specs.Index.{AddsClash, IsIndexOf, MeetsKept}
+use Rattle.period_keys.specs.Ordered.{AreApart, AreInOrder}
+use Rattle.period_keys.specs.Rows.{RowsByKey}
+use Rattle.period_keys.proofs.Apart.{apart_at}
 use Rattle.period_keys.proofs.Leasts.{least_more, IsLeastOf-either, IsLeastOf-same}
 use Rattle.period_keys.proofs.Locality.{clashes_after}
 use Rattle.period_keys.proofs.Touched.{meets_kept}
+use Rattle.period_keys.proofs.VersionKeys.{at_key, at_keys, rows_split}
 use Rattle.period_keys.proofs.clashes.key_clash_after.Goals as goal
 
+-- the periods of a key that were looked up are apart
+apart_there : (table : RowsByKey) (key : List Value) (periods : List Period) → HasNoClash table.positions (map row_of table.rows) → periods ≡ at_key table key → AreInOrder periods → AreApart periods
+apart_there table key periods none is order =
+    subst AreApart (sym is) (apart_at table.positions (map row_of table.rows) (at_key table) (at_keys table) none key (subst AreInOrder is order))
+
 pub loop-row-preserved : goal.loop-row-preserved
-loop-row-preserved c = λ apart.
-    least_more (λ (row : PeriodRow) day. MeetsKept c.args.positions.now c.args.index.now c.args.ended.now day row) c.args.added.now c.loop-row.row-index c.row-item.result c.loop-row.with_kept c.first_shared_with_kept-kept.result c.earlier-with_kept.result
-    (omega arith) c.row-item.is (c.loop-row.invariant apart)
-    (meets_kept c.args.positions.now c.args.index.now c.in_ok-gone.gone c.args.ended.now c.row-item.result c.in_ok-key.key c.of_key.result.now c.of_key-in-loop-row.result.now c.first_shared_with_kept-kept.result c.in_ok-key.ensures c.of_key.ensures.value c.of_key-in-loop-row.ensures.value c.in_ok-gone.ensures
-    (c.first_shared_with_kept-kept.ensures (subst AreApart (sym c.of_key.ensures.value) (apart c.in_ok-key.key))))
+loop-row-preserved c = λ none.
+    let table : RowsByKey = c.args.current.now in
+    let ended : List PeriodRow = map row_of c.args.ended.now in
+    let row : PeriodRow = c.row-item.result in
+    let same : c.positions-positions.result.now ≡ table.positions = c.positions-positions.ensures in
+    let gone : IsIndexOf table.positions ended c.in_ok-gone.gone = subst (λ (ps : List ℕ). IsIndexOf ps ended c.in_ok-gone.gone) same c.in_ok-gone.ensures in
+    let own : c.in_ok-key.key ≡ key_values table.positions row = subst (λ (ps : List ℕ). c.in_ok-key.key ≡ key_values ps row) same c.in_ok-key.ensures in
+    least_more (λ (row : PeriodRow) day. MeetsKept table.positions (at_key table) ended day row) c.args.added.now c.loop-row.row-index row c.loop-row.with_kept c.first_shared_with_kept-kept.result c.earlier-with_kept.result
+    (omega arith) c.row-item.is (c.loop-row.invariant none)
+    (meets_kept table.positions (at_key table) c.in_ok-gone.gone ended row c.in_ok-key.key c.periods_of_key-there.result.now c.of_key.result.now c.first_shared_with_kept-kept.result own c.periods_of_key-there.ensures.periods c.of_key.ensures.value gone
+    (c.first_shared_with_kept-kept.ensures (apart_there table c.in_ok-key.key c.periods_of_key-there.result.now none c.periods_of_key-there.ensures.periods c.periods_of_key-there.ensures.ordered)))
     c.earlier-with_kept.ensures
 
-pub returns-clause-by_touched : goal.returns-clause-by_touched
-returns-clause-by_touched c = λ apart.
-    let all : take c.loop-row.row-index c.args.added.now ≡ c.args.added.now = take_all _ _ (omega arith) in
-    let Meets : List PeriodRow → ℤ → Type 0 = λ rows day. Any (MeetsKept c.args.positions.now c.args.index.now c.args.ended.now day) rows in
-    let kept : IsLeastOf (Meets c.args.added.now) c.loop-row.with_kept = subst (λ (rows : List PeriodRow). IsLeastOf (Meets rows) c.loop-row.with_kept) all (c.loop-row.invariant apart) in
-    subst (IsLeastOf (AddsClash c.args.positions.now c.args.index.now c.args.ended.now c.args.added.now)) (sym c.earlier.ensures)
-    (IsLeastOf-either (Meets c.args.added.now) (IsKeyClash c.args.positions.now c.args.added.now) c.loop-row.with_kept c.in_ok-among.among kept c.in_ok-among.ensures)
-
-pub returns-clause-of_whole : goal.returns-clause-of_whole
-returns-clause-of_whole c = λ before stay is none moved.
-    let apart : IsApart c.args.index.now = apart_where_none c.args.positions.now before c.args.index.now is none (in_order_at c.args.index.now) in
-    let all : take c.loop-row.row-index c.args.added.now ≡ c.args.added.now = take_all _ _ (omega arith) in
-    let Meets : List PeriodRow → ℤ → Type 0 = λ rows day. Any (MeetsKept c.args.positions.now c.args.index.now c.args.ended.now day) rows in
-    let kept : IsLeastOf (Meets c.args.added.now) c.loop-row.with_kept = subst (λ (rows : List PeriodRow). IsLeastOf (Meets rows) c.loop-row.with_kept) all (c.loop-row.invariant apart) in
-    let by_touched : IsLeastOf (AddsClash c.args.positions.now c.args.index.now c.args.ended.now c.args.added.now) c.earlier.result =
-    subst (IsLeastOf (AddsClash c.args.positions.now c.args.index.now c.args.ended.now c.args.added.now)) (sym c.earlier.ensures)
-    (IsLeastOf-either (Meets c.args.added.now) (IsKeyClash c.args.positions.now c.args.added.now) c.loop-row.with_kept c.in_ok-among.among kept c.in_ok-among.ensures) in
-    IsLeastOf-same (AddsClash c.args.positions.now c.args.index.now c.args.ended.now c.args.added.now) (IsKeyClash c.args.positions.now (stay ++ c.args.added.now))
-    (clashes_after c.args.positions.now c.args.index.now before c.args.ended.now stay c.args.added.now is none moved) c.earlier.result by_touched
+pub returns : goal.returns
+returns c = λ stay none moved.
+    let table : RowsByKey = c.args.current.now in
+    let ended : List PeriodRow = map row_of c.args.ended.now in
+    let added : List PeriodRow = c.args.added.now in
+    let before : List PeriodRow = map row_of table.rows in
+    let split = rows_split table.rows c.args.ended.now stay moved in
+    let all : take c.loop-row.row-index added ≡ added = take_all _ _ (omega arith) in
+    let Meets : List PeriodRow → ℤ → Type 0 = λ rows day. Any (MeetsKept table.positions (at_key table) ended day) rows in
+    let kept : IsLeastOf (Meets added) c.loop-row.with_kept = subst (λ (rows : List PeriodRow). IsLeastOf (Meets rows) c.loop-row.with_kept) all (c.loop-row.invariant none) in
+    let among : IsLeastOf (IsKeyClash table.positions added) c.in_ok-among.among = subst (λ (ps : List ℕ). IsLeastOf (IsKeyClash ps added) c.in_ok-among.among) c.positions-positions.ensures c.in_ok-among.ensures in
+    let by_touched : IsLeastOf (AddsClash table.positions (at_key table) ended added) c.earlier.result =
+    subst (IsLeastOf (AddsClash table.positions (at_key table) ended added)) (sym c.earlier.ensures)
+    (IsLeastOf-either (Meets added) (IsKeyClash table.positions added) c.loop-row.with_kept c.in_ok-among.among kept among) in
+    IsLeastOf-same (AddsClash table.positions (at_key table) ended added) (IsKeyClash table.positions (map row_of stay ++ added))
+    (clashes_after table.positions (at_key table) before ended (map row_of stay) added (at_keys table) none split) c.earlier.result by_touched

@@ -1,8 +1,11 @@
-use Rattle.std.proofs.Common.{take}
+use Rattle.std.proofs.Common.{map, take}
 use Rattle.std.specs.List.{Any}
-use Rattle.period_keys.specs.Keys.{IsLeastOf}
-use Rattle.period_keys.specs.Index.{IsApart, MeetsKept}
+use Rattle.history_model.specs.Versions.{row_of}
+use Rattle.period_keys.specs.Keys.{HasNoClash, IsLeastOf}
+use Rattle.period_keys.specs.Index.{MeetsKept}
+use Rattle.period_keys.proofs.VersionKeys.{at_key}
 use Rattle.period_keys.proofs.clashes.key_clash_after.Given as goal
 
 abbrev pub invariant-loop-row : goal.invariant-loop-row
-invariant-loop-row l = IsApart l.index → IsLeastOf (λ day. Any (MeetsKept l.positions l.index l.ended day) (take l.row-index l.added)) l.with_kept
+invariant-loop-row l = HasNoClash l.current.positions (map row_of l.current.rows)
+    → IsLeastOf (λ day. Any (MeetsKept l.current.positions (at_key l.current) (map row_of l.ended) day) (take l.row-index l.added)) l.with_kept

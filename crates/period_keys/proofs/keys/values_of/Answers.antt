@@ -3,16 +3,16 @@ use Rattle.std.specs.List.{filter_map, slice_get}
 use Rattle.std.proofs.lemmas.List.{take_more}
 use Rattle.std.proofs.lemmas.List.Elements.{filter_map-append}
 use Rattle.period_core.specs.declared.value.Value.{Value}
-use Rattle.period_keys.proofs.keys.key_of.Goals as goal
+use Rattle.period_keys.proofs.keys.values_of.Goals as goal
 
 pub loop-position-preserved : goal.loop-position-preserved
 loop-position-preserved c =
     let positions : List ℕ = c.args.positions.now in
     let i : ℕ = c.loop-position.position-index in
     let x : ℕ = get_or positions i 0 in
-    let values : List Value = c.args.row.now.values in
+    let values : List Value = c.args.values.now in
     let pushed : c.push_value_at.new.key.items ≡ c.loop-position.key.items ++ filter_map (slice_get values) (x ∷ []) =
-    subst (λ (vs : List Value). c.push_value_at.new.key.items ≡ c.loop-position.key.items ++ filter_map (slice_get vs) (x ∷ [])) c.as_slice.ensures c.in_ok-push_value_at.ensures in
+    c.in_ok-push_value_at.ensures in
     pushed ∙ ap (λ key. key ++ filter_map (slice_get values) (x ∷ [])) c.loop-position.invariant
     ∙ sym (filter_map-append (slice_get values) (take i positions) (x ∷ []))
     ∙ ap (filter_map (slice_get values)) (sym (take_more positions i 0 (omega arith)))

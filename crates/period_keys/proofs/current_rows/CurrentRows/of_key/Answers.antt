@@ -1,0 +1,22 @@
+use Rattle.std.proofs.Common.{◌≡◌, ◌∙◌, [], List, Some, None, map, sym, ap}
+use Rattle.std.specs.Prelude.{Option, filter}
+use Rattle.std.specs.BTreeMap.{get}
+use Rattle.std.specs.Option.{option_map_or}
+use Rattle.period_core.specs.Order.{values_cmp}
+use Rattle.period_core.specs.declared.value.Value.{Value}
+use Rattle.period_core.specs.declared.version.VersionRow.{VersionRow}
+use Rattle.period_keys.specs.declared.key_rows.KeyRows.{KeyRows}
+use Rattle.period_keys.specs.Rows.{RowsByKey, rows_of_key}
+use Rattle.period_keys.specs.Versions.{period_of}
+use Rattle.period_keys.proofs.Grouped.{group_of_key, rows_in}
+use Rattle.period_keys.proofs.current_rows.CurrentRows.of_key.Goals as goal
+
+pub returns-in-Some-clause-rows : goal.returns-in-Some-clause-rows
+returns-in-Some-clause-rows c =
+    c.as_slice.ensures.value ∙ ap (λ (o : Option KeyRows). option_map_or rows_in o []) c.in-Some.ensures.value
+    ∙ sym (group_of_key c.self.inside.positions c.args.key.now c.self.inside.groups c.self.invariant) ∙ ap (λ (t : RowsByKey). rows_of_key t c.args.key.now) c.self.view_is
+
+pub returns-in-None-clause-rows : goal.returns-in-None-clause-rows
+returns-in-None-clause-rows c =
+    ap (λ (o : Option KeyRows). option_map_or rows_in o []) c.in-None.ensures.value
+    ∙ sym (group_of_key c.self.inside.positions c.args.key.now c.self.inside.groups c.self.invariant) ∙ ap (λ (t : RowsByKey). rows_of_key t c.args.key.now) c.self.view_is

@@ -1,0 +1,45 @@
+-- A table's current version rows by key, and the groups in which they are kept.
+use Rattle.std.specs.Prelude.{◌≡◌, ◌++◌, ◌∷◌, [], ℕ, Contains, IsPermutation, List, filter}
+use Rattle.std.specs.List.{AllByRecursion}
+use Rattle.std.specs.BTreeMap.{BTreeMap, IsOrdered}
+use Rattle.period_core.specs.Order.{values_cmp}
+use Rattle.period_core.specs.declared.value.Value.{Value}
+use Rattle.period_core.specs.declared.version.VersionRow.{VersionRow}
+use Rattle.period_keys.specs.declared.key_rows.KeyRows.{KeyRows}
+use Rattle.period_keys.specs.Versions.{is_of_key, version_key}
+
+-- the positions of the key's columns among a row's values, and all rows, in some order
+pub record RowsByKey : Type 0 where
+  pub positions : List ℕ
+  pub rows : List VersionRow
+
+-- the rows of this key
+abbrev pub rows_of_key : RowsByKey → List Value → List VersionRow
+rows_of_key table key = filter (is_of_key table.positions key) table.rows
+
+-- the second has the same positions, and these rows, in some order
+pub record HasRows (wanted : List VersionRow) (old new : RowsByKey) : Type 0 where
+  pub positions : new.positions ≡ old.positions
+  pub rows : IsPermutation new.rows wanted
+
+-- ---- groups of rows
+
+-- the rows of the groups, one group after another
+abbrev pub rows_of_groups : List (List Value × KeyRows) → List VersionRow
+rows_of_groups [] = []
+rows_of_groups (group ∷ groups) = group.1.rows.items ++ rows_of_groups groups
+
+-- the same without the keys
+abbrev pub rows_of_lists : List KeyRows → List VersionRow
+rows_of_lists [] = []
+rows_of_lists (group ∷ groups) = group.rows.items ++ rows_of_lists groups
+
+-- each row of a group has its key
+abbrev pub HaveKey : List ℕ → List Value × KeyRows → Type 0
+HaveKey positions group =
+    (v : VersionRow) → Contains group.1.rows.items v → group.0 ≡ version_key positions v
+
+-- each row is in the group of its key
+pub record AreGrouped (positions : List ℕ) (groups : BTreeMap (List Value) KeyRows) : Type 0 where
+  pub ordered : IsOrdered values_cmp groups
+  pub keyed : AllByRecursion (HaveKey positions) groups.entries

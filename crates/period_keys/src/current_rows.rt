@@ -1,0 +1,197 @@
+//! The current version rows of one table, by key.
+
+ghost use Rattle.std.specs.Prelude.{◌≡◌, ◌≤◌, ◌++◌, ◌∷◌, [], IsPermutation, List, OnErr, OnOk};
+ghost use Rattle.std.specs.Prelude.{length, map, take};
+ghost use Rattle.period_core.specs.declared.version.VersionRow.{VersionRow as Version};
+ghost use Rattle.period_keys.specs.Keys.{key_values, values_at};
+ghost use Rattle.period_keys.specs.Ordered.{AreInOrder};
+ghost use Rattle.period_keys.specs.Rows.{HasRows, rows_of_key, rows_of_lists};
+ghost use Rattle.period_keys.specs.Versions.{begun, period_of, recorded, version_key};
+
+use crate::groups::{Groups, add_to, take_from};
+use crate::key_rows::KeyRows;
+use crate::keys::values_of;
+use period_core::{Items, Memory, Moment, Period, PeriodRow, Values, VersionRow};
+use std::alloc::Global;
+use std::collections::{BTreeMap, btree_map};
+use std::marker::Model;
+
+/// The current version rows of one table, by the values of its key's columns. Contracts see the
+/// positions of these columns among a row's values, and all rows, in some order. The rows of a key
+/// are in the order of their periods' starts.
+#[derive(Drop)]
+pub struct CurrentRows {
+    positions: Items<usize>,
+    groups: Groups,
+}
+
+impl Model for CurrentRows {
+    ghost use Rattle.period_keys.specs.Rows.{AreGrouped, RowsByKey, rows_of_groups};
+
+    ghost Value = { RowsByKey };
+
+    ghost view = { λ c.
+        record { positions = c.positions; rows = rows_of_groups c.groups.entries } };
+
+    ghost invariant = { λ c. AreGrouped c.positions c.groups };
+}
+
+impl CurrentRows {
+    /// No rows, of a key at these positions among a row's values.
+    pub fn new(alloc: Global, positions: Items<usize>) -> CurrentRows
+        ensures positions { result.positions ≡ positions }
+        ensures rows { result.rows ≡ [] }
+    {
+        CurrentRows {
+            positions,
+            groups: BTreeMap::new(alloc),
+        }
+    }
+
+    /// The positions of the key's columns among a row's values.
+    pub fn positions(&self) -> &[usize]
+        ensures { result.now ≡ self.now.positions }
+    {
+        self.positions.as_slice()
+    }
+
+    /// The rows of a key, in the order of their periods' starts.
+    pub fn of_key(&self, key: &Values) -> &[VersionRow]
+        ensures rows { result.now ≡ rows_of_key self.now key.now }
+        ensures ordered { AreInOrder (map period_of result.now) }
+    {
+        match self.groups.get(key) {
+            Some(group) => group.as_slice(),
+            None => &[],
+        }
+    }
+
+    /// Their periods.
+    pub fn periods_of_key(&self, key: &Values) -> &[Period]
+        ensures periods { result.now ≡ map period_of (rows_of_key self.now key.now) }
+        ensures ordered { AreInOrder result.now }
+    {
+        match self.groups.get(key) {
+            Some(group) => group.periods(),
+            None => &[],
+        }
+    }
+
+    /// The rows of each key, one key after another.
+    pub fn groups(&self) -> btree_map::Values<'_, Values, KeyRows>
+        ensures { rows_of_lists result ≡ self.now.rows }
+    {
+        self.groups.values()
+    }
+
+    /// Adds a row. The only error is out of memory, and changes nothing.
+    pub fn add(&mut self, alloc: Global, row: VersionRow) -> Result<(), Memory>
+        ensures ok { OnOk result (HasRows (row ∷ self.old.rows) self.old self.new) }
+        ensures err { OnErr result (self.new ≡ self.old) }
+    {
+        let key = values_of(alloc, self.positions.as_slice(), row.values.as_slice())?;
+        add_to(alloc, &mut self.groups, &key, row)
+    }
+
+    /// Takes out a row of this key, with these values, this period and this system time, which is
+    /// there. It takes no memory.
+    fn take_recorded(
+        &mut self,
+        key: &Values,
+        values: &Values,
+        period: Period,
+        from: Moment,
+        to: Moment,
+    )
+        ensures same { self.new.positions ≡ self.old.positions }
+        ensures rows { (rest : List Version)
+            → key.now ≡ values_at self.old.positions values.now
+            → IsPermutation self.old.rows (recorded values.now period from to ∷ rest)
+            → IsPermutation self.new.rows rest }
+    {
+        take_from(&mut self.groups, key, values, period, from, to);
+    }
+
+    /// Takes out rows, which are there, whose keys are handed in. It takes no memory.
+    pub fn take_all(&mut self, keys: &[Values], rows: &[VersionRow])
+        requires { keys.now ≡ map (version_key self.old.positions) rows.now }
+        ensures same { self.new.positions ≡ self.old.positions }
+        ensures rows { (rest : List Version) → IsPermutation self.old.rows (rows.now ++ rest)
+            → IsPermutation self.new.rows rest }
+    {
+        for i in 0..rows.len() {
+            let row = &rows[i];
+            self.take_recorded(&keys[i], &row.values, row.period, row.from, row.to);
+        }
+    }
+
+    /// Adds rows that begin at a moment, whose keys are handed in, or none of them. The only error
+    /// is out of memory.
+    pub fn add_all(
+        &mut self,
+        alloc: Global,
+        moment: Moment,
+        keys: &[Values],
+        rows: &[PeriodRow],
+    ) -> Result<(), Memory>
+        requires { keys.now ≡ map (key_values self.old.positions) rows.now }
+        ensures ok { OnOk result
+            (HasRows (map (begun moment) rows.now ++ self.old.rows) self.old self.new) }
+        ensures err { OnErr result (HasRows self.old.rows self.old self.new) }
+    {
+        for i in 0..rows.len() {
+            if let Err(refused) = self.add_begun(alloc, moment, &keys[i], &rows[i]) {
+                self.take_begun(moment, keys, rows, i);
+                return Err(refused);
+            }
+        }
+        Ok(())
+    }
+
+    /// Takes back what `add_all` added. It takes no memory.
+    pub fn take_added(&mut self, moment: Moment, keys: &[Values], rows: &[PeriodRow])
+        requires { keys.now ≡ map (key_values self.old.positions) rows.now }
+        ensures same { self.new.positions ≡ self.old.positions }
+        ensures rows { (rest : List Version)
+            → IsPermutation self.old.rows (map (begun moment) rows.now ++ rest)
+            → IsPermutation self.new.rows rest }
+    {
+        self.take_begun(moment, keys, rows, rows.len());
+    }
+
+    // Adds a row that begins at a moment, whose key is handed in.
+    fn add_begun(
+        &mut self,
+        alloc: Global,
+        moment: Moment,
+        key: &Values,
+        row: &PeriodRow,
+    ) -> Result<(), Memory>
+        requires { key.now ≡ key_values self.old.positions row.now }
+        ensures ok { OnOk result (HasRows (begun moment row.now ∷ self.old.rows) self.old self.new) }
+        ensures err { OnErr result (self.new ≡ self.old) }
+    {
+        let version = VersionRow {
+            values: row.values.copy(alloc)?,
+            period: row.period,
+            from: moment,
+            to: Moment::forever(),
+        };
+        add_to(alloc, &mut self.groups, key, version)
+    }
+
+    // Takes out the first rows that begin at a moment, whose keys are handed in.
+    fn take_begun(&mut self, moment: Moment, keys: &[Values], rows: &[PeriodRow], count: usize)
+        requires keys { keys.now ≡ map (key_values self.old.positions) rows.now }
+        requires count { count ≤ length rows.now }
+        ensures same { self.new.positions ≡ self.old.positions }
+        ensures rows { (rest : List Version)
+            → IsPermutation self.old.rows (map (begun moment) (take count rows.now) ++ rest)
+            → IsPermutation self.new.rows rest }
+    {
+        for i in 0..count {
+            let row = &rows[i];
+            self.take_recorded(&keys[i], &row.values, row.period, moment, Moment::forever());
+        }
+    }
+}
