@@ -18,6 +18,7 @@ pub mod LawfulFacts
 pub mod VersionKeys
 pub mod Fixed
 pub mod PlanParts
+pub mod FaultFacts
 pub mod Touched
 pub mod Covered
 mod KeyExamples

@@ -1,6 +1,6 @@
 -- Plans over lists one after another, and of a change that touches rows of one key alone.
 use Rattle.std.proofs.Common.{◌≡◌, ◌++◌, ◌∷◌, [], ◌∙◌, ℕ, Bool, true, false, cond, List, Some, None, map, not, refl, sym, ap, subst, append-nil}
-use Rattle.std.specs.Prelude.{IsPermutation, Option, Contains}
+use Rattle.std.specs.Prelude.{IfOk, IsPermutation, Option, Contains, Result, Ok, Err}
 use Rattle.std.specs.List.{filter, flat_map}
 use Rattle.std.proofs.lemmas.List.{map-append}
 use Rattle.std.proofs.lemmas.List.Concat.{flat_map-append}
@@ -17,10 +17,10 @@ use Rattle.history_model.specs.Portions.{PlainRow, added, plain_given, plain_row
 use Rattle.portion_dml.specs.Plans.{Plans, version_row}
 use Rattle.period_keys.specs.Planned.{IsPlanOf}
 
-abbrev touched : Action → VersionRow → Bool
+abbrev pub touched : Action → VersionRow → Bool
 touched action v = touches action (version_row v)
 
-abbrev joined : Plan → Plan → Plan
+abbrev pub joined : Plan → Plan → Plan
 joined p q = record { ended = p.ended ++ q.ended; added = p.added ++ q.added }
 
 -- what an action that gives no rows adds
@@ -70,3 +70,7 @@ plan_of_passing action test rows p passes plans = record {
   plans = plans_beside action (filter test rows) (filter (λ (v : VersionRow). not (test v)) rows) p
       (none_kept action (λ (v : VersionRow). not (test v)) rows (λ v t. ap not (passes v t))) plans;
 }
+
+pub if_ok : {X E : Type 0} (r : Result X E) (P Q : X → Type 0) → ((x : X) → P x → Q x) → IfOk r P → IfOk r Q
+if_ok (Ok x) P Q f h = f x h
+if_ok (Err e) P Q f h = h

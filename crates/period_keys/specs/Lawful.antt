@@ -88,3 +88,8 @@ pub record IsLawfulChange (catalog : List TableDef) (before : State) (change : C
 -- on each day the rows hold the table's rows of the state, each as often
 abbrev pub HoldsTable : List PeriodRow → State → ℕ → Type 0
 HoldsTable rows state table = (day : ℤ) → IsPermutation (values_on rows day) (state table day)
+
+-- these are the positions of the key of the table of this number
+abbrev pub IsKeyOf : List TableDef → ℕ → List ℕ → Type 0
+IsKeyOf catalog table positions =
+    (def : TableDef) × (table_of catalog table ≡ Some def) × (positions ≡ key_positions def)

@@ -12,3 +12,4 @@ pub mod Lawful
 pub mod LawfulLaws
 pub mod FixedKeys
 pub mod Planned
+pub mod Faults

@@ -8,6 +8,7 @@
 mod changes;
 mod clashes;
 mod current_rows;
+mod faults;
 mod fixed_keys;
 mod gaps;
 mod groups;
@@ -27,6 +28,7 @@ mod tables;
 pub use changes::{add_rows, apply_change, keys_of, take_rows};
 pub use clashes::{index_of, index_of_versions, key_clash_after};
 pub use current_rows::CurrentRows;
+pub use faults::{child_fault, key_fault, parent_fault};
 pub use fixed_keys::fixed_key;
 pub use key_laws::{clashes_after_change, clashes_are_of_days, uncovered_are_of_days};
 pub use keyed_periods::KeyedPeriods;

@@ -75,7 +75,10 @@ fn plan_over_all(
             Ok(plan) => plan,
             Err(refusal) => return Err(refusal),
         };
-        if ended.append(plan.ended).is_err() || added.append(plan.added).is_err() {
+        if let Err(_) = ended.append(plan.ended) {
+            return Err(Refusal::Memory);
+        }
+        if let Err(_) = added.append(plan.added) {
             return Err(Refusal::Memory);
         }
     }

@@ -1,8 +1,7 @@
-use Rattle.std.proofs.Common.{◌≡◌, ◌++◌, ◌∷◌, [], ◌∙◌, List, Some, None, refl, sym, ap, subst, append_assoc, append-nil}
-use Rattle.std.specs.Map.Iter.{deref}
-use Rattle.std.proofs.lemmas.Map.Iter.{rest_more, rest_all}
+use Rattle.std.proofs.Common.{◌≡◌, ◌++◌, ◌∷◌, [], ◌∙◌, List, refl, sym, ap, subst, append_assoc, append-nil}
 use Rattle.catalog_core.specs.declared.change.Action.{Action}
 use Rattle.catalog_core.specs.declared.change.Plan.{Plan}
+use Rattle.period_core.specs.declared.row.PeriodRow.{PeriodRow}
 use Rattle.period_core.specs.declared.version.VersionRow.{VersionRow}
 use Rattle.portion_dml.specs.Plans.{Plans}
 use Rattle.period_keys.specs.declared.key_rows.KeyRows.{KeyRows}
@@ -10,5 +9,33 @@ use Rattle.period_keys.specs.Rows.{rows_of_lists}
 use Rattle.period_keys.proofs.PlanParts.{plans_joined, plans_nothing}
 use Rattle.period_keys.proofs.planning.plan_over_all.Goals as goal
 
+pub loop-group-init : goal.loop-group-init
+loop-group-init c = (
+  [],
+  sym (ap rows_of_lists c.into_iter-group-iterator.ensures.into_iter_gives ∙ c.groups-group-items.ensures),
+  subst (λ (xs : List VersionRow). Plans c.args.change.now.action [] (record { ended = xs; added = c.empty-added.result })) (sym c.empty-ended.ensures)
+  (subst (λ (ys : List PeriodRow). Plans c.args.change.now.action [] (record { ended = []; added = ys })) (sym c.empty-added.ensures) (plans_nothing c.args.change.now.action c.requires)),
+)
+
+pub loop-group-preserved : goal.loop-group-preserved
+loop-group-preserved c =
+    let action : Action = c.args.change.now.action in
+    let (done, split, plans) = c.loop-group.invariant in
+    let group : KeyRows = c.in-Some.group.now in
+    let rows : List VersionRow = group.rows.items in
+    let was : Plan = record { ended = c.loop-group.ended; added = c.loop-group.added } in
+    let more : Plan = c.in-Ok.plan in
+    let left : rows_of_lists c.loop-group.group-iterator ≡ rows ++ rows_of_lists c.next.new.self = ap rows_of_lists c.in-Some.ensures.steps in
+    let own : Plans action rows more = subst (λ (xs : List VersionRow). Plans action xs more) c.as_slice.ensures.value c.in-Ok.ensures.plan in
+    let both : Plans action (done ++ rows) (record { ended = c.loop-group.ended ++ more.ended; added = c.loop-group.added ++ more.added }) = plans_joined action done rows was more c.requires plans own in (
+      done ++ rows,
+      split ∙ ap (λ (xs : List VersionRow). done ++ xs) left ∙ sym (append_assoc done rows (rows_of_lists c.next.new.self)),
+      subst (λ (xs : List VersionRow). Plans action (done ++ rows) (record { ended = xs; added = c.append-in-loop-group.new.self })) (sym c.in_default.ensures.ok)
+      (subst (λ (ys : List PeriodRow). Plans action (done ++ rows) (record { ended = c.loop-group.ended ++ more.ended; added = ys })) (sym c.in_default-append.ensures.ok) both),
+    )
+
 pub returns-clause-plan : goal.returns-clause-plan
-returns-clause-plan c = ?
+returns-clause-plan c =
+    let (done, split, plans) = c.loop-group.invariant in
+    let all : c.args.current.now.rows ≡ done = split ∙ ap (λ (xs : List VersionRow). done ++ xs) (ap rows_of_lists c.in-None.ensures.steps.0) ∙ append-nil done in
+    subst (λ (xs : List VersionRow). Plans c.args.change.now.action xs (record { ended = c.loop-group.ended; added = c.loop-group.added })) (sym all) plans

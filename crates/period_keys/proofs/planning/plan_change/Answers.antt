@@ -1,0 +1,33 @@
+use Rattle.std.proofs.Common.{◌≡◌, ◌∙◌, ℕ, List, true, refl, sym, ap, subst}
+use Rattle.std.specs.Prelude.{IfOk, IfSome, Option}
+use Rattle.std.specs.List.{filter}
+use Rattle.catalog_core.specs.Conditions.{meets}
+use Rattle.catalog_core.specs.declared.change.Action.{Action}
+use Rattle.catalog_core.specs.declared.condition.CompareValues.{CompareValues}
+use Rattle.sql_statements.specs.declared.tree.Tree.{Tree}
+use Rattle.period_core.specs.OrderLaws.{values_eq}
+use Rattle.period_core.specs.declared.value.Value.{Value}
+use Rattle.period_core.specs.declared.version.VersionRow.{VersionRow}
+use Rattle.portion_dml.specs.Plans.{Plans}
+use Rattle.period_keys.specs.FixedKeys.{FixesKey}
+use Rattle.period_keys.specs.Planned.{IsPlanOf}
+use Rattle.period_keys.specs.Versions.{is_of_key, version_key}
+use Rattle.period_keys.proofs.PlanParts.{if_ok, plan_of_passing, touched}
+use Rattle.period_keys.proofs.planning.plan_change.Goals as goal
+
+-- each row that the change touches has the key that its condition fixes
+of_fixed : (action : Action) (condition : Tree CompareValues) (positions : List ℕ) (key : List Value) → FixesKey condition positions key
+    → ((v : VersionRow) → touched action v ≡ true → meets condition v.values ≡ true) → (v : VersionRow) → touched action v ≡ true → is_of_key positions key v ≡ true
+of_fixed action condition positions key fixes met v t = (values_eq key (version_key positions v)).1 (sym (fixes v.values (met v t)))
+
+pub returns-in-Ok-Some-clause-plan : goal.returns-in-Ok-Some-clause-plan
+returns-in-Ok-Some-clause-plan c =
+    let action : Action = c.args.change.now.action in
+    let positions : List ℕ = c.args.current.now.positions in
+    let rows : List VersionRow = c.args.current.now.rows in
+    let key : List Value = c.in-Ok-Some.key in
+    let fixes : FixesKey c.in-Some.condition.now positions key = subst (λ (ps : List ℕ). FixesKey c.in-Some.condition.now ps key) c.positions.ensures
+    (subst (λ (o : Option (List Value)). IfSome o (FixesKey c.in-Some.condition.now c.positions.result.now)) c.in-Ok-Some.field-0-is c.in-Ok-Some.ensures) in
+    if_ok c.plan_over.result (λ plan. Plans action c.of_key.result.now plan) (λ plan. IsPlanOf action rows plan)
+    (λ plan plans. plan_of_passing action (is_of_key positions key) rows plan (of_fixed action c.in-Some.condition.now positions key fixes c.in-Some.ensures.met)
+    (subst (λ (xs : List VersionRow). Plans action xs plan) c.of_key.ensures.rows plans)) c.plan_over.ensures.plan

@@ -1,0 +1,47 @@
+-- What is known as a plan is judged: the state before it, and which rows hold it.
+use Rattle.std.specs.Prelude.{◌≡◌, ℕ, List, map}
+use Rattle.period_core.specs.declared.row.PeriodRow.{PeriodRow}
+use Rattle.period_core.specs.declared.version.VersionRow.{VersionRow}
+use Rattle.catalog_core.specs.declared.change.Change.{Change}
+use Rattle.catalog_core.specs.declared.change.Plan.{Plan}
+use Rattle.catalog_core.specs.declared.table.Reference.{Reference}
+use Rattle.catalog_core.specs.declared.table.TableDef.{TableDef}
+use Rattle.history_model.specs.Histories.{State}
+use Rattle.history_model.specs.Versions.{row_of}
+use Rattle.period_keys.specs.Index.{IsIndexOf}
+use Rattle.period_keys.specs.declared.keyed_periods.KeyedPeriods.{KeyedPeriods}
+use Rattle.period_keys.specs.Keys.{HasNoClash}
+use Rattle.period_keys.specs.Lawful.{HoldsTable, IsLawfulState, Refers, own_positions}
+use Rattle.period_keys.specs.Lawful.{parent_positions}
+use Rattle.period_keys.specs.Planned.{IsPlanOf}
+
+-- the plan is that of a change over its table's current rows, which hold a lawful state
+pub record IsPlanned (catalog : List TableDef) (before : State) (change : Change)
+    (current : List VersionRow) (plan : Plan) : Type 0 where
+  pub lawful : IsLawfulState catalog before
+  pub holds : HoldsTable (map row_of current) before change.table
+  pub planned : IsPlanOf change.action current plan
+
+-- the changed table refers to another, whose rows are in the index by the columns referred to
+pub record RefersToOther (catalog : List TableDef) (before : State) (change : Change)
+    (child : TableDef) (reference : Reference) (parent : TableDef) (parents : KeyedPeriods)
+    : Type 0 where
+  pub refers : Refers catalog change.table child reference parent
+  pub other : reference.parent ≡ change.table → ⊥
+  pub above : List PeriodRow
+  pub holds : HoldsTable above before reference.parent
+  pub indexed : IsIndexOf (parent_positions parent reference) above parents
+
+-- another table refers to the changed one: its rows are in one index by its own columns, those of
+-- the changed one in another by the columns referred to, by which no two share a day
+pub record IsReferredTo (catalog : List TableDef) (before : State) (change : Change)
+    (current : List VersionRow) (number : ℕ) (child : TableDef) (reference : Reference)
+    (parent : TableDef) (children parents : KeyedPeriods) : Type 0 where
+  pub refers : Refers catalog number child reference parent
+  pub changed : reference.parent ≡ change.table
+  pub other : number ≡ change.table → ⊥
+  pub below : List PeriodRow
+  pub holds : HoldsTable below before number
+  pub children_indexed : IsIndexOf (own_positions child reference) below children
+  pub parents_indexed : IsIndexOf (parent_positions parent reference) (map row_of current) parents
+  pub distinct : HasNoClash (parent_positions parent reference) (map row_of current)
