@@ -8,6 +8,7 @@ use Rattle.sqlite_trees.proofs.ListLemmas.{IsPermutation-filter}
 use Rattle.period_core.proofs.Periods.{period_over}
 use Rattle.period_core.specs.Leasts.{NoneApplies}
 use Rattle.period_core.specs.Moments.{first_moment, forever}
+use Rattle.period_core.specs.declared.period.Period.{Period}
 use Rattle.period_core.specs.declared.value.Value.{Value}
 use Rattle.period_core.specs.declared.value.Value.TheVariants.{Int}
 use Rattle.period_core.specs.declared.version.VersionRow.{VersionRow}
@@ -38,7 +39,8 @@ use Rattle.catalog_core.specs.declared.stored.VersionTest.{VersionTest}
 use Rattle.catalog_core.specs.declared.table.TableDef.{TableDef}
 use Rattle.version_store.specs.Contents.{version_cmp, version_in}
 use Rattle.history_model.specs.Histories.{Advanced, Asked, Changed, History, with_event}
-use Rattle.history_model.specs.Left.{is_touched, touched_rows, versions_of}
+use Rattle.history_model.specs.Left.{is_touched, its_row, touched_rows, versions_of}
+use Rattle.history_model.specs.Portions.{PlainRow}
 use Rattle.history_model.specs.Versions.{PlainVersion, plain_version}
 use Rattle.history_model.proofs.LeftFacts.{one_list}
 use Rattle.script_engine.specs.engine.Planned.{count_of}
@@ -104,9 +106,19 @@ updated = (
   },
 )
 
--- employee 1 of a department from a day on and before another, recorded from the moment on
-abbrev begun : ℕ → (start end : ℕ) → int_lt (pos start) (pos end) ≡ true → VersionRow
-begun department start end before = record { values = Int (pos 1) ∷ Int (pos department) ∷ []; period = period_over (pos start) (pos end) before; from = pos 100; to = forever }
+-- employee 1 of a department over a period, recorded from the moment on
+abbrev begun : ℕ → Period → VersionRow
+begun department period = record { values = Int (pos 1) ∷ Int (pos department) ∷ []; period = period; from = pos 100; to = forever }
+
+-- the parts of the row before the portion, after it, and in it
+abbrev before : VersionRow
+before = begun 7 (period_over (pos 5) (pos 6) refl)
+
+abbrev behind : VersionRow
+behind = begun 7 (period_over (pos 7) (pos 8) refl)
+
+abbrev inside : VersionRow
+inside = begun 9 (period_over (pos 6) (pos 7) refl)
 
 -- the row, closed at the moment
 abbrev closed : VersionRow
@@ -114,7 +126,7 @@ closed = record kept { to = pos 100 }
 
 -- the row as it was recorded at first, closed at the moment; the parts before and after the portion; and the part in it
 abbrev four : List VersionRow
-four = closed ∷ begun 7 5 6 refl ∷ begun 7 7 8 refl ∷ begun 9 6 7 refl ∷ []
+four = closed ∷ before ∷ behind ∷ inside ∷ []
 
 four_versions : versions_of (moved_to 9) 1 ≡ map plain_version four
 four_versions = refl
@@ -123,7 +135,7 @@ four_versions = refl
 one_at_most : (a : Action) (v : PlainVersion) → length (touched_rows a (v ∷ [])) ≤ 1
 one_at_most a v = go (is_touched a v)
   where
-    go : (b : Bool) → length (map (λ (w : PlainVersion). record { values = w.values; start = w.start; end = w.end }) (cond b (v ∷ []) [])) ≤ 1
+    go : (b : Bool) → length {A = PlainRow} (map its_row (cond b (v ∷ []) [])) ≤ 1
     go true = omega arith
     go false = omega arith
 
@@ -152,8 +164,8 @@ same_value : Step later (statement.update (setting 7)) (Ok (Done word.Update 1))
 unfolding is_flawed_column is_flawed_compare is_flawed_portion is_flawed_set is_set_again sets_twice is_longer is_of_other_kind is_too_long kind_of_column same_kind differ is_matching is_flawed_update lacks_named names_no_value def_kind find_among matches_among is_value_column number_of table_of_name chars value_position
 same_value = (
   none_if_no_first
-  (change_conditions (emp ∷ []) (statement.update (setting 7)) ++ empty_period (emp ∷ []) (statement.update (setting 7)) ∷ [])
-  refl,
+      (change_conditions (emp ∷ []) (statement.update (setting 7)) ++ empty_period (emp ∷ []) (statement.update (setting 7)) ∷ [])
+      refl,
   record {
     change = set_to 7;
     resolved = record { definition = emp; number = refl; table = refl; action = record { days = refl; sets = refl; rows = tt } };
@@ -178,8 +190,8 @@ pub deleted : Step later (statement.delete removing) (Ok (Done word.Delete 1)) r
 unfolding is_flawed_column is_flawed_compare is_flawed_portion is_flawed_delete lacks_named kind_of_column same_kind differ is_matching def_kind find_among matches_among is_value_column number_of table_of_name
 deleted = (
   none_if_no_first
-  (change_conditions (emp ∷ []) (statement.delete removing) ++ empty_period (emp ∷ []) (statement.delete removing) ∷ [])
-  refl,
+      (change_conditions (emp ∷ []) (statement.delete removing) ++ empty_period (emp ∷ []) (statement.delete removing) ∷ [])
+      refl,
   record {
     change = removal;
     resolved = record { definition = emp; number = refl; table = refl; action = record { days = refl; rows = tt } };
@@ -189,7 +201,7 @@ deleted = (
 )
 
 -- the row is closed, and what is left of it begins
-three_versions : versions_of removed 1 ≡ map plain_version (closed ∷ begun 7 5 6 refl ∷ begun 7 7 8 refl ∷ [])
+three_versions : versions_of removed 1 ≡ map plain_version (closed ∷ before ∷ behind ∷ [])
 three_versions = refl
 
 -- ---- stored queries

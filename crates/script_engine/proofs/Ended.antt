@@ -91,8 +91,7 @@ closed_recorded clock is v was false e =
     let first : first_moment ≤ℤ clock = is.0 in
     let last : clock <ℤ forever = is.1 in
     let begun : v.from ≤ℤ clock = was.past.0 in
-    let early : v.from <ℤ clock = by_lt_z {P = v.from <ℤ clock} v.from clock (λ lt. lt) (λ ge. same_moment (omega (arith, ints))) in
-    (
+    let early : v.from <ℤ clock = by_lt_z {P = v.from <ℤ clock} v.from clock (λ lt. lt) (λ ge. same_moment (omega (arith, ints))) in (
       record { from_is = was.from_is; to_is = (first, omega (arith, ints)); rise = early; past = (begun, inl (omega (arith, ints))) },
       tt,
     )

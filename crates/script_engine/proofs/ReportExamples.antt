@@ -5,8 +5,9 @@ use Rattle.period_core.specs.Calendar.{count_below}
 use Rattle.period_core.specs.declared.refusal.Refusal.TheVariants.{Syntax}
 use Rattle.period_core.specs.declared.value.Value.TheVariants.{Int}
 use Rattle.script_engine.specs.report.Report.{absent_text, doubled, field_text, line_feed, more_fields, printed_day, quote_mark, record_text, report, text_of, value_text}
+use Rattle.script_engine.specs.declared.engine.outcome.Cell.TheVariants as cell
 use Rattle.script_engine.specs.declared.engine.outcome.Outcome.TheVariants as outcome
-use Rattle.script_engine.specs.declared.engine.outcome.Word.TheVariants.{Create, Insert}
+use Rattle.script_engine.specs.declared.engine.outcome.Word.TheVariants.{Create, Insert, Update}
 
 -- a plain field stays
 plain-field : field_text (codes "valid_from") ≡ codes "valid_from"
@@ -43,6 +44,16 @@ empty-answer : text_of 3 (Ok (outcome.Answer record { columns = codes "DEPT" ∷
     ≡ codes "answer,3,1,0" ++ line_feed ∷ codes "columns,3,DEPT,valid_from,valid_to,held,absent" ++ line_feed ∷ []
 unfolding digits record_text more_fields
 empty-answer = refl
+
+-- a list of no versions has two records, with all columns of the table
+empty-versions : text_of 3 (Ok (outcome.Versions record { columns = record { name = codes "ENO"; cell = cell.Value 0 } ∷ record { name = codes "S"; cell = cell.Start } ∷ []; rows = [] }))
+    ≡ codes "versions,3,2,0" ++ line_feed ∷ codes "columns,3,ENO,S" ++ line_feed ∷ []
+unfolding digits record_text more_fields
+empty-versions = refl
+
+updated-record : text_of 4 (Ok (outcome.Done Update 1)) ≡ codes "done,4,update,1" ++ line_feed ∷ []
+unfolding digits record_text more_fields
+updated-record = refl
 
 -- results are numbered from 1
 two-results : report (Ok (outcome.Done Create 0) ∷ Err Syntax ∷ [])

@@ -1,13 +1,12 @@
 -- Worked rows: which refusal a whole script has, the run of no pieces, a refused statement, and an answer of one row.
-use Rattle.std.proofs.Common.{◌≡◌, ◌<◌, ◌≤◌, ◌+◌, ◌<ℤ◌, ◌≤ℤ◌, ◌-ℤ◌, ◌∙◌, ◌∷◌, [], ℕ, ℤ, pos, List, Some, Ok, Err, true, false, codes, length, refl, ap, subst, inl, inr, arith}
+use Rattle.std.proofs.Common.{◌≡◌, ◌<◌, ◌≤◌, ◌+◌, ◌<ℤ◌, ◌≤ℤ◌, ◌-ℤ◌, ◌∙◌, ◌∷◌, [], ℕ, ℤ, pos, List, Some, Ok, Err, true, false, codes, length, refl, ap, subst, inl, inr, arith, ◌++◌, lit≤}
 use Rattle.std.proofs.lemmas.Int.{ints}
 use Rattle.std.proofs.lemmas.Str.{is_utf8-from_IsUtf8}
 use Rattle.std.specs.Str.{IsUtf8, chars, is_utf8}
 use Rattle.period_core.specs.Codes.{code_of}
-use Rattle.period_core.specs.Leasts.{MayAnswer}
 use Rattle.period_core.proofs.Periods.{are_ends, period_over}
 use Rattle.period_core.specs.declared.answer.Answer.{Answer}
-use Rattle.period_core.specs.declared.refusal.Refusal.TheVariants.{BadMoment, BadToken, Memory, MomentBack, NotUtf8, ScriptTooLarge, Store, Syntax}
+use Rattle.period_core.specs.declared.refusal.Refusal.TheVariants.{BadMoment, BadToken, Memory, MomentBack, NotUtf8, ScriptTooLarge, Store, Syntax, UnknownTable}
 use Rattle.period_core.specs.declared.row.PeriodRow.{PeriodRow}
 use Rattle.period_core.specs.declared.value.Value.{Value}
 use Rattle.period_core.specs.declared.value.Value.TheVariants.{Int}
@@ -21,7 +20,10 @@ use Rattle.sql_statements.specs.Lexis.{first_lexeme}
 use Rattle.sql_statements.specs.declared.token.TokenKind.TheVariants.{Word}
 use Rattle.sql_statements.specs.Trees.{Delete}
 use Rattle.sql_statements.specs.Trees as statement
-use Rattle.catalog_core.specs.Judged.{Holds}
+use Rattle.catalog_core.specs.change.PortionChanges.{lacks_named}
+use Rattle.catalog_core.specs.change.Resolution.{change_conditions, empty_period}
+use Rattle.catalog_core.specs.table.TableWords.{number_of, table_of_name}
+use Rattle.catalog_core.proofs.lemmas.judged.Least.{first_least}
 use Rattle.history_model.specs.Histories.{Advanced, History, new_database, opened, with_event}
 use Rattle.script_engine.specs.Headline.{IsSequencedAnswer}
 use Rattle.script_engine.specs.engine.Runs.{MayRefuseMoment, Step, StepsTo}
@@ -71,31 +73,28 @@ no_pieces history = refl
 lacking_result : (history new : History) (piece : List Lexeme) → RunPieces history (piece ∷ []) [] new → ⊥
 lacking_result history new piece h = h
 
--- where 10 alone applies, it is answered
-pub syntax_alone : MayAnswer (Holds ((Syntax, true) ∷ [])) Syntax
-syntax_alone = inl (record {
-  applies = inl (refl, refl);
-  least = λ other h.
-      elim h [
-        | inl both ↦ subst (λ r. 10 ≤ code_of r) both.0 (omega arith)
-        | inr nothing ↦ absurd nothing
-      ];
-})
-
--- a statement that does not run yet is refused by 10, and the history stays
-not_run_yet : (history : History) (rows : Delete) → Step history (statement.delete rows) (Err Syntax) history
-not_run_yet history rows = (inl syntax_alone, refl)
+-- a DELETE from a table that is not there is refused by 23, and the history stays
+no_table : (rows : Delete) → Step (opened new_database) (statement.delete rows) (Err UnknownTable) (opened new_database)
+unfolding lacks_named number_of table_of_name
+no_table rows = (
+  inl (inl (first_least (change_conditions [] (statement.delete rows) ++ empty_period [] (statement.delete rows) ∷ []) UnknownTable (lit≤ tt, (lit≤ tt, (lit≤ tt, (lit≤ tt, (lit≤ tt, (lit≤ tt, (lit≤ tt, tt))))))) refl)),
+  refl,
+)
 
 -- and what is kept stays
-kept_as_it_was : {S : Type 0} (g : Ghosts S) (store : StoreState S) (rows : Delete) → StoreRepresents g store empty_contents → StepsTo g (opened new_database) (statement.delete rows) (Err Syntax) store
-kept_as_it_was g store rows stored = (opened new_database, not_run_yet (opened new_database) rows, new_store g store stored)
+kept_as_it_was : {S : Type 0} (g : Ghosts S) (store : StoreState S) (rows : Delete) → StoreRepresents g store empty_contents → StepsTo g (opened new_database) (statement.delete rows) (Err UnknownTable) store
+kept_as_it_was g store rows stored = (opened new_database, no_table rows, new_store g store stored)
 
 -- the database is not blamed for it
-not_the_database : (history : History) (rows : Delete) → Step history (statement.delete rows) (Err Store) history → ⊥
-not_the_database history rows step =
+not_the_database : (rows : Delete) → Step (opened new_database) (statement.delete rows) (Err Store) (opened new_database) → ⊥
+unfolding lacks_named number_of table_of_name
+not_the_database rows step =
     elim step.0 [
-      | inl may ↦ elim may [ inl least ↦ elim least.applies [ inl both ↦ absurd cc | inr nothing ↦ nothing ] | inr memory ↦ absurd cc ]
-      | inr failed ↦ let late : 40 < 10 = failed.1 Syntax (inl (refl, refl)) in omega arith
+      | inl may ↦ elim may [
+        | inl least ↦ let low : code_of Store ≤ 23 = least.least UnknownTable (inl (refl, refl)) in omega arith
+        | inr memory ↦ absurd cc
+      ]
+      | inr failed ↦ let late : 40 < 23 = failed.1 UnknownTable (inl (refl, refl)) in omega arith
     ]
 
 -- ---- moments

@@ -1,10 +1,10 @@
 -- Worked rows: how long a piece may be, and the runs and checks of whole scripts.
-use Rattle.std.proofs.Common.{◌≡◌, ◌≤◌, ◌∷◌, ◌++◌, ◌∙◌, [], ℕ, false, List, None, Some, Ok, Err, codes, length, refl, sym, subst, inl, inr, arith}
+use Rattle.std.proofs.Common.{◌≡◌, ◌≤◌, ◌∷◌, ◌++◌, ◌∙◌, [], ℕ, false, List, None, Some, Ok, Err, codes, length, refl, sym, subst, inl, inr, arith, lit≤}
 use Rattle.std.proofs.lemmas.Bool.{false≢true}
 use Rattle.period_core.specs.Codes.{code_of}
 use Rattle.period_core.specs.Leasts.{MayAnswer, NoneApplies}
 use Rattle.period_core.specs.declared.refusal.Refusal.{Refusal}
-use Rattle.period_core.specs.declared.refusal.Refusal.TheVariants.{BadDate, BadMoment, LimitReached, NumberRange, Syntax}
+use Rattle.period_core.specs.declared.refusal.Refusal.TheVariants.{BadDate, BadMoment, LimitReached, NumberRange, Syntax, UnknownTable}
 use Rattle.sql_front.specs.Depth.{room}
 use Rattle.sql_front.specs.Grammar.{IsStatement}
 use Rattle.sql_statements.specs.Lexemes.{Lexeme}
@@ -29,11 +29,14 @@ use Rattle.sql_front.proofs.Parsing.{no_statement, spelled_some}
 use Rattle.sql_front.proofs.PieceFaults.{piece_none}
 use Rattle.sql_front.proofs.Spelling.{none_if_unread, spelled_if_read}
 use Rattle.sql_front.proofs.StatementsRead.{read_spelled}
+use Rattle.catalog_core.specs.change.PortionChanges.{lacks_named}
+use Rattle.catalog_core.specs.stored.StoredQueries.{stored_conditions}
+use Rattle.catalog_core.specs.table.TableWords.{number_of, table_of_name}
+use Rattle.catalog_core.proofs.lemmas.judged.Least.{first_least}
 use Rattle.history_model.specs.Histories.{History, new_database, opened}
 use Rattle.script_engine.specs.script.Check.{IsCheckOf, IsPieceCheck}
 use Rattle.script_engine.specs.script.Script.{IsCutInto, IsOverlong, IsRunOf, PieceStep, TextApplies}
 use Rattle.script_engine.proofs.PieceFacts.{none_of_text}
-use Rattle.script_engine.proofs.RunExamples.{syntax_alone}
 use Rattle.script_engine.proofs.ScriptFacts.{none_of_script}
 
 -- ---- how long a piece may be
@@ -199,19 +202,21 @@ lookup_not_refused : IsPieceCheck lookup (Err Syntax) → ⊥
 lookup_not_refused (inl least) = lookup_sound Syntax least.applies
 lookup_not_refused (inr memory) = cc
 
--- run: the first is a statement that does not run yet, and refused with 10 too; the history stays
-lookup_step : (history : History) → PieceStep history lookup (Err Syntax) history
-lookup_step history = inr (looked_up, lookup_sound, lookup_spelled, (inl syntax_alone, refl))
+-- run: the first is refused with 23, since there is no table T; the history stays
+lookup_step : PieceStep (opened new_database) lookup (Err UnknownTable) (opened new_database)
+unfolding lacks_named number_of table_of_name
+lookup_step =
+    inr (looked_up, lookup_sound, lookup_spelled, (inl (inl (first_least (stored_conditions [] looked_up) UnknownTable (lit≤ tt, (lit≤ tt, (lit≤ tt, (lit≤ tt, (lit≤ tt, (lit≤ tt, tt)))))) refl)), refl))
 
 -- the second is refused as it is where it is checked
 letter_step : (history : History) → PieceStep history letter (Err Syntax) history
 letter_step history = inl (Syntax, refl, letter_refused, refl)
 
--- so both are refused with 10
-run : IsRunOf script_text (Err Syntax ∷ Err Syntax ∷ [])
+-- so the one is refused with 23, the other with 10
+run : IsRunOf script_text (Err UnknownTable ∷ Err Syntax ∷ [])
 run = record {
   pieces = lookup ∷ letter ∷ [];
   cut = cut;
   last = opened new_database;
-  run = (opened new_database, lookup_step (opened new_database), (opened new_database, letter_step (opened new_database), refl));
+  run = (opened new_database, lookup_step, (opened new_database, letter_step (opened new_database), refl));
 }

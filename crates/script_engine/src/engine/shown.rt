@@ -54,8 +54,8 @@ fn version_column(
     position: usize,
 ) -> Result<VersionColumn, Memory>
     ensures { IfOk result (λ shown. shown ≡ record {
-        name = column.now.name;
-        cell = cell_at table.now place column.now.kind position;
+      name = column.now.name;
+      cell = cell_at table.now place column.now.kind position;
     }) }
 {
     Ok(VersionColumn {
