@@ -18,12 +18,7 @@ use sql_statements::{QueryTree, SelectDistinct, SetOperator};
 use std::alloc::Global;
 
 /// Two queries under a set operator.
-fn combine(
-    alloc: Global,
-    operator: SetOperator,
-    left: Query,
-    right: Query,
-) -> Result<Query, Memory>
+fn combine(alloc: Global, operator: SetOperator, left: Query, right: Query) -> Result<Query, Memory>
     ensures { IfOk result (λ query. resolved.plain_query query
         ≡ both operator (resolved.plain_query left) (resolved.plain_query right)) }
 {
@@ -40,8 +35,7 @@ pub fn number_query(
     query: &QueryTree<SelectDistinct>,
     place: &mut usize,
 ) -> Result<Query, Memory>
-    requires sound
-        { list_any (is_refused catalog.now.tables) (selects_of (plain_query query.now)) ≡ false }
+    requires sound { list_any (is_refused catalog.now.tables) (selects_of (plain_query query.now)) ≡ false }
     requires room { place.old + table_count (selects_of (plain_query query.now)) < 1_000 }
     ensures same { IfOk result (λ numbered. ResolvesTree catalog.now.tables
         (plain_query query.now) (resolved.plain_query numbered)) }

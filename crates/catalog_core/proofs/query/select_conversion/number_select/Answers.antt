@@ -22,8 +22,15 @@ pub from_vec-requires : goal.from_vec-requires
 from_vec-requires c =
     let written = written_reference c.args.catalog.now.tables in
     let now = λ (r : Borrowed). r.now in
-    omega (arith, ap length c.in_ok-references-2.ensures.parts, length-map (map now c.as_slice.result.now) written, length-map c.as_slice.result.now now,
-    length-map c.in_ok-references-2.references.items reference_parts, c.in_ok-references.ensures.filled, ap length c.as_slice.ensures.value)
+    omega (
+      arith,
+      ap length c.in_ok-references-2.ensures.parts,
+      length-map (map now c.as_slice.result.now) written,
+      length-map c.as_slice.result.now now,
+      length-map c.in_ok-references-2.references.items reference_parts,
+      c.in_ok-references.ensures.filled,
+      ap length c.as_slice.ensures.value,
+    )
 
 pub returns : goal.returns
 returns c =
