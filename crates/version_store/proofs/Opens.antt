@@ -1,16 +1,17 @@
 -- The points of a store, by the rows that its queries show.
-use Rattle.std.proofs.Common.{◌≡◌, ◌+◌, ◌≤◌, ◌∙◌, ◌∷◌, ◌++◌, ℕ, ℤ, pos, List, [], Result, Ok, Err, ap, arith, false, length, length-append, map, refl, subst, sym, true}
+use Rattle.std.proofs.Common.{◌≡◌, ◌+◌, ◌≤◌, ◌∙◌, ◌∷◌, ◌++◌, ℕ, ℤ, pos, List, [], Some, Result, Ok, Err, ap, arith, false, length, length-append, map, refl, subst, sym, true}
 use Rattle.std.specs.Prelude.{IfErr, IfOk}
 use Rattle.std.specs.List.{All, AllByRecursion}
 use Rattle.std.specs.List.Sorted.{IsPermutation}
 use Rattle.std.proofs.lemmas.List.{length-map}
 use Rattle.std.proofs.lemmas.List.Sorted.{IsPermutation-map, IsPermutation-sym, IsPermutation-trans}
-use Rattle.sqlite_trees.proofs.ListLemmas.{IsPermutation-same, all-map, all-permutation, all_weaker}
+use Rattle.sqlite_trees.proofs.ListLemmas.{IsPermutation-same, all-map, all-permutation, all_from_map, all_weaker}
 use Rattle.period_core.specs.Encoding.{IsColumnValue}
 use Rattle.period_core.specs.declared.refusal.Refusal.{Refusal}
 use Rattle.period_core.specs.declared.refusal.Refusal.TheVariants.{BadStore}
 use Rattle.catalog_core.specs.declared.table.catalog.Catalog.{Catalog}
 use Rattle.catalog_core.specs.declared.table.TableDef.{TableDef}
+use Rattle.catalog_core.specs.table.TableWords.{table_of}
 use Rattle.sqlite.proofs.Callers.{one_permutation}
 use Rattle.sqlite.specs.Effect.{Database}
 use Rattle.sqlite.specs.Order.{Row}
@@ -24,7 +25,7 @@ use Rattle.version_tables.specs.Represents.{AreUntied, defined, meta_row, meta_s
 use Rattle.version_tables.specs.Tables.{store_schema}
 use Rattle.version_store.proofs.Judged.{same_written}
 use Rattle.version_store.specs.Contents.{Contents, HaveColumnValues, TableVersion, same_version}
-use Rattle.version_store.specs.GoodStore.{AreLawful, AreTableRows, IsGoodStore, IsGoodVersion, NothingMore, SayRows, SaysVersion, AreGood}
+use Rattle.version_store.specs.GoodStore.{AreLawful, AreTableRows, HaveTables, IsGoodStore, IsGoodVersion, NothingMore, SayRows, SaysVersion, AreGood}
 use Rattle.version_store.specs.Written.{Has, IsReadable, written_table, written_version}
 
 -- ---- definitions
@@ -207,3 +208,27 @@ good_store db c has keys good = record {
   distinct = keys c.versions has.values (subst (λ (l : List Row). IsPermutation l (map version_shown (db.trees 2))) (twice c.versions) has.rows.says.versions);
   constrained = good.constrained;
 }
+
+-- ---- the versions of a database with good contents are of its tables
+
+abbrev IsTabled : List TableDef → TableVersion → Type 0
+IsTabled tables v = (d : TableDef) × (table_of tables v.table ≡ Some d)
+
+abbrev IsTabledRow : List TableDef → Row → Type 0
+IsTabledRow tables row = (v : TableVersion) × (row ≡ stored_version v) × IsTabled tables v
+
+tabled_alike : (tables : List TableDef) (v : TableVersion) → IsTabledRow tables (stored_version v) → IsTabled tables v
+tabled_alike tables v (w, same, there) = let one : w.table ≡ v.table = cc in subst (λ (n : ℕ). (d : TableDef) × (table_of tables n ≡ Some d)) one there
+
+pub have_tables : (db : Database) (c : Contents) (good : IsGoodStore NothingMore db) → Has db good.contents → Has db c → HaveTables c
+have_tables db c good its has =
+    let g = good.contents in
+    let rows : AllByRecursion (IsTabledRow g.tables) (map stored_version g.versions) =
+    all-map (IsTabledRow g.tables) stored_version g.versions (all_weaker (IsGoodVersion g.tables g.clock) (λ v. IsTabledRow g.tables (stored_version v)) (λ v is. (v, refl, (is.definition, is.table))) g.versions good.versions) in
+    let shown = all-permutation (IsTabledRow g.tables) _ _ (subst (λ (l : List Row). IsPermutation l (map version_shown (db.trees 2))) (twice g.versions) good.says.versions) rows in
+    let ours : AllByRecursion (IsTabledRow g.tables) (map stored_version c.versions) =
+    all-permutation (IsTabledRow g.tables) _ _ (IsPermutation-sym _ _ (subst (λ (l : List Row). IsPermutation l (map version_shown (db.trees 2))) (twice c.versions) has.rows.says.versions)) shown in
+    let same : g.tables ≡ c.tables = (same_contents db g c its has).0 in
+    subst (λ (ts : List TableDef). AllByRecursion (IsTabled ts) c.versions) same
+    (all_weaker (λ (v : TableVersion). IsTabledRow g.tables (stored_version v)) (IsTabled g.tables) (tabled_alike g.tables) c.versions
+    (all_from_map (IsTabledRow g.tables) stored_version c.versions ours))

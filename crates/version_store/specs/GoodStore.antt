@@ -28,6 +28,11 @@ pub record IsGoodVersion (tables : List TableDef) (clock : ℤ) (v : TableVersio
   pub days : AreDays v.start v.end
   pub moments : AreMoments clock v.from v.to
 
+-- each version is of a table that is there
+abbrev pub HaveTables : Contents → Type 0
+HaveTables c =
+    AllByRecursion (λ v. (d : TableDef) × (table_of c.tables v.table ≡ Some d)) c.versions
+
 -- each definition is one that CREATE gives over those before it
 abbrev pub AreLawful : List TableDef → List TableDef → Type 0
 AreLawful before [] = Unit {0}

@@ -12,6 +12,7 @@ use Rattle.sqlite.specs.Steps.{over_memory}
 use Rattle.sqlite_trees.specs.declared.memory.MemStore.{MemStore}
 use Rattle.sqlite.specs.Schema.{Schema}
 use Rattle.version_tables.specs.Presence.{AreAllThere}
+use Rattle.version_tables.specs.Steps.{IsAsBefore}
 use Rattle.version_tables.specs.Tables.{store_schema}
 use Rattle.version_store.specs.Contents.{Contents}
 use Rattle.version_store.specs.Written.{Has}
@@ -52,6 +53,14 @@ abbrev pub Changes : {S X : Type 0} → Ghosts S → StoreState S → StoreState
 Changes g old new result change =
     IsUsable g new.connection → (c : Contents) → StoreRepresents g old c
     → OnOk result (StoreRepresents g new (change c)) × OnErr result (StoreRepresents g new c)
+
+-- the tables, the clock and the database are as before; the connection was usable if it is so now
+pub record IsOnlyRead {S : Type 0} (g : Ghosts S) (old new : StoreState S) : Type 0 where
+  pub catalog : new.catalog ≡ old.catalog
+  pub clock : new.clock ≡ old.clock
+  pub usable : IsUsable g new.connection → IsUsable g old.connection
+  pub same : IsUsable g new.connection
+      → IsAsBefore (state g old.connection) (state g new.connection)
 
 -- out of memory, or another failure of the database
 abbrev pub IsStoreRefusal : Refusal → Type 0

@@ -86,6 +86,8 @@ pub(crate) fn scan_rows<S: Alter, V: RowVisitor>(
         → Visits V.next c table window (V.meaning visitor.old) (V.meaning visitor.new) result }
     ensures same { HasCleanDisk (state S.Store connection.new)
         → Keeps (state S.Store connection.old) (state S.Store connection.new) }
+    ensures clean { HasCleanDisk (state S.Store connection.new)
+        → HasCleanDisk (state S.Store connection.old) }
     ensures mode { connection.new.in_transaction ≡ false }
     ensures named { IfErr result (λ refusal. IsStoreRefusal refusal ⊎ V.may_refuse refusal) }
 {

@@ -14,10 +14,10 @@ ghost use Rattle.version_tables.specs.Tables.{no_schema};
 ghost use Rattle.version_store.specs.Changed.{planned, with_clock, with_table};
 ghost use Rattle.version_store.specs.Contents.{AreRowsOf, Contents, empty_contents};
 ghost use Rattle.version_store.specs.DistinctKeys.{HaveDistinctKeys};
-ghost use Rattle.version_store.specs.GoodStore.{AreGood, IsGoodStore, NothingMore};
+ghost use Rattle.version_store.specs.GoodStore.{AreGood, HaveTables, IsGoodStore, NothingMore};
 ghost use Rattle.version_store.specs.Scans.{Visits};
 ghost use Rattle.version_store.specs.StoreState.{Changes, IsOpenRefusal, IsOurs, IsStoreRefusal};
-ghost use Rattle.version_store.specs.StoreState.{IsUsable, StoreRepresents};
+ghost use Rattle.version_store.specs.StoreState.{IsOnlyRead, IsUsable, StoreRepresents};
 ghost use Rattle.version_store.specs.Written.{Has};
 
 use crate::inspecting::inspect;
@@ -83,6 +83,7 @@ impl<S: Alter> VersionStore<S> {
         ensures fresh { IfOk result (λ store. IsUsable S.Store store.connection
             → (state S.Store connection).now.schema ≡ no_schema
             → StoreRepresents S.Store store empty_contents) }
+        ensures empty { IfOk result (λ store. store.catalog.tables ≡ []) }
         ensures none { IfErr result (λ failed. IsUsable S.Store failed.1
             → IsAsBefore (state S.Store connection) (state S.Store failed.1)) }
         ensures was_open { IfErr result (λ failed. IsUsable S.Store failed.1
@@ -121,6 +122,11 @@ impl<S: Alter> VersionStore<S> {
         ensures same { IfOk result (λ store. IsUsable S.Store store.connection
             → (c : Contents) → Has (state S.Store connection).now c
             → StoreRepresents S.Store store c) }
+        ensures tabled { IfOk result (λ store. IsUsable S.Store store.connection
+            → (c : Contents) → Has (state S.Store connection).now c → HaveTables c) }
+        ensures unchanged { IfOk result (λ store. IsUsable S.Store store.connection
+            → (store.catalog.tables ≡ [])
+            ⊎ IsAsBefore (state S.Store connection) (state S.Store store.connection)) }
         ensures bad { IfErr result (λ failed. IsUsable S.Store failed.1 → failed.0 ≡ BadStore
             → (¬ IsNoneThere (state S.Store connection).now.schema)
             × ¬ IsGoodStore NothingMore (state S.Store connection).now) }
@@ -284,6 +290,7 @@ impl<S: Alter> VersionStore<S> {
         ensures same { IsUsable S.Store self.new.connection
             → (c : Contents) → StoreRepresents S.Store self.old c
             → StoreRepresents S.Store self.new c }
+        ensures read { IsOnlyRead S.Store self.old self.new }
         ensures named { IfErr result (λ refusal. IsStoreRefusal refusal ⊎ V.may_refuse refusal) }
     {
         scan_rows(alloc, &mut self.connection, table, window, visitor)

@@ -1,11 +1,12 @@
 use Rattle.std.proofs.Common.{◌≡◌, ◌∙◌, Result, Ok, Err, IsTrue, inl, inr, refl, rules, subst, sym}
 use Rattle.std.specs.Prelude.{IfOk}
+use Rattle.std.proofs.lemmas.Result.{IfOk-weaker}
 use Rattle.sqlite.specs.Effect.{Database}
 use Rattle.sqlite.specs.Held.{state}
 use Rattle.version_tables.proofs.There.{not_both_ways, store_is_whole}
 use Rattle.version_tables.specs.Presence.{IsNoneThere}
 use Rattle.version_tables.specs.declared.presence.Presence.TheVariants.{Missing, Partial, Whole}
-use Rattle.version_store.proofs.Opens.{same_contents}
+use Rattle.version_store.proofs.Opens.{have_tables, same_contents}
 use Rattle.version_store.specs.Written.{Has}
 use Rattle.version_store.proofs.store.VersionStore.open.Goals as goal
 
@@ -72,3 +73,20 @@ returns-in-Ok-clause-same g c = λ usable d is.
       catalog = sym found.2 ∙ one.0;
       clock = sym found.3 ∙ one.1;
     }
+
+pub returns-in-Missing-clause-tabled : goal.returns-in-Missing-clause-tabled
+returns-in-Missing-clause-tabled g c =
+    let s = c.args.connection.schema in
+    let none : IsNoneThere s = c.in-Missing.ensures.missing.0 refl in
+    if_ok _ c.create.result (λ x usable d has. absurd (not_both_ways s none (store_is_whole s has.rows.schema)))
+
+pub returns-in-Missing-clause-unchanged : goal.returns-in-Missing-clause-unchanged
+returns-in-Missing-clause-unchanged g c = IfOk-weaker c.create.result _ _ (λ store none usable. inl none) c.create.ensures.empty
+
+pub returns-in-Ok-clause-tabled : goal.returns-in-Ok-clause-tabled
+returns-in-Ok-clause-tabled g c = λ usable d is.
+    let found = c.in-Ok.ensures.good usable.0 usable.1 is.rows.schema in
+    have_tables (state g.S.Store c.args.connection).now d found.0 found.1 is
+
+pub returns-in-Ok-clause-unchanged : goal.returns-in-Ok-clause-unchanged
+returns-in-Ok-clause-unchanged g c = λ usable. let same = c.in-Ok.ensures.same usable.0 in inr (same.now usable.1, same.committed usable.1)

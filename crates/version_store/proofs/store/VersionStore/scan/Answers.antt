@@ -1,5 +1,7 @@
-use Rattle.std.proofs.Common.{sym, subst, refl}
-use Rattle.version_store.specs.StoreState.{StoreRepresents}
+use Rattle.std.proofs.Common.{ap, sym, subst, refl}
+use Rattle.sqlite.specs.Held.{state}
+use Rattle.version_tables.specs.Steps.{IsAsBefore}
+use Rattle.version_store.specs.StoreState.{IsUsable, StoreRepresents}
 use Rattle.version_store.proofs.Standing.{stays}
 use Rattle.version_store.proofs.store.VersionStore.scan.Goals as goal
 
@@ -13,3 +15,15 @@ returns-clause-same g k usable c stands =
     let was = subst (λ s. StoreRepresents g.S.Store s c) (sym k.self.view_is) stands in
     let same = k.scan_rows.ensures.same usable.0 in
     stays g.S.Store _ _ c was (same.now usable.1, same.committed usable.1) refl refl
+
+pub returns-clause-read : goal.returns-clause-read
+returns-clause-read g k = record {
+  catalog = ap (λ s. s.catalog) k.self.view_is;
+  clock = ap (λ s. s.clock) k.self.view_is;
+  usable = λ usable.
+      let was = k.scan_rows.ensures.same usable.0 in
+      subst (λ s. IsUsable g.S.Store s.connection) k.self.view_is (k.scan_rows.ensures.clean usable.0, was.was_open usable.1);
+  same = λ usable.
+      let was = k.scan_rows.ensures.same usable.0 in
+      subst (λ s. IsAsBefore (state g.S.Store s.connection) (state g.S.Store k.scan_rows.new.connection)) k.self.view_is (was.now usable.1, was.committed usable.1);
+}
