@@ -1,9 +1,11 @@
 -- A change that is run is a step of the histories that the engine represents.
-use Rattle.std.proofs.Common.{◌≡◌, ◌∷◌, ◌++◌, ◌<◌, ◌⊎◌, ℤ, Bool, true, false, List, [], Ok, Err, refl, sym, ap, ◌∙◌, subst, inl, inr, arith}
+use Rattle.std.proofs.Common.{◌≡◌, ◌∷◌, ◌++◌, ◌<◌, ◌⊎◌, ℤ, Bool, true, false, List, [], Ok, Err, map, refl, sym, ap, ◌∙◌, subst, inl, inr, arith}
+use Rattle.std.specs.List.Sorted.{IsPermutation}
 use Rattle.period_core.specs.Codes.{code_of}
 use Rattle.period_core.specs.Leasts.{MayAnswer, NoneApplies}
 use Rattle.period_core.specs.declared.refusal.Refusal.{Refusal}
 use Rattle.period_core.specs.declared.refusal.Refusal.TheVariants.{EmptyPeriod}
+use Rattle.period_core.specs.declared.version.VersionRow.{VersionRow}
 use Rattle.sqlite.specs.Store.{Ghosts}
 use Rattle.sql_statements.specs.Trees.{Statement}
 use Rattle.sql_statements.specs.Trees as statement
@@ -13,15 +15,24 @@ use Rattle.catalog_core.specs.declared.change.Change.{Change}
 use Rattle.catalog_core.specs.declared.change.Plan.{Plan}
 use Rattle.catalog_core.specs.declared.table.TableDef.{TableDef}
 use Rattle.version_store.specs.Changed.{planned}
+use Rattle.version_store.specs.Contents.{Contents}
 use Rattle.version_store.specs.DistinctKeys.{HaveDistinctKeys}
-use Rattle.version_store.specs.StoreState.{IsStoreRefusal, StoreRepresents, StoreState}
+use Rattle.version_store.specs.StoreState.{IsStoreRefusal, StoreRepresents}
+use Rattle.version_store.proofs.Spared.{other_tables}
 use Rattle.history_model.specs.Histories.{Changed, History, catalog_of, with_event}
-use Rattle.script_engine.specs.engine.Planned.{IsPlanOf, planned_count, word_of}
+use Rattle.period_keys.specs.Planned.{IsPlanOf}
+use Rattle.period_keys.specs.Rows.{RowsByKey}
+use Rattle.period_keys.specs.Versions.{begun}
+use Rattle.script_engine.specs.engine.EngineState.{EngineState, store_of}
+use Rattle.script_engine.specs.engine.InMemory.{HaveCurrentRows, HaveRows, rows_in}
+use Rattle.script_engine.specs.engine.Planned.{planned_count, word_of}
 use Rattle.script_engine.specs.engine.Runs.{Accepts, ChangeApplies, Changes, MayRefuse, NoneBeforeStore, StatementApplies, StepsTo}
-use Rattle.script_engine.specs.engine.Stored.{EngineRepresents}
+use Rattle.script_engine.specs.engine.Stored.{EngineRepresents, HasContents}
 use Rattle.script_engine.specs.declared.engine.outcome.Outcome.{Outcome}
 use Rattle.script_engine.specs.declared.engine.outcome.Outcome.TheVariants.{Done}
-use Rattle.script_engine.proofs.Contents.{count_said, said-changed}
+use Rattle.script_engine.proofs.Contents.{IsOver, count_said, over_history, said-changed}
+use Rattle.script_engine.proofs.CurrentAfter.{current_planned, parted_current, staying}
+use Rattle.script_engine.proofs.InMemory.{current-changed}
 use Rattle.script_engine.proofs.Refused.{are_at_most, days-planned, holds_cases, may_answer-before, may_answer-empty}
 use Rattle.script_engine.proofs.Steps.{failed_step, refused_step, tables_of}
 
@@ -78,7 +89,7 @@ only_empty tables s sound refusal h =
 
 -- ---- steps
 
-module _ {S : Type 0} (g : Ghosts S) (history : History) (old : StoreState S) (s : Statement) (is : IsChange s) (kept : EngineRepresents g history old) where
+module _ {S : Type 0} (g : Ghosts S) (history : History) (old : EngineState S) (s : Statement) (is : IsChange s) (kept : EngineRepresents g history old) where
   -- what the tables in memory say, the history does
   of_history : (refusal : Refusal) → MayRefuse (Applies old.catalog.tables s) refusal → MayRefuse (StatementApplies history s) refusal
   of_history refusal may =
@@ -96,11 +107,10 @@ module _ {S : Type 0} (g : Ghosts S) (history : History) (old : StoreState S) (s
     before_store : NoneBeforeStore (Applies old.catalog.tables s)
     before_store refusal h = let same = (only_empty old.catalog.tables s sound refusal h).0 in subst (λ (r : Refusal). 40 < code_of r) same (omega arith)
 
-    -- there is no plan, where a given row has no day or the database fails
-    pub unplanned_step : (new : StoreState S) (refusal : Refusal) → StoreRepresents g new kept.contents →
-        ((refusal ≡ EmptyPeriod) × (has_empty_row change.action ≡ true)) ⊎ IsStoreRefusal refusal → StepsTo g history s (Err refusal) new
-    unplanned_step new refusal stored why =
-        refused_step g history new s refusal (record { contents = kept.contents; stored = stored; said = kept.said }) (of_history refusal (may why))
+    -- there is no plan, where a given row has no day or memory fails
+    pub unplanned_step : (refusal : Refusal) →
+        ((refusal ≡ EmptyPeriod) × (has_empty_row change.action ≡ true)) ⊎ IsStoreRefusal refusal → StepsTo g history s (Err refusal) old
+    unplanned_step refusal why = refused_step g history old s refusal kept (of_history refusal (may why))
       where
         may : ((refusal ≡ EmptyPeriod) × (has_empty_row change.action ≡ true)) ⊎ IsStoreRefusal refusal → MayRefuse (Applies old.catalog.tables s) refusal
         may (inl none) =
@@ -109,7 +119,10 @@ module _ {S : Type 0} (g : Ghosts S) (history : History) (old : StoreState S) (s
         may (inr (inl memory)) = inl (inr memory)
         may (inr (inr store)) = inr (store, before_store)
 
-    module _ (plan : Plan) (of : IsPlanOf kept.contents change plan) where
+    module _ (plan : Plan) (of : IsPlanOf change.action (rows_in old.tables change.table) plan) where
+      over : IsOver (kept.said.versions change.table).rows change.action plan
+      over = over_history history kept.contents change.table change.action (rows_in old.tables change.table) plan (kept.said.versions change.table) (kept.current.rows change.table) of
+
       none_holds : NoneApplies (StatementApplies history s)
       none_holds =
           none_of_change history s is
@@ -120,11 +133,30 @@ module _ {S : Type 0} (g : Ghosts S) (history : History) (old : StoreState S) (s
           let off : gives_empty old.catalog.tables s ≡ false = empty ∙ days-planned change.action of.listed plan of.plans in
           absurd cc)))
 
+      abbrev after : Contents
+      after = planned change.table kept.contents.clock plan.ended plan.added kept.contents
+
+      abbrev rest : List VersionRow
+      rest = staying history kept.contents change plan kept.said over
+
+      -- the rows in memory after it
+      current_after : (tables : List RowsByKey) → HaveDistinctKeys kept.contents.versions →
+          ((stay : List VersionRow) → IsPermutation (rows_in old.tables change.table) (plan.ended ++ stay) → HaveRows change.table (map (begun old.clock) plan.added ++ stay) old.tables tables) →
+          HaveCurrentRows after tables
+      current_after tables apart made =
+          let split = parted_current history kept.contents change plan kept.said over (rows_in old.tables change.table) (kept.current.rows change.table) in
+          current-changed kept.contents after change.table (map (begun kept.contents.clock) plan.added ++ rest) old.tables tables
+          (subst (λ (m : ℤ). HaveRows change.table (map (begun m) plan.added ++ rest) old.tables tables) kept.stored.clock (made rest split))
+          kept.current refl
+          (current_planned history kept.contents change plan kept.said over apart)
+          (λ other off. other_tables change.table other kept.contents.clock plan.ended plan.added kept.contents off)
+
       -- a change whose plan is applied is a step
-      pub changed_step : (new : StoreState S) → ResolvesChange old.catalog.tables s change → HaveDistinctKeys kept.contents.versions →
-          StoreRepresents g new (planned change.table old.clock plan.ended plan.added kept.contents) →
+      pub changed_step : (new : EngineState S) → ResolvesChange old.catalog.tables s change → HaveDistinctKeys kept.contents.versions →
+          StoreRepresents g (store_of new) (planned change.table old.clock plan.ended plan.added kept.contents) →
+          ((stay : List VersionRow) → IsPermutation (rows_in old.tables change.table) (plan.ended ++ stay) → HaveRows change.table (map (begun old.clock) plan.added ++ stay) old.tables new.tables) →
           StepsTo g history s (Ok (Done (word_of change.action) (planned_count change.action plan))) new
-      changed_step new resolved apart stored =
+      changed_step new resolved apart stored made =
           let clock = kept.stored.clock in (
             with_event history (Changed kept.contents.clock change),
             (
@@ -132,17 +164,18 @@ module _ {S : Type 0} (g : Ghosts S) (history : History) (old : StoreState S) (s
               accepts_change history (with_event history (Changed kept.contents.clock change)) s (Done (word_of change.action) (planned_count change.action plan)) is (record {
                 change = change;
                 resolved = subst (λ (tables : List TableDef). ResolvesChange tables s change) (tables_of g history old kept) resolved;
-                done = ap (λ n. Done (word_of change.action) n) (sym (count_said history kept.contents change plan kept.said of));
+                done = ap (λ n. Done (word_of change.action) n) (sym (count_said history kept.contents change plan kept.said over));
                 after = ap (λ (c : ℤ). with_event history (Changed c change)) kept.said.clock;
               }),
             ),
             record {
-              contents = planned change.table kept.contents.clock plan.ended plan.added kept.contents;
-              stored = subst (λ (m : ℤ). StoreRepresents g new (planned change.table m plan.ended plan.added kept.contents)) clock stored;
-              said = said-changed history kept.contents change plan kept.said of apart;
+              contents = after;
+              stored = subst (λ (m : ℤ). StoreRepresents g (store_of new) (planned change.table m plan.ended plan.added kept.contents)) clock stored;
+              said = said-changed history kept.contents change plan kept.said over apart;
+              current = current_after new.tables apart made;
             },
           )
 
       -- or the database fails
-      pub unchanged_step : (new : StoreState S) (refusal : Refusal) → StoreRepresents g new kept.contents → IsStoreRefusal refusal → StepsTo g history s (Err refusal) new
-      unchanged_step new refusal stored failure = failed_step g history old new s refusal kept stored failure none_holds
+      pub unchanged_step : (new : EngineState S) (refusal : Refusal) → HasContents g new kept.contents → IsStoreRefusal refusal → StepsTo g history s (Err refusal) new
+      unchanged_step new refusal has failure = failed_step g history old new s refusal kept has failure none_holds

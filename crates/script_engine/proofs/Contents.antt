@@ -13,7 +13,6 @@ use Rattle.period_core.specs.Moments.{first_moment, forever}
 use Rattle.period_core.specs.declared.row.PeriodRow.{PeriodRow}
 use Rattle.period_core.specs.declared.version.VersionRow.{VersionRow}
 use Rattle.catalog_core.specs.declared.change.Action.{Action}
-use Rattle.catalog_core.specs.declared.change.Action.TheVariants.{Delete, Insert, Update}
 use Rattle.catalog_core.specs.declared.change.Change.{Change}
 use Rattle.catalog_core.specs.declared.change.Plan.{Plan}
 use Rattle.catalog_core.specs.declared.table.TableDef.{TableDef}
@@ -30,8 +29,10 @@ use Rattle.history_model.proofs.HistoryLemmas.{catalog_of-event, clock_of-event}
 use Rattle.history_model.proofs.Lists.{exchange}
 use Rattle.portion_dml.specs.Plans.{Plans}
 use Rattle.portion_dml.proofs.Applied.{applied_makes}
-use Rattle.portion_dml.proofs.Planned.{none_touched}
-use Rattle.script_engine.specs.engine.Planned.{AreListedFor, IsPlanOf, count_of, planned_count}
+use Rattle.period_keys.specs.Planned.{IsPlanOf}
+use Rattle.period_keys.specs.Versions.{begun}
+use Rattle.script_engine.specs.engine.InMemory.{AreCurrentOf}
+use Rattle.script_engine.specs.engine.Planned.{count_of, planned_count}
 use Rattle.script_engine.specs.engine.Stored.{AreOfHistory, AreRecorded, HoldsTable}
 use Rattle.script_engine.proofs.Ended.{all_closed, closed_in, closed_plain, closed_row, none_closed, of_left, recorded_planned}
 use Rattle.script_engine.proofs.KeyFacts.{are_ended, distinct_along, rest_stays}
@@ -117,10 +118,6 @@ recorded_rows c table rows recorded all =
 
 -- ---- changes
 
--- a period row as a version that begins at a moment
-abbrev begun : ℤ → PeriodRow → VersionRow
-begun moment row = record { values = row.values; period = row.period; from = moment; to = forever }
-
 begun_plain : (moment : ℤ) (added : List PeriodRow) → map plain_version (map (begun moment) added) ≡ map (begun_at moment) (map plain_row added)
 begun_plain moment added = map-map plain_version (begun moment) added ∙ sym (map-map (begun_at moment) plain_row added)
 
@@ -138,10 +135,10 @@ pub record IsOver (rows : List VersionRow) (action : Action) (plan : Plan) : Typ
   pub plans : Plans action listed plan
 
 -- the versions after it: those that stay, those that are closed, and those that begin
-abbrev stay_in : Action → List VersionRow → List VersionRow
+abbrev pub stay_in : Action → List VersionRow → List VersionRow
 stay_in action rows = filter (λ (v : VersionRow). not (is_hit action v)) rows
 
-abbrev rows_after : ℤ → Action → Plan → List VersionRow → List VersionRow
+abbrev pub rows_after : ℤ → Action → Plan → List VersionRow → List VersionRow
 rows_after moment action plan rows = stay_in action rows ++ (flat_map (closed_row moment) plan.ended ++ map (begun moment) plan.added)
 
 module _ (moment : ℤ) (action : Action) (plan : Plan) (rows : List VersionRow) (over : IsOver rows action plan) where
@@ -152,7 +149,7 @@ module _ (moment : ℤ) (action : Action) (plan : Plan) (rows : List VersionRow)
   S = stay_in action rows
 
   -- the versions are those that end and those that stay
-  taken : IsPermutation rows (E ++ S)
+  pub taken : IsPermutation rows (E ++ S)
   taken =
       IsPermutation-trans rows (filter (is_hit action) rows ++ S) (E ++ S)
       (IsPermutation-filter_both (is_hit action) (λ (v : VersionRow). not (is_hit action v)) (λ v. refl) rows)
@@ -201,7 +198,7 @@ module _ (moment : ℤ) (action : Action) (plan : Plan) (rows : List VersionRow)
     begun_in : map (version_in table) (map (begun moment) plan.added) ≡ map (added_in table moment forever) plan.added
     begun_in = map-map (version_in table) (begun moment) plan.added
 
-    held_planned : IsPermutation (of_table table (left versions ++ map (added_in table moment forever) plan.added)) (map (version_in table) (rows_after moment action plan rows))
+    pub held_planned : IsPermutation (of_table table (left versions ++ map (added_in table moment forever) plan.added)) (map (version_in table) (rows_after moment action plan rows))
     held_planned =
         let C : List TableVersion = map (version_in table) (flat_map (closed_row moment) E) in
         let Q : List TableVersion = map (version_in table) S in
@@ -219,26 +216,18 @@ module _ (moment : ℤ) (action : Action) (plan : Plan) (rows : List VersionRow)
         (IsPermutation-append_left A (left (of_table table versions)) (C ++ Q) left_planned)
         (subst (λ (l : List TableVersion). IsPermutation l (Q ++ (C ++ A))) (sym (append_assoc C Q A)) (exchange C Q A)))
 
--- a plan of a change over the contents of a store is one over the versions that the history leaves
-pub over_history : (history : History) (c : Contents) (table : ℕ) (action : Action) (listed : List VersionRow) (plan : Plan) (holds : HoldsTable history c.versions table) → AreListedFor c table action listed → Plans action listed plan →
+-- a plan over the rows in memory is one over the versions that the history leaves
+pub over_history : (history : History) (c : Contents) (table : ℕ) (action : Action) (rows : List VersionRow) (plan : Plan) (holds : HoldsTable history c.versions table) → AreCurrentOf c table rows → IsPlanOf action rows plan →
     IsOver holds.rows action plan
-over_history history c table (Insert given) listed plan holds none plans = record {
-  listed = current holds.rows;
-  are_current = IsPermutation-refl (current holds.rows);
-  plans = record {
-    ended = plans.ended ∙ none_touched given listed ∙ sym (none_touched given (current holds.rows));
-    added = plans.added;
-  };
+over_history history c table action rows plan holds are of = record {
+  listed = of.listed;
+  are_current = IsPermutation-trans (current holds.rows) rows of.listed (current_listed table c.versions holds.rows rows holds.all are) of.are_rows;
+  plans = of.plans;
 }
-over_history history c table (Update portion assignments condition) listed plan holds are plans = record { listed = listed; are_current = current_listed table c.versions holds.rows listed holds.all are; plans = plans }
-over_history history c table (Delete portion condition) listed plan holds are plans = record { listed = listed; are_current = current_listed table c.versions holds.rows listed holds.all are; plans = plans }
 
-module _ (history : History) (c : Contents) (change : Change) (plan : Plan) (said : AreOfHistory history c) (of : IsPlanOf c change plan) where
+module _ (history : History) (c : Contents) (change : Change) (plan : Plan) (said : AreOfHistory history c) (over_said : IsOver (said.versions change.table).rows change.action plan) where
   abbrev after : Contents
   after = planned change.table c.clock plan.ended plan.added c
-
-  over_said : IsOver (said.versions change.table).rows change.action plan
-  over_said = over_history history c change.table change.action of.listed plan (said.versions change.table) of.are_listed of.plans
 
   -- what is counted of the plan is what the history tells
   pub count_said : count_of change.action (versions_of history change.table) ≡ planned_count change.action plan

@@ -15,6 +15,9 @@ mod Steps
 mod TableNumbers
 mod ColumnFacts
 mod Contents
+mod CurrentAfter
+mod InMemory
+mod Loaded
 mod Ended
 mod KeyFacts
 mod LeftSteps

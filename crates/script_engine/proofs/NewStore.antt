@@ -7,10 +7,10 @@ use Rattle.std.proofs.lemmas.List.Sorted.{IsPermutation-refl}
 use Rattle.sqlite.specs.Store.{Ghosts}
 use Rattle.period_core.specs.Moments.{first_moment}
 use Rattle.version_store.specs.Contents.{empty_contents}
-use Rattle.version_store.specs.StoreState.{StoreRepresents, StoreState}
 use Rattle.history_model.specs.Histories.{new_database, opened, versions_in}
 use Rattle.history_model.specs.Versions.{IsRecorded}
-use Rattle.script_engine.specs.engine.Stored.{AreOfHistory, EngineRepresents, HoldsTable}
+use Rattle.script_engine.specs.engine.EngineState.{EngineState}
+use Rattle.script_engine.specs.engine.Stored.{AreOfHistory, EngineRepresents, HasContents, HoldsTable}
 
 holds_none : (table : ℕ) → HoldsTable (opened new_database) [] table
 holds_none zero = record { rows = []; left = IsPermutation-refl []; all = IsPermutation-refl [] }
@@ -30,5 +30,5 @@ said_new = record {
   recorded = tt;
 }
 
-pub new_store : {S : Type 0} (g : Ghosts S) (store : StoreState S) → StoreRepresents g store empty_contents → EngineRepresents g (opened new_database) store
-new_store g store stored = record { contents = empty_contents; stored = stored; said = said_new }
+pub new_store : {S : Type 0} (g : Ghosts S) (engine : EngineState S) → HasContents g engine empty_contents → EngineRepresents g (opened new_database) engine
+new_store g engine has = record { contents = empty_contents; stored = has.stored; said = said_new; current = has.current }

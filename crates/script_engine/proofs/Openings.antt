@@ -12,13 +12,13 @@ use Rattle.catalog_core.specs.declared.table.TableDef.{TableDef}
 use Rattle.catalog_core.specs.table.TableWords.{table_of}
 use Rattle.version_tables.specs.Good.{AreMoments, IsClock}
 use Rattle.version_store.specs.Contents.{Contents, TableVersion, of_table, version_in}
-use Rattle.version_store.specs.GoodStore.{IsGoodStore, IsGoodVersion, NothingMore}
-use Rattle.version_store.specs.StoreState.{StoreRepresents, StoreState}
+use Rattle.version_store.specs.GoodStore.{HaveTables, IsGoodStore, IsGoodVersion, NothingMore}
 use Rattle.sqlite.specs.Effect as sqlite
 use Rattle.sqlite.specs.Store.{Ghosts}
 use Rattle.history_model.specs.Histories.{Database, History, new_database, opened, versions_in}
 use Rattle.history_model.specs.Versions.{plain_version}
-use Rattle.script_engine.specs.engine.Stored.{AreOfHistory, AreRecorded, EngineRepresents, HoldsTable}
+use Rattle.script_engine.specs.engine.EngineState.{EngineState}
+use Rattle.script_engine.specs.engine.Stored.{AreOfHistory, AreRecorded, EngineRepresents, HasContents, HoldsTable}
 use Rattle.script_engine.proofs.Contents.{recorded_rows}
 
 -- a good version as a version row
@@ -139,7 +139,11 @@ module _ (c : Contents) (clock : IsClock c.clock) (good : AllByRecursion (IsGood
     recorded = recorded;
   }
 
+-- its versions are of its tables
+pub good_tables : {db : sqlite.Database} (good : IsGoodStore NothingMore db) → HaveTables good.contents
+good_tables good = all_weaker (IsGoodVersion good.contents.tables good.contents.clock) (λ (v : TableVersion). (d : TableDef) × (table_of good.contents.tables v.table ≡ Some d)) (λ v is. (is.definition, is.table)) good.contents.versions good.versions
+
 -- so a good store is one of the history to which nothing was done since it was opened
-pub good_history : {S : Type 0} (g : Ghosts S) (store : StoreState S) (db : sqlite.Database) (good : IsGoodStore NothingMore db) → StoreRepresents g store good.contents → (history : History) × EngineRepresents g history store
-good_history g store db good stored =
-    (opened (opening good.contents good.clock good.versions), record { contents = good.contents; stored = stored; said = said-opened good.contents good.clock good.versions })
+pub good_history : {S : Type 0} (g : Ghosts S) (engine : EngineState S) (db : sqlite.Database) (good : IsGoodStore NothingMore db) → HasContents g engine good.contents → (history : History) × EngineRepresents g history engine
+good_history g engine db good has =
+    (opened (opening good.contents good.clock good.versions), record { contents = good.contents; stored = has.stored; said = said-opened good.contents good.clock good.versions; current = has.current })

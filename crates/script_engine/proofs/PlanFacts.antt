@@ -1,23 +1,17 @@
 -- Plans over the current versions of a table: which versions they end, and what is counted of them.
-use Rattle.std.proofs.Common.{◌≡◌, ◌&&◌, ◌==◌, ◌++◌, ◌∷◌, ◌∙◌, ℕ, Bool, true, false, Ok, Option, append-nil, append_assoc, cond, fold, List, [], length, map, refl, sym, ap, subst}
+use Rattle.std.proofs.Common.{◌≡◌, ◌&&◌, ◌==◌, ◌++◌, ◌∷◌, ◌∙◌, ℕ, Bool, true, false, Ok, append-nil, append_assoc, cond, fold, List, [], length, map, refl, sym, ap, subst}
 use Rattle.std.specs.List.{filter}
 use Rattle.std.specs.List.Sorted.{IsPermutation}
 use Rattle.std.proofs.lemmas.List.{length-map}
 use Rattle.std.proofs.lemmas.List.Sorted.{IsPermutation-map, IsPermutation-sym, IsPermutation-trans, length_permutation}
 use Rattle.sqlite_trees.proofs.ListLemmas.{IsPermutation-filter, filter-map}
 use Rattle.period_core.specs.Windows.{window_sees}
-use Rattle.period_core.specs.declared.period.Period.{Period}
-use Rattle.period_core.specs.declared.refusal.Refusal.{Refusal}
 use Rattle.period_core.specs.declared.version.VersionRow.{VersionRow}
 use Rattle.period_core.specs.declared.window.Window.{Window}
 use Rattle.period_core.specs.declared.window.Window.TheVariants.{Now}
 use Rattle.catalog_core.specs.declared.change.Action.{Action}
 use Rattle.catalog_core.specs.declared.change.Action.TheVariants.{Delete, Insert, Update}
-use Rattle.sql_statements.specs.declared.tree.Tree.{Tree}
-use Rattle.catalog_core.specs.declared.change.Assignment.{Assignment}
-use Rattle.catalog_core.specs.declared.change.Change.{Change}
 use Rattle.catalog_core.specs.declared.change.GivenRow.{GivenRow}
-use Rattle.catalog_core.specs.declared.condition.CompareValues.{CompareValues}
 use Rattle.catalog_core.specs.declared.change.Plan.{Plan}
 use Rattle.version_store.specs.Contents.{Contents, TableVersion, of_table, version_in}
 use Rattle.version_store.specs.Scans.{AreFirstSeen, Visits, seen_of}
@@ -27,7 +21,8 @@ use Rattle.history_model.specs.Versions.{PlainVersion, current, plain_version}
 use Rattle.history_model.proofs.LeftFacts.{from_images, version_same}
 use Rattle.portion_dml.specs.Plans.{Plans, version_row}
 use Rattle.portion_dml.proofs.Planned.{none_touched}
-use Rattle.script_engine.specs.engine.Planned.{AreCurrentOf, AreListedFor, IsPlanOf, count_of, planned_count}
+use Rattle.script_engine.specs.engine.InMemory.{AreCurrentOf}
+use Rattle.script_engine.specs.engine.Planned.{count_of, planned_count}
 
 -- ---- versions of a table as version rows
 
@@ -104,7 +99,7 @@ counted (Insert given) rows versions plan listed are plans left = given_count gi
 counted (Update portion assignments condition) rows versions plan listed are plans left = touched_count (Update portion assignments condition) rows listed versions plan are plans left
 counted (Delete portion condition) rows versions plan listed are plans left = touched_count (Delete portion condition) rows listed versions plan are plans left
 
--- ---- how a change is planned
+-- ---- what a scan hands over
 
 -- what keeps each row keeps them all
 kept_all : (before rows : List VersionRow) → fold (λ (kept : List VersionRow) (row : VersionRow). kept ++ row ∷ []) before rows ≡ before ++ rows
@@ -119,14 +114,3 @@ current_of_scan c table old new x none visits =
     let is : new ≡ rows = visits.3 ∙ ap (λ (o : List VersionRow). fold (λ (kept : List VersionRow) (row : VersionRow). kept ++ row ∷ []) o rows) none ∙ kept_all [] rows in
     let first : AreFirstSeen c table Now rows [] = subst (AreFirstSeen c table Now rows) whole visits.2 in
     subst (AreCurrentOf c table) (sym is) (subst (IsPermutation (seen_of table Now c.versions)) (append-nil (map (version_in table) rows)) first.all)
-
-pub plan_of_insert : (c : Contents) (change : Change) (given : List GivenRow) (listed : List VersionRow) (plan : Plan) → change.action ≡ Insert given → listed ≡ [] → Plans change.action listed plan → IsPlanOf c change plan
-plan_of_insert c change given listed plan is none plans = record { listed = listed; are_listed = subst (λ (a : Action). AreListedFor c change.table a listed) (sym is) none; plans = plans }
-
-pub plan_of_update : (c : Contents) (change : Change) (portion : Option Period) (sets : List Assignment) (condition : Option (Tree CompareValues)) (listed : List VersionRow) (plan : Plan) → change.action ≡ Update portion sets condition →
-    AreCurrentOf c change.table listed → Plans change.action listed plan → IsPlanOf c change plan
-plan_of_update c change portion sets condition listed plan is are plans = record { listed = listed; are_listed = subst (λ (a : Action). AreListedFor c change.table a listed) (sym is) are; plans = plans }
-
-pub plan_of_delete : (c : Contents) (change : Change) (portion : Option Period) (condition : Option (Tree CompareValues)) (listed : List VersionRow) (plan : Plan) → change.action ≡ Delete portion condition →
-    AreCurrentOf c change.table listed → Plans change.action listed plan → IsPlanOf c change plan
-plan_of_delete c change portion condition listed plan is are plans = record { listed = listed; are_listed = subst (λ (a : Action). AreListedFor c change.table a listed) (sym is) are; plans = plans }

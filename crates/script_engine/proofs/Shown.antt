@@ -14,11 +14,12 @@ use Rattle.catalog_core.specs.declared.stored.Stored.{Stored}
 use Rattle.catalog_core.specs.declared.table.TableDef.{TableDef}
 use Rattle.version_store.specs.Contents.{Contents}
 use Rattle.version_store.specs.Scans.{AreFirstSeen, Visits}
-use Rattle.version_store.specs.StoreState.{IsStoreRefusal, StoreRepresents, StoreState}
+use Rattle.version_store.specs.StoreState.{IsStoreRefusal}
 use Rattle.history_model.specs.Histories.{Asked, History, catalog_of, with_event}
 use Rattle.script_engine.specs.engine.Runs.{StepsTo}
 use Rattle.script_engine.specs.engine.Shown.{AreShown, AreShownOf, version_columns}
-use Rattle.script_engine.specs.engine.Stored.{EngineRepresents}
+use Rattle.script_engine.specs.engine.EngineState.{EngineState}
+use Rattle.script_engine.specs.engine.Stored.{EngineRepresents, HasContents}
 use Rattle.script_engine.specs.declared.engine.outcome.Outcome.TheVariants.{Versions}
 use Rattle.script_engine.specs.declared.engine.outcome.VersionColumn.{VersionColumn}
 use Rattle.script_engine.specs.declared.engine.outcome.VersionList.{VersionList}
@@ -37,7 +38,7 @@ scanned c query old new x none visits =
       shown = ap (λ (k : Stored × List VersionRow). k.1) (visits.3 ∙ ap (λ (k : Stored × List VersionRow). fold kept_next k rows) none ∙ kept_rows query [] rows);
     }
 
-module _ {S : Type 0} (g : Ghosts S) (history : History) (old : StoreState S) (asked : statement.Stored) (kept : EngineRepresents g history old) where
+module _ {S : Type 0} (g : Ghosts S) (history : History) (old : EngineState S) (asked : statement.Stored) (kept : EngineRepresents g history old) where
   abbrev s : Statement
   s = statement.stored asked
 
@@ -46,15 +47,15 @@ module _ {S : Type 0} (g : Ghosts S) (history : History) (old : StoreState S) (a
       refused_step g history old s refusal kept
       (inl (subst (λ (tables : List TableDef). MayAnswer (Holds (stored_query_conditions tables asked)) refusal) (tables_of g history old kept) may))
 
-  pub failed_show : (new : StoreState S) (refusal : Refusal) → NoneApplies (Holds (stored_query_conditions old.catalog.tables asked)) → StoreRepresents g new kept.contents → IsStoreRefusal refusal → StepsTo g history s (Err refusal) new
-  failed_show new refusal sound stored failure =
-      failed_step g history old new s refusal kept stored failure
+  pub failed_show : (new : EngineState S) (refusal : Refusal) → NoneApplies (Holds (stored_query_conditions old.catalog.tables asked)) → HasContents g new kept.contents → IsStoreRefusal refusal → StepsTo g history s (Err refusal) new
+  failed_show new refusal sound has failure =
+      failed_step g history old new s refusal kept has failure
       (subst (λ (tables : List TableDef). NoneApplies (Holds (stored_query_conditions tables asked))) (tables_of g history old kept) sound)
 
-  pub shown_step : (new : StoreState S) (query : Stored) (definition : TableDef) (columns : List VersionColumn) (rows : List VersionRow) → NoneApplies (Holds (stored_query_conditions old.catalog.tables asked)) →
-      ResolvesStoredQuery old.catalog.tables asked query → table_of old.catalog.tables query.table ≡ Some definition → columns ≡ version_columns definition → StoreRepresents g new kept.contents → AreShownOf kept.contents query rows →
+  pub shown_step : (new : EngineState S) (query : Stored) (definition : TableDef) (columns : List VersionColumn) (rows : List VersionRow) → NoneApplies (Holds (stored_query_conditions old.catalog.tables asked)) →
+      ResolvesStoredQuery old.catalog.tables asked query → table_of old.catalog.tables query.table ≡ Some definition → columns ≡ version_columns definition → HasContents g new kept.contents → AreShownOf kept.contents query rows →
       StepsTo g history s (Ok (Versions (record { columns = columns; rows = rows }))) new
-  shown_step new query definition columns rows sound resolved there are stored scan =
+  shown_step new query definition columns rows sound resolved there are has scan =
       let holds = kept.said.versions query.table in
       let list : VersionList = record { columns = columns; rows = rows } in (
         with_event history Asked,
@@ -76,5 +77,5 @@ module _ {S : Type 0} (g : Ghosts S) (history : History) (old : StoreState S) (a
             },
           ),
         ),
-        record { contents = kept.contents; stored = stored; said = said-asked history kept.contents kept.said },
+        record { contents = kept.contents; stored = has.stored; said = said-asked history kept.contents kept.said; current = has.current },
       )

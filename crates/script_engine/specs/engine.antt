@@ -1,3 +1,5 @@
+pub mod EngineState
+pub mod InMemory
 pub mod Stored
 pub mod Planned
 pub mod Shown

@@ -1,36 +1,44 @@
 //! The engine: the statements that it runs over a store.
 
-ghost use Rattle.std.specs.Prelude.{◌≡◌, ◌⊎◌, ◌<ℤ◌, ◌≤ℤ◌, false, IsPermutation};
+ghost use Rattle.std.specs.Prelude.{◌≡◌, ◌⊎◌, ◌++◌, ◌<ℤ◌, ◌≤ℤ◌, false, IsPermutation, List, map};
 ghost use Rattle.std.specs.Prelude.{IfErr, IfOk, OnErr, OnOk, ℤ};
 ghost use Rattle.period_core.specs.Moments.{forever};
+ghost use Rattle.period_core.specs.declared.version.VersionRow.{VersionRow as Version};
+ghost use Rattle.period_keys.specs.Versions.{begun};
 ghost use Rattle.period_core.specs.declared.refusal.Refusal.TheVariants.{BadStore};
 ghost use Rattle.catalog_core.specs.change.Resolution.{IsChange};
 ghost use Rattle.sqlite.specs.Held.{state};
 ghost use Rattle.version_tables.specs.Presence.{IsNoneThere};
 ghost use Rattle.version_tables.specs.Steps.{IsAsBefore};
+ghost use Rattle.version_store.specs.Changed.{planned};
 ghost use Rattle.version_store.specs.Contents.{AreRowsOf, Contents};
+ghost use Rattle.version_store.specs.DistinctKeys.{HaveDistinctKeys};
 ghost use Rattle.version_store.specs.GoodStore.{IsGoodStore, NothingMore};
-ghost use Rattle.version_store.specs.StoreState.{IsOpenRefusal, IsOurs, IsStoreRefusal, IsUsable};
-ghost use Rattle.version_store.specs.StoreState.{StoreRepresents};
+ghost use Rattle.version_store.specs.StoreState.{Changes, IsOpenRefusal, IsOurs, IsStoreRefusal};
+ghost use Rattle.version_store.specs.StoreState.{IsUsable, StoreRepresents};
 ghost use Rattle.history_model.specs.Histories.{Advanced, History, state_at, with_event};
 ghost use Rattle.history_model.specs.Versions.{values_at};
+ghost use Rattle.script_engine.specs.engine.EngineState.{store_of};
+ghost use Rattle.script_engine.specs.engine.InMemory.{HaveRows, rows_in};
 ghost use Rattle.script_engine.specs.engine.Runs.{MayRefuseMoment, StepsTo};
 ghost use Rattle.script_engine.specs.engine.Stored.{DatabaseRepresents, EngineRepresents};
 ghost use Rattle.script_engine.specs.engine.Stored.{KeepsOnErr};
 ghost use Rattle.sql_statements.specs.Plain.{plain, plain_query, plain_stored};
 ghost use Rattle.sql_statements.specs.Trees as statement;
 
+mod in_memory;
 pub mod outcome;
-mod planning;
 mod rows;
 mod shown;
 
+use crate::engine::in_memory::{apply_plan, load, no_rows, rows_of_number};
 use crate::engine::outcome::{Outcome, VersionList, Word, done};
-use crate::engine::planning::plan_change;
 use crate::engine::rows::answer_of;
 use crate::engine::shown::{shown_rows, table_of_number, version_columns};
-use catalog_core::{Catalog, define, resolve_change, resolve_sequenced, resolve_stored_query};
+use catalog_core::{Catalog, Plan, define};
+use catalog_core::{resolve_change, resolve_sequenced, resolve_stored_query};
 use period_core::{Items, Moment, Refusal, VersionRow};
+use period_keys::{CurrentRows, plan_change};
 use sql_statements::{
     ClockMoment, CreateTable, QueryTree, SelectDistinct, Statement, StatementForm, StoredQuery,
 };
@@ -40,20 +48,23 @@ use std::alloc::Global;
 use std::marker::Model;
 use version_store::VersionStore;
 
-/// The engine. It keeps nothing but its store.
+/// The engine: its store, and in memory the current rows of each table, in the order of the
+/// catalog. So a change reads no row from the database.
 #[derive(Drop)]
 pub struct Engine<S: Alter> {
     store: VersionStore<S>,
+    tables: Vec<CurrentRows>,
 }
 
 impl<S: Alter> Model for Engine<S> {
-    ghost use Rattle.version_store.specs.StoreState.{StoreState, store_state_code};
+    ghost use Rattle.script_engine.specs.engine.EngineState.{EngineState, engine_of};
+    ghost use Rattle.script_engine.specs.engine.EngineState.{engine_state_code};
 
-    ghost Value = { StoreState S };
+    ghost Value = { EngineState S };
 
-    ghost coded = { store_state_code S.code };
+    ghost coded = { engine_state_code S.code };
 
-    ghost view = { λ e. e.store };
+    ghost view = { λ e. engine_of e.store e.tables.items };
 }
 
 // What the clauses say of a store holds where its connection is usable as the call ends: its disk
@@ -89,9 +100,13 @@ impl<S: Alter> Engine<S> {
         ensures settled { IfErr result (λ failed. failed.1.in_transaction ≡ false) }
         ensures named { IfErr result (λ failed. IsOpenRefusal failed.0) }
     {
-        match VersionStore::open(alloc, connection) {
-            Ok(store) => Ok(Engine { store }),
-            Err(failed) => Err(failed),
+        let mut store = match VersionStore::open(alloc, connection) {
+            Ok(store) => store,
+            Err(failed) => return Err(failed),
+        };
+        match load(alloc, &mut store) {
+            Ok(tables) => Ok(Engine { store, tables }),
+            Err(refusal) => Err((refusal, store.close())),
         }
     }
 
@@ -100,7 +115,7 @@ impl<S: Alter> Engine<S> {
         ensures same { result ≡ self.connection }
         ensures settled { result.in_transaction ≡ false }
     {
-        let Engine { store } = self;
+        let Engine { store, tables: _ } = self;
         store.close()
     }
 
@@ -123,7 +138,7 @@ impl<S: Alter> Engine<S> {
     /// is changed.
     pub fn rows(&mut self, alloc: Global, table: u8) -> Result<Vec<VersionRow>, Refusal>
         ensures rows { IsUsable S.Store self.new.connection
-            → (c : Contents) → StoreRepresents S.Store self.old c
+            → (c : Contents) → StoreRepresents S.Store (store_of self.old) c
             → IfOk result (λ rows. AreRowsOf c table rows.items) }
         ensures states { IsUsable S.Store self.new.connection
             → (history : History) → EngineRepresents S.Store history self.old
@@ -179,14 +194,49 @@ impl<S: Alter> Engine<S> {
             Ok(definition) => definition,
             Err(refusal) => return Err(refusal),
         };
+        let Ok(rows) = no_rows(alloc, &definition) else {
+            return Err(Refusal::Memory);
+        };
+        let Ok(()) = self.tables.push(rows) else {
+            return Err(Refusal::Memory);
+        };
         match self.store.add_table(alloc, definition) {
             Ok(()) => Ok(Outcome::Done(Word::Create, 0)),
-            Err(refusal) => Err(refusal),
+            Err(refusal) => {
+                let _none = self.tables.pop();
+                Err(refusal)
+            }
+        }
+    }
+
+    /// Makes what a plan says of the table of a number at the clock, in the database and in memory.
+    /// On `Err` nothing is changed.
+    fn apply(&mut self, alloc: Global, table: u8, plan: &Plan) -> Result<(), Refusal>
+        ensures changes { Changes S.Store (store_of self.old) (store_of self.new) result
+            (planned table self.old.clock plan.now.ended plan.now.added) }
+        ensures distinct { IsUsable S.Store self.new.connection
+            → (c : Contents) → StoreRepresents S.Store (store_of self.old) c
+            → OnOk result (HaveDistinctKeys c.versions) }
+        ensures made { (stay : List Version)
+            → IsPermutation (rows_in self.old.tables table) (plan.now.ended ++ stay)
+            → OnOk result
+            (HaveRows table (map (begun self.old.clock) plan.now.added ++ stay)
+            self.old.tables self.new.tables) }
+        ensures none { OnErr result
+            (HaveRows table (rows_in self.old.tables table) self.old.tables self.new.tables) }
+        ensures named { IfErr result IsStoreRefusal }
+    {
+        if table == 0 {
+            return Err(Refusal::Store);
+        }
+        match self.tables.get_mut(usize::from(table) - 1) {
+            Some(rows) => apply_plan(alloc, &mut self.store, rows, table, plan),
+            None => Err(Refusal::Store),
         }
     }
 
     /// Runs an INSERT, an UPDATE or a DELETE: what its plan ends and adds is ended and added in one
-    /// transaction. An `Err` changes nothing.
+    /// transaction, and in memory. An `Err` changes nothing.
     fn change(&mut self, alloc: Global, statement: &Statement) -> Result<Outcome, Refusal>
         requires { IsChange (plain statement.now) }
         ensures step { IsUsable S.Store self.new.connection
@@ -198,14 +248,14 @@ impl<S: Alter> Engine<S> {
             Ok(change) => change,
             Err(refusal) => return Err(refusal),
         };
-        let plan = match plan_change(alloc, &mut self.store, &change) {
+        let Some(rows) = rows_of_number(self.tables.as_slice(), change.table) else {
+            return Err(Refusal::Store);
+        };
+        let plan = match plan_change(alloc, rows, &change) {
             Ok(plan) => plan,
             Err(refusal) => return Err(refusal),
         };
-        match self
-            .store
-            .apply(alloc, change.table, self.store.clock(), &plan)
-        {
+        match self.apply(alloc, change.table, &plan) {
             Ok(()) => Ok(done(&change.action, &plan)),
             Err(refusal) => Err(refusal),
         }
@@ -227,11 +277,10 @@ impl<S: Alter> Engine<S> {
             Ok(query) => query,
             Err(refusal) => return Err(refusal),
         };
-        let versions = match self.store.rows(alloc, query.table) {
-            Ok(versions) => versions,
-            Err(refusal) => return Err(refusal),
+        let Some(rows) = rows_of_number(self.tables.as_slice(), query.table) else {
+            return Err(Refusal::Store);
         };
-        match answer_of(alloc, query.items.as_slice(), versions.as_slice()) {
+        match answer_of(alloc, query.items.as_slice(), rows) {
             Ok(answer) => Ok(Outcome::Answer(answer)),
             Err(refusal) => Err(refusal),
         }

@@ -8,7 +8,6 @@ use Rattle.temporal_model.specs.Answer.{IsCertified, IsInAnswerOrder, IsShortest
 use Rattle.temporal_model.specs.Snapshot.{Equivalent}
 use Rattle.temporal_model.specs.Witness.{witness_of}
 use Rattle.history_model.specs.Answers.{read_items}
-use Rattle.history_model.specs.Versions.{current}
 use Rattle.catalog_core.specs.declared.query.AnswerColumn.{AnswerColumn}
 
 -- what a select list reads in a version, over its period
@@ -27,12 +26,11 @@ abbrev pub whole_row : PeriodRow → ReadRow
 whole_row row =
     record { values = map Some row.values; start = row.period.start; end = row.period.end }
 
--- the rows are what the select list reads in the current versions, in the same places
+-- the rows are what the select list reads in the versions, in the same places
 abbrev pub AreProjected : List AnswerColumn → List VersionRow → List PeriodRow → Type 0
-AreProjected items versions rows =
-    map (read_row items) (current versions) ≡ map whole_row rows
+AreProjected items versions rows = map (read_row items) versions ≡ map whole_row rows
 
--- the answer is the shortest list of the current versions' projections, each row with its witness
+-- the answer is the shortest list of the versions' projections, each row with its witness
 pub record IsAnswerTo (items : List AnswerColumn) (versions : List VersionRow) (answer : Answer)
     : Type 0 where
   pub projections : List PeriodRow

@@ -23,7 +23,8 @@ use Rattle.history_model.specs.Histories.{Advanced, Asked, Changed, Created, His
 use Rattle.history_model.specs.Histories.{catalog_of, clock_of, with_event}
 use Rattle.history_model.specs.Left.{AreLeftBy, versions_of}
 use Rattle.sqlite.specs.Store.{Ghosts}
-use Rattle.version_store.specs.StoreState.{IsStoreRefusal, StoreState}
+use Rattle.version_store.specs.StoreState.{IsStoreRefusal}
+use Rattle.script_engine.specs.engine.EngineState.{EngineState}
 use Rattle.script_engine.specs.engine.Stored.{EngineRepresents}
 use Rattle.catalog_core.specs.declared.change.Change.{Change}
 use Rattle.catalog_core.specs.declared.query.AnswerColumn.{AnswerColumn}
@@ -160,9 +161,9 @@ Step history s (Err refusal) new =
 Step history s (Ok outcome) new =
     NoneApplies (StatementApplies history s) × Accepts history s outcome new
 
--- the statement's result is a step of the history, and what the store then holds is what the new
+-- the statement's result is a step of the history, and what the engine then holds is what the new
 -- history says
 abbrev pub StepsTo : {S : Type 0} → Ghosts S → History → Statement → Result Outcome Refusal
-    → StoreState S → Type 0
-StepsTo g history s result store =
-    (new : History) × Step history s result new × EngineRepresents g new store
+    → EngineState S → Type 0
+StepsTo g history s result engine =
+    (new : History) × Step history s result new × EngineRepresents g new engine

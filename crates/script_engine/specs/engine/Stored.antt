@@ -1,4 +1,4 @@
--- What an engine's store holds: what a history says, the versions in any order.
+-- What an engine holds: what a history says, the versions in any order.
 use Rattle.std.specs.Prelude.{◌≡◌, ◌⊎◌, ℕ, List, map, IsPermutation, OnErr, Result}
 use Rattle.std.specs.List.{AllByRecursion}
 use Rattle.period_core.specs.declared.refusal.Refusal.{Refusal}
@@ -9,11 +9,13 @@ use Rattle.sqlite.specs.Store.{Ghosts}
 use Rattle.version_tables.specs.Good.{AreMoments, IsClock}
 use Rattle.version_tables.specs.Tables.{no_schema}
 use Rattle.version_store.specs.Contents.{Contents, TableVersion, of_table, version_in}
-use Rattle.version_store.specs.StoreState.{IsUsable, StoreRepresents, StoreState}
+use Rattle.version_store.specs.StoreState.{IsUsable, StoreRepresents}
 use Rattle.version_store.specs.Written.{Has}
 use Rattle.history_model.specs.Histories.{History, IsInOrder, catalog_of, clock_of, new_database}
 use Rattle.history_model.specs.Histories.{opened}
 use Rattle.history_model.specs.Left.{AreLeftBy}
+use Rattle.script_engine.specs.engine.EngineState.{EngineState, store_of}
+use Rattle.script_engine.specs.engine.InMemory.{HaveCurrentRows}
 
 -- the versions of the table are, in any order, those that the history leaves of it
 pub record HoldsTable (history : History) (versions : List TableVersion) (table : ℕ) : Type 0
@@ -37,13 +39,20 @@ pub record AreOfHistory (history : History) (c : Contents) : Type 0 where
   pub is_clock : IsClock c.clock
   pub recorded : AreRecorded c
 
--- the store has the history's clock, its tables and, in any order, its versions: in the database,
--- as it was last committed, and in memory
-pub record EngineRepresents {S : Type 0} (g : Ghosts S) (history : History) (store : StoreState S)
+-- the engine has these contents: in the database, as it was last committed, and in memory, with
+-- the current versions of each table
+pub record HasContents {S : Type 0} (g : Ghosts S) (engine : EngineState S) (c : Contents)
     : Type 0 where
+  pub stored : StoreRepresents g (store_of engine) c
+  pub current : HaveCurrentRows c engine.tables
+
+-- the engine has the history's clock, its tables and, in any order, its versions
+pub record EngineRepresents {S : Type 0} (g : Ghosts S) (history : History)
+    (engine : EngineState S) : Type 0 where
   pub contents : Contents
-  pub stored : StoreRepresents g store contents
+  pub stored : StoreRepresents g (store_of engine) contents
   pub said : AreOfHistory history contents
+  pub current : HaveCurrentRows contents engine.tables
 
 -- the database is what the history says; one without tables is a new store
 abbrev pub DatabaseRepresents : History → Database → Type 0
@@ -53,11 +62,11 @@ DatabaseRepresents history db =
 
 -- where a call is refused, the catalog, the clock and the versions are as they were, in memory and
 -- in the database
-abbrev pub KeepsOnErr : {S X : Type 0} → Ghosts S → StoreState S → StoreState S → Result X Refusal
-    → Type 0
+abbrev pub KeepsOnErr : {S X : Type 0} → Ghosts S → EngineState S → EngineState S
+    → Result X Refusal → Type 0
 KeepsOnErr g old new result =
-    IsUsable g new.connection → (c : Contents) → StoreRepresents g old c
-    → OnErr result (StoreRepresents g new c)
+    IsUsable g new.connection → (c : Contents) → HasContents g old c
+    → OnErr result (HasContents g new c)
 
 -- the disk returns what was written, and no failure shuts the connection, whatever is done: a store
 -- in memory is such a one

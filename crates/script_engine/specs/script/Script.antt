@@ -13,7 +13,8 @@ use Rattle.sql_front.specs.Pieces.{HasPieces}
 use Rattle.sql_statements.specs.Trees.{Statement}
 use Rattle.history_model.specs.Histories.{History, new_database, opened}
 use Rattle.sqlite.specs.Store.{Ghosts}
-use Rattle.version_store.specs.StoreState.{IsOpenRefusal, StoreState}
+use Rattle.version_store.specs.StoreState.{IsOpenRefusal}
+use Rattle.script_engine.specs.engine.EngineState.{EngineState}
 use Rattle.script_engine.specs.engine.Runs.{Step}
 use Rattle.script_engine.specs.engine.Stored.{EngineRepresents}
 use Rattle.script_engine.specs.declared.engine.outcome.Outcome.{Outcome}
@@ -90,9 +91,9 @@ pub record IsRunFrom
 abbrev pub IsRunOf : List ℕ → List (Result Outcome Refusal) → Type 0
 IsRunOf = IsRunFrom (opened new_database)
 
--- a piece's result is a step of the history, and what the store then holds is what the new history
+-- a piece's result is a step of the history, and what the engine then holds is what the new history
 -- says
 abbrev pub PieceStepsTo : {S : Type 0} → Ghosts S → History → List Lexeme → Result Outcome Refusal
-    → StoreState S → Type 0
-PieceStepsTo g history piece result store =
-    (new : History) × PieceStep history piece result new × EngineRepresents g new store
+    → EngineState S → Type 0
+PieceStepsTo g history piece result engine =
+    (new : History) × PieceStep history piece result new × EngineRepresents g new engine

@@ -1,6 +1,10 @@
-use Rattle.std.proofs.Common.{take}
+use Rattle.std.proofs.Common.{◌≡◌, ◌++◌, List}
+use Rattle.period_core.specs.declared.version.VersionRow.{VersionRow}
+use Rattle.period_keys.specs.Rows.{rows_of_lists}
 use Rattle.script_engine.specs.engine.Projected.{AreProjected}
 use Rattle.script_engine.proofs.engine.rows.projected_rows.Given as goal
 
-abbrev pub invariant-loop-version : goal.invariant-loop-version
-invariant-loop-version l = AreProjected l.items (take l.version-index l.versions) l.projections.items
+abbrev pub invariant-loop-group : goal.invariant-loop-group
+invariant-loop-group l =
+    (done : List VersionRow) × (l.current.rows ≡ done ++ rows_of_lists l.group-iterator)
+    × AreProjected l.items done l.projections.items

@@ -1,0 +1,34 @@
+use Rattle.std.proofs.Common.{◌≡◌, ◌<◌, ◌≤◌, ◌+◌, ◌∙◌, ℕ, List, ap, arith, get_or, length, subst, sym}
+use Rattle.catalog_core.specs.declared.table.TableDef.{TableDef}
+use Rattle.catalog_core.specs.declared.table.catalog.Catalog.{Catalog}
+use Rattle.period_keys.specs.Lawful.{key_positions}
+use Rattle.period_keys.specs.Rows.{RowsByKey}
+use Rattle.script_engine.proofs.Loaded.{AreLoaded, all_loaded, one_loaded, read_more, represents_still}
+use Rattle.script_engine.proofs.engine.in_memory.load.Goals as goal
+
+pub loop-place-preserved : goal.loop-place-preserved
+loop-place-preserved g c =
+    let place = c.loop-place.place in
+    let read = c.in-Ok-load_table.ensures.read in
+    let before = c.loop-place.invariant.read in
+    record {
+      read = read_more g.S.Store c.args.store.now c.loop-place.store c.load_table.new.store before read;
+      loaded = λ usable d stored.
+          let was = c.loop-place.invariant.loaded (read.usable usable) d stored in
+          let mid = represents_still g.S.Store c.args.store.now c.loop-place.store d before (read.usable usable) stored in
+          let ends : c.len-place-end.result ≡ length d.tables = c.len-place-end.ensures ∙ ap (λ (k : Catalog). length k.tables) c.catalog.ensures ∙ ap length stored.catalog in
+          let inside : place < length d.tables = subst (λ (n : ℕ). place < n) ends c.loop-place-test.true in
+          let definition : TableDef = c.index-as_slice-place.result in
+          let tables : c.as_slice.result.now ≡ d.tables = c.as_slice.ensures ∙ ap (λ (k : Catalog). k.tables) c.catalog-in-loop-place.ensures ∙ mid.catalog in
+          let key : c.in-Ok-load_table.rows.positions ≡ key_positions (get_or d.tables place definition) =
+          c.in-Ok-load_table.ensures.keys ∙ c.in-Ok.ensures.keys ∙ ap key_positions (c.index-as_slice-place.is ∙ ap (λ (l : List TableDef). get_or l place definition) tables) in
+          subst (AreLoaded d (place + 1)) (sym c.in-Ok-push.ensures.items)
+          (one_loaded d place c.loop-place.tables.items c.in-Ok-load_table.rows definition was inside key (c.in-Ok-load_table.ensures.current usable d mid));
+    }
+
+pub returns-clause-loaded : goal.returns-clause-loaded
+returns-clause-loaded g c usable d stored tabled =
+    let place = c.loop-place.place in
+    let ends : c.len-place-end.result ≡ length d.tables = c.len-place-end.ensures ∙ ap (λ (k : Catalog). length k.tables) c.catalog.ensures ∙ ap length stored.catalog in
+    let all : length d.tables ≤ place = omega (arith, c.loop-place-test.false, ends) in
+    all_loaded d place c.loop-place.tables.items all (c.loop-place.invariant.loaded usable d stored) tabled

@@ -1,0 +1,36 @@
+-- The current rows of each table in memory.
+use Rattle.std.specs.Prelude.{◌≡◌, ℕ, List, [], IsPermutation, map}
+use Rattle.std.specs.Option.{option_map_or}
+use Rattle.period_core.specs.declared.version.VersionRow.{VersionRow}
+use Rattle.period_core.specs.declared.window.Window.TheVariants.{Now}
+use Rattle.catalog_core.specs.table.TableWords.{table_of}
+use Rattle.period_keys.specs.Lawful.{key_positions}
+use Rattle.period_keys.specs.Rows.{RowsByKey}
+use Rattle.version_store.specs.Contents.{Contents, version_in}
+use Rattle.version_store.specs.Scans.{seen_of}
+
+-- the rows are the current versions of the table, in any order
+abbrev pub AreCurrentOf : Contents → ℕ → List VersionRow → Type 0
+AreCurrentOf c table rows =
+    IsPermutation (seen_of table Now c.versions) (map (version_in table) rows)
+
+-- the rows in memory of the table of a number; of a number without a table none
+abbrev pub rows_in : List RowsByKey → ℕ → List VersionRow
+rows_in tables number = option_map_or (λ (t : RowsByKey). t.rows) (table_of tables number) []
+
+-- the positions of the tables' keys among a row's values
+abbrev pub keys_in : List RowsByKey → List (List ℕ)
+keys_in tables = map (λ (t : RowsByKey). t.positions) tables
+
+-- the rows in memory of each table are, by its key, its current versions; no other version is
+-- current
+pub record HaveCurrentRows (c : Contents) (tables : List RowsByKey) : Type 0 where
+  pub keys : keys_in tables ≡ map key_positions c.tables
+  pub rows : (number : ℕ) → AreCurrentOf c number (rows_in tables number)
+
+-- the rows of a table became these, in any order, and no others changed
+pub record HaveRows (number : ℕ) (wanted : List VersionRow) (old new : List RowsByKey) : Type 0
+  where
+    pub keys : keys_in new ≡ keys_in old
+    pub there : IsPermutation (rows_in new number) wanted
+    pub others : (other : ℕ) → (other ≡ number → ⊥) → rows_in new other ≡ rows_in old other
