@@ -117,7 +117,7 @@ unmoved_step g history old new moment refusal kept has may before =
 -- ---- CREATE
 
 pub unmade_step : {S : Type 0} (g : Ghosts S) (history : History) (engine : EngineState S) (create : CreateTable) (refusal : Refusal) → EngineRepresents g history engine →
-    MayAnswer (Holds (create_conditions engine.catalog.tables create)) refusal → StepsTo g history (statement.create create) (Err refusal) store
+    MayAnswer (Holds (create_conditions engine.catalog.tables create)) refusal → StepsTo g history (statement.create create) (Err refusal) engine
 unmade_step g history engine create refusal kept may =
     refused_step g history engine (statement.create create) refusal kept
     (inl (subst (λ (tables : List TableDef). MayAnswer (Holds (create_conditions tables create)) refusal) (tables_of g history engine kept) may))
