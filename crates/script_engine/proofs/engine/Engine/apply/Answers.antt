@@ -1,7 +1,7 @@
-use Rattle.std.proofs.Common.{◌≡◌, ◌-◌, ◌++◌, ℕ, suc, List, OnErr, OnOk, Some, arith, map, rules, set, subst, sym}
+use Rattle.std.proofs.Common.{◌≡◌, ◌-◌, ◌++◌, ℕ, suc, List, OnErr, OnOk, Some, arith, length, map, refl, set, subst, sym}
 use Rattle.std.specs.List.{slice_get}
 use Rattle.std.specs.List.Sorted.{IsPermutation}
-use Rattle.std.proofs.lemmas.Bool.Decides.{nat_tests}
+use Rattle.std.proofs.lemmas.Option.{slice_get_read}
 use Rattle.std.proofs.lemmas.Result.{on_err_weaker, on_ok_weaker}
 use Rattle.period_core.specs.declared.version.VersionRow.{VersionRow}
 use Rattle.period_keys.specs.Rows.{HasRows, RowsByKey}
@@ -18,7 +18,8 @@ returns-in-Some-clause-made g c =
     let old : RowsByKey = c.in-Some.rows.now in
     let new : RowsByKey = c.apply_plan.new.rows in
     let ended : List VersionRow = c.args.plan.now.ended in
-    let there : slice_get ts place ≡ Some old = search rules in
+    let item = c.in-Some.ensures.item in
+    let there : slice_get ts place ≡ Some old = slice_get_read ts (length ts) place old refl item.3.0 item.1 in
     let is = c.from.ensures in
     let off = c.if-table-eq0.false in
     let number : suc place ≡ c.args.table = omega (arith, is, off) in
@@ -36,7 +37,8 @@ returns-in-Some-clause-none g c =
     let place : ℕ = c.from.result - 1 in
     let old : RowsByKey = c.in-Some.rows.now in
     let new : RowsByKey = c.apply_plan.new.rows in
-    let there : slice_get ts place ≡ Some old = search rules in
+    let item = c.in-Some.ensures.item in
+    let there : slice_get ts place ≡ Some old = slice_get_read ts (length ts) place old refl item.3.0 item.1 in
     let is = c.from.ensures in
     let off = c.if-table-eq0.false in
     let number : suc place ≡ c.args.table = omega (arith, is, off) in

@@ -1,5 +1,6 @@
-use Rattle.std.proofs.Common.{◌≡◌, ◌∙◌, Err, List, Ok, Some, ap, inl, inr, subst, sym}
+use Rattle.std.proofs.Common.{◌≡◌, ◌∙◌, Err, List, Ok, Some, ap, inl, inr, refl, subst, sym}
 use Rattle.period_core.specs.Leasts.{MayAnswer, NoneApplies}
+use Rattle.period_core.specs.declared.refusal.Refusal.TheVariants.{Store}
 use Rattle.period_core.specs.declared.version.VersionRow.{VersionRow}
 use Rattle.sql_statements.specs.Plain.{plain}
 use Rattle.catalog_core.specs.Judged.{Holds}
@@ -36,52 +37,65 @@ returns-in-Err-plan_change-clause-step g c usable history kept =
     c.in-Err-plan_change.refusal
     (elim c.in-Err-plan_change.ensures.refused [ inl none ↦ inl none | inr memory ↦ inr (inl memory) ]))
 
+pub returns-in_default-clause-step : goal.returns-in_default-clause-step
+returns-in_default-clause-step g c usable history kept =
+    let s = plain c.args.statement.now in
+    let old : EngineState g.row.S.Denot = engine_of c.self.inside.store c.self.inside.tables.items in
+    let was : EngineRepresents g.S.Store history old = subst (λ s. EngineRepresents g.S.Store history s) (sym c.self.view_is) kept in
+    subst (λ (e : EngineState g.row.S.Denot). StepsTo g.S.Store history s (Err Store) e) c.self.view_is
+    (unplanned_step g.S.Store history old s c.requires was c.in-Ok.change
+    (subst (λ (k : Catalog). NoneApplies (Holds (change_conditions k.tables s))) c.catalog.ensures c.in-Ok.ensures.sound)
+    (subst (λ (k : Catalog). (empty_period k.tables s).1 ≡ has_empty_row c.in-Ok.change.action) c.catalog.ensures c.in-Ok.ensures.empty)
+    Store (inr (inr refl)))
+
 pub returns-in-Ok-apply-clause-step : goal.returns-in-Ok-apply-clause-step
 returns-in-Ok-apply-clause-step g c usable history kept =
     let s = plain c.args.statement.now in
     let change = c.in-Ok.change in
     let plan = c.in-Ok-plan_change.plan in
     let rows : RowsByKey = c.in-Some.rows.now in
-    let old : EngineState g.row.S.Denot = engine_of c.self.inside.store c.self.inside.tables.items in
+    let old : EngineState g.row.S.Denot = c.args.self.now in
     let new : EngineState g.row.S.Denot = c.apply.new.self in
-    let was : EngineRepresents g.S.Store history old = subst (λ s. EngineRepresents g.S.Store history s) (sym c.self.view_is) kept in
-    let there : table_of old.tables change.table ≡ Some rows = subst (λ (ts : List RowsByKey). table_of ts change.table ≡ Some rows) c.as_slice.ensures.value c.in-Some.ensures in
+    let catalog : c.catalog.result.now ≡ old.catalog = c.catalog.ensures ∙ ap (λ (e : EngineState g.row.S.Denot). e.catalog) c.self.view_is in
+    let tables : c.as_slice.result.now ≡ old.tables = c.as_slice.ensures.value ∙ ap (λ (e : EngineState g.row.S.Denot). e.tables) c.self.view_is in
+    let there : table_of old.tables change.table ≡ Some rows = subst (λ (ts : List RowsByKey). table_of ts change.table ≡ Some rows) tables c.in-Some.ensures in
     let of : IsPlanOf change.action (rows_in old.tables change.table) plan =
     subst (λ (l : List VersionRow). IsPlanOf change.action l plan) (sym (some_rows old.tables change.table rows there)) c.in-Ok-plan_change.ensures.plan in
     subst (λ (o : Outcome). StepsTo g.S.Store history s (Ok o) new) (sym c.done.ensures)
-    (changed_step g.S.Store history old s c.requires was change
-    (subst (λ (k : Catalog). NoneApplies (Holds (change_conditions k.tables s))) c.catalog.ensures c.in-Ok.ensures.sound)
-    (subst (λ (k : Catalog). (empty_period k.tables s).1 ≡ has_empty_row change.action) c.catalog.ensures c.in-Ok.ensures.empty)
+    (changed_step g.S.Store history old s c.requires kept change
+    (subst (λ (k : Catalog). NoneApplies (Holds (change_conditions k.tables s))) catalog c.in-Ok.ensures.sound)
+    (subst (λ (k : Catalog). (empty_period k.tables s).1 ≡ has_empty_row change.action) catalog c.in-Ok.ensures.empty)
     plan of new
-    (subst (λ (k : Catalog). ResolvesChange k.tables s change) c.catalog.ensures c.in-Ok.ensures.resolved)
-    (c.in-Ok-apply.ensures.distinct usable was.contents was.stored)
-    (c.in-Ok-apply.ensures.changes usable was.contents was.stored).0
+    (subst (λ (k : Catalog). ResolvesChange k.tables s change) catalog c.in-Ok.ensures.resolved)
+    (c.in-Ok-apply.ensures.distinct usable kept.contents kept.stored)
+    (c.in-Ok-apply.ensures.changes usable kept.contents kept.stored).0
     c.in-Ok-apply.ensures.made)
 
-pub returns-in-Err-apply-clause-step : goal.returns-in-Err-apply-clause-step
-returns-in-Err-apply-clause-step g c usable history kept =
+pub returns-clause-step : goal.returns-clause-step
+returns-clause-step g c usable history kept =
     let s = plain c.args.statement.now in
     let change = c.in-Ok.change in
     let plan = c.in-Ok-plan_change.plan in
     let rows : RowsByKey = c.in-Some.rows.now in
-    let old : EngineState g.row.S.Denot = engine_of c.self.inside.store c.self.inside.tables.items in
+    let old : EngineState g.row.S.Denot = c.args.self.now in
     let new : EngineState g.row.S.Denot = c.apply.new.self in
-    let was : EngineRepresents g.S.Store history old = subst (λ s. EngineRepresents g.S.Store history s) (sym c.self.view_is) kept in
-    let there : table_of old.tables change.table ≡ Some rows = subst (λ (ts : List RowsByKey). table_of ts change.table ≡ Some rows) c.as_slice.ensures.value c.in-Some.ensures in
+    let catalog : c.catalog.result.now ≡ old.catalog = c.catalog.ensures ∙ ap (λ (e : EngineState g.row.S.Denot). e.catalog) c.self.view_is in
+    let tables : c.as_slice.result.now ≡ old.tables = c.as_slice.ensures.value ∙ ap (λ (e : EngineState g.row.S.Denot). e.tables) c.self.view_is in
+    let there : table_of old.tables change.table ≡ Some rows = subst (λ (ts : List RowsByKey). table_of ts change.table ≡ Some rows) tables c.in-Some.ensures in
     let of : IsPlanOf change.action (rows_in old.tables change.table) plan =
     subst (λ (l : List VersionRow). IsPlanOf change.action l plan) (sym (some_rows old.tables change.table rows there)) c.in-Ok-plan_change.ensures.plan in
-    unchanged_step g.S.Store history old s c.requires was change
-    (subst (λ (k : Catalog). NoneApplies (Holds (change_conditions k.tables s))) c.catalog.ensures c.in-Ok.ensures.sound)
-    (subst (λ (k : Catalog). (empty_period k.tables s).1 ≡ has_empty_row change.action) c.catalog.ensures c.in-Ok.ensures.empty)
+    unchanged_step g.S.Store history old s c.requires kept change
+    (subst (λ (k : Catalog). NoneApplies (Holds (change_conditions k.tables s))) catalog c.in-Ok.ensures.sound)
+    (subst (λ (k : Catalog). (empty_period k.tables s).1 ≡ has_empty_row change.action) catalog c.in-Ok.ensures.empty)
     plan of new c.in-Err-apply.refusal
     (record {
-      stored = (c.in-Err-apply.ensures.changes usable was.contents was.stored).1;
-      current = current-kept was.contents change.table old.tables new.tables c.in-Err-apply.ensures.none was.current;
+      stored = (c.in-Err-apply.ensures.changes usable kept.contents kept.stored).1;
+      current = current-kept kept.contents change.table old.tables new.tables c.in-Err-apply.ensures.none kept.current;
     })
     c.in-Err-apply.ensures.named
 
-pub returns-in-Err-apply-clause-kept : goal.returns-in-Err-apply-clause-kept
-returns-in-Err-apply-clause-kept g c = λ usable contents has.
+pub returns-clause-kept : goal.returns-clause-kept
+returns-clause-kept g c = λ usable contents has.
     record {
       stored = (c.in-Err-apply.ensures.changes usable contents has.stored).1;
       current = current-kept contents c.in-Ok.change.table c.args.self.now.tables c.apply.new.self.tables c.in-Err-apply.ensures.none has.current;
