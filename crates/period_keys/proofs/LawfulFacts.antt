@@ -19,7 +19,7 @@ use Rattle.period_keys.proofs.ByDays.{clashes_of_days, uncovered_of_days}
 use Rattle.period_keys.proofs.Origins.{of_origins, origins_moved, rows_moved, traced_moved}
 use Rattle.period_keys.proofs.Pairs.{SomePair-permutation}
 
-definition_is : (x y : TableDef) → Some x ≡ Some y → x ≡ y
+pub definition_is : (x y : TableDef) → Some x ≡ Some y → x ≡ y
 definition_is x y e = ap (λ (o : Option TableDef). unwrap_or o x) e
 
 pub faults_of_clashes :

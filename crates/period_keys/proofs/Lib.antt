@@ -19,6 +19,10 @@ pub mod VersionKeys
 pub mod Fixed
 pub mod PlanParts
 pub mod FaultFacts
+pub mod ReferenceFacts
+pub mod TableLists
+pub mod CurrentFacts
+pub mod Others
 pub mod Partly
 pub mod Touched
 pub mod Covered

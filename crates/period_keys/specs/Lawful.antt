@@ -77,6 +77,20 @@ pub record IsLawfulState (catalog : List TableDef) (state : State) : Type 0 wher
       → ShareKey (key_positions def) (state table day) → ⊥
   pub references : (day : ℤ) → IsUnreferred catalog state day → ⊥
 
+-- each row of the child table has its parent by this reference
+abbrev pub IsCoveredBy : List TableDef → State → ℕ → TableDef → Reference → Type 0
+IsCoveredBy catalog state number child reference =
+    (parent : TableDef) → table_of catalog reference.parent ≡ Some parent → (day : ℤ)
+    → LacksParentBy state number child reference parent day → ⊥
+
+-- the same of one table: no two of its rows share its key, and each has its parents
+pub record IsLawfulTable (catalog : List TableDef) (state : State) (number : ℕ) (def : TableDef)
+    : Type 0 where
+  pub keys : (day : ℤ) → ShareKey (key_positions def) (state number day) → ⊥
+  pub references :
+      (reference : Reference) → Contains def.references reference
+      → IsCoveredBy catalog state number def reference
+
 -- the change has no fault on any day
 pub record IsLawfulChange (catalog : List TableDef) (before : State) (change : Change)
     : Type 0 where

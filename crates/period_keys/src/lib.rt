@@ -27,6 +27,7 @@ mod ordered_periods;
 mod period_indexes;
 mod planning;
 mod positions;
+mod reference_faults;
 mod references;
 mod shared_days;
 mod sweep;
@@ -47,6 +48,7 @@ pub use lawful_laws::{
 };
 pub use planning::plan_change;
 pub use positions::positions_of;
+pub use reference_faults::reference_fault;
 pub use references::{uncovered_by_children, uncovered_by_parents};
 pub use table_index::{TableIndex, TouchedKeys};
 pub use tables::{key_clash, uncovered};
