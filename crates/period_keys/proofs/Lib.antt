@@ -23,6 +23,7 @@ pub mod ReferenceFacts
 pub mod TableLists
 pub mod CurrentFacts
 pub mod Others
+pub mod StateFacts
 pub mod Partly
 pub mod Touched
 pub mod Covered

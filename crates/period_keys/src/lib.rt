@@ -23,6 +23,7 @@ mod key_rows;
 mod keyed_periods;
 mod keys;
 mod lawful_laws;
+mod lawful_states;
 mod ordered_periods;
 mod period_indexes;
 mod planning;
@@ -32,6 +33,7 @@ mod references;
 mod shared_days;
 mod sweep;
 mod table_index;
+mod table_list;
 mod tables;
 
 pub use changes::{add_rows, apply_change, keys_of, take_rows};
@@ -46,9 +48,11 @@ pub use lawful_laws::{
     changes_break_their_own_references, key_faults_are_clashes, lacking_parents_are_uncovered,
     states_stay_lawful,
 };
+pub use lawful_states::is_lawful;
 pub use planning::plan_change;
 pub use positions::positions_of;
 pub use reference_faults::reference_fault;
 pub use references::{uncovered_by_children, uncovered_by_parents};
 pub use table_index::{TableIndex, TouchedKeys};
+pub use table_list::{add_table, tables_of};
 pub use tables::{key_clash, uncovered};
