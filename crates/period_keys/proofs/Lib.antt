@@ -22,7 +22,7 @@ pub mod FaultFacts
 pub mod ReferenceFacts
 pub mod TableLists
 pub mod CurrentFacts
-pub mod Others
+pub mod Earlier
 pub mod StateFacts
 pub mod Partly
 pub mod Touched

@@ -25,8 +25,8 @@ use period_core::{Day, Memory};
 use std::alloc::Global;
 
 /// The least day on which a row of some table would have no parent by one of its references. The
-/// change is planned over the rows of its table, and no table refers to itself. The only error is
-/// out of memory.
+/// change is planned over the rows of its table, and each table refers to earlier ones alone. The
+/// only error is out of memory.
 pub fn reference_fault(
     alloc: Global,
     catalog: &Catalog,

@@ -1,11 +1,10 @@
 //! The current rows of all tables of a catalog, with the indexes that its references need.
 
-ghost use Rattle.std.specs.Prelude.{◌≡◌, ◌<◌, ◌++◌, ◌∷◌, [], IfOk, List, OnErr, OnOk, length};
+ghost use Rattle.std.specs.Prelude.{◌≡◌, ◌<◌, ◌+◌, ◌++◌, ◌∷◌, [], IfOk, OnErr, OnOk, length};
 ghost use Rattle.std.specs.Prelude.{map};
-ghost use Rattle.catalog_core.specs.table.TableWords.{table_of};
-ghost use Rattle.period_keys.specs.Current.{AreParentsIndexed, HaveIndexes, HaveMoreIndexes};
-ghost use Rattle.period_keys.specs.Current.{IsIndexedAsChild, IsIndexedBy, ReferToOthers};
-ghost use Rattle.period_keys.specs.Current.{rows_by_key};
+ghost use Rattle.period_keys.specs.Current.{AreParentsIndexed, AreReferencesIndexed};
+ghost use Rattle.period_keys.specs.Current.{HaveIndexes, HaveMoreIndexes, IsIndexedAsChild};
+ghost use Rattle.period_keys.specs.Current.{IsParentIndexed, ReferToEarlier, rows_by_key};
 ghost use Rattle.period_keys.specs.Lawful.{key_positions};
 ghost use Rattle.period_keys.specs.TableRows.{HasMoreIndexes};
 
@@ -13,7 +12,7 @@ use crate::current_rows::CurrentRows;
 use crate::positions::positions_of;
 use crate::reference_faults::definition_of;
 use crate::table_index::TableIndex;
-use catalog_core::{Catalog, TableDef};
+use catalog_core::{Catalog, Reference, TableDef};
 use period_core::{Items, Memory};
 use std::alloc::Global;
 
@@ -37,7 +36,7 @@ pub fn tables_of(
 }
 
 /// Adds a table without rows, which the catalog does not have yet, with the indexes that its
-/// references need. The only error is out of memory: then no table is added, and those that are
+/// references to earlier tables need. The only error is out of memory: then no table is added, and those that are
 /// there have the same rows. They may have an index more, which no one asks for.
 pub fn add_table(
     alloc: Global,
@@ -46,7 +45,7 @@ pub fn add_table(
     definition: &TableDef,
 ) -> Result<(), Memory>
     requires there { length tables.old.items ≡ length catalog.now.tables }
-    requires others { ReferToOthers (catalog.now.tables ++ definition.now ∷ []) }
+    requires earlier { ReferToEarlier (catalog.now.tables ++ definition.now ∷ []) }
     ensures rows { OnOk result (map rows_by_key tables.new.items
         ≡ map rows_by_key tables.old.items
         ++ record { positions = key_positions definition.now; rows = [] } ∷ []) }
@@ -73,11 +72,27 @@ fn index_all(
     ensures kept { HaveMoreIndexes tables.old tables.new }
 {
     for place in 0..definitions.len() {
-        let child = &definitions[place];
-        index_as_child(alloc, child, &mut tables[place])?;
-        index_parents(alloc, definitions, child, tables)?;
+        index_table(alloc, definitions, tables, place, &definitions[place])?;
     }
     Ok(())
+}
+
+// The same for the references of the table at a place.
+fn index_table(
+    alloc: Global,
+    definitions: &[TableDef],
+    tables: &mut [TableIndex],
+    place: usize,
+    child: &TableDef,
+) -> Result<(), Memory>
+    requires count { length tables.old ≡ length definitions.now }
+    requires place { place < length tables.old }
+    ensures ok { OnOk result
+        (AreReferencesIndexed definitions.now tables.new (place + 1) child.now) }
+    ensures kept { HaveMoreIndexes tables.old tables.new }
+{
+    index_as_child(alloc, child, &mut tables[place])?;
+    index_parents(alloc, definitions, child, tables)
 }
 
 // Indexes a child's rows by the own columns of each of its references.
@@ -106,11 +121,26 @@ fn index_parents(
 {
     let references = child.references.as_slice();
     for reference in references {
-        if let Some(parent) = definition_of(definitions, reference.parent) {
-            let keys = positions_of(alloc, parent, reference.keys.as_slice())?;
-            let place = usize::from(reference.parent) - 1;
-            tables[place].index_once(alloc, Items::from_vec(keys))?;
-        }
+        index_parent(alloc, definitions, reference, tables)?;
     }
     Ok(())
+}
+
+// Indexes the rows of a reference's parent by the columns that it refers to.
+fn index_parent(
+    alloc: Global,
+    definitions: &[TableDef],
+    reference: &Reference,
+    tables: &mut [TableIndex],
+) -> Result<(), Memory>
+    requires { length tables.old ≡ length definitions.now }
+    ensures ok { OnOk result (IsParentIndexed definitions.now reference.now tables.new) }
+    ensures kept { HaveMoreIndexes tables.old tables.new }
+{
+    let Some(parent) = definition_of(definitions, reference.parent) else {
+        return Ok(());
+    };
+    let keys = positions_of(alloc, parent, reference.keys.as_slice())?;
+    let place = usize::from(reference.parent) - 1;
+    tables[place].index_once(alloc, Items::from_vec(keys))
 }

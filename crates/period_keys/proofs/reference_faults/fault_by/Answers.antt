@@ -14,8 +14,7 @@ refers_to definitions number child reference parent is there parent_is = record 
 
 pub fault_from-requires : goal.fault_from-requires
 fault_from-requires c =
-    c.requires.indexed c.args.number c.args.child.now c.args.reference.now c.in-Some.parent.now
-    (refers_to c.args.definitions.now c.args.number c.args.child.now c.args.reference.now c.in-Some.parent.now c.requires.child c.requires.reference c.in-Some.ensures)
+    c.requires.indexed c.args.number c.args.child.now c.requires.child c.args.reference.now c.in-Some.parent.now c.requires.reference c.in-Some.ensures
 
 pub returns-then-number-from : goal.returns-then-number-from
 returns-then-number-from c = λ before known.
@@ -26,8 +25,7 @@ returns-then-number-from c = λ before known.
 
 pub fault_to-requires : goal.fault_to-requires
 fault_to-requires c =
-    c.requires.indexed c.args.number c.args.child.now c.args.reference.now c.in-Some.parent.now
-    (refers_to c.args.definitions.now c.args.number c.args.child.now c.args.reference.now c.in-Some.parent.now c.requires.child c.requires.reference c.in-Some.ensures)
+    c.requires.indexed c.args.number c.args.child.now c.requires.child c.args.reference.now c.in-Some.parent.now c.requires.reference c.in-Some.ensures
 
 pub returns-then-reference-change : goal.returns-then-reference-change
 returns-then-reference-change c = λ before known.

@@ -1,4 +1,4 @@
-use Rattle.std.proofs.Common.{◌≡◌, ◌∙◌, ℕ, List, map, subst, sym}
+use Rattle.std.proofs.Common.{◌≡◌, ◌<◌, ◌∙◌, ℕ, List, arith, map, subst, sym}
 use Rattle.catalog_core.specs.declared.table.Reference.{Reference}
 use Rattle.catalog_core.specs.declared.table.TableDef.{TableDef}
 use Rattle.history_model.specs.Versions.{row_of}
@@ -14,6 +14,9 @@ periods_by-parents-requires c =
     indexed_as c.args.tables.now reference.parent c.from.result (parent_positions parent reference) c.as_slice-3.result.now c.requires.parents c.from.ensures
     (worked_out parent reference.keys c.as_slice-2.result.now c.in_ok-keys.keys.items c.as_slice-3.result.now c.as_slice-3.ensures.value c.in_ok-keys.ensures c.as_slice-2.ensures)
 
+apart : (a b : ℕ) → a < b → a ≡ b → ⊥
+apart a b less same = omega (arith, less, same)
+
 pub returns : goal.returns
 returns c = λ catalog before change known refers own_table.
     let child : TableDef = c.args.child.now in
@@ -28,7 +31,7 @@ returns c = λ catalog before change known refers own_table.
     subst (λ (n : ℕ). IsLeastOf (LacksParentBy (state_after change before) n child reference parent) c.in_ok-found.found) (sym own_table)
     (c.in_ok-found.ensures catalog before change table.rows child reference parent own_is planned (record {
       refers = own_refers;
-      other = λ same. known.others c.args.number child reference parent refers (same ∙ sym own_table);
+      other = λ same. apart reference.parent c.args.number (known.earlier c.args.number child reference parent refers) (same ∙ sym own_table);
       above = map row_of above.rows;
       holds = above_holds.holds;
       indexed = index_as c.args.tables.now reference.parent c.from.result keys c.as_slice-3.result.now c.periods_by-parents.result.now above c.from.ensures keys_is above_there c.periods_by-parents.ensures;
