@@ -29,3 +29,4 @@ pub mod Touched
 pub mod Covered
 mod KeyExamples
 mod LawfulExamples
+mod CurrentExamples

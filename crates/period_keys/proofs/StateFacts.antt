@@ -1,6 +1,6 @@
 -- When rows in memory hold a lawful state: by the clashes and the uncovered children among them.
 use Rattle.std.proofs.Common.{◌≡◌, ◌↔◌, ◌⊎◌, ◌<◌, ◌≤◌, ◌+◌, ◌∙◌, ℕ, zero, suc, ℤ, Bool, true, false, List, Option, None, Some, ap, arith, inl, inr, length, map, refl, subst, sym}
-use Rattle.std.specs.Prelude.{IsPermutation, IsTrue, is_none}
+use Rattle.std.specs.Prelude.{IsPermutation, IsTrue, is_none, is_some}
 use Rattle.std.specs.List.{Contains, slice_get}
 use Rattle.std.proofs.lemmas.List.Sorted.{IsPermutation-sym}
 use Rattle.std.proofs.lemmas.Option.{slice_get_within}
@@ -12,7 +12,7 @@ use Rattle.catalog_core.specs.declared.table.Reference.{Reference}
 use Rattle.catalog_core.specs.declared.table.TableDef.{TableDef}
 use Rattle.history_model.specs.Histories.{State}
 use Rattle.history_model.specs.Versions.{row_of}
-use Rattle.period_keys.specs.Current.{HoldCurrent, rows_by_key}
+use Rattle.period_keys.specs.Current.{AreParentsIndexed, HaveIndexes, HoldCurrent, rows_by_key}
 use Rattle.period_keys.specs.Days.{ShareKey}
 use Rattle.period_keys.specs.Index.{IsIndexOf}
 use Rattle.period_keys.specs.Keys.{HasNoClash, IsKeyClash, IsLeastOf, IsUncovered, values_at}
@@ -57,6 +57,35 @@ covered_of_found catalog tables state number child reference parent rows own key
           law.1 (λ day alone. covered parent is day ((by_state day).0 (subst (λ (ps : List ℕ). Alone ps (parent_positions parent reference) day) own_is (subst (λ (ps : List ℕ). Alone own ps day) keys_is alone)))),
     )
 
+-- ---- a table
+
+-- a table with a clash is not lawful
+pub table_with_clash : (catalog : List TableDef) (state : State) (number : ℕ) (def : TableDef) (rows : List PeriodRow) (found : Option ℤ) → HoldsTable rows state number
+    → IsLeastOf (IsKeyClash (key_positions def) rows) found → is_some found ≡ true → (IsTrue false ↔ IsLawfulTable catalog state number def)
+table_with_clash catalog state number def rows None holds least some = cc
+table_with_clash catalog state number def rows (Some day) holds least some = (
+  λ t. cc,
+  λ lawful. absurd (lawful.keys day ((clash_of_state (key_positions def) rows state number holds day).0 least.faulty)),
+)
+
+-- nor is one with a reference that is not covered
+pub table_uncovered : (catalog : List TableDef) (state : State) (number : ℕ) (def : TableDef) (reference : Reference) → Contains def.references reference
+    → (IsTrue false ↔ IsCoveredBy catalog state number def reference) → (IsTrue false ↔ IsLawfulTable catalog state number def)
+table_uncovered catalog state number def reference there law = (λ t. cc, λ lawful. law.1 (lawful.references reference there))
+
+-- each other is
+pub table_covered : (catalog : List TableDef) (state : State) (number : ℕ) (def : TableDef) (rows : List PeriodRow) (found : Option ℤ) → HoldsTable rows state number
+    → IsLeastOf (IsKeyClash (key_positions def) rows) found → is_some found ≡ false → ((reference : Reference) → Contains def.references reference → IsCoveredBy catalog state number def reference)
+    → (IsTrue true ↔ IsLawfulTable catalog state number def)
+table_covered catalog state number def rows (Some day) holds least none each = cc
+table_covered catalog state number def rows None holds least none each = (
+  λ t. record {
+    keys = λ day shared. least day ((clash_of_state (key_positions def) rows state number holds day).1 shared);
+    references = each;
+  },
+  λ lawful. refl,
+)
+
 -- ---- all tables
 
 -- the first tables are lawful
@@ -93,3 +122,21 @@ table_of_lawful catalog state number def lawful is = record {
   keys = lawful.keys number def is;
   references = λ reference there parent parent_is day lacks. lawful.references day (number, def, reference, parent, record { is_child = is; is_reference = there; is_parent = parent_is }, lacks);
 }
+
+pub state_unlawful : (catalog : List TableDef) (state : State) (number : ℕ) (def : TableDef) → table_of catalog number ≡ Some def → (IsTrue false ↔ IsLawfulTable catalog state number def)
+    → (IsTrue false ↔ IsLawfulState catalog state)
+state_unlawful catalog state number def is law = (λ t. cc, λ lawful. law.1 (table_of_lawful catalog state number def lawful is))
+
+-- a table's parents are indexed where all references are
+pub parents_indexed : (catalog : List TableDef) (tables : List TableRows) (number : ℕ) (def : TableDef) → HaveIndexes catalog tables → table_of catalog number ≡ Some def → AreParentsIndexed catalog def tables
+parents_indexed catalog tables number def have is reference there parent parent_is = (have number def is reference parent there parent_is).parents
+
+-- the rows of the table at a place hold it
+pub held_at : (catalog : List TableDef) (state : State) (tables : List TableRows) (place : ℕ) (def : TableDef) (table : TableRows) → HoldCurrent catalog state (map rows_by_key tables)
+    → table_of catalog (place + 1) ≡ Some def → table_of tables (place + 1) ≡ Some table → HoldsTable (map row_of table.rows) state (place + 1)
+held_at catalog state tables place def table hold def_is table_is =
+    let (there, there_is, holds) = held_by catalog state tables (place + 1) def hold def_is in
+    subst (λ (t : TableRows). HoldsTable (map row_of t.rows) state (place + 1)) (same there table (sym there_is ∙ table_is)) holds.holds
+  where
+    same : (x y : TableRows) → Some x ≡ Some y → x ≡ y
+    same x y e = cc

@@ -85,28 +85,29 @@ have_more_trans a b c first second = record {
   indexed = λ number positions there. second.indexed number positions (first.indexed number positions there);
 }
 
+-- what was indexed is so still, where one table is written that has the same indexes or more
+pub indexed_set : (tables : List TableRows) (place : ℕ) (old new : TableRows) → slice_get tables place ≡ Some old → ((positions : List ℕ) → Contains old.indexed positions → Contains new.indexed positions)
+    → (number : ℕ) (positions : List ℕ) → IsIndexedBy tables number positions → IsIndexedBy (set tables place new) number positions
+indexed_set tables place old new there more zero positions (table, is, has) = cc
+indexed_set tables place old new there more (suc place_of) positions (table, is, has) =
+    elim (cases_eq place_of place) [
+      | inl same ↦
+          let here : table ≡ old = value_is table old (sym is ∙ ap (slice_get tables) same ∙ there) in (
+            new,
+            ap (slice_get (set tables place new)) same ∙ set_here tables place new (slice_get_within tables place old there),
+            more positions (subst (λ (t : TableRows). Contains t.indexed positions) here has),
+          )
+      | inr other ↦ (table, set_elsewhere tables place place_of new other ∙ is, has)
+    ]
+
 -- one of the tables has more
 pub have_more_set : (tables : List TableRows) (place : ℕ) (old new : TableRows) → slice_get tables place ≡ Some old → HasMoreIndexes old new → HaveMoreIndexes tables (set tables place new)
 have_more_set tables place old new there more = record {
   same = map-set_same rows_by_key tables place new old (same_rows old new more ∙ sym (ap rows_by_key (get_or_from_slice_get tables place old old there)));
-  indexed = indexed;
+  indexed = indexed_set tables place old new there more.indexed;
 } where
   same_rows : (x y : TableRows) → HasMoreIndexes x y → rows_by_key y ≡ rows_by_key x
   same_rows x y h = rw (h.positions, h.rows) refl
-
-  at : (place_of : ℕ) (positions : List ℕ) (table : TableRows) → slice_get tables place_of ≡ Some table → Contains table.indexed positions → (place_of ≡ place) ⊎ (place_of ≡ place → ⊥)
-      → IsIndexedBy (set tables place new) (suc place_of) positions
-  at place_of positions table is has (inl same) =
-      let here : table ≡ old = value_is table old (sym is ∙ ap (slice_get tables) same ∙ there) in (
-        new,
-        ap (slice_get (set tables place new)) same ∙ set_here tables place new (slice_get_within tables place old there),
-        more.indexed positions (subst (λ (t : TableRows). Contains t.indexed positions) here has),
-      )
-  at place_of positions table is has (inr other) = (table, set_elsewhere tables place place_of new other ∙ is, has)
-
-  indexed : (number : ℕ) (positions : List ℕ) → IsIndexedBy tables number positions → IsIndexedBy (set tables place new) number positions
-  indexed zero positions (table, is, has) = cc
-  indexed (suc place_of) positions (table, is, has) = at place_of positions table is has (cases_eq place_of place)
 
 -- a table more
 pub have_more_last : (old tables : List TableRows) (table : TableRows) → HaveMoreIndexes old tables
@@ -157,7 +158,7 @@ all_indexed catalog tables count all done (suc place) child is =
 -- with a table more, whose references are indexed
 pub with_table_indexed : (catalog : List TableDef) (old tables : List TableRows) (def : TableDef) (table : TableRows) → length old ≡ length catalog → ReferToEarlier (catalog ++ def ∷ [])
     → HaveMoreIndexes old tables → AreParentsIndexed catalog def tables → IsIndexedAsChild def table → HaveIndexes catalog old → HaveIndexes (catalog ++ def ∷ []) (tables ++ table ∷ [])
-with_table_indexed catalog old tables def table count earlier more parents children was zero child is = cc
+with_table_indexed catalog old tables def table count earlier more parents children was zero child is reference parent there parent_is = cc
 with_table_indexed catalog old tables def table count earlier more parents children was (suc place) child is reference parent there parent_is =
     elim (more_cases catalog def child place is) [
       | inl first ↦ of_old first (more_cases_of reference.parent parent_is)
@@ -195,3 +196,17 @@ with_table_indexed catalog old tables def table count earlier more parents child
           parents = lifted reference.parent (parent_positions parent reference) (parents reference there_new parent here);
         }
     of_new last same (inr self) = absurd (omega (arith, last, self, below))
+
+-- the rows of one table changed, and its indexes with them
+pub have_indexes_set : (catalog : List TableDef) (tables : List TableRows) (place : ℕ) (old new : TableRows) → slice_get tables place ≡ Some old → new.indexed ≡ old.indexed → HaveIndexes catalog tables → HaveIndexes catalog (set tables place new)
+have_indexes_set catalog tables place old new there same have number child is reference parent child_has parent_is =
+    let was : IsIndexed tables number child reference parent = have number child is reference parent child_has parent_is in
+    let kept : (positions : List ℕ) → Contains old.indexed positions → Contains new.indexed positions = λ positions has. subst (λ (list : List (List ℕ)). Contains list positions) (sym same) has in
+    record {
+      children = indexed_set tables place old new there kept number (own_positions child reference) was.children;
+      parents = indexed_set tables place old new there kept reference.parent (parent_positions parent reference) was.parents;
+    }
+
+-- a table with its indexes, by its rows alone
+pub rows_are : (table : TableRows) (rows : RowsByKey) → table.positions ≡ rows.positions → table.rows ≡ rows.rows → rows_by_key table ≡ rows
+rows_are table rows same also = rw (same, also) refl
