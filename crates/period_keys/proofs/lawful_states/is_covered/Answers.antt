@@ -1,4 +1,4 @@
-use Rattle.std.proofs.Common.{◌≡◌, ◌↔◌, ◌∙◌, [], ℕ, List, Bool, ap, map, subst, sym}
+use Rattle.std.proofs.Common.{◌≡◌, ◌↔◌, ◌∙◌, [], ℕ, List, Bool, ap, map, not, subst, sym}
 use Rattle.std.specs.Prelude.{IsTrue}
 use Rattle.std.proofs.lemmas.List.Sorted.{IsPermutation-refl}
 use Rattle.temporal_model.proofs.Members.{Contains-nil}
@@ -30,7 +30,7 @@ returns c = λ state number hold holds.
     let keys : List ℕ = c.as_slice-3.result.now in
     let own_is : own ≡ own_positions child reference = worked_out child reference.own c.as_slice.result.now c.in_ok-own.own.items own c.as_slice-4.ensures.value c.in_ok-own.ensures c.as_slice.ensures in
     let keys_is : keys ≡ parent_positions parent reference = worked_out parent reference.keys c.as_slice-2.result.now c.in_ok-keys.keys.items keys c.as_slice-3.ensures.value c.in_ok-keys.ensures c.as_slice-2.ensures in
-    subst (λ (b : Bool). IsTrue b ↔ IsCoveredBy definitions state number child reference) (sym c.is_none.ensures)
+    subst (λ (b : Bool). IsTrue (not b) ↔ IsCoveredBy definitions state number child reference) (sym c.is_none.ensures)
     (covered_of_found definitions tables state number child reference parent c.args.rows.now own keys c.in_ok-found.found hold holds c.in-Some.ensures own_is keys_is
     (λ table there. c.in_ok-found.ensures.of_whole keys (map row_of table.rows) [] [] []
     (c.periods_by-parents.ensures table (ap (table_of tables) c.from.ensures ∙ there))

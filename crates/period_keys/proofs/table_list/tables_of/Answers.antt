@@ -1,5 +1,5 @@
-use Rattle.std.proofs.Common.{◌≡◌, ◌++◌, ◌∷◌, [], ◌∙◌, ℕ, List, ap, append-nil, append_assoc, length, map, subst, sym}
-use Rattle.std.proofs.lemmas.List.{length-map, map-append}
+use Rattle.std.proofs.Common.{◌≡◌, ◌++◌, ◌∷◌, [], ◌∙◌, ℕ, List, ap, arith, append-nil, append_assoc, length, map, subst, sym}
+use Rattle.std.proofs.lemmas.List.{length-map, map-append, nil_from_length}
 use Rattle.catalog_core.specs.declared.table.TableDef.{TableDef}
 use Rattle.period_keys.specs.Current.{HaveIndexes, rows_by_key}
 use Rattle.period_keys.specs.Rows.{RowsByKey}
@@ -32,7 +32,7 @@ pub index_all-requires : goal.index_all-requires
 index_all-requires c =
     let tables : List TableRows = c.loop-table.tables.items in
     ap length c.as_mut_slice.ensures.value ∙ sym (length-map tables rows_by_key)
-    ∙ ap length (all_taken tables c.loop-table.table-iterator.rest.items c.args.rows.items c.in-None.ensures.steps.0 c.loop-table.invariant)
+    ∙ ap length (all_taken tables c.loop-table.table-iterator.rest.items c.args.rows.items (nil_from_length c.loop-table.table-iterator.rest.items (grind (arith, c.loop-table.table-iterator.rest.ok, c.in-None.ensures.steps))) c.loop-table.invariant)
     ∙ c.requires ∙ sym (ap length c.as_slice.ensures)
 
 pub returns-clause-rows : goal.returns-clause-rows
@@ -42,7 +42,7 @@ returns-clause-rows c =
     let new : List TableRows = c.index_all.new.tables in
     let left = written_over c.loop-table.tables.len tables given new c.as_mut_slice.ensures.value c.as_mut_slice.ensures.len (same_count given new c.index_all.ensures.kept) in
     ap (map rows_by_key) left ∙ c.index_all.ensures.kept.same ∙ ap (map rows_by_key) c.as_mut_slice.ensures.value
-    ∙ all_taken tables c.loop-table.table-iterator.rest.items c.args.rows.items c.in-None.ensures.steps.0 c.loop-table.invariant
+    ∙ all_taken tables c.loop-table.table-iterator.rest.items c.args.rows.items (nil_from_length c.loop-table.table-iterator.rest.items (grind (arith, c.loop-table.table-iterator.rest.ok, c.in-None.ensures.steps))) c.loop-table.invariant
 
 pub returns-clause-indexed : goal.returns-clause-indexed
 returns-clause-indexed c =
