@@ -6,7 +6,6 @@ use Rattle.std.specs.Option.{option_map}
 use Rattle.std.proofs.lemmas.List.{length-take-le}
 use Rattle.std.proofs.lemmas.List.Quantifiers.{position-Some}
 use Rattle.std.proofs.lemmas.Option.{slice_get_within}
-use Rattle.sql_statements.specs.declared.create.ReferenceElement.{ReferenceElement}
 use Rattle.catalog_core.specs.create.Definition.{declared_reference, reference_parts, Numbers}
 use Rattle.catalog_core.specs.create.Lawful.{IsLawful}
 use Rattle.catalog_core.specs.table.Naming.{Name}
@@ -14,7 +13,6 @@ use Rattle.catalog_core.specs.table.TableWords.{number_of, table_of}
 use Rattle.catalog_core.specs.declared.table.Reference.{Reference}
 use Rattle.catalog_core.specs.declared.table.TableDef.{TableDef}
 use Rattle.period_keys.specs.Current.{ReferToEarlier}
-use Rattle.period_keys.specs.Lawful.{Refers}
 use Rattle.period_keys.proofs.Members.{from_map, in_map}
 
 -- a number is one of the tables' numbers

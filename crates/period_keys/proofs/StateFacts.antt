@@ -1,6 +1,6 @@
 -- When rows in memory hold a lawful state: by the clashes and the uncovered children among them.
-use Rattle.std.proofs.Common.{◌≡◌, ◌↔◌, ◌⊎◌, ◌<◌, ◌≤◌, ◌+◌, ◌∙◌, ℕ, zero, suc, ℤ, Bool, true, false, List, Option, None, Some, ap, arith, inl, inr, length, map, refl, subst, sym}
-use Rattle.std.specs.Prelude.{IsPermutation, IsTrue, is_none, is_some}
+use Rattle.std.proofs.Common.{◌≡◌, ◌↔◌, ◌⊎◌, ◌<◌, ◌≤◌, ◌+◌, ◌∙◌, ℕ, zero, suc, ℤ, true, false, List, Option, None, Some, ap, arith, inl, inr, length, map, refl, subst, sym}
+use Rattle.std.specs.Prelude.{IsTrue, is_none, is_some}
 use Rattle.std.specs.List.{Contains, slice_get}
 use Rattle.std.proofs.lemmas.List.Sorted.{IsPermutation-sym}
 use Rattle.std.proofs.lemmas.Option.{slice_get_within}
@@ -14,9 +14,8 @@ use Rattle.history_model.specs.Histories.{State}
 use Rattle.history_model.specs.Versions.{row_of}
 use Rattle.period_keys.specs.Current.{AreParentsIndexed, HaveIndexes, HoldCurrent, rows_by_key}
 use Rattle.period_keys.specs.Days.{ShareKey}
-use Rattle.period_keys.specs.Index.{IsIndexOf}
-use Rattle.period_keys.specs.Keys.{HasNoClash, IsKeyClash, IsLeastOf, IsUncovered, values_at}
-use Rattle.period_keys.specs.Lawful.{HoldsTable, IsCoveredBy, IsLawfulState, IsLawfulTable, LacksParentBy, Refers, key_positions, own_positions, parent_positions}
+use Rattle.period_keys.specs.Keys.{IsKeyClash, IsLeastOf, IsUncovered, values_at}
+use Rattle.period_keys.specs.Lawful.{HoldsTable, IsCoveredBy, IsLawfulState, IsLawfulTable, LacksParentBy, key_positions, own_positions, parent_positions}
 use Rattle.period_keys.specs.TableRows.{TableRows}
 use Rattle.period_keys.proofs.ByDays.{clashes_of_days}
 use Rattle.period_keys.proofs.LawfulFacts.{definition_is, lacking_of_uncovered}

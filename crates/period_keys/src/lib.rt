@@ -6,7 +6,10 @@
 //!   and beside them their periods by the columns of references (`period_indexes`, `keyed_periods`).
 //!   `TableIndex` has both, and follows a change all or none. `planning` makes a change's plan of
 //!   the rows of the key that its condition fixes (`fixed_keys`), or of all.
-//! - A plan is judged by the rows that it touches (`faults`, by `clashes` and `references`).
+//! - A plan is judged by the rows that it touches (`faults`, by `clashes` and `references`), and by
+//!   all references of the catalog (`reference_faults`).
+//! - `table_list` keeps the rows of all tables with the indexes that references need, and
+//!   `lawful_states` judges them as a whole.
 //! - `specs/Lawful` says which changes are lawful, over the traced rows of a state. The laws that
 //!   make the judgement right are in `key_laws` and `lawful_laws`.
 #![tactic(auto)]

@@ -68,7 +68,16 @@ fn fault_of(
     let references = child.references.as_slice();
     let mut found = None;
     for reference in references {
-        let by_it = fault_by(alloc, definitions, tables, change, plan, number, child, reference)?;
+        let by_it = fault_by(
+            alloc,
+            definitions,
+            tables,
+            change,
+            plan,
+            number,
+            child,
+            reference,
+        )?;
         found = earlier(found, by_it);
     }
     Ok(found)

@@ -56,7 +56,12 @@ pub fn add_table(
     let key = positions_of(alloc, definition, definition.key.as_slice())?;
     let mut table = TableIndex::new(alloc, CurrentRows::new(alloc, Items::from_vec(key)));
     index_as_child(alloc, definition, &mut table)?;
-    index_parents(alloc, catalog.tables.as_slice(), definition, tables.as_mut_slice())?;
+    index_parents(
+        alloc,
+        catalog.tables.as_slice(),
+        definition,
+        tables.as_mut_slice(),
+    )?;
     tables.push(table)?;
     Ok(())
 }

@@ -1,5 +1,5 @@
-use Rattle.std.proofs.Common.{◌≡◌, ◌↔◌, ◌∙◌, [], ℕ, List, Bool, ap, map, not, subst, sym}
-use Rattle.std.specs.Prelude.{IsTrue}
+use Rattle.std.proofs.Common.{◌≡◌, ◌↔◌, ◌∙◌, [], ℕ, ℤ, List, Option, Bool, true, false, ap, map, not, subst}
+use Rattle.std.specs.Prelude.{IsTrue, is_none, is_some}
 use Rattle.std.proofs.lemmas.List.Sorted.{IsPermutation-refl}
 use Rattle.temporal_model.proofs.Members.{Contains-nil}
 use Rattle.catalog_core.specs.table.TableWords.{table_of}
@@ -19,6 +19,11 @@ periods_by-parents-requires c =
     indexed_as c.args.tables.now reference.parent c.from.result (parent_positions parent reference) c.as_slice-3.result.now (c.requires.indexed reference c.requires.reference parent c.in-Some.ensures) c.from.ensures
     (worked_out parent reference.keys c.as_slice-2.result.now c.in_ok-keys.keys.items c.as_slice-3.result.now c.as_slice-3.ensures.value c.in_ok-keys.ensures c.as_slice-2.ensures)
 
+-- the test is the one that the code makes
+tested : (found : Option ℤ) (none : Bool) → is_some found ≡ not none → is_none found ≡ none
+tested found true e = ap not e
+tested found false e = ap not e
+
 pub returns : goal.returns
 returns c = λ state number hold holds.
     let definitions : List TableDef = c.args.definitions.now in
@@ -30,8 +35,9 @@ returns c = λ state number hold holds.
     let keys : List ℕ = c.as_slice-3.result.now in
     let own_is : own ≡ own_positions child reference = worked_out child reference.own c.as_slice.result.now c.in_ok-own.own.items own c.as_slice-4.ensures.value c.in_ok-own.ensures c.as_slice.ensures in
     let keys_is : keys ≡ parent_positions parent reference = worked_out parent reference.keys c.as_slice-2.result.now c.in_ok-keys.keys.items keys c.as_slice-3.ensures.value c.in_ok-keys.ensures c.as_slice-2.ensures in
-    subst (λ (b : Bool). IsTrue (not b) ↔ IsCoveredBy definitions state number child reference) (sym c.is_none.ensures)
-    (covered_of_found definitions tables state number child reference parent c.args.rows.now own keys c.in_ok-found.found hold holds c.in-Some.ensures own_is keys_is
+    let law : IsTrue (is_none c.in_ok-found.found) ↔ IsCoveredBy definitions state number child reference =
+    covered_of_found definitions tables state number child reference parent c.args.rows.now own keys c.in_ok-found.found hold holds c.in-Some.ensures own_is keys_is
     (λ table there. c.in_ok-found.ensures.of_whole keys (map row_of table.rows) [] [] []
     (c.periods_by-parents.ensures table (ap (table_of tables) c.from.ensures ∙ there))
-    (λ day (child, there, within, alone). Contains-nil child there) (IsPermutation-refl [])))
+    (λ day (child, there, within, alone). Contains-nil child there) (IsPermutation-refl [])) in
+    subst (λ (b : Bool). IsTrue b ↔ IsCoveredBy definitions state number child reference) (tested c.in_ok-found.found c.is_none.result c.is_none.ensures) law

@@ -40,7 +40,7 @@ returns-then-not-branch c = λ state hold.
     let held : HoldsTable c.as_slice.result.now state (place + 1) =
     held_rows definitions state c.args.tables.now place def c.index-tables-place.result c.as_slice.result.now c.in_ok-rows.rows.items c.rows.result.now.rows known
     (c.requires.count ∙ sym (ap length c.as_slice-definitions.ensures)) c.loop-place-test.true def_is c.index-tables-place.is c.as_slice.ensures.value c.in_ok-rows.ensures c.rows.ensures.rows in
-    let off : c.in_ok-is_table_lawful.field-0 ≡ false = first_of (c.if-not-branch.true, grind (arith, c.if-not-branch.true)) in
+    let off : c.in_ok-is_table_lawful.field-0 ≡ false = grind (arith, c.if-not-branch.true) in
     subst (λ (list : List TableDef). IsTrue false ↔ IsLawfulState list state) c.as_slice-definitions.ensures
     (state_unlawful definitions state (place + 1) def def_is
     (subst (λ (b : Bool). IsTrue b ↔ IsLawfulTable definitions state (place + 1) def) off (c.in_ok-is_table_lawful.ensures state (place + 1) known held)))
@@ -54,7 +54,7 @@ loop-place-preserved c = λ state known.
     let held : HoldsTable c.as_slice.result.now state (place + 1) =
     held_rows definitions state c.args.tables.now place def c.index-tables-place.result c.as_slice.result.now c.in_ok-rows.rows.items c.rows.result.now.rows known
     (c.requires.count ∙ sym (ap length c.as_slice-definitions.ensures)) c.loop-place-test.true def_is c.index-tables-place.is c.as_slice.ensures.value c.in_ok-rows.ensures c.rows.ensures.rows in
-    let on : c.in_ok-is_table_lawful.field-0 ≡ true = first_of (c.if-not-branch.false, grind (arith, c.if-not-branch.false)) in
+    let on : c.in_ok-is_table_lawful.field-0 ≡ true = grind (arith, c.if-not-branch.false) in
     let next : place + 1 ≡ suc place = omega arith in
     below_step definitions state place def (slice_get_read definitions (length definitions) place def refl c.loop-place-test.true c.index-definitions-place.is) (c.loop-place.invariant state known)
     (subst (λ (n : ℕ). IsLawfulTable definitions state n def) next ((c.in_ok-is_table_lawful.ensures state (place + 1) known held).0 on))

@@ -1,5 +1,5 @@
 use Rattle.std.proofs.Common.{◌≡◌, ◌↔◌, ◌+◌, ◌++◌, ◌∷◌, [], ◌∙◌, ℕ, List, Bool, true, false, ap, arith, inl, inr, subst, sym, take}
-use Rattle.std.specs.Prelude.{Contains, IsTrue, is_some}
+use Rattle.std.specs.Prelude.{Contains, IsTrue}
 use Rattle.std.proofs.lemmas.List.{take_all, take_more}
 use Rattle.std.proofs.lemmas.List.Elements.{Contains-push_cases}
 use Rattle.catalog_core.specs.declared.table.Reference.{Reference}
@@ -17,7 +17,7 @@ returns-then-not-branch c = λ state number hold holds.
     let table : TableDef = c.args.table.now in
     let here : Reference = c.reference-item.result in
     let there : Contains table.references here = subst (λ (list : List Reference). Contains list here) c.as_slice-references.ensures (c.loop-reference.reference-index, c.loop-reference-test.true, sym c.reference-item.is) in
-    let off : c.in_ok-is_covered.field-0 ≡ false = first_of (c.if-not-branch.true, grind (arith, c.if-not-branch.true)) in
+    let off : c.in_ok-is_covered.field-0 ≡ false = grind (arith, c.if-not-branch.true) in
     table_uncovered c.args.definitions.now state number table here there
     (subst (λ (b : Bool). IsTrue b ↔ IsCoveredBy c.args.definitions.now state number table here) off (c.in_ok-is_covered.ensures state number hold holds))
 
@@ -27,7 +27,7 @@ loop-reference-preserved c = λ state number hold holds reference there.
     let i : ℕ = c.loop-reference.reference-index in
     let here : Reference = c.reference-item.result in
     let more : take (i + 1) references ≡ take i references ++ here ∷ [] = take_more references i here (omega arith) ∙ ap (λ y. take i references ++ y ∷ []) (sym c.reference-item.is) in
-    let on : c.in_ok-is_covered.field-0 ≡ true = first_of (c.if-not-branch.false, grind (arith, c.if-not-branch.false)) in
+    let on : c.in_ok-is_covered.field-0 ≡ true = grind (arith, c.if-not-branch.false) in
     elim (Contains-push_cases (take i references) here reference (subst (λ (list : List Reference). Contains list reference) more there)) [
       | inl before ↦ c.loop-reference.invariant state number hold holds reference before
       | inr same ↦ subst (λ (r : Reference). IsCoveredBy c.args.definitions.now state number c.args.table.now r) same ((c.in_ok-is_covered.ensures state number hold holds).0 on)

@@ -1,4 +1,4 @@
-use Rattle.std.proofs.Common.{◌≡◌, ◌++◌, ◌∷◌, [], ◌∙◌, ℕ, List, ap, ap₂, length, map, subst, sym}
+use Rattle.std.proofs.Common.{◌≡◌, ◌++◌, ◌∷◌, [], ◌∙◌, List, ap, ap₂, map, subst, sym}
 use Rattle.std.proofs.lemmas.List.{map-append}
 use Rattle.catalog_core.specs.declared.table.TableDef.{TableDef}
 use Rattle.period_keys.specs.Current.{AreParentsIndexed, HaveIndexes, HaveMoreIndexes, rows_by_key}

@@ -6,7 +6,7 @@ use Rattle.temporal_model.proofs.Members.{Contains-nil}
 use Rattle.catalog_core.specs.declared.table.Reference.{Reference}
 use Rattle.catalog_core.specs.declared.table.TableDef.{TableDef}
 use Rattle.period_keys.specs.Lawful.{own_positions}
-use Rattle.period_keys.specs.TableRows.{HasMoreIndexes, TableRows}
+use Rattle.period_keys.specs.TableRows.{TableRows}
 use Rattle.period_keys.proofs.ReferenceFacts.{worked_out}
 use Rattle.period_keys.proofs.TableLists.{has_more_refl, has_more_trans}
 use Rattle.period_keys.proofs.table_list.index_as_child.Goals as goal

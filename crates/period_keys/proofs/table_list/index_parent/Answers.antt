@@ -1,4 +1,4 @@
-use Rattle.std.proofs.Common.{◌≡◌, ◌<◌, ◌-◌, ℕ, List, arith, get_or, length}
+use Rattle.std.proofs.Common.{◌<◌, ◌-◌, ℕ, List, arith, get_or, length}
 use Rattle.std.proofs.lemmas.Option.{slice_get-get_or}
 use Rattle.period_keys.specs.TableRows.{TableRows}
 use Rattle.period_keys.proofs.TableLists.{have_more_set, number_inside}

@@ -1,4 +1,4 @@
-use Rattle.std.proofs.Common.{ℕ, List, take}
+use Rattle.std.proofs.Common.{take}
 use Rattle.std.specs.Prelude.{Contains}
 use Rattle.catalog_core.specs.declared.table.Reference.{Reference}
 use Rattle.period_keys.specs.Current.{HaveMoreIndexes, IsParentIndexed}

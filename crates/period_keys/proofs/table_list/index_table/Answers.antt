@@ -1,10 +1,8 @@
-use Rattle.std.proofs.Common.{◌≡◌, ◌+◌, ℕ, List, Some, get_or, set}
+use Rattle.std.proofs.Common.{◌+◌, List, get_or, set}
 use Rattle.std.specs.Prelude.{Result, Ok, Err, OnOk}
-use Rattle.std.specs.List.{slice_get}
 use Rattle.std.proofs.lemmas.Option.{slice_get-get_or}
-use Rattle.period_keys.specs.Current.{HaveMoreIndexes}
 use Rattle.period_keys.specs.Lawful.{own_positions}
-use Rattle.period_keys.specs.TableRows.{HasMoreIndexes, TableRows}
+use Rattle.period_keys.specs.TableRows.{TableRows}
 use Rattle.period_keys.proofs.TableLists.{have_more_set, have_more_trans, written_at}
 use Rattle.period_keys.proofs.table_list.index_table.Goals as goal
 

@@ -1,4 +1,4 @@
-use Rattle.std.proofs.Common.{◌≡◌, ◌++◌, ◌∷◌, [], ◌∙◌, ℕ, List, ap, arith, append-nil, append_assoc, length, map, subst, sym}
+use Rattle.std.proofs.Common.{◌≡◌, ◌++◌, ◌∷◌, [], ◌∙◌, List, ap, arith, append-nil, append_assoc, length, map, subst, sym}
 use Rattle.std.proofs.lemmas.List.{length-map, map-append, nil_from_length}
 use Rattle.catalog_core.specs.declared.table.TableDef.{TableDef}
 use Rattle.period_keys.specs.Current.{HaveIndexes, rows_by_key}
