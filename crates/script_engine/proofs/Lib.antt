@@ -1,5 +1,6 @@
 mod AnswerLaws
 mod Answered
+mod Answering
 mod Changed
 mod CheckSteps
 mod Given
@@ -8,6 +9,7 @@ mod PieceSteps
 mod PlanFacts
 mod Refused
 mod ScriptFacts
+mod Seen
 mod Shown
 mod ShownFacts
 mod Images

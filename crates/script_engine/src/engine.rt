@@ -26,6 +26,7 @@ ghost use Rattle.script_engine.specs.engine.Stored.{KeepsOnErr};
 ghost use Rattle.sql_statements.specs.Plain.{plain, plain_query, plain_stored};
 ghost use Rattle.sql_statements.specs.Trees as statement;
 
+mod answering;
 mod in_memory;
 pub mod outcome;
 mod rows;
