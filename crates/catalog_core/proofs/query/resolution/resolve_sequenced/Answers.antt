@@ -5,7 +5,7 @@ use Rattle.sql_statements.specs.Plain.{plain_query}
 use Rattle.catalog_core.proofs.lemmas.query.Accepted.{few_references, nothing_refused}
 use Rattle.catalog_core.specs.Judged.{Holds}
 use Rattle.catalog_core.specs.query.Refusals.{refusals_of}
-use Rattle.catalog_core.proofs.query.resolution.resolve_tree.Goals as goal
+use Rattle.catalog_core.proofs.query.resolution.resolve_sequenced.Goals as goal
 
 pub number_query-requires : goal.number_query-requires
 number_query-requires c =
