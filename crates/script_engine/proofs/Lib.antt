@@ -3,7 +3,6 @@ mod Answered
 mod Answering
 mod Changed
 mod CheckSteps
-mod Given
 mod PieceFacts
 mod PieceSteps
 mod PlanFacts

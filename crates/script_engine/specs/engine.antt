@@ -5,4 +5,3 @@ pub mod Planned
 pub mod Shown
 pub mod Answering
 pub mod Runs
-pub mod Projected
