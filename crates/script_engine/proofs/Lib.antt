@@ -35,3 +35,4 @@ pub mod ReportExamples
 pub mod RunExamples
 pub mod ScriptExamples
 pub mod StepExamples
+pub mod WholeQueryExamples

@@ -59,11 +59,11 @@ use Rattle.catalog_core.specs.table.Naming.{matches_among, repeats}
 -- ---- the query
 
 -- the column DEPT
-abbrev department : SelectItem
+abbrev pub department : SelectItem
 department = record { column = record { qualifier = None; name = codes "DEPT" }; new_name = None }
 
 -- EMP
-abbrev workers : TableReference
+abbrev pub workers : TableReference
 workers = record { table = codes "EMP"; window = None; new_name = None }
 
 -- SELECT DISTINCT DEPT FROM EMP, in it
@@ -94,7 +94,7 @@ abbrev pub answer : Answer
 answer = record one_row { columns = codes "DEPT" ∷ [] }
 
 -- no condition of a refusal holds for it where EMP is the one table
-question_is_sound : NoneApplies (Holds (query_conditions (emp ∷ []) (statement.sequenced question)))
+pub question_is_sound : NoneApplies (Holds (query_conditions (emp ∷ []) (statement.sequenced question)))
 unfolding matches_among repeats is_matching number_of table_of_name is_too_long lacks_table some_column_matches names_twice names_period compares_kinds is_value_column
 question_is_sound = none_if_no_first (query_conditions (emp ∷ []) (statement.sequenced question)) refl
 
@@ -149,7 +149,7 @@ department_seven : (row same values : List Value) → IsProjection (selected_in 
 department_seven row same values first its second = same_values seven values (sym first ∙ ap (read_items (selected_in 0).items) its ∙ second)
 
 -- the ordinary query gives department 7 on the days from 5 to 7, and nothing else
-daily : (day : ℤ) (values : List Value) → (Sets day values ↔ InAnswerOn with_row departments day values)
+pub daily : (day : ℤ) (values : List Value) → (Sets day values ↔ InAnswerOn with_row departments day values)
 daily day values = (
   λ among.
       let (seven_same, from, to) = among in
@@ -169,7 +169,7 @@ daily day values = (
 )
 
 -- where the sets are those of department 7 on the days from 5 to 7, the answer is right
-right_by : (InSet : ℤ → List Value → Type 0) → ((day : ℤ) (values : List Value) → (Sets day values ↔ InSet day values)) → IsSequencedAnswer InSet answer
+pub right_by : (InSet : ℤ → List Value → Type 0) → ((day : ℤ) (values : List Value) → (Sets day values ↔ InSet day values)) → IsSequencedAnswer InSet answer
 right_by InSet same = record {
   daily = λ day values. (
     λ there. (same day values).0 ((is_answer.daily day values).0 there),
