@@ -43,11 +43,11 @@ use Rattle.script_engine.specs.engine.Projected.{IsAnswerTo, read_row, whole_row
 use Rattle.script_engine.specs.engine.Runs.{StatementApplies, StepsTo}
 use Rattle.script_engine.specs.engine.Stored.{AreOfHistory, EngineRepresents}
 use Rattle.script_engine.specs.declared.engine.outcome.Outcome.TheVariants.{Answer as Answered}
-use Rattle.script_engine.proofs.Contents.{recorded_rows, said-asked}
+use Rattle.script_engine.proofs.Contents.{is_left, said-asked}
 use Rattle.script_engine.proofs.Given.{same_values, values_on-read}
 use Rattle.script_engine.proofs.Images.{image_from, image_of}
 use Rattle.script_engine.proofs.InMemory.{some_rows}
-use Rattle.script_engine.proofs.PlanFacts.{current_listed}
+use Rattle.script_engine.proofs.LastState.{held_last}
 use Rattle.script_engine.proofs.Steps.{failed_step, its_contents, refused_step, tables_of}
 
 -- a version of a table is seen as of the moment, and holds on the day
@@ -78,37 +78,13 @@ rows_hold history c table rows said are moment day before =
     (subst₂ (λ (a b : List (List Value)). IsPermutation a b) (values_shown table rows moment day) (values_shown table holds.rows moment day) values)
     (left_hold history table holds.rows said.order holds.left moment day before)
 
-abbrev holds_on : ℤ → PeriodRow → Bool
-holds_on day row = covers_day row.period.start row.period.end day
-
--- the same rows in another order hold the same on each day
-values_along : (rows others : List PeriodRow) (day : ℤ) → IsPermutation rows others → IsPermutation (values_on rows day) (values_on others day)
-values_along rows others day same =
-    IsPermutation-map (λ (r : PeriodRow). r.values) (filter (holds_on day) rows) (filter (holds_on day) others) (IsPermutation-filter (holds_on day) rows others same)
-
--- the current rows hold on each day what the last state has
-held_last : (history : History) (c : Contents) (table : ℕ) (rows : List VersionRow) (day : ℤ) → AreOfHistory history c → AreCurrentOf c table rows →
-    IsPermutation (values_on (map row_of rows) day) (last_state history table day)
-held_last history c table rows day said are =
-    let holds = said.versions table in
-    let before : c.clock <ℤ forever = said.is_clock.1 in
-    let late : c.clock ≤ℤ last_moment = omega (arith, ints) in
-    let last : last_moment <ℤ forever = omega (arith, ints) in
-    let ours : List PeriodRow = map row_of rows in
-    let its : List PeriodRow = map row_of (current holds.rows) in
-    IsPermutation-trans (values_on ours day) (values_on its day) (last_state history table day)
-    (values_along ours its day (IsPermutation-map row_of rows (current holds.rows) (IsPermutation-sym (current holds.rows) rows (current_listed table c.versions holds.rows rows holds.all are))))
-    (subst (λ (l : List (List Value)). IsPermutation l (last_state history table day))
-    (current_hold c.clock last_moment day late last holds.rows (recorded_rows c table holds.rows said.recorded holds.all))
-    (left_hold history table holds.rows said.order holds.left last_moment day last))
-
 -- a projection of a table's current rows has on each day the set of the query
 projection_daily : (history : History) (c : Contents) (query : Select) (found : List VersionRow) (projections : List PeriodRow) → AreOfHistory history c → AreCurrentOf c query.table found →
     map (read_row query.items) found ≡ map whole_row projections →
     (day : ℤ) (values : List Value) → (InSnapshot projections day values ↔ InAnswerOn history query day values)
 projection_daily history c query found projections said are made day values =
     let rows = map row_of found in
-    let held = held_last history c query.table found day said are in
+    let held = held_last history c query.table found day (is_left history c said) are in
     let read : map (read_items query.items) (values_on rows day) ≡ map (map Some) (values_on projections day) = values_on-read query.items found projections day made in (
       λ snapshot.
           let shown = image_of (map Some) (values_on projections day) values snapshot in

@@ -19,7 +19,10 @@ mod CurrentAfter
 mod InMemory
 mod Loaded
 mod Ended
+mod Indexed
+mod Judged
 mod KeyFacts
+mod LastState
 mod LeftSteps
 mod NewStore
 mod Openings
@@ -28,6 +31,7 @@ pub mod BufferFacts
 pub mod ChangeExamples
 pub mod CheckExamples
 pub mod CsvFacts
+pub mod LawfulSteps
 pub mod PieceExamples
 pub mod QueryExamples
 pub mod ReportExamples

@@ -41,7 +41,9 @@ use Rattle.script_engine.specs.engine.Stored.{AreOfHistory, HoldsTable}
 use Rattle.script_engine.specs.engine.Runs.{Step}
 use Rattle.script_engine.specs.declared.engine.outcome.Outcome.TheVariants.{Answer as Answered}
 use Rattle.script_engine.proofs.Given.{same_values}
-use Rattle.script_engine.proofs.StepExamples.{colleague, emp, inserted_row, none_if_no_first, with_row, with_rows, worker}
+use Rattle.script_engine.proofs.LastState.{lawful_changed, lawful_empty}
+use Rattle.script_engine.proofs.LawfulSteps.{lawful_alone}
+use Rattle.script_engine.proofs.StepExamples.{colleague, emp, inserted_row, no_references, none_if_no_first, with_row, with_rows, with_table, worker}
 use Rattle.script_engine.proofs.RunExamples.{Sets, is_answer, one_row, seven, two_rows, whole}
 use Rattle.catalog_core.specs.table.Naming.{matches_among, repeats}
 
@@ -237,8 +239,13 @@ represented = record {
     },
     tt,
   );
+  lawful = lawful_changed with_table first_moment inserted_row (omega (arith, ints)) (lawful_empty (emp ∷ []) (last_state with_table) none_at_first) (lawful_alone (emp ∷ []) (last_state with_table) inserted_row no_references (λ day. omega arith));
 }
   where
+    none_at_first : (table : ℕ) (day : ℤ) → last_state with_table table day ≡ []
+    none_at_first zero day = refl
+    none_at_first (suc place) day = refl
+
     elsewhere : (table : ℕ) → (table == 1) ≡ false → (1 == table) ≡ false → HoldsTable with_row kept_contents.versions table
     elsewhere table off out = record {
       rows = [];
