@@ -1,5 +1,5 @@
 -- A change that is run is a step of the histories that the engine represents.
-use Rattle.std.proofs.Common.{◌≡◌, ◌∷◌, ◌++◌, ◌<◌, ◌⊎◌, ℤ, Bool, true, false, List, [], Ok, Err, map, refl, sym, ap, ◌∙◌, subst, inl, inr, arith}
+use Rattle.std.proofs.Common.{◌≡◌, ◌∷◌, ◌++◌, ◌<◌, ◌⊎◌, ℤ, Bool, true, false, List, [], Ok, Err, Some, map, refl, sym, ap, ◌∙◌, subst, inl, inr, arith}
 use Rattle.std.specs.List.Sorted.{IsPermutation}
 use Rattle.period_core.specs.Codes.{code_of}
 use Rattle.period_core.specs.Leasts.{MayAnswer, NoneApplies}
@@ -11,6 +11,7 @@ use Rattle.sql_statements.specs.Trees.{Statement}
 use Rattle.sql_statements.specs.Trees as statement
 use Rattle.catalog_core.specs.Judged.{Holds, Judged}
 use Rattle.catalog_core.specs.change.Resolution.{IsChange, ResolvesChange, change_conditions, empty_period, has_empty_row}
+use Rattle.catalog_core.specs.table.TableWords.{table_of}
 use Rattle.catalog_core.specs.declared.change.Change.{Change}
 use Rattle.catalog_core.specs.declared.change.Plan.{Plan}
 use Rattle.catalog_core.specs.declared.table.TableDef.{TableDef}
@@ -60,6 +61,13 @@ accepts_change history new (statement.insert i) outcome is changes = changes
 accepts_change history new (statement.update u) outcome is changes = changes
 accepts_change history new (statement.delete d) outcome is changes = changes
 accepts_change history new _ outcome is changes = absurd is
+
+-- the table of a change is there
+pub resolved_table : (tables : List TableDef) (s : Statement) (change : Change) → ResolvesChange tables s change → (d : TableDef) × (table_of tables change.table ≡ Some d)
+resolved_table tables (statement.insert i) change resolved = (resolved.definition, resolved.table)
+resolved_table tables (statement.update u) change resolved = (resolved.definition, resolved.table)
+resolved_table tables (statement.delete d) change resolved = (resolved.definition, resolved.table)
+resolved_table tables _ change resolved = absurd resolved
 
 -- the numbers of a change's conditions are at most that of an empty period
 change_numbers : (tables : List TableDef) (s : Statement) → are_at_most 41 (change_conditions tables s) ≡ true

@@ -1,5 +1,5 @@
 -- The tables in memory follow a catalog: with more indexes, with one table written, and without the last.
-use Rattle.std.proofs.Common.{◌≡◌, ◌<◌, ◌≤◌, ◌++◌, ◌∷◌, ◌∙◌, ℕ, zero, suc, List, [], None, Some, inl, inr, length, length-append, map, refl, set, sym, ap, subst, arith}
+use Rattle.std.proofs.Common.{◌≡◌, ◌<◌, ◌≤◌, ◌++◌, ◌∷◌, ◌∙◌, ℕ, zero, suc, List, [], None, Some, inl, inr, length, length-append, map, refl, set, sym, ap, ap₂, subst, arith}
 use Rattle.std.specs.List.{Contains, slice_get}
 use Rattle.std.specs.List.Sorted.{IsPermutation}
 use Rattle.std.proofs.lemmas.Bool.{cases_eq}
@@ -26,7 +26,7 @@ use Rattle.period_keys.proofs.FaultFacts.{split_of}
 use Rattle.period_keys.proofs.TableLists.{indexed_still, more_first, more_cases, same_count, set_elsewhere, set_here}
 use Rattle.script_engine.specs.engine.InMemory.{FollowCatalog, HaveRows, rows_in}
 use Rattle.script_engine.proofs.InMemory.{have_rows_set, some_rows}
-use Rattle.script_engine.proofs.LastState.{lawful_more, parents_before}
+use Rattle.script_engine.proofs.LastState.{lawful_less, lawful_more}
 
 -- ---- the rows of tables
 
@@ -137,6 +137,37 @@ follow_without_last catalog d before last lawful count indexed = record { lawful
           children = earlier_index before last number (own_positions child reference) (omega (arith, below, count)) all.children;
           parents = earlier_index before last reference.parent (parent_positions parent reference) (omega (arith, above, count)) all.parents;
         }
+
+-- the last of tables with these rows
+pub last_table : (tables : List TableRows) (rows : List RowsByKey) (last : RowsByKey) → map rows_by_key tables ≡ rows ++ last ∷ [] → (before : List TableRows) × (end : TableRows) × (tables ≡ before ++ end ∷ []) × (map rows_by_key before ≡ rows)
+last_table [] [] last same = absurd cc
+last_table [] (r ∷ rows) last same = absurd cc
+last_table (t ∷ []) [] last same = ([], t, refl, refl)
+last_table (t ∷ u ∷ tables) [] last same = absurd cc
+last_table (t ∷ tables) (r ∷ rows) last same =
+    let first : rows_by_key t ≡ r = cc in
+    let more : map rows_by_key tables ≡ rows ++ last ∷ [] = cc in
+    let (before, end, parts, its) = last_table tables rows last more in
+    (t ∷ before, end, ap (λ (l : List TableRows). t ∷ l) parts, ap₂ (λ (x : RowsByKey) (l : List RowsByKey). x ∷ l) first its)
+
+-- the last of as many tables as there are definitions
+split_last : (tables : List TableRows) (count : ℕ) → length tables ≡ suc count → (before : List TableRows) × (end : TableRows) × (tables ≡ before ++ end ∷ [])
+split_last [] count long = absurd (omega (arith, long))
+split_last (t ∷ []) count long = ([], t, refl)
+split_last (t ∷ u ∷ tables) zero long = absurd (omega (arith, long))
+split_last (t ∷ u ∷ tables) (suc count) long =
+    let (before, end, parts) = split_last (u ∷ tables) count (omega (arith, long)) in
+    (t ∷ before, end, ap (λ (l : List TableRows). t ∷ l) parts)
+
+-- without its last table memory follows the catalog without its last definition
+pub follow_popped : (catalog : List TableDef) (last : TableDef) (old new : List TableRows) → ((before : List TableRows) (end : TableRows) → old ≡ before ++ end ∷ [] → new ≡ before) → FollowCatalog (catalog ++ last ∷ []) old → FollowCatalog catalog new
+follow_popped catalog last old new popped was =
+    let count = was.count in
+    let long : length old ≡ suc (length catalog) = omega (arith, count, length-append catalog (last ∷ [])) in
+    let (before, end, parts) = split_last old (length catalog) long in
+    let size : length before ≡ length catalog = (let whole : length old ≡ length (before ++ end ∷ []) = ap length parts in omega (arith, long, whole, length-append before (end ∷ []))) in
+    subst (FollowCatalog catalog) (sym (popped before end parts))
+    (follow_without_last catalog last before end (lawful_less [] catalog last was.lawful) size (subst (HaveIndexes (catalog ++ last ∷ [])) parts was.indexed))
 
 -- ---- a plan
 

@@ -200,6 +200,11 @@ lawful_more before [] d lawful is = (subst (λ (tables : List TableDef). IsLawfu
 lawful_more before (x ∷ catalog) d lawful is =
     (lawful.0, lawful_more (before ++ x ∷ []) catalog d lawful.1 (subst (λ (tables : List TableDef). IsLawful tables d) (sym (append_assoc before (x ∷ []) catalog)) is))
 
+-- one less
+pub lawful_less : (before catalog : List TableDef) (d : TableDef) → AreLawful before (catalog ++ d ∷ []) → AreLawful before catalog
+lawful_less before [] d lawful = tt
+lawful_less before (x ∷ catalog) d lawful = (lawful.0, lawful_less (before ++ x ∷ []) catalog d lawful.1)
+
 -- ---- one more event
 
 -- a table more, that has no rows yet

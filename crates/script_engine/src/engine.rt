@@ -34,7 +34,7 @@ pub mod outcome;
 mod rows;
 mod shown;
 
-use crate::engine::indexed::{apply_plan, load_lawful, remove_last, rows_of_number};
+use crate::engine::indexed::{add_index, apply_plan, load_lawful, remove_last, rows_of_number};
 use crate::engine::lawfulness::lawful_plan;
 use crate::engine::outcome::{Outcome, VersionList, Word, done};
 use crate::engine::rows::answer_of;
@@ -42,7 +42,7 @@ use crate::engine::shown::{shown_rows, table_of_number, version_columns};
 use catalog_core::{Catalog, Plan, define};
 use catalog_core::{resolve_change, resolve_sequenced, resolve_stored_query};
 use period_core::{Items, Moment, Refusal, VersionRow};
-use period_keys::{TableIndex, add_table};
+use period_keys::TableIndex;
 use sql_statements::{
     ClockMoment, CreateTable, QueryTree, SelectDistinct, Statement, StatementForm, StoredQuery,
 };
@@ -204,7 +204,7 @@ impl<S: Alter> Engine<S> {
             Err(refusal) => return Err(refusal),
         };
         let catalog = self.store.catalog();
-        let Ok(()) = add_table(alloc, catalog, &mut self.tables, &definition) else {
+        let Ok(()) = add_index(alloc, catalog, &mut self.tables, &definition) else {
             return Err(Refusal::Memory);
         };
         match self.store.add_table(alloc, definition) {

@@ -3,11 +3,15 @@
 
 ghost use Rattle.std.specs.Prelude.{◌≡◌, ◌++◌, ◌∷◌, [], IfErr, IfOk, IsPermutation, List};
 ghost use Rattle.std.specs.Prelude.{MatchOption, None, OnErr, OnOk, Some, map};
+ghost use Rattle.catalog_core.specs.create.Lawful.{IsLawful};
+ghost use Rattle.catalog_core.specs.declared.table.TableDef.{TableDef as Definition};
 ghost use Rattle.catalog_core.specs.table.TableWords.{table_of};
 ghost use Rattle.period_core.specs.declared.refusal.Refusal.TheVariants.{BadStore};
 ghost use Rattle.period_core.specs.declared.version.VersionRow.{VersionRow as Version};
 ghost use Rattle.period_keys.specs.Current.{rows_by_key};
-ghost use Rattle.period_keys.specs.TableRows.{HasTableRows, TableRows};
+ghost use Rattle.period_keys.specs.Lawful.{key_positions};
+ghost use Rattle.period_keys.specs.Rows.{RowsByKey};
+ghost use Rattle.period_keys.specs.TableRows.{HasTableRows};
 ghost use Rattle.period_keys.specs.Versions.{begun};
 ghost use Rattle.version_store.specs.Changed.{planned};
 ghost use Rattle.version_store.specs.Contents.{Contents};
@@ -19,9 +23,9 @@ ghost use Rattle.script_engine.specs.engine.Faults.{AreConstrained};
 ghost use Rattle.script_engine.specs.engine.InMemory.{FollowCatalog, HaveCurrentRows};
 
 use crate::engine::in_memory::load;
-use catalog_core::Plan;
-use period_core::Refusal;
-use period_keys::{CurrentRows, TableIndex, is_lawful, rows_of, tables_of};
+use catalog_core::{Catalog, Plan, TableDef};
+use period_core::{Memory, Refusal};
+use period_keys::{CurrentRows, TableIndex, add_table, is_lawful, rows_of, tables_of};
 use sqlite_trees::store::Alter;
 use std::alloc::Global;
 use version_store::VersionStore;
@@ -48,10 +52,37 @@ pub fn rows_of_number(tables: &[TableIndex], number: u8) -> Option<&CurrentRows>
     }
 }
 
+/// Adds a table without rows, of a definition that the catalog does not have yet, with the indexes
+/// that its references need. The only error is out of memory: then no table is added, and those that
+/// are there have the same rows.
+pub fn add_index(
+    alloc: Global,
+    catalog: &Catalog,
+    tables: &mut Vec<TableIndex>,
+    definition: &TableDef,
+) -> Result<(), Memory>
+    requires follow { FollowCatalog catalog.now.tables tables.old.items }
+    requires lawful { IsLawful catalog.now.tables definition.now }
+    ensures rows { OnOk result (map rows_by_key tables.new.items
+        ≡ map rows_by_key tables.old.items
+        ++ record { positions = key_positions definition.now; rows = [] } ∷ []) }
+    ensures follow { OnOk result
+        (FollowCatalog (catalog.now.tables ++ definition.now ∷ []) tables.new.items) }
+    ensures none { OnErr result
+        ((map rows_by_key tables.new.items ≡ map rows_by_key tables.old.items)
+        × FollowCatalog catalog.now.tables tables.new.items) }
+{
+    add_table(alloc, catalog, tables, definition)
+}
+
 /// Removes the last table.
 pub fn remove_last(tables: &mut Vec<TableIndex>)
-    ensures { (before : List TableRows) (last : TableRows)
-        → tables.old.items ≡ before ++ last ∷ [] → tables.new.items ≡ before }
+    ensures rows { (rows : List RowsByKey) (last : RowsByKey)
+        → map rows_by_key tables.old.items ≡ rows ++ last ∷ []
+        → map rows_by_key tables.new.items ≡ rows }
+    ensures follow { (catalog : List Definition) (last : Definition)
+        → FollowCatalog (catalog ++ last ∷ []) tables.old.items
+        → FollowCatalog catalog tables.new.items }
 {
     let _last = tables.pop();
 }
@@ -120,6 +151,7 @@ pub fn apply_plan<S: Alter>(
         → OnOk result (HasTableRows (map (begun store.old.clock) plan.now.added ++ stay)
         table.old table.new) }
     ensures none { OnErr result (HasTableRows table.old.rows table.old table.new) }
+    ensures indexed { table.new.indexed ≡ table.old.indexed }
     ensures named { IfErr result IsStoreRefusal }
 {
     let moment = store.clock();
