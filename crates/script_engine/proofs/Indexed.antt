@@ -1,8 +1,9 @@
 -- The tables in memory follow a catalog: with more indexes, with one table written, and without the last.
-use Rattle.std.proofs.Common.{◌≡◌, ◌<◌, ◌≤◌, ◌++◌, ◌∷◌, ◌∙◌, ℕ, zero, suc, List, [], None, Some, inl, inr, length, length-append, map, refl, set, sym, ap, ap₂, subst, arith}
+use Rattle.std.proofs.Common.{◌≡◌, ◌<◌, ◌≤◌, ◌-◌, ◌++◌, ◌∷◌, ◌∙◌, ℕ, zero, suc, List, [], None, Some, Result, Ok, Err, OnErr, OnOk, inl, inr, length, length-append, map, refl, set, sym, take, ap, ap₂, subst, arith}
 use Rattle.std.specs.List.{Contains, slice_get}
 use Rattle.std.specs.List.Sorted.{IsPermutation}
 use Rattle.std.proofs.lemmas.Bool.{cases_eq}
+use Rattle.std.proofs.lemmas.List.Sorted.{IsPermutation-append_right, IsPermutation-trans}
 use Rattle.std.proofs.lemmas.List.{length-map, length-set, map-set}
 use Rattle.std.proofs.lemmas.Option.{slice_get_within}
 use Rattle.period_core.specs.declared.row.PeriodRow.{PeriodRow}
@@ -13,6 +14,7 @@ use Rattle.catalog_core.specs.declared.change.Action.{Action}
 use Rattle.catalog_core.specs.declared.change.Plan.{Plan}
 use Rattle.catalog_core.specs.declared.table.Reference.{Reference}
 use Rattle.catalog_core.specs.declared.table.TableDef.{TableDef}
+use Rattle.history_model.proofs.Lists.{exchange}
 use Rattle.version_store.specs.GoodStore.{AreLawful}
 use Rattle.period_keys.specs.Current.{HaveIndexes, HaveMoreIndexes, IsIndexed, IsIndexedBy, rows_by_key}
 use Rattle.period_keys.specs.Keys.{key_values}
@@ -26,7 +28,7 @@ use Rattle.period_keys.proofs.FaultFacts.{split_of}
 use Rattle.period_keys.proofs.TableLists.{indexed_still, more_first, more_cases, same_count, set_elsewhere, set_here}
 use Rattle.script_engine.specs.engine.InMemory.{FollowCatalog, HaveRows, rows_in}
 use Rattle.script_engine.proofs.InMemory.{have_rows_set, some_rows}
-use Rattle.script_engine.proofs.LastState.{lawful_less, lawful_more}
+use Rattle.script_engine.proofs.LastState.{lawful_less, lawful_more, none_there}
 
 -- ---- the rows of tables
 
@@ -87,6 +89,11 @@ follow_written catalog tables place old new there same was = record {
         parents = still_indexed tables place old new there same reference.parent (parent_positions parent reference) old_is.parents;
       };
 }
+
+-- no tables follow a catalog without tables
+pub follow_none : (catalog : List TableDef) → AreLawful [] catalog → length catalog ≡ 0 → FollowCatalog catalog []
+follow_none [] lawful none = record { lawful = lawful; count = refl; indexed = λ number child is. absurd (none_there number child is) }
+follow_none (d ∷ catalog) lawful none = absurd (omega (arith, none))
 
 -- ---- more indexes, and one table more or less
 
@@ -160,14 +167,34 @@ split_last (t ∷ u ∷ tables) (suc count) long =
     (t ∷ before, end, ap (λ (l : List TableRows). t ∷ l) parts)
 
 -- without its last table memory follows the catalog without its last definition
-pub follow_popped : (catalog : List TableDef) (last : TableDef) (old new : List TableRows) → ((before : List TableRows) (end : TableRows) → old ≡ before ++ end ∷ [] → new ≡ before) → FollowCatalog (catalog ++ last ∷ []) old → FollowCatalog catalog new
-follow_popped catalog last old new popped was =
-    let count = was.count in
-    let long : length old ≡ suc (length catalog) = omega (arith, count, length-append catalog (last ∷ [])) in
+pub follow_popped : (catalog : List TableDef) (last : TableDef) (old new : List TableRows) (count : ℕ) → count ≡ length old → new ≡ take (count - 1) old → FollowCatalog (catalog ++ last ∷ []) old → FollowCatalog catalog new
+follow_popped catalog last old new count counted popped was =
+    let followed = was.count in
+    let long : length old ≡ suc (length catalog) = omega (arith, followed, length-append catalog (last ∷ [])) in
     let (before, end, parts) = split_last old (length catalog) long in
-    let size : length before ≡ length catalog = (let whole : length old ≡ length (before ++ end ∷ []) = ap length parts in omega (arith, long, whole, length-append before (end ∷ []))) in
-    subst (FollowCatalog catalog) (sym (popped before end parts))
-    (follow_without_last catalog last before end (lawful_less [] catalog last was.lawful) size (subst (HaveIndexes (catalog ++ last ∷ [])) parts was.indexed))
+    let whole : length old ≡ length (before ++ end ∷ []) = ap length parts in
+    let size : length before ≡ length catalog = omega (arith, long, whole, length-append before (end ∷ [])) in
+    let places : count - 1 ≡ length before = omega (arith, counted, long, size) in
+    let rest : new ≡ before = popped ∙ ap₂ (λ (n : ℕ) (l : List TableRows). take n l) places parts ∙ first_of before end in
+    subst (FollowCatalog catalog) (sym rest) (follow_without_last catalog last before end (lawful_less [] catalog last was.lawful) size (subst (HaveIndexes (catalog ++ last ∷ [])) parts was.indexed))
+  where
+    first_of : (before : List TableRows) (end : TableRows) → take (length before) (before ++ end ∷ []) ≡ before
+    first_of [] end = refl
+    first_of (t ∷ before) end = ap (λ (l : List TableRows). t ∷ l) (first_of before end)
+
+-- the same rows with more indexes
+pub same_rows_of : (old new : List TableRows) → HaveMoreIndexes old new → map rows_by_key new ≡ map rows_by_key old
+same_rows_of old new more = more.same
+
+-- ---- what a call gives
+
+pub on_ok_both : {X E : Type 0} {P Q R : Type 0} (r : Result X E) → (P → Q → R) → OnOk r P → OnOk r Q → OnOk r R
+on_ok_both (Ok x) f p q = f p q
+on_ok_both (Err e) f p q = tt
+
+pub on_err_from : {X E : Type 0} {P Q : Type 0} (r : Result X E) → (P → Q) → OnErr r P → OnErr r Q
+on_err_from (Ok x) f p = tt
+on_err_from (Err e) f p = f p
 
 -- ---- a plan
 
@@ -185,3 +212,19 @@ touched_still old new rows keys positions indexed touched = record {
 -- the rows in memory of a table's number
 pub rows_of_table : (tables : List TableRows) (number : ℕ) (table : TableRows) → table_of tables number ≡ Some table → rows_in (map rows_by_key tables) number ≡ table.rows
 rows_of_table tables number table is = some_rows (map rows_by_key tables) number (rows_by_key table) (rows_there tables number table is)
+
+-- the rows that end and those that stay, with those that began
+pub parted_rows : (old middle : TableRows) (begins ended stay : List VersionRow) → HasTableRows (begins ++ old.rows) old middle → IsPermutation old.rows (ended ++ stay) → IsPermutation middle.rows (ended ++ (begins ++ stay))
+parted_rows old middle begins ended stay grown split =
+    IsPermutation-trans middle.rows (begins ++ old.rows) (ended ++ (begins ++ stay)) grown.rows
+    (IsPermutation-trans (begins ++ old.rows) (begins ++ (ended ++ stay)) (ended ++ (begins ++ stay))
+    (IsPermutation-append_right begins old.rows (ended ++ stay) split)
+    (exchange begins ended stay))
+
+-- once those that end are gone, the others are left
+pub taken_after : (old middle new : TableRows) (begins stay : List VersionRow) → HasTableRows (begins ++ old.rows) old middle → HasTableRows (begins ++ stay) middle new → HasTableRows (begins ++ stay) old new
+taken_after old middle new begins stay grown taken = record {
+  positions = taken.positions ∙ grown.positions;
+  indexed = taken.indexed ∙ grown.indexed;
+  rows = taken.rows;
+}

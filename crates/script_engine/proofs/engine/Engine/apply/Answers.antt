@@ -1,7 +1,7 @@
-use Rattle.std.proofs.Common.{◌≡◌, ◌-◌, ◌++◌, ◌∙◌, ℕ, suc, List, OnErr, OnOk, Some, ap, arith, map, rules, set, subst, sym}
+use Rattle.std.proofs.Common.{◌≡◌, ◌-◌, ◌++◌, ◌∙◌, ℕ, suc, List, OnErr, OnOk, Some, ap, arith, length, map, refl, set, subst, sym}
 use Rattle.std.specs.List.{slice_get}
 use Rattle.std.specs.List.Sorted.{IsPermutation}
-use Rattle.std.proofs.lemmas.Bool.Decides.{nat_tests}
+use Rattle.std.proofs.lemmas.Option.{slice_get_read}
 use Rattle.std.proofs.lemmas.Result.{on_err_weaker, on_ok_weaker}
 use Rattle.period_core.specs.declared.version.VersionRow.{VersionRow}
 use Rattle.catalog_core.specs.declared.table.catalog.Catalog.{Catalog}
@@ -19,7 +19,8 @@ apply_plan-requires g c =
     let place : ℕ = c.from.result - 1 in
     let old : TableRows = c.in-Some.index.now in
     let ended : List VersionRow = c.args.plan.now.ended in
-    let there : slice_get ts place ≡ Some old = search rules in
+    let item = c.in-Some.ensures.item in
+    let there : slice_get ts place ≡ Some old = slice_get_read ts (length ts) place old refl item.3.0 item.1 in
     let is = c.from.ensures in
     let off = c.if-table-eq0.false in
     let number : suc place ≡ c.args.table = omega (arith, is, off) in
@@ -34,7 +35,8 @@ returns-in-Some-clause-made g c =
     let old : TableRows = c.in-Some.index.now in
     let new : TableRows = c.apply_plan.new.table in
     let ended : List VersionRow = c.args.plan.now.ended in
-    let there : slice_get ts place ≡ Some old = search rules in
+    let item = c.in-Some.ensures.item in
+    let there : slice_get ts place ≡ Some old = slice_get_read ts (length ts) place old refl item.3.0 item.1 in
     let is = c.from.ensures in
     let off = c.if-table-eq0.false in
     let number : suc place ≡ c.args.table = omega (arith, is, off) in
@@ -52,7 +54,8 @@ returns-in-Some-clause-none g c =
     let place : ℕ = c.from.result - 1 in
     let old : TableRows = c.in-Some.index.now in
     let new : TableRows = c.apply_plan.new.table in
-    let there : slice_get ts place ≡ Some old = search rules in
+    let item = c.in-Some.ensures.item in
+    let there : slice_get ts place ≡ Some old = slice_get_read ts (length ts) place old refl item.3.0 item.1 in
     let is = c.from.ensures in
     let off = c.if-table-eq0.false in
     let number : suc place ≡ c.args.table = omega (arith, is, off) in
@@ -68,6 +71,7 @@ invariant_of-self-in-Some g c =
     let ts : List TableRows = c.self.inside.tables.items in
     let place : ℕ = c.from.result - 1 in
     let old : TableRows = c.in-Some.index.now in
-    let there : slice_get ts place ≡ Some old = search rules in
+    let item = c.in-Some.ensures.item in
+    let there : slice_get ts place ≡ Some old = slice_get_read ts (length ts) place old refl item.3.0 item.1 in
     subst (λ (k : Catalog). FollowCatalog k.tables (set ts place c.apply_plan.new.table)) (sym c.apply_plan.ensures.catalog)
     (follow_written c.self.inside.store.catalog.tables ts place old c.apply_plan.new.table there c.apply_plan.ensures.indexed c.self.invariant)

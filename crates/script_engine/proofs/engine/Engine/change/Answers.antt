@@ -1,7 +1,5 @@
-use Rattle.std.proofs.Common.{◌≡◌, ◌++◌, ◌∙◌, Err, List, Ok, ap, inl, inr, map, subst, sym}
-use Rattle.std.specs.List.Sorted.{IsPermutation}
+use Rattle.std.proofs.Common.{◌≡◌, ◌∙◌, List, Ok, ap, inl, inr, map, subst, subst₂, sym}
 use Rattle.period_core.specs.Leasts.{MayAnswer, NoneApplies}
-use Rattle.period_core.specs.declared.version.VersionRow.{VersionRow}
 use Rattle.sql_statements.specs.Plain.{plain}
 use Rattle.catalog_core.specs.Judged.{Holds}
 use Rattle.catalog_core.specs.change.Resolution.{ResolvesChange, change_conditions, empty_period, has_empty_row}
@@ -11,8 +9,8 @@ use Rattle.history_model.specs.Histories.{last_state}
 use Rattle.period_keys.specs.Current.{HoldCurrent, rows_by_key}
 use Rattle.period_keys.specs.Lawful.{IsLawfulChange, IsLawfulState}
 use Rattle.period_keys.specs.Planned.{IsPlanOf}
-use Rattle.period_keys.specs.TableRows.{TableRows}
-use Rattle.script_engine.specs.engine.EngineState.{EngineState, engine_of}
+use Rattle.period_keys.specs.Rows.{RowsByKey}
+use Rattle.script_engine.specs.engine.EngineState.{EngineState}
 use Rattle.script_engine.specs.engine.Faults.{IsFault}
 use Rattle.script_engine.specs.engine.InMemory.{FollowCatalog, rows_in}
 use Rattle.script_engine.specs.engine.Runs.{StepsTo}
@@ -46,83 +44,84 @@ pub apply-requires : goal.apply-requires
 apply-requires g c =
     let change = c.in-Ok.change in
     let plan = c.in-Ok-lawful_plan.plan in
-    let there : (stay : List VersionRow) × IsPermutation (rows_in (map rows_by_key c.self.inside.tables.items) change.table) (plan.ended ++ stay) =
-    ended_there change.action (rows_in (map rows_by_key c.self.inside.tables.items) change.table) plan
-    (subst (λ (ts : List TableRows). IsPlanOf change.action (rows_in (map rows_by_key ts) change.table) plan) c.as_slice.ensures.value c.in-Ok-lawful_plan.ensures.plan) in
-    there
+    let tables : map rows_by_key c.as_slice.result.now ≡ c.args.self.now.tables = ap (map rows_by_key) c.as_slice.ensures.value ∙ ap (λ (e : EngineState g.row.S.Denot). e.tables) c.self.view_is in
+    ended_there change.action (rows_in c.args.self.now.tables change.table) plan
+    (subst (λ (ts : List RowsByKey). IsPlanOf change.action (rows_in ts change.table) plan) tables c.in-Ok-lawful_plan.ensures.plan)
 
 pub returns-in-Err-lawful_plan-clause-step : goal.returns-in-Err-lawful_plan-clause-step
 returns-in-Err-lawful_plan-clause-step g c usable history kept =
     let s = plain c.args.statement.now in
     let change = c.in-Ok.change in
     let refusal = c.in-Err-lawful_plan.refusal in
-    let old : EngineState g.row.S.Denot = engine_of c.self.inside.store (map rows_by_key c.self.inside.tables.items) in
-    let was : EngineRepresents g.S.Store history old = subst (λ s. EngineRepresents g.S.Store history s) (sym c.self.view_is) kept in
-    let sound = subst (λ (k : Catalog). NoneApplies (Holds (change_conditions k.tables s))) c.catalog.ensures c.in-Ok.ensures.sound in
-    let empty = subst (λ (k : Catalog). (empty_period k.tables s).1 ≡ has_empty_row change.action) c.catalog.ensures c.in-Ok.ensures.empty in
-    let resolved = subst (λ (k : Catalog). ResolvesChange k.tables s change) c.catalog.ensures c.in-Ok.ensures.resolved in
-    subst (λ (e : EngineState g.row.S.Denot). StepsTo g.S.Store history s (Err refusal) e) c.self.view_is
-    (elim c.in-Err-lawful_plan.ensures.refused [
-      | inl none ↦ unplanned_step g.S.Store history old s c.requires was change sound empty refusal (inl none)
+    let old : EngineState g.row.S.Denot = c.args.self.now in
+    let catalog : c.catalog.result.now ≡ old.catalog = c.catalog.ensures ∙ ap (λ (e : EngineState g.row.S.Denot). e.catalog) c.self.view_is in
+    let judged : c.catalog-catalog.result.now ≡ old.catalog = c.catalog-catalog.ensures ∙ ap (λ (e : EngineState g.row.S.Denot). e.catalog) c.self.view_is in
+    let tables : map rows_by_key c.as_slice.result.now ≡ old.tables = ap (map rows_by_key) c.as_slice.ensures.value ∙ ap (λ (e : EngineState g.row.S.Denot). e.tables) c.self.view_is in
+    let sound = subst (λ (k : Catalog). NoneApplies (Holds (change_conditions k.tables s))) catalog c.in-Ok.ensures.sound in
+    let empty = subst (λ (k : Catalog). (empty_period k.tables s).1 ≡ has_empty_row change.action) catalog c.in-Ok.ensures.empty in
+    let resolved = subst (λ (k : Catalog). ResolvesChange k.tables s change) catalog c.in-Ok.ensures.resolved in
+    elim c.in-Err-lawful_plan.ensures.refused [
+      | inl none ↦ unplanned_step g.S.Store history old s c.requires kept change sound empty refusal (inl none)
       | inr other ↦ elim other [
-        | inl memory ↦ unplanned_step g.S.Store history old s c.requires was change sound empty refusal (inr (inl memory))
+        | inl memory ↦ unplanned_step g.S.Store history old s c.requires kept change sound empty refusal (inr (inl memory))
         | inr unlawful ↦
-            unlawful_step g.S.Store history old s c.requires was change sound empty refusal resolved unlawful.0
-            (subst (λ (k : Catalog). IsFault k.tables (last_state history) change refusal) c.catalog-catalog.ensures
+            unlawful_step g.S.Store history old s c.requires kept change sound empty refusal resolved unlawful.0
+            (subst (λ (k : Catalog). IsFault k.tables (last_state history) change refusal) judged
             (unlawful.1 (last_state history)
-            (subst (λ (k : Catalog). IsLawfulState k.tables (last_state history)) (sym c.catalog-catalog.ensures) (lawful_before g.S.Store history old s c.requires was))
-            (subst (λ (k : Catalog). HoldCurrent k.tables (last_state history) (map rows_by_key c.as_slice.result.now)) (sym c.catalog-catalog.ensures)
-            (subst (λ (ts : List TableRows). HoldCurrent old.catalog.tables (last_state history) (map rows_by_key ts)) (sym c.as_slice.ensures.value) (hold_before g.S.Store history old s c.requires was)))))
+            (subst (λ (k : Catalog). IsLawfulState k.tables (last_state history)) (sym judged) (lawful_before g.S.Store history old s c.requires kept))
+            (subst₂ (λ (k : Catalog) (ts : List RowsByKey). HoldCurrent k.tables (last_state history) ts) (sym judged) (sym tables) (hold_before g.S.Store history old s c.requires kept))))
       ]
-    ])
+    ]
 
 pub returns-in-Ok-apply-clause-step : goal.returns-in-Ok-apply-clause-step
 returns-in-Ok-apply-clause-step g c usable history kept =
     let s = plain c.args.statement.now in
     let change = c.in-Ok.change in
     let plan = c.in-Ok-lawful_plan.plan in
-    let old : EngineState g.row.S.Denot = engine_of c.self.inside.store (map rows_by_key c.self.inside.tables.items) in
+    let old : EngineState g.row.S.Denot = c.args.self.now in
     let new : EngineState g.row.S.Denot = c.apply.new.self in
-    let was : EngineRepresents g.S.Store history old = subst (λ s. EngineRepresents g.S.Store history s) (sym c.self.view_is) kept in
+    let catalog : c.catalog.result.now ≡ old.catalog = c.catalog.ensures ∙ ap (λ (e : EngineState g.row.S.Denot). e.catalog) c.self.view_is in
+    let judged : c.catalog-catalog.result.now ≡ old.catalog = c.catalog-catalog.ensures ∙ ap (λ (e : EngineState g.row.S.Denot). e.catalog) c.self.view_is in
+    let tables : map rows_by_key c.as_slice.result.now ≡ old.tables = ap (map rows_by_key) c.as_slice.ensures.value ∙ ap (λ (e : EngineState g.row.S.Denot). e.tables) c.self.view_is in
     let of : IsPlanOf change.action (rows_in old.tables change.table) plan =
-    subst (λ (ts : List TableRows). IsPlanOf change.action (rows_in (map rows_by_key ts) change.table) plan) c.as_slice.ensures.value c.in-Ok-lawful_plan.ensures.plan in
+    subst (λ (ts : List RowsByKey). IsPlanOf change.action (rows_in ts change.table) plan) tables c.in-Ok-lawful_plan.ensures.plan in
     subst (λ (o : Outcome). StepsTo g.S.Store history s (Ok o) new) (sym c.done.ensures)
-    (changed_step g.S.Store history old s c.requires was change
-    (subst (λ (k : Catalog). NoneApplies (Holds (change_conditions k.tables s))) c.catalog.ensures c.in-Ok.ensures.sound)
-    (subst (λ (k : Catalog). (empty_period k.tables s).1 ≡ has_empty_row change.action) c.catalog.ensures c.in-Ok.ensures.empty)
+    (changed_step g.S.Store history old s c.requires kept change
+    (subst (λ (k : Catalog). NoneApplies (Holds (change_conditions k.tables s))) catalog c.in-Ok.ensures.sound)
+    (subst (λ (k : Catalog). (empty_period k.tables s).1 ≡ has_empty_row change.action) catalog c.in-Ok.ensures.empty)
     plan of new
-    (subst (λ (k : Catalog). ResolvesChange k.tables s change) c.catalog.ensures c.in-Ok.ensures.resolved)
-    (subst (λ (k : Catalog). IsLawfulChange k.tables (last_state history) change) c.catalog-catalog.ensures
+    (subst (λ (k : Catalog). ResolvesChange k.tables s change) catalog c.in-Ok.ensures.resolved)
+    (subst (λ (k : Catalog). IsLawfulChange k.tables (last_state history) change) judged
     (c.in-Ok-lawful_plan.ensures.lawful (last_state history)
-    (subst (λ (k : Catalog). IsLawfulState k.tables (last_state history)) (sym c.catalog-catalog.ensures) (lawful_before g.S.Store history old s c.requires was))
-    (subst (λ (k : Catalog). HoldCurrent k.tables (last_state history) (map rows_by_key c.as_slice.result.now)) (sym c.catalog-catalog.ensures)
-    (subst (λ (ts : List TableRows). HoldCurrent old.catalog.tables (last_state history) (map rows_by_key ts)) (sym c.as_slice.ensures.value) (hold_before g.S.Store history old s c.requires was)))))
-    (c.in-Ok-apply.ensures.distinct usable was.contents was.stored)
-    (c.in-Ok-apply.ensures.changes usable was.contents was.stored).0
+    (subst (λ (k : Catalog). IsLawfulState k.tables (last_state history)) (sym judged) (lawful_before g.S.Store history old s c.requires kept))
+    (subst₂ (λ (k : Catalog) (ts : List RowsByKey). HoldCurrent k.tables (last_state history) ts) (sym judged) (sym tables) (hold_before g.S.Store history old s c.requires kept))))
+    (c.in-Ok-apply.ensures.distinct usable kept.contents kept.stored)
+    (c.in-Ok-apply.ensures.changes usable kept.contents kept.stored).0
     c.in-Ok-apply.ensures.made)
 
-pub returns-in-Err-apply-clause-step : goal.returns-in-Err-apply-clause-step
-returns-in-Err-apply-clause-step g c usable history kept =
+pub returns-clause-step : goal.returns-clause-step
+returns-clause-step g c usable history kept =
     let s = plain c.args.statement.now in
     let change = c.in-Ok.change in
     let plan = c.in-Ok-lawful_plan.plan in
-    let old : EngineState g.row.S.Denot = engine_of c.self.inside.store (map rows_by_key c.self.inside.tables.items) in
+    let old : EngineState g.row.S.Denot = c.args.self.now in
     let new : EngineState g.row.S.Denot = c.apply.new.self in
-    let was : EngineRepresents g.S.Store history old = subst (λ s. EngineRepresents g.S.Store history s) (sym c.self.view_is) kept in
+    let catalog : c.catalog.result.now ≡ old.catalog = c.catalog.ensures ∙ ap (λ (e : EngineState g.row.S.Denot). e.catalog) c.self.view_is in
+    let tables : map rows_by_key c.as_slice.result.now ≡ old.tables = ap (map rows_by_key) c.as_slice.ensures.value ∙ ap (λ (e : EngineState g.row.S.Denot). e.tables) c.self.view_is in
     let of : IsPlanOf change.action (rows_in old.tables change.table) plan =
-    subst (λ (ts : List TableRows). IsPlanOf change.action (rows_in (map rows_by_key ts) change.table) plan) c.as_slice.ensures.value c.in-Ok-lawful_plan.ensures.plan in
-    unchanged_step g.S.Store history old s c.requires was change
-    (subst (λ (k : Catalog). NoneApplies (Holds (change_conditions k.tables s))) c.catalog.ensures c.in-Ok.ensures.sound)
-    (subst (λ (k : Catalog). (empty_period k.tables s).1 ≡ has_empty_row change.action) c.catalog.ensures c.in-Ok.ensures.empty)
+    subst (λ (ts : List RowsByKey). IsPlanOf change.action (rows_in ts change.table) plan) tables c.in-Ok-lawful_plan.ensures.plan in
+    unchanged_step g.S.Store history old s c.requires kept change
+    (subst (λ (k : Catalog). NoneApplies (Holds (change_conditions k.tables s))) catalog c.in-Ok.ensures.sound)
+    (subst (λ (k : Catalog). (empty_period k.tables s).1 ≡ has_empty_row change.action) catalog c.in-Ok.ensures.empty)
     plan of new c.in-Err-apply.refusal
     (record {
-      stored = (c.in-Err-apply.ensures.changes usable was.contents was.stored).1;
-      current = current-kept was.contents change.table old.tables new.tables c.in-Err-apply.ensures.none was.current;
+      stored = (c.in-Err-apply.ensures.changes usable kept.contents kept.stored).1;
+      current = current-kept kept.contents change.table old.tables new.tables c.in-Err-apply.ensures.none kept.current;
     })
     c.in-Err-apply.ensures.named
 
-pub returns-in-Err-apply-clause-kept : goal.returns-in-Err-apply-clause-kept
-returns-in-Err-apply-clause-kept g c = λ usable contents has.
+pub returns-clause-kept : goal.returns-clause-kept
+returns-clause-kept g c = λ usable contents has.
     record {
       stored = (c.in-Err-apply.ensures.changes usable contents has.stored).1;
       current = current-kept contents c.in-Ok.change.table c.args.self.now.tables c.apply.new.self.tables c.in-Err-apply.ensures.none has.current;
