@@ -1,8 +1,8 @@
 -- The least faulty days of a plan, by the rows that stand after it.
-use Rattle.std.proofs.Common.{◌≡◌, ◌⊎◌, ◌==◌, ◌++◌, ◌∙◌, ℕ, ℤ, Bool, true, false, List, Some, None, ap, arith, cond, inl, inr, map, not, refl, subst, sym}
-use Rattle.std.specs.Prelude.{◌↔◌, Contains, IsPermutation, Option, filter}
+use Rattle.std.proofs.Common.{◌≡◌, ◌==◌, ◌++◌, ℕ, ℤ, Bool, true, false, List, Some, ap, arith, cond, map, not, refl, subst, sym}
+use Rattle.std.specs.Prelude.{IsPermutation, Option, filter}
 use Rattle.std.proofs.lemmas.List.{map-append}
-use Rattle.std.proofs.lemmas.List.Sorted.{IsPermutation-append_right, IsPermutation-filter_both, IsPermutation-map, IsPermutation-refl, IsPermutation-sym, IsPermutation-trans}
+use Rattle.std.proofs.lemmas.List.Sorted.{IsPermutation-filter_both, IsPermutation-map, IsPermutation-refl, IsPermutation-sym, IsPermutation-trans}
 use Rattle.period_core.specs.declared.row.PeriodRow.{PeriodRow}
 use Rattle.period_core.specs.declared.value.Value.{Value}
 use Rattle.period_core.specs.declared.version.VersionRow.{VersionRow}
@@ -17,10 +17,9 @@ use Rattle.catalog_core.specs.declared.table.TableDef.{TableDef}
 use Rattle.history_model.specs.Effects.{rows_after}
 use Rattle.history_model.specs.Histories.{State}
 use Rattle.history_model.specs.Versions.{row_of}
-use Rattle.portion_dml.specs.Plans.{AreLeftCurrent, HaveEffect, Plans}
+use Rattle.portion_dml.specs.Plans.{AreLeftCurrent, HaveEffect}
 use Rattle.portion_dml.proofs.Daily.{daily}
-use Rattle.period_keys.specs.Days.{ShareKey}
-use Rattle.period_keys.specs.Faults.{IsPlanned, IsReferredTo, RefersToOther}
+use Rattle.period_keys.specs.Faults.{IsPlanned}
 use Rattle.period_keys.specs.Keys.{HasNoClash, IsEachCovered, IsKeyClash, IsLeastOf, IsUncovered, values_at}
 use Rattle.period_keys.specs.Lawful.{HoldsTable, IsKeyFault, IsKeyOf, IsLawfulState, LacksParentBy, Refers, key_positions, own_positions, parent_positions, state_after}
 use Rattle.period_keys.specs.Planned.{IsPlanOf}

@@ -22,9 +22,11 @@ pub mod FaultFacts
 pub mod ReferenceFacts
 pub mod TableLists
 pub mod CurrentFacts
-pub mod Others
+pub mod Earlier
+pub mod StateFacts
 pub mod Partly
 pub mod Touched
 pub mod Covered
 mod KeyExamples
 mod LawfulExamples
+mod CurrentExamples

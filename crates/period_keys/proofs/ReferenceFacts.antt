@@ -1,18 +1,20 @@
 -- What is known of the tables as all references of a catalog are judged, and the days that one reference or one table gives.
-use Rattle.std.proofs.Common.{◌≡◌, ◌↔◌, ◌⊎◌, ◌+◌, ◌<◌, ◌≤◌, ◌∙◌, ◌∷◌, [], ℕ, zero, suc, ℤ, List, Option, None, Some, ap, arith, inl, inr, length, map, refl, subst, sym}
-use Rattle.std.specs.List.{Any, Contains, slice_get}
-use Rattle.std.proofs.lemmas.Option.{slice_get_within}
-use Rattle.period_core.specs.declared.version.VersionRow.{VersionRow}
+use Rattle.std.proofs.Common.{◌≡◌, ◌⊎◌, ◌+◌, ◌<◌, ◌≤◌, ◌∙◌, ◌∷◌, [], ℕ, zero, suc, ℤ, List, Option, None, Some, ap, arith, get_or, inl, inr, length, map, refl, subst, sym}
+use Rattle.std.specs.List.{Contains, slice_get}
+use Rattle.std.proofs.lemmas.Option.{slice_get_read, slice_get_within}
 use Rattle.catalog_core.specs.table.TableWords.{table_of}
 use Rattle.catalog_core.specs.declared.change.Change.{Change}
 use Rattle.catalog_core.specs.declared.change.Plan.{Plan}
 use Rattle.catalog_core.specs.declared.table.Reference.{Reference}
 use Rattle.catalog_core.specs.declared.table.TableDef.{TableDef}
 use Rattle.history_model.specs.Histories.{State}
-use Rattle.period_keys.specs.Current.{HoldCurrent, HoldsCurrent, rows_by_key}
+use Rattle.history_model.specs.Versions.{row_of}
+use Rattle.period_keys.specs.Current.{HoldCurrent, HoldsCurrent, IsIndexedBy, rows_by_key}
 use Rattle.period_keys.specs.Rows.{RowsByKey}
 use Rattle.period_keys.specs.Faults.{IsFaultBy, IsFaultOf, IsPlanned, IsPlannedIn}
-use Rattle.period_keys.specs.Index.{earlier}
+use Rattle.period_keys.specs.Index.{IsIndexOf, earlier}
+use Rattle.period_keys.specs.Positions.{positions_of_places}
+use Rattle.period_keys.specs.declared.keyed_periods.KeyedPeriods.{KeyedPeriods}
 use Rattle.period_keys.specs.Keys.{IsLeastOf}
 use Rattle.period_keys.specs.Lawful.{IsLawfulState, IsReferenceFault, LacksParentBy, Refers, state_after}
 use Rattle.period_keys.specs.TableRows.{TableRows}
@@ -133,3 +135,25 @@ fault_of_all catalog before change count found all least =
     of_number day (suc place) child reference parent is there parent_is lacks =
         let inside : place < length catalog = slice_get_within catalog place child is in
         (place, omega (arith, inside, all), child, is, some_member (IsFaultBy catalog before change (suc place) child day) child.references reference there (parent, parent_is, lacks))
+
+-- the number of the table at a place
+pub number_at : {T : Type 0} (tables : List T) (place : ℕ) (table : T) → place < length tables → table ≡ get_or tables place table → table_of tables (place + 1) ≡ Some table
+number_at tables place table below is =
+    let next : place + 1 ≡ suc place = omega arith in
+    ap (table_of tables) next ∙ slice_get_read tables (length tables) place table refl below is
+
+-- ---- positions and indexes as they are worked out
+
+-- the positions that were worked out of places
+pub worked_out : (def : TableDef) (places given made slice : List ℕ) → slice ≡ made → made ≡ positions_of_places def given → given ≡ places → slice ≡ positions_of_places def places
+worked_out def places given made slice slice_is made_is given_is = slice_is ∙ made_is ∙ ap (positions_of_places def) given_is
+
+pub indexed_as : (tables : List TableRows) (number other : ℕ) (positions worked : List ℕ) → IsIndexedBy tables number positions → other ≡ number → worked ≡ positions → IsIndexedBy tables other worked
+indexed_as tables number other positions worked indexed same is =
+    subst (λ (n : ℕ). IsIndexedBy tables n worked) (sym same) (subst (IsIndexedBy tables number) (sym is) indexed)
+
+-- an index that was looked up by them
+pub index_as : (tables : List TableRows) (number other : ℕ) (positions worked : List ℕ) (index : KeyedPeriods) (table : TableRows) → other ≡ number → worked ≡ positions → table_of tables number ≡ Some table
+    → ((t : TableRows) → table_of tables other ≡ Some t → IsIndexOf worked (map row_of t.rows) index) → IsIndexOf positions (map row_of table.rows) index
+index_as tables number other positions worked index table same is there found =
+    subst (λ (ps : List ℕ). IsIndexOf ps (map row_of table.rows) index) is (found table (ap (table_of tables) same ∙ there))

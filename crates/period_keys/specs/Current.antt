@@ -1,5 +1,5 @@
 -- The rows in memory of a catalog's tables: what they hold, and the indexes that references need.
-use Rattle.std.specs.Prelude.{◌≡◌, ℕ, List, Some, Contains, map}
+use Rattle.std.specs.Prelude.{◌≡◌, ◌<◌, ℕ, List, Some, Contains, map}
 use Rattle.catalog_core.specs.table.TableWords.{table_of}
 use Rattle.catalog_core.specs.declared.table.Reference.{Reference}
 use Rattle.catalog_core.specs.declared.table.TableDef.{TableDef}
@@ -52,12 +52,18 @@ pub record IsIndexed (tables : List TableRows) (number : ℕ) (child : TableDef)
   pub children : IsIndexedBy tables number (own_positions child reference)
   pub parents : IsIndexedBy tables reference.parent (parent_positions parent reference)
 
--- so it is for each reference of the catalog
+-- so it is for each reference of a table
+abbrev pub AreReferencesIndexed : List TableDef → List TableRows → ℕ → TableDef → Type 0
+AreReferencesIndexed catalog tables number child =
+    (reference : Reference) (parent : TableDef) → Contains child.references reference
+    → table_of catalog reference.parent ≡ Some parent
+    → IsIndexed tables number child reference parent
+
+-- and for each table of the catalog
 abbrev pub HaveIndexes : List TableDef → List TableRows → Type 0
 HaveIndexes catalog tables =
-    (number : ℕ) (child : TableDef) (reference : Reference) (parent : TableDef)
-    → Refers catalog number child reference parent
-    → IsIndexed tables number child reference parent
+    (number : ℕ) (child : TableDef) → table_of catalog number ≡ Some child
+    → AreReferencesIndexed catalog tables number child
 
 -- a child's rows are indexed by the own columns of each of its references
 abbrev pub IsIndexedAsChild : TableDef → TableRows → Type 0
@@ -65,12 +71,17 @@ IsIndexedAsChild child table =
     (reference : Reference) → Contains child.references reference
     → Contains table.indexed (own_positions child reference)
 
--- the rows of its parents are indexed by the columns that it refers to
+-- the rows of a reference's parent are indexed by the columns that it refers to
+abbrev pub IsParentIndexed : List TableDef → Reference → List TableRows → Type 0
+IsParentIndexed catalog reference tables =
+    (parent : TableDef) → table_of catalog reference.parent ≡ Some parent
+    → IsIndexedBy tables reference.parent (parent_positions parent reference)
+
+-- so are those of all parents of a child
 abbrev pub AreParentsIndexed : List TableDef → TableDef → List TableRows → Type 0
 AreParentsIndexed catalog child tables =
-    (reference : Reference) (parent : TableDef) → Contains child.references reference
-    → table_of catalog reference.parent ≡ Some parent
-    → IsIndexedBy tables reference.parent (parent_positions parent reference)
+    (reference : Reference) → Contains child.references reference
+    → IsParentIndexed catalog reference tables
 
 -- the second list has the same rows, and at least the indexes of the first
 pub record HaveMoreIndexes (old new : List TableRows) : Type 0 where
@@ -81,10 +92,10 @@ pub record HaveMoreIndexes (old new : List TableRows) : Type 0 where
 
 -- ---- catalogs
 
--- no table refers to itself: CREATE refuses it, since the table is not there yet
-abbrev pub ReferToOthers : List TableDef → Type 0
-ReferToOthers catalog =
+-- each reference is to an earlier table: CREATE refuses one to a table that is not there yet, so also
+-- to itself
+abbrev pub ReferToEarlier : List TableDef → Type 0
+ReferToEarlier catalog =
     (number : ℕ) (child : TableDef) (reference : Reference) (parent : TableDef)
     → Refers catalog number child reference parent
-    → reference.parent ≡ number
-    → ⊥
+    → reference.parent < number

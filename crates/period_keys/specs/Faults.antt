@@ -12,7 +12,7 @@ use Rattle.history_model.specs.Histories.{State}
 use Rattle.history_model.specs.Versions.{row_of}
 use Rattle.period_keys.specs.Index.{IsIndexOf}
 use Rattle.period_keys.specs.declared.keyed_periods.KeyedPeriods.{KeyedPeriods}
-use Rattle.period_keys.specs.Current.{HoldCurrent, ReferToOthers, rows_by_key}
+use Rattle.period_keys.specs.Current.{HoldCurrent, ReferToEarlier, rows_by_key}
 use Rattle.period_keys.specs.Lawful.{HoldsTable, IsLawfulState, LacksParentBy, Refers}
 use Rattle.period_keys.specs.Lawful.{own_positions, parent_positions, state_after}
 use Rattle.period_keys.specs.TableRows.{TableRows}
@@ -53,7 +53,7 @@ pub record IsReferredTo (catalog : List TableDef) (before : State) (change : Cha
 -- the change is planned over rows in memory, which hold a lawful state
 pub record IsPlannedIn (catalog : List TableDef) (before : State) (tables : List TableRows)
     (change : Change) (plan : Plan) : Type 0 where
-  pub others : ReferToOthers catalog
+  pub earlier : ReferToEarlier catalog
   pub lawful : IsLawfulState catalog before
   pub holds : HoldCurrent catalog before (map rows_by_key tables)
   pub planned :

@@ -1,8 +1,7 @@
 -- Lawful changes: on no day do two of a table's rows share its key, and each child row has its
 -- parent. The days on which a change would break either.
-use Rattle.std.specs.Prelude.{◌≡◌, ◌↔◌, ℕ, ℤ, List, Option, Some, Contains, IsPermutation}
+use Rattle.std.specs.Prelude.{◌≡◌, ℕ, ℤ, List, Some, Contains, IsPermutation}
 use Rattle.period_core.specs.declared.row.PeriodRow.{PeriodRow}
-use Rattle.period_core.specs.declared.value.Value.{Value}
 use Rattle.temporal_model.specs.Snapshot.{values_on}
 use Rattle.catalog_core.specs.table.TableWords.{table_of}
 use Rattle.catalog_core.specs.declared.change.Change.{Change}

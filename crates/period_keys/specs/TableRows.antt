@@ -1,7 +1,6 @@
 -- A table's current rows, with the positions by which they are looked up.
 use Rattle.std.specs.Prelude.{◌≡◌, ℕ, Contains, IsPermutation, List, map}
 use Rattle.period_core.specs.declared.row.PeriodRow.{PeriodRow}
-use Rattle.period_core.specs.declared.value.Value.{Value}
 use Rattle.period_core.specs.declared.version.VersionRow.{VersionRow}
 use Rattle.period_keys.specs.Keys.{key_values}
 use Rattle.period_keys.specs.PeriodIndexes.{AreKeysByEach}

@@ -25,8 +25,8 @@ use period_core::{Day, Memory};
 use std::alloc::Global;
 
 /// The least day on which a row of some table would have no parent by one of its references. The
-/// change is planned over the rows of its table, and no table refers to itself. The only error is
-/// out of memory.
+/// change is planned over the rows of its table, and each table refers to earlier ones alone. The
+/// only error is out of memory.
 pub fn reference_fault(
     alloc: Global,
     catalog: &Catalog,
@@ -68,7 +68,16 @@ fn fault_of(
     let references = child.references.as_slice();
     let mut found = None;
     for reference in references {
-        let by_it = fault_by(alloc, definitions, tables, change, plan, number, child, reference)?;
+        let by_it = fault_by(
+            alloc,
+            definitions,
+            tables,
+            change,
+            plan,
+            number,
+            child,
+            reference,
+        )?;
         found = earlier(found, by_it);
     }
     Ok(found)

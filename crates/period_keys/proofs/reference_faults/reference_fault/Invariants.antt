@@ -1,4 +1,3 @@
-use Rattle.period_core.specs.declared.version.VersionRow.{VersionRow}
 use Rattle.history_model.specs.Histories.{State}
 use Rattle.period_keys.specs.Faults.{IsPlannedIn}
 use Rattle.period_keys.specs.Keys.{IsLeastOf}

@@ -1,11 +1,11 @@
-use Rattle.std.proofs.Common.{◌≡◌, ◌++◌, ◌∷◌, [], ◌∙◌, ℕ, ℤ, List, append_assoc, append-nil, sym, ap, subst}
+use Rattle.std.proofs.Common.{◌≡◌, ◌++◌, ◌∷◌, [], ◌∙◌, ℤ, List, append_assoc, append-nil, sym, ap, subst}
 use Rattle.std.specs.List.{Any, Contains}
 use Rattle.std.specs.List.Sorted.{IsPermutation}
 use Rattle.period_core.specs.declared.period.Period.{Period}
 use Rattle.period_core.specs.declared.row.PeriodRow.{PeriodRow}
 use Rattle.period_core.specs.declared.value.Value.{Value}
 use Rattle.period_keys.specs.declared.keyed_periods.KeyedPeriods.{KeyedPeriods}
-use Rattle.period_keys.specs.Keys.{IsLeastOf, IsUncovered}
+use Rattle.period_keys.specs.Keys.{IsUncovered}
 use Rattle.period_keys.specs.Index.{periods_at, periods_of_key}
 use Rattle.period_keys.proofs.Covered.{LosesParent, lost_least, there_afterwards, uncovered_of_parents}
 use Rattle.period_keys.proofs.Leasts.{IsLeastOf-same, least_none, least_one_more}

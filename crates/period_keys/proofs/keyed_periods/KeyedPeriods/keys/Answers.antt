@@ -1,14 +1,11 @@
-use Rattle.std.proofs.Common.{◌≡◌, ◌∙◌, [], Bool, true, false, List, Some, None, refl, sym, ap, subst}
+use Rattle.std.proofs.Common.{◌≡◌, ◌∙◌, [], true, Some, None, refl, sym}
 use Rattle.std.specs.Prelude.{Contains, Option, is_some}
 use Rattle.std.specs.Option.{option_map_or}
 use Rattle.std.specs.BTreeMap.{get}
-use Rattle.std.specs.Ordering.{eq_by_cmp}
-use Rattle.std.specs.Set.{is_member}
 use Rattle.std.proofs.lemmas.Map.Made.{is_member-Decides}
 use Rattle.period_core.specs.Order.{values_cmp}
 use Rattle.period_core.specs.OrderLaws.{values_eq}
 use Rattle.period_core.specs.declared.period.Period.{Period}
-use Rattle.period_core.specs.declared.value.Value.{Value}
 use Rattle.temporal_model.proofs.Members.{Contains-nil}
 use Rattle.period_keys.specs.declared.ordered_periods.OrderedPeriods.{OrderedPeriods}
 use Rattle.period_keys.proofs.keyed_periods.KeyedPeriods.keys.Goals as goal

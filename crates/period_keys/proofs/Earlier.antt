@@ -1,4 +1,4 @@
--- Definitions that CREATE gives refer to tables before them, so none to itself.
+-- Definitions that CREATE gives refer to tables before them alone.
 use Rattle.std.proofs.Common.{◌≡◌, ◌<◌, ◌≤◌, ◌+◌, ◌∷◌, [], ◌∙◌, ℕ, zero, suc, List, Option, Some, None, ap, arith, length, map, refl, subst, sym, take}
 use Rattle.std.specs.Prelude.{bytes_eq}
 use Rattle.std.specs.List.{Contains, position, slice_get}
@@ -6,15 +6,13 @@ use Rattle.std.specs.Option.{option_map}
 use Rattle.std.proofs.lemmas.List.{length-take-le}
 use Rattle.std.proofs.lemmas.List.Quantifiers.{position-Some}
 use Rattle.std.proofs.lemmas.Option.{slice_get_within}
-use Rattle.sql_statements.specs.declared.create.ReferenceElement.{ReferenceElement}
 use Rattle.catalog_core.specs.create.Definition.{declared_reference, reference_parts, Numbers}
 use Rattle.catalog_core.specs.create.Lawful.{IsLawful}
 use Rattle.catalog_core.specs.table.Naming.{Name}
 use Rattle.catalog_core.specs.table.TableWords.{number_of, table_of}
 use Rattle.catalog_core.specs.declared.table.Reference.{Reference}
 use Rattle.catalog_core.specs.declared.table.TableDef.{TableDef}
-use Rattle.period_keys.specs.Current.{ReferToOthers}
-use Rattle.period_keys.specs.Lawful.{Refers}
+use Rattle.period_keys.specs.Current.{ReferToEarlier}
 use Rattle.period_keys.proofs.Members.{from_map, in_map}
 
 -- a number is one of the tables' numbers
@@ -47,14 +45,14 @@ earlier_parent tables d r (c, none, defines) there =
     let (x, in_c, is) = from_map (declared_reference tables c) c.references (reference_parts r) (subst (λ (list : List Numbers). Contains list (reference_parts r)) (sym defines.references) parts) in
     counted tables x.parent r.parent (parent_number tables x.parent (Some r.parent) (declared_reference tables c x) (reference_parts r) is refl refl)
 
--- where each definition is one that CREATE gives over those before it, no table refers to itself
-pub refer_to_others : (catalog : List TableDef) → ((place : ℕ) (d : TableDef) → slice_get catalog place ≡ Some d → IsLawful (take place catalog) d) → ReferToOthers catalog
-refer_to_others catalog each number child reference parent refers same = by_number number refers.is_child refers.is_reference same
+-- where each definition is one that CREATE gives over those before it, each reference is to an earlier table
+pub refer_to_earlier : (catalog : List TableDef) → ((place : ℕ) (d : TableDef) → slice_get catalog place ≡ Some d → IsLawful (take place catalog) d) → ReferToEarlier catalog
+refer_to_earlier catalog each number child reference parent refers = by_number number refers.is_child refers.is_reference
   where
-    by_number : (number : ℕ) → table_of catalog number ≡ Some child → Contains child.references reference → reference.parent ≡ number → ⊥
-    by_number zero is there same = cc
-    by_number (suc place) is there same =
+    by_number : (number : ℕ) → table_of catalog number ≡ Some child → Contains child.references reference → reference.parent < number
+    by_number zero is there = cc
+    by_number (suc place) is there =
         let inside : place < length catalog = slice_get_within catalog place child is in
         let before : reference.parent ≤ length (take place catalog) = earlier_parent (take place catalog) child reference (each place child is) there in
         let size : length (take place catalog) ≡ place = length-take-le place catalog (omega (arith, inside)) in
-        omega (arith, before, size, same)
+        omega (arith, before, size)
