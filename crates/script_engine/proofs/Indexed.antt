@@ -1,8 +1,7 @@
 -- The tables in memory follow a catalog: with more indexes, with one table written, and without the last.
 use Rattle.std.proofs.Common.{◌≡◌, ◌<◌, ◌≤◌, ◌-◌, ◌++◌, ◌∷◌, ◌∙◌, ℕ, zero, suc, List, [], None, Some, Result, Ok, Err, OnErr, OnOk, inl, inr, length, length-append, map, refl, set, sym, take, ap, ap₂, subst, arith}
-use Rattle.std.specs.List.{Contains, slice_get}
+use Rattle.std.specs.List.{slice_get}
 use Rattle.std.specs.List.Sorted.{IsPermutation}
-use Rattle.std.proofs.lemmas.Bool.{cases_eq}
 use Rattle.std.proofs.lemmas.List.Sorted.{IsPermutation-append_right, IsPermutation-trans}
 use Rattle.std.proofs.lemmas.List.{length-map, length-set, map-set}
 use Rattle.std.proofs.lemmas.Option.{slice_get_within}
@@ -25,7 +24,7 @@ use Rattle.period_keys.specs.Rows.{HasRows, RowsByKey}
 use Rattle.period_keys.specs.TableRows.{AreTouchedKeys, HasTableRows, TableRows}
 use Rattle.period_keys.specs.declared.table_index.TouchedKeys.{TouchedKeys}
 use Rattle.period_keys.proofs.FaultFacts.{split_of}
-use Rattle.period_keys.proofs.TableLists.{indexed_still, more_first, more_cases, same_count, set_elsewhere, set_here}
+use Rattle.period_keys.proofs.TableLists.{have_indexes_set, indexed_still, more_cases, more_first, same_count}
 use Rattle.script_engine.specs.engine.InMemory.{FollowCatalog, HaveRows, rows_in}
 use Rattle.script_engine.proofs.InMemory.{have_rows_set, some_rows}
 use Rattle.script_engine.proofs.LastState.{lawful_less, lawful_more, none_there}
@@ -61,33 +60,11 @@ have_written tables place old new wanted there has =
     subst (HaveRows (suc place) wanted (map rows_by_key tables)) (sym (map-set rows_by_key tables place new))
     (have_rows_set (map rows_by_key tables) place (rows_by_key old) (rows_by_key new) wanted (rows_at tables place old there) (record { positions = has.positions; rows = has.rows }))
 
-still_indexed : (tables : List TableRows) (place : ℕ) (old new : TableRows) → slice_get tables place ≡ Some old → new.indexed ≡ old.indexed → (number : ℕ) (positions : List ℕ) → IsIndexedBy tables number positions →
-    IsIndexedBy (set tables place new) number positions
-still_indexed tables place old new there same zero positions (table, is, has) = cc
-still_indexed tables place old new there same (suc other) positions (table, is, has) =
-    elim (cases_eq other place) [
-      | inl here ↦
-          let one : table ≡ old = value_is table old (sym is ∙ ap (slice_get tables) here ∙ there) in (
-            new,
-            ap (slice_get (set tables place new)) here ∙ set_here tables place new (slice_get_within tables place old there),
-            subst (λ (indexed : List (List ℕ)). Contains indexed positions) (ap (λ (t : TableRows). t.indexed) one ∙ sym same) has,
-          )
-      | inr off ↦ (table, set_elsewhere tables place other new off ∙ is, has)
-    ]
-  where
-    value_is : (x y : TableRows) → Some x ≡ Some y → x ≡ y
-    value_is x y e = cc
-
 pub follow_written : (catalog : List TableDef) (tables : List TableRows) (place : ℕ) (old new : TableRows) → slice_get tables place ≡ Some old → new.indexed ≡ old.indexed → FollowCatalog catalog tables → FollowCatalog catalog (set tables place new)
 follow_written catalog tables place old new there same was = record {
   lawful = was.lawful;
   count = length-set tables place new ∙ was.count;
-  indexed = λ number child is reference parent in_child parent_is.
-      let old_is = was.indexed number child is reference parent in_child parent_is in
-      record {
-        children = still_indexed tables place old new there same number (own_positions child reference) old_is.children;
-        parents = still_indexed tables place old new there same reference.parent (parent_positions parent reference) old_is.parents;
-      };
+  indexed = have_indexes_set catalog tables place old new there same was.indexed;
 }
 
 -- no tables follow a catalog without tables
@@ -144,18 +121,6 @@ follow_without_last catalog d before last lawful count indexed = record { lawful
           children = earlier_index before last number (own_positions child reference) (omega (arith, below, count)) all.children;
           parents = earlier_index before last reference.parent (parent_positions parent reference) (omega (arith, above, count)) all.parents;
         }
-
--- the last of tables with these rows
-pub last_table : (tables : List TableRows) (rows : List RowsByKey) (last : RowsByKey) → map rows_by_key tables ≡ rows ++ last ∷ [] → (before : List TableRows) × (end : TableRows) × (tables ≡ before ++ end ∷ []) × (map rows_by_key before ≡ rows)
-last_table [] [] last same = absurd cc
-last_table [] (r ∷ rows) last same = absurd cc
-last_table (t ∷ []) [] last same = ([], t, refl, refl)
-last_table (t ∷ u ∷ tables) [] last same = absurd cc
-last_table (t ∷ tables) (r ∷ rows) last same =
-    let first : rows_by_key t ≡ r = cc in
-    let more : map rows_by_key tables ≡ rows ++ last ∷ [] = cc in
-    let (before, end, parts, its) = last_table tables rows last more in
-    (t ∷ before, end, ap (λ (l : List TableRows). t ∷ l) parts, ap₂ (λ (x : RowsByKey) (l : List RowsByKey). x ∷ l) first its)
 
 -- the last of as many tables as there are definitions
 split_last : (tables : List TableRows) (count : ℕ) → length tables ≡ suc count → (before : List TableRows) × (end : TableRows) × (tables ≡ before ++ end ∷ [])

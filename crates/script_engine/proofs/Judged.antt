@@ -15,7 +15,7 @@ use Rattle.period_keys.specs.Rows.{RowsByKey}
 use Rattle.period_keys.specs.TableRows.{TableRows}
 use Rattle.script_engine.specs.engine.InMemory.{FollowCatalog}
 use Rattle.script_engine.proofs.Indexed.{rows_there}
-use Rattle.script_engine.proofs.LastState.{others_of}
+use Rattle.script_engine.proofs.LastState.{earlier_of}
 
 same_rows : (x y : RowsByKey) → Some x ≡ Some y → x ≡ y
 same_rows x y e = cc
@@ -40,7 +40,7 @@ module _ (catalog : List TableDef) (tables : List TableRows) (table : TableRows)
 
   pub is_planned_in : IsPlannedIn catalog before tables change plan
   is_planned_in = record {
-    others = others_of catalog follow.lawful;
+    earlier = earlier_of catalog follow.lawful;
     lawful = lawful;
     holds = hold;
     planned = λ other other_there. subst (λ (t : TableRows). IsPlanOf change.action t.rows plan) (same_table table other (sym there ∙ other_there)) planned;

@@ -30,13 +30,13 @@ use Rattle.history_model.specs.Versions.{IsRecorded, current, last_moment, row_o
 use Rattle.history_model.proofs.HistoryLemmas.{catalog_of-event, state_at-changed_later, state_at-event}
 use Rattle.history_model.proofs.LeftFacts.{left_hold}
 use Rattle.history_model.proofs.VersionFacts.{current_hold}
-use Rattle.period_keys.specs.Current.{HoldCurrent, ReferToOthers}
+use Rattle.period_keys.specs.Current.{HoldCurrent, ReferToEarlier}
 use Rattle.period_keys.specs.Days.{LacksParent, ShareKey}
 use Rattle.period_keys.specs.Keys.{values_at}
 use Rattle.period_keys.specs.Lawful.{IsLawfulChange, IsLawfulState, LacksParentBy, Refers, key_positions, own_positions, parent_positions, state_after}
 use Rattle.period_keys.specs.Rows.{RowsByKey}
 use Rattle.period_keys.proofs.LawfulFacts.{stays_lawful}
-use Rattle.period_keys.proofs.Others.{earlier_parent, refer_to_others}
+use Rattle.period_keys.proofs.Earlier.{earlier_parent, refer_to_earlier}
 use Rattle.period_keys.proofs.Pairs.{SomePair-permutation}
 use Rattle.period_keys.proofs.TableLists.{more_cases}
 use Rattle.script_engine.specs.engine.Faults.{current_state}
@@ -195,11 +195,11 @@ each_lawful before (x ∷ more) zero d lawful is =
 each_lawful before (x ∷ more) (suc place) d lawful is =
     subst (λ (tables : List TableDef). IsLawful tables d) (append_assoc before (x ∷ []) (take place more)) (each_lawful (before ++ x ∷ []) more place d lawful.1 is)
 
-pub others_of : (catalog : List TableDef) → AreLawful [] catalog → ReferToOthers catalog
-others_of catalog lawful = refer_to_others catalog (λ place d is. each_lawful [] catalog place d lawful is)
+pub earlier_of : (catalog : List TableDef) → AreLawful [] catalog → ReferToEarlier catalog
+earlier_of catalog lawful = refer_to_earlier catalog (λ place d is. each_lawful [] catalog place d lawful is)
 
 -- a table refers to tables before it
-pub parents_before : (catalog : List TableDef) (place : ℕ) (child : TableDef) (reference : Reference) → AreLawful [] catalog → slice_get catalog place ≡ Some child → Contains child.references reference → reference.parent ≤ place
+parents_before : (catalog : List TableDef) (place : ℕ) (child : TableDef) (reference : Reference) → AreLawful [] catalog → slice_get catalog place ≡ Some child → Contains child.references reference → reference.parent ≤ place
 parents_before catalog place child reference lawful is there =
     let inside : place < length catalog = slice_get_within catalog place child is in
     let before : reference.parent ≤ length (take place catalog) = earlier_parent (take place catalog) child reference (each_lawful [] catalog place child lawful is) there in

@@ -4,12 +4,12 @@ use Rattle.period_keys.specs.Current.{HaveIndexes, rows_by_key}
 use Rattle.period_keys.specs.Lawful.{key_positions}
 use Rattle.period_keys.specs.TableRows.{TableRows}
 use Rattle.script_engine.proofs.Indexed.{follow_created, follow_more, on_err_from, on_ok_both, same_rows_of}
-use Rattle.script_engine.proofs.LastState.{lawful_more, others_of}
+use Rattle.script_engine.proofs.LastState.{lawful_more, earlier_of}
 use Rattle.script_engine.proofs.engine.indexed.add_index.Goals as goal
 
-pub add_table-requires-clause-others : goal.add_table-requires-clause-others
-add_table-requires-clause-others c =
-    others_of (c.args.catalog.now.tables ++ c.args.definition.now ∷ []) (lawful_more [] c.args.catalog.now.tables c.args.definition.now c.requires.follow.lawful c.requires.lawful)
+pub add_table-requires-clause-earlier : goal.add_table-requires-clause-earlier
+add_table-requires-clause-earlier c =
+    earlier_of (c.args.catalog.now.tables ++ c.args.definition.now ∷ []) (lawful_more [] c.args.catalog.now.tables c.args.definition.now c.requires.follow.lawful c.requires.lawful)
 
 pub returns-clause-follow : goal.returns-clause-follow
 returns-clause-follow c =
