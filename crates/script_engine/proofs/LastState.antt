@@ -330,4 +330,4 @@ nothing_beyond c tables have state same day =
 
     without : (rows : List (List Value)) → IsPermutation rows [] → rows ≡ []
     without [] same = refl
-    without (row ∷ rows) same = let size : length (row ∷ rows) ≡ 0 = length_permutation (row ∷ rows) [] same in absurd (omega (arith, size))
+    without (row ∷ rows) same = let size : 0 ≡ length (row ∷ rows) = length_permutation (row ∷ rows) [] same in absurd (omega (arith, size))

@@ -66,8 +66,8 @@ returns-in-Some-clause-none g c =
     (λ has. have_written ts place old new (rows_in (map rows_by_key ts) (suc place)) there (subst (λ (l : List VersionRow). HasTableRows l old new) (sym (rows_of_table ts (suc place) old there)) has))
     c.apply_plan.ensures.none))
 
-pub invariant_of-self-in-Some : goal.invariant_of-self-in-Some
-invariant_of-self-in-Some g c =
+pub invariant_of-self : goal.invariant_of-self
+invariant_of-self g c =
     let ts : List TableRows = c.self.inside.tables.items in
     let place : ℕ = c.from.result - 1 in
     let old : TableRows = c.in-Some.index.now in

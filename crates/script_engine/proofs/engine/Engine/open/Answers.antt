@@ -1,9 +1,9 @@
-use Rattle.std.proofs.Common.{◌≡◌, ◌∙◌, [], inl, inr, map, subst, sym}
+use Rattle.std.proofs.Common.{◌≡◌, [], inl, inr, map, subst, sym}
 use Rattle.sqlite.specs.Effect.{Database}
 use Rattle.sqlite.specs.Held.{state}
 use Rattle.history_model.specs.Histories.{History}
 use Rattle.period_keys.specs.Current.{rows_by_key}
-use Rattle.version_store.specs.Contents.{Contents}
+use Rattle.version_store.specs.StoreState.{IsUsable}
 use Rattle.version_store.specs.Written.{Has}
 use Rattle.version_store.proofs.Opens.{has_contents}
 use Rattle.script_engine.specs.engine.EngineState.{EngineState, engine_of}
@@ -62,7 +62,8 @@ returns-in-Err-clause-bad g c = λ usable bad.
 
 -- nor is one of which point 6 does not hold
 pub returns-in-Err-load_lawful-clause-bad : goal.returns-in-Err-load_lawful-clause-bad
-returns-in-Err-load_lawful-clause-bad g c = λ usable bad.
+returns-in-Err-load_lawful-clause-bad g c = λ handed bad.
+    let usable = subst (IsUsable g.S.Store) c.close.ensures.same handed in
     let read = c.in-Err-load_lawful.ensures.read in
     let before = read.usable usable in
     let old : Database = (state g.S.Store c.args.connection).now in

@@ -8,6 +8,7 @@ use Rattle.catalog_core.specs.declared.table.catalog.Catalog.{Catalog}
 use Rattle.period_keys.specs.Current.{rows_by_key}
 use Rattle.script_engine.specs.engine.Shown.{AreShownOf}
 use Rattle.script_engine.specs.engine.EngineState.{EngineState, engine_of}
+use Rattle.script_engine.specs.engine.InMemory.{FollowCatalog}
 use Rattle.script_engine.specs.engine.Stored.{EngineRepresents, HasContents}
 use Rattle.script_engine.proofs.Shown.{failed_show, shown_step}
 use Rattle.script_engine.proofs.engine.Engine.show.Goals.{in-Ok-shown_rows, in-Err-shown_rows}
@@ -36,3 +37,6 @@ returns-clause-step g c usable history kept =
           failed_show g.S.Store history old asked was new w.in-Err-shown_rows.refusal sound has w.in-Err-shown_rows.ensures.named
           )
     ]
+
+pub invariant_of-self : goal.invariant_of-self
+invariant_of-self g c = subst (λ (k : Catalog). FollowCatalog k.tables c.self.inside.tables.items) (sym c.shown_rows.ensures.catalog) c.self.invariant
