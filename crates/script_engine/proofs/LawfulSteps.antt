@@ -17,7 +17,7 @@ use Rattle.period_keys.specs.Lawful.{IsLawfulChange, OriginsShareKey, Refers, ke
 
 -- a list without an element has none
 pub in_none : {X : Type 0} (x : X) → Contains {A = X} [] x → ⊥
-in_none x (k, inside, is) = omega arith
+in_none x (k, inside, is) = omega (arith, inside)
 
 -- ---- how many rows are traced
 
