@@ -22,7 +22,6 @@ use Rattle.temporal_model.proofs.Snapshots.{CoversDay, held, in_snapshot}
 use Rattle.sql_statements.specs.Trees as statement
 use Rattle.sql_statements.specs.declared.statement.SelectItem.{SelectItem}
 use Rattle.sql_statements.specs.declared.statement.TableReference.{TableReference}
-use Rattle.sql_statements.specs.Trees as written
 use Rattle.sql_statements.specs.Trees.{combined, last, simple}
 use Rattle.sql_statements.specs.declared.tree.Tree.{Tree}
 use Rattle.history_model.specs.Effects.{effect}
@@ -67,7 +66,7 @@ abbrev pub workers : TableReference
 workers = record { table = codes "EMP"; window = None; new_name = None }
 
 -- SELECT DISTINCT DEPT FROM EMP, in it
-abbrev pub asked_select : written.Select
+abbrev pub asked_select : statement.Select
 asked_select = record {
   items = department ∷ [];
   chains = record { first = workers; joins = [] } ∷ [];
@@ -75,7 +74,7 @@ asked_select = record {
 }
 
 -- VALIDTIME SELECT DISTINCT DEPT FROM EMP
-abbrev pub question : written.Query
+abbrev pub question : statement.Query
 question = combined (simple asked_select) last
 
 -- table 1 as the reference in a place: its current rows, of two integers
