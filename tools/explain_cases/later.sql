@@ -1,5 +1,5 @@
--- Refusals that this version cannot answer, or only where memory is short. later.made, in the place
--- of a report, is made by hand.
+-- Refusals by keys and references, and by memory and the database. later.made, in the place of a
+-- report, is made by hand.
 AT TIMESTAMP '2024-01-02 00:00:00';
 AT TIMESTAMP '2024-01-01 00:00:00';
 INSERT INTO EMP VALUES (1, 4, DATE '2024-01-31', DATE '2024-03-01');

@@ -89,8 +89,8 @@ rows_seen_hold history c table window rows said seen day values =
     values_along ours (map row_of seen.versions) day (IsPermutation-map row_of (filter sees holds.rows) seen.versions versions) in
     let same : IsPermutation whole here = subst (λ (l : List PeriodRow). IsPermutation whole (values_on l day)) (sym seen.made) (subst (λ (l : List (List Value)). IsPermutation l (values_on (map row_of seen.versions) day)) (seen_values window holds.rows day) along) in
     let (there, back) =
-        seen_at_moments c.clock holds.rows said.is_clock.1 (recorded_rows c table holds.rows said.recorded holds.all) day (λ moment. state_at history moment table day)
-        (λ moment before. left_hold history table holds.rows said.order holds.left moment day before) window values in (
+    seen_at_moments c.clock holds.rows said.is_clock.1 (recorded_rows c table holds.rows said.recorded holds.all) day (λ moment. state_at history moment table day)
+    (λ moment before. left_hold history table holds.rows said.order holds.left moment day before) window values in (
       λ held. there (Contains-permutation here whole values (IsPermutation-sym whole here same) held),
       λ through. Contains-permutation whole here values same (back through),
     )

@@ -39,8 +39,9 @@ use crate::engine::indexed::{add_index, apply_plan, load_lawful, remove_last, ro
 use crate::engine::lawfulness::lawful_plan;
 use crate::engine::outcome::{Outcome, VersionList, Word, done};
 use crate::engine::shown::{shown_rows, table_of_number, version_columns};
-use catalog_core::{Catalog, Plan, define};
-use catalog_core::{resolve_change, resolve_sequenced, resolve_stored_query};
+use catalog_core::{
+    Catalog, Plan, define, resolve_change, resolve_sequenced, resolve_stored_query,
+};
 use period_core::{Items, Moment, Refusal, VersionRow};
 use period_keys::TableIndex;
 use sql_statements::{

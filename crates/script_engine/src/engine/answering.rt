@@ -97,12 +97,9 @@ fn push_rows(
 }
 
 /// The current rows of the table of a number, copied from memory.
-fn current_rows(
-    alloc: Global,
-    tables: &[TableIndex],
-    number: u8,
-) -> Result<Vec<PeriodRow>, Memory>
-    ensures { IfOk result (λ rows. rows.items ≡ map row_of (rows_in (map rows_by_key tables.now) number)) }
+fn current_rows(alloc: Global, tables: &[TableIndex], number: u8) -> Result<Vec<PeriodRow>, Memory>
+    ensures { IfOk result
+        (λ rows. rows.items ≡ map row_of (rows_in (map rows_by_key tables.now) number)) }
 {
     let mut rows = Vec::new(alloc);
     let Some(current) = rows_of_number(tables, number) else {
@@ -159,7 +156,8 @@ fn seen_by<S: Alter>(
     reference: &QueryReference,
 ) -> Result<Items<PeriodRow>, Refusal>
     ensures seen { IsUsable S.Store store.new.connection
-        → (history : History) → EngineRepresents S.Store history (engine_of store.old (map rows_by_key tables.now))
+        → (history : History)
+        → EngineRepresents S.Store history (engine_of store.old (map rows_by_key tables.now))
         → IfOk result (AreSeenBy history reference.now) }
     ensures read { IsOnlyRead S.Store store.old store.new }
     ensures named { IfErr result IsStoreRefusal }
@@ -187,7 +185,8 @@ fn push_seen<S: Alter>(
     lists: &mut Vec<Items<PeriodRow>>,
 ) -> Result<(), Refusal>
     ensures seen { IsUsable S.Store store.new.connection
-        → (history : History) → EngineRepresents S.Store history (engine_of store.old (map rows_by_key tables.now))
+        → (history : History)
+        → EngineRepresents S.Store history (engine_of store.old (map rows_by_key tables.now))
         → (before : List Ref) → EachSees history before lists.old.items
         → OnOk result (EachSees history (before ++ references.now) lists.new.items) }
     ensures read { IsOnlyRead S.Store store.old store.new }
@@ -214,7 +213,8 @@ fn push_tables<S: Alter>(
     lists: &mut Vec<Items<PeriodRow>>,
 ) -> Result<(), Refusal>
     ensures seen { IsUsable S.Store store.new.connection
-        → (history : History) → EngineRepresents S.Store history (engine_of store.old (map rows_by_key tables.now))
+        → (history : History)
+        → EngineRepresents S.Store history (engine_of store.old (map rows_by_key tables.now))
         → (before : List Ref) → EachSees history before lists.old.items
         → OnOk result (EachSees history
         (before ++ references_of (plain_query query.now)) lists.new.items) }
@@ -243,7 +243,8 @@ fn tables_of<S: Alter>(
     query: &Query,
 ) -> Result<Tables, Refusal>
     ensures seen { IsUsable S.Store store.new.connection
-        → (history : History) → EngineRepresents S.Store history (engine_of store.old (map rows_by_key tables.now))
+        → (history : History)
+        → EngineRepresents S.Store history (engine_of store.old (map rows_by_key tables.now))
         → IfOk result (EachSees history (references_of (plain_query query.now))) }
     ensures read { IsOnlyRead S.Store store.old store.new }
     ensures named { IfErr result IsStoreRefusal }
@@ -307,7 +308,8 @@ pub fn answer_of<S: Alter>(
     query: &Query,
 ) -> Result<Answer, Refusal>
     ensures right { IsUsable S.Store store.new.connection
-        → (history : History) → EngineRepresents S.Store history (engine_of store.old (map rows_by_key tables.now))
+        → (history : History)
+        → EngineRepresents S.Store history (engine_of store.old (map rows_by_key tables.now))
         → IfOk result (IsSequencedAnswer (InAnswerOn history (plain_query query.now))) }
     ensures columns { IfOk result (λ answer. answer.columns
         ≡ map (λ (item : Item). item.name) (columns_of (plain_query query.now))) }

@@ -17,8 +17,7 @@ loop-row-preserved c =
     let was : List VersionRow = c.loop-row.current.rows in
     let now : List VersionRow = c.add.new.self.rows in
     let all : List VersionRow = c.args.rows.items ++ c.args.current.now.rows in
-    let is : rest ≡ row ∷ left = c.in-Some.ensures.steps.0 in
-    (
+    let is : rest ≡ row ∷ left = c.in-Some.ensures.steps.0 in (
       c.in_ok-add.ensures.ok.positions ∙ c.loop-row.invariant.0,
       IsPermutation-trans (left ++ now) (left ++ row ∷ was) all
           (IsPermutation-append_right left now (row ∷ was) c.in_ok-add.ensures.ok.rows)
