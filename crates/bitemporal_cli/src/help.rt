@@ -11,8 +11,7 @@ pub const ABOUT: &str =
 pub const RUN_ABOUT: &str = "Runs the statements of a script in order, and prints what each gives.";
 
 /// What `check` does.
-pub const CHECK_ABOUT: &str =
-    "Checks the syntax of a script without running it; covers planned statements too.";
+pub const CHECK_ABOUT: &str = "Checks the syntax of a script without running it.";
 
 /// What FILE is.
 pub const FILE_HELP: &str = "The script; without it, standard input is read";
@@ -28,7 +27,7 @@ A refusal has a number and a name. docs/PROFILE.md lists them all.";
 
 /// The refusals with their causes, a line each, below the statuses in the program's own help.
 pub const REFUSALS: &str = "\
-Refusals:
+Refusals (this version does not give the one marked *):
    1 NotUtf8          the script is not UTF-8
    2 ScriptTooLarge   the script has more than 4,194,304 bytes
    3 BadToken         no token begins at the byte that is named, or a text begins and has no end
@@ -52,6 +51,6 @@ Refusals:
   41 EmptyPeriod      the start of a period is not before its end
   42 KeyOverlap       two rows have one key on one day
   43 PeriodReference  a child row has no parent row on some day
-  60 BadStore         the database holds no store of this program
+  60 BadStore         the database holds no store of this program *
   61 Memory           out of memory
   62 Store            the database refused for another cause";
