@@ -1,22 +1,29 @@
 -- The equalities of a join, found among the conditions.
 use Rattle.std.proofs.Common.{◌≡◌, ◌<◌, ◌+◌, ◌++◌, ◌∷◌, [], ℕ, List, Option, Some, None}
-use Rattle.std.proofs.Common.{true, length, get_or, refl, sym, ◌∙◌, ap, subst, arith}
+use Rattle.std.proofs.Common.{true, length, get_or, refl, sym, ◌∙◌, ap, subst, arith, Bool, false}
 use Rattle.std.proofs.Common.{append_assoc, length-append}
-use Rattle.std.specs.Prelude.{slice_get}
+use Rattle.std.specs.Prelude.{◌||◌, ◌&&◌, slice_get}
+use Rattle.std.specs.Global.{Box, Vec}
+use Rattle.std.specs.List.{list_any, list_all}
 use Rattle.std.specs.Ordering.{is_eq}
 use Rattle.std.specs.declared.cmp.Ordering.{Ordering}
 use Rattle.std.specs.declared.cmp.Ordering.TheVariants as order
+use Rattle.std.proofs.lemmas.Bool.{and_parts}
 use Rattle.std.proofs.lemmas.List.Elements.{All-push}
 use Rattle.period_core.specs.Order.{value_cmp}
 use Rattle.period_core.specs.OrderLaws.{value_cmp-same}
 use Rattle.period_core.specs.declared.row.PeriodRow.{PeriodRow}
 use Rattle.period_core.specs.declared.value.Value.{Value}
 use Rattle.sql_statements.specs.declared.statement.Comparison.TheVariants.{Equal}
-use Rattle.catalog_core.specs.Conditions.{compared, meets}
+use Rattle.sql_statements.specs.declared.tree.Tree as code
+use Rattle.catalog_core.specs.Conditions.{compared, compares, meets}
+use Rattle.catalog_core.specs.declared.condition.CompareValues.{CompareValues}
+use Rattle.catalog_core.proofs.lemmas.conditions.Truth.{and_truth, or_truth, test_truth}
 use Rattle.temporal_model.specs.Snapshot.{InSnapshot}
 use Rattle.history_model.specs.OrdinaryQuery.{meets_all}
 use Rattle.sequenced_ops.specs.Operations.{Cond, InJoin, IsEqual, SnapshotsAre}
-use Rattle.sequenced_ops.specs.Planning.{AreKeys, HasWidth, InPairs, IsColumnPair, IsPruned}
+use Rattle.sequenced_ops.specs.Planning.{AddsKeys, AreKeys, HasWidth, InPairs, IsColumnPair}
+use Rattle.sequenced_ops.specs.Planning.{IsPruned}
 use Rattle.sequenced_ops.specs.declared.equalities.Equality.{Equality}
 use Rattle.sequenced_ops.proofs.KnownTruths.{get-left, get-right}
 use Rattle.sequenced_ops.proofs.Widths.{passes_at}
@@ -105,16 +112,107 @@ meets_at conjuncts i condition h is values all =
     ap (λ (c : Cond). meets c values) is
     ∙ passes_at (λ (c : Cond). meets c values) conjuncts i condition h all
 
--- one equality more
-pub keys_more
-    : (conjuncts : List Cond) (width more : ℕ) (keys : List Equality) (pair : Equality)
-    → AreKeys conjuncts width more keys
+-- the keys that one of the conditions adds
+pub keys_added
+    : (conjuncts : List Cond) (width more : ℕ) (condition : Cond) (before after : List Equality)
+    → ((values : List Value) → meets_all conjuncts values ≡ true → meets condition values ≡ true)
+    → AreKeys conjuncts width more before → AddsKeys condition width more before after
+    → AreKeys conjuncts width more after
+keys_added conjuncts width more condition before after holds old new first second rest e f met =
+    new first second rest e f (holds ((first ++ second) ++ rest) met)
+    (old first second rest e f met)
+
+-- ---- the keys of a condition by its parts
+
+-- no key more
+pub adds_none
+    : (condition : Cond) (width more : ℕ) (keys : List Equality)
+    → AddsKeys condition width more keys keys
+adds_none condition width more keys first second rest e f met old = old
+
+-- the key of a test
+pub adds_test
+    : (condition : Cond) (leaf : CompareValues) (width more : ℕ) (keys : List Equality)
+    → (pair : Equality) → condition ≡ code.Test leaf
     → ((first second rest : List Value) → length first ≡ width → length second ≡ more
-    → meets_all conjuncts ((first ++ second) ++ rest) ≡ true → IsEqual first second pair)
-    → AreKeys conjuncts width more (keys ++ pair ∷ [])
-keys_more conjuncts width more keys pair old new first second rest e f met =
-    All-push (IsEqual first second) keys pair (old first second rest e f met)
-    (new first second rest e f met)
+    → compares ((first ++ second) ++ rest) leaf ≡ true → IsEqual first second pair)
+    → AddsKeys condition width more keys (keys ++ pair ∷ [])
+adds_test condition leaf width more keys pair is new first second rest e f met old =
+    let row = (first ++ second) ++ rest in
+    let holds : compares row leaf ≡ true =
+    sym (test_truth (compares row) leaf) ∙ ap (λ (t : Cond). meets t row) (sym is) ∙ met in
+    All-push (IsEqual first second) keys pair old (new first second rest e f holds)
+
+-- the keys of a part that must hold where the condition does
+adds_of
+    : (condition part : Cond) (width more : ℕ) (before middle after : List Equality)
+    → ((values : List Value) → meets condition values ≡ true → meets part values ≡ true)
+    → AddsKeys condition width more before middle → AddsKeys part width more middle after
+    → AddsKeys condition width more before after
+adds_of condition part width more before middle after holds old new first second rest e f met kept =
+    new first second rest e f (holds ((first ++ second) ++ rest) met)
+    (old first second rest e f met kept)
+
+or_alone : (a : Bool) (others : List Cond) (p : Cond → Bool) → length others ≡ 0
+    → (a || list_any p others) ≡ true → a ≡ true
+or_alone true others p none e = refl
+or_alone false [] p none e = cc
+or_alone false (part ∷ others) p none e = absurd (omega arith)
+
+-- the keys of an OR of one part
+pub adds_alone
+    : (condition : Cond) (first_part : Box Cond) (others : Vec Cond) (width more : ℕ)
+    → (before after : List Equality) → condition ≡ code.Or first_part others
+    → length others.items ≡ 0 → AddsKeys first_part.value width more before after
+    → AddsKeys condition width more before after
+adds_alone condition first_part others width more before after is none new =
+    adds_of condition first_part.value width more before before after
+    (λ values met.
+    or_alone (meets first_part.value values) others.items (λ (k : Cond). meets k values) none
+    (sym (or_truth (compares values) first_part others)
+    ∙ ap (λ (t : Cond). meets t values) (sym is) ∙ met))
+    (adds_none condition width more before) new
+
+-- an AND holds only where its first part and the others do
+and_is
+    : (condition : Cond) (first_part : Box Cond) (others : Vec Cond) (values : List Value)
+    → condition ≡ code.And first_part others → meets condition values ≡ true
+    → (meets first_part.value values && list_all (λ (k : Cond). meets k values) others.items)
+    ≡ true
+and_is condition first_part others values is met =
+    sym (and_truth (compares values) first_part others)
+    ∙ ap (λ (t : Cond). meets t values) (sym is) ∙ met
+
+-- the keys of the first part of an AND
+pub adds_first
+    : (condition : Cond) (first_part : Box Cond) (others : Vec Cond) (width more : ℕ)
+    → (before after : List Equality) → condition ≡ code.And first_part others
+    → AddsKeys first_part.value width more before after
+    → AddsKeys condition width more before after
+adds_first condition first_part others width more before after is new =
+    adds_of condition first_part.value width more before before after
+    (λ values met.
+    (and_parts (meets first_part.value values)
+    (list_all (λ (k : Cond). meets k values) others.items)
+    (and_is condition first_part others values is met)).0)
+    (adds_none condition width more before) new
+
+-- those of another part of it
+pub adds_part
+    : (condition : Cond) (first_part : Box Cond) (others : Vec Cond) (parts : List Cond)
+    → (i : ℕ) (part : Cond) (width more : ℕ) (before middle after : List Equality)
+    → condition ≡ code.And first_part others → parts ≡ others.items → i < length parts
+    → part ≡ get_or parts i part → AddsKeys condition width more before middle
+    → AddsKeys part width more middle after → AddsKeys condition width more before after
+adds_part condition first_part others parts i part width more before middle after is same here at old new =
+    adds_of condition part width more before middle after
+    (λ values met.
+    meets_at parts i part here at values
+    (ap (list_all (λ (k : Cond). meets k values)) same
+    ∙ (and_parts (meets first_part.value values)
+    (list_all (λ (k : Cond). meets k values) others.items)
+    (and_is condition first_part others values is met)).1))
+    old new
 
 -- ---- the join
 

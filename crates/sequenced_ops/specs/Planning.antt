@@ -76,6 +76,14 @@ AreKeys conjuncts width more equalities =
     → IsTrue (meets_all conjuncts ((first ++ second) ++ rest))
     → All (IsEqual first second) equalities
 
+-- rows of this and that width which together begin a row that meets the condition meet the
+-- equalities after, if they meet those before
+abbrev pub AddsKeys : Cond → ℕ → ℕ → List Equality → List Equality → Type 0
+AddsKeys condition width more before after =
+    (first second rest : List Value) → length first ≡ width → length second ≡ more
+    → IsTrue (meets condition ((first ++ second) ++ rest))
+    → All (IsEqual first second) before → All (IsEqual first second) after
+
 -- ---- selects
 
 -- the values that the rows hold on the day and that meet all conditions

@@ -1,11 +1,12 @@
 //! The join of what is joined so far with one more reference, by the equalities of the conditions.
 
-ghost use Rattle.std.specs.Prelude.{◌≡◌, ◌++◌, List, IfOk, IfSome, length, true};
+ghost use Rattle.std.specs.Prelude.{◌≡◌, ◌++◌, List, IfOk, IfSome, OnOk, length};
+ghost use Rattle.std.specs.Prelude.{true};
 ghost use Rattle.period_core.specs.declared.value.Value.{Value as ColumnValue};
 ghost use Rattle.catalog_core.specs.Conditions.{compares};
 ghost use Rattle.sequenced_ops.specs.Operations.{IsEqual};
-ghost use Rattle.sequenced_ops.specs.Planning.{AreKeys, HasOneWidth, HasWidth, InPairs};
-ghost use Rattle.sequenced_ops.specs.Planning.{IsColumnPair, IsPruned};
+ghost use Rattle.sequenced_ops.specs.Planning.{AddsKeys, AreKeys, HasOneWidth, HasWidth};
+ghost use Rattle.sequenced_ops.specs.Planning.{InPairs, IsColumnPair, IsPruned};
 
 use crate::equalities::Equality;
 use crate::joins::join;
@@ -56,6 +57,41 @@ fn equality_of(test: &CompareValues, width: usize, more: usize) -> Option<Equali
     }
 }
 
+/// Adds the equalities between both sides that each row that meets the condition must meet: those
+/// of its test, or of each part of an AND; none of an OR of several parts. The only error is out of
+/// memory.
+fn push_equalities(
+    condition: &Cond,
+    width: usize,
+    more: usize,
+    keys: &mut Vec<Equality>,
+) -> Result<(), Memory>
+    ensures { OnOk result (AddsKeys condition.now width more keys.old.items keys.new.items) }
+{
+    match condition {
+        Tree::Or(first, others) => {
+            if others.is_empty() {
+                return push_equalities(first, width, more, keys);
+            }
+            Ok(())
+        }
+        Tree::And(first, others) => {
+            push_equalities(first, width, more, keys)?;
+            for part in others {
+                push_equalities(part, width, more, keys)?;
+            }
+            Ok(())
+        }
+        Tree::Not(_) => Ok(()),
+        Tree::Test(test) => {
+            if let Some(equality) = equality_of(test, width, more) {
+                keys.push(equality)?;
+            }
+            Ok(())
+        }
+    }
+}
+
 /// The equalities between both sides among the conditions. The only error is out of memory.
 fn equalities_of(
     alloc: Global,
@@ -67,11 +103,7 @@ fn equalities_of(
 {
     let mut keys = Vec::new(alloc);
     for condition in conjuncts {
-        if let Tree::Test(test) = condition {
-            if let Some(equality) = equality_of(test, width, more) {
-                keys.push(equality)?;
-            }
-        }
+        push_equalities(condition, width, more, &mut keys)?;
     }
     Ok(keys)
 }
