@@ -23,7 +23,9 @@ mod KeyFacts
 mod LeftSteps
 mod NewStore
 mod Openings
+mod AuditedSteps
 pub mod AppendFacts
+pub mod AuditedExamples
 pub mod BufferFacts
 pub mod ChangeExamples
 pub mod CheckExamples

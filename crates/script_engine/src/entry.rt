@@ -1,0 +1,14 @@
+//! What a statement of an audited run gives.
+
+use crate::engine::outcome::Outcome;
+use period_core::Refusal;
+use snapshot_audit::Verdict;
+
+/// The result of a statement, and the audit of its answer.
+#[derive(Drop, Debug)]
+pub struct Entry {
+    pub result: Result<Outcome, Refusal>,
+    /// What the audit says of the answer, or the refusal of the audit, which is out of memory.
+    /// Nothing where the result is no answer.
+    pub audit: Option<Result<Verdict, Refusal>>,
+}
