@@ -23,6 +23,7 @@ mod KeyFacts
 mod LeftSteps
 mod NewStore
 mod Openings
+mod AuditLaws
 mod AuditedSteps
 pub mod AppendFacts
 pub mod AuditedExamples
