@@ -10,15 +10,15 @@ use Rattle.sql_statements.specs.declared.token.Token.{Token}
 use Rattle.sql_statements.specs.Trees.{Statement}
 use Rattle.history_model.specs.Histories.{History}
 use Rattle.sqlite.specs.Store.{Ghosts}
-use Rattle.version_store.specs.StoreState.{StoreState}
+use Rattle.script_engine.specs.engine.EngineState.{EngineState}
 use Rattle.script_engine.specs.engine.Runs.{StepsTo}
 use Rattle.script_engine.specs.script.Script.{PieceStep, PieceStepsTo, RunPieces, TextApplies}
 use Rattle.script_engine.specs.declared.engine.outcome.Outcome.{Outcome}
 use Rattle.script_engine.proofs.PieceFacts.{pieces_next}
 
 -- a piece that spells a statement steps as the statement does
-pub stated_piece : {S : Type 0} (g : Ghosts S) (history : History) (piece : List Lexeme) (s : Statement) (result : Result Outcome Refusal) (store : StoreState S) → NoneApplies (TextApplies piece) → IsStatement piece s → StepsTo g history s result store → PieceStepsTo g history piece result store
-stated_piece g history piece s result store none spelled (new, step, kept) = (new, inr (s, none, spelled, step), kept)
+pub stated_piece : {S : Type 0} (g : Ghosts S) (history : History) (piece : List Lexeme) (s : Statement) (result : Result Outcome Refusal) (engine : EngineState S) → NoneApplies (TextApplies piece) → IsStatement piece s → StepsTo g history s result engine → PieceStepsTo g history piece result engine
+stated_piece g history piece s result engine none spelled (new, step, kept) = (new, inr (s, none, spelled, step), kept)
 
 -- one more piece, with its result
 pub run_more : (history : History) (pieces : List (List Lexeme)) (results : List (Result Outcome Refusal)) (middle : History) (piece : List Lexeme) (result : Result Outcome Refusal) (new : History) →

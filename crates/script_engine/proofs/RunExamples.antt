@@ -26,7 +26,9 @@ use Rattle.catalog_core.specs.table.TableWords.{number_of, table_of_name}
 use Rattle.catalog_core.proofs.lemmas.judged.Least.{first_least}
 use Rattle.history_model.specs.Histories.{Advanced, History, new_database, opened, with_event}
 use Rattle.script_engine.specs.Headline.{IsSequencedAnswer}
+use Rattle.script_engine.specs.engine.EngineState.{EngineState}
 use Rattle.script_engine.specs.engine.Runs.{MayRefuseMoment, Step, StepsTo}
+use Rattle.script_engine.specs.engine.Stored.{HasContents}
 use Rattle.script_engine.specs.declared.engine.outcome.Outcome.{Outcome}
 use Rattle.script_engine.specs.declared.engine.outcome.Outcome.TheVariants.{Done}
 use Rattle.script_engine.specs.declared.engine.outcome.Word.TheVariants as word
@@ -34,7 +36,6 @@ use Rattle.script_engine.specs.script.Script.{RunPieces, ScriptApplies, most_byt
 use Rattle.script_engine.proofs.NewStore.{new_store}
 use Rattle.sqlite.specs.Store.{Ghosts}
 use Rattle.version_store.specs.Contents.{empty_contents}
-use Rattle.version_store.specs.StoreState.{StoreRepresents, StoreState}
 use Rattle.period_core.specs.Moments.{first_moment, forever}
 
 -- ---- whole scripts
@@ -82,8 +83,8 @@ no_table rows = (
 )
 
 -- and what is kept stays
-kept_as_it_was : {S : Type 0} (g : Ghosts S) (store : StoreState S) (rows : Delete) → StoreRepresents g store empty_contents → StepsTo g (opened new_database) (statement.delete rows) (Err UnknownTable) store
-kept_as_it_was g store rows stored = (opened new_database, no_table rows, new_store g store stored)
+kept_as_it_was : {S : Type 0} (g : Ghosts S) (engine : EngineState S) (rows : Delete) → HasContents g engine empty_contents → StepsTo g (opened new_database) (statement.delete rows) (Err UnknownTable) engine
+kept_as_it_was g engine rows has = (opened new_database, no_table rows, new_store g engine has)
 
 -- the database is not blamed for it
 not_the_database : (rows : Delete) → Step (opened new_database) (statement.delete rows) (Err Store) (opened new_database) → ⊥

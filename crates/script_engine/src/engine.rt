@@ -31,7 +31,7 @@ pub mod outcome;
 mod rows;
 mod shown;
 
-use crate::engine::in_memory::{apply_plan, load, no_rows, rows_of_number};
+use crate::engine::in_memory::{apply_plan, load, no_rows, remove_last, rows_of_number};
 use crate::engine::outcome::{Outcome, VersionList, Word, done};
 use crate::engine::rows::answer_of;
 use crate::engine::shown::{shown_rows, table_of_number, version_columns};
@@ -203,7 +203,7 @@ impl<S: Alter> Engine<S> {
         match self.store.add_table(alloc, definition) {
             Ok(()) => Ok(Outcome::Done(Word::Create, 0)),
             Err(refusal) => {
-                let _none = self.tables.pop();
+                remove_last(&mut self.tables);
                 Err(refusal)
             }
         }

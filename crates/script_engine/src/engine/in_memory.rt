@@ -1,11 +1,11 @@
 //! The current rows of the tables in memory: loaded from a store, and changed together with it.
 
-ghost use Rattle.std.specs.Prelude.{◌≡◌, ◌++◌, [], IfErr, IfOk, IsPermutation, List, MatchOption};
-ghost use Rattle.std.specs.Prelude.{None, OnErr, OnOk, Some, map};
+ghost use Rattle.std.specs.Prelude.{◌≡◌, ◌++◌, ◌∷◌, [], IfErr, IfOk, IsPermutation, List};
+ghost use Rattle.std.specs.Prelude.{MatchOption, None, OnErr, OnOk, Some, map};
 ghost use Rattle.catalog_core.specs.table.TableWords.{table_of};
 ghost use Rattle.period_core.specs.declared.version.VersionRow.{VersionRow as Version};
 ghost use Rattle.period_keys.specs.Lawful.{key_positions};
-ghost use Rattle.period_keys.specs.Rows.{HasRows};
+ghost use Rattle.period_keys.specs.Rows.{HasRows, RowsByKey};
 ghost use Rattle.period_keys.specs.Versions.{begun, version_key};
 ghost use Rattle.version_store.specs.Changed.{planned};
 ghost use Rattle.version_store.specs.Contents.{Contents};
@@ -42,6 +42,14 @@ pub fn no_rows(alloc: Global, table: &TableDef) -> Result<CurrentRows, Memory>
 {
     let positions = positions_of(alloc, table, table.key.as_slice())?;
     Ok(CurrentRows::new(alloc, Items::from_vec(positions)))
+}
+
+/// Removes the rows of the last table.
+pub fn remove_last(tables: &mut Vec<CurrentRows>)
+    ensures { (before : List RowsByKey) (last : RowsByKey)
+        → tables.old.items ≡ before ++ last ∷ [] → tables.new.items ≡ before }
+{
+    let _last = tables.pop();
 }
 
 /// The current versions of the table of a number, read from a store.

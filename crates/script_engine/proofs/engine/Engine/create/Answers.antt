@@ -6,10 +6,14 @@ use Rattle.catalog_core.specs.Judged.{Holds}
 use Rattle.catalog_core.specs.Limits.{most_tables}
 use Rattle.catalog_core.specs.declared.table.TableDef.{TableDef}
 use Rattle.catalog_core.specs.declared.table.catalog.Catalog.{Catalog}
-use Rattle.script_engine.specs.engine.Stored.{EngineRepresents}
+use Rattle.period_keys.specs.Rows.{RowsByKey}
+use Rattle.version_store.specs.Changed.{with_table}
+use Rattle.script_engine.specs.engine.EngineState.{EngineState, engine_of}
+use Rattle.script_engine.specs.engine.InMemory.{HaveCurrentRows}
+use Rattle.script_engine.specs.engine.Stored.{EngineRepresents, HasContents}
+use Rattle.script_engine.proofs.InMemory.{current-created}
 use Rattle.script_engine.proofs.Steps.{created_step, uncreated_step, unmade_step}
 use Rattle.script_engine.proofs.TableNumbers.{few_tables}
-use Rattle.script_engine.proofs.engine.Engine.create.Goals.{in-Ok-add_table, in-Err-add_table}
 use Rattle.script_engine.proofs.engine.Engine.create.Goals as goal
 
 pub returns-in-Err-clause-step : goal.returns-in-Err-clause-step
@@ -22,23 +26,45 @@ pub add_table-requires-clause-room : goal.add_table-requires-clause-room
 add_table-requires-clause-room g c =
     subst (λ (k : Catalog). length k.tables < most_tables) c.catalog.ensures (few_tables c.catalog.result.now.tables c.args.create.now c.in-Ok.ensures.sound)
 
-pub returns-clause-step : goal.returns-clause-step
-returns-clause-step g c usable history kept =
-    let old = c.self.inside.store in
-    let new = c.add_table.new.self in
+pub returns-in-Ok-add_table-clause-step : goal.returns-in-Ok-add_table-clause-step
+returns-in-Ok-add_table-clause-step g c usable history kept =
+    let ts : List RowsByKey = c.self.inside.tables.items in
+    let old : EngineState g.row.S.Denot = engine_of c.self.inside.store ts in
+    let new : EngineState g.row.S.Denot = engine_of c.add_table.new.self c.push.new.self.items in
     let create = c.args.create.now in
     let definition = c.in-Ok.definition in
+    let rows : RowsByKey = c.in-Ok-no_rows.rows in
     let was : EngineRepresents g.S.Store history old = subst (λ s. EngineRepresents g.S.Store history s) (sym c.self.view_is) kept in
-    let sound = subst (λ (k : Catalog). NoneApplies (Holds (create_conditions k.tables create))) c.catalog.ensures c.in-Ok.ensures.sound in
-    elim c.match-add_table.branch [
-      | in-Ok-add_table w ↦ rw w.result-is (
-          created_step g.S.Store history old new create definition was sound
-          (subst (λ (k : Catalog). Defines k.tables create definition) c.catalog.ensures c.in-Ok.ensures.defined)
-          (w.in-Ok-add_table.ensures.changes usable was.contents was.stored).0
-          )
-      | in-Err-add_table w ↦ rw w.result-is (
-          uncreated_step g.S.Store history old new create w.in-Err-add_table.refusal was sound
-          (w.in-Err-add_table.ensures.changes usable was.contents was.stored).1
-          w.in-Err-add_table.ensures.named
-          )
-    ]
+    created_step g.S.Store history old new create definition was
+    (subst (λ (k : Catalog). NoneApplies (Holds (create_conditions k.tables create))) c.catalog.ensures c.in-Ok.ensures.sound)
+    (subst (λ (k : Catalog). Defines k.tables create definition) c.catalog.ensures c.in-Ok.ensures.defined)
+    (record {
+      stored = (c.in-Ok-add_table.ensures.changes usable was.contents was.stored).0;
+      current =
+          subst (HaveCurrentRows (with_table definition was.contents)) (sym c.in-Ok-push.ensures.items)
+          (current-created was.contents ts definition rows was.current c.in-Ok-no_rows.ensures.keys c.in-Ok-no_rows.ensures.none);
+    })
+
+pub returns-in-Err-add_table-clause-step : goal.returns-in-Err-add_table-clause-step
+returns-in-Err-add_table-clause-step g c usable history kept =
+    let ts : List RowsByKey = c.self.inside.tables.items in
+    let old : EngineState g.row.S.Denot = engine_of c.self.inside.store ts in
+    let new : EngineState g.row.S.Denot = engine_of c.add_table.new.self c.remove_last.new.tables.items in
+    let create = c.args.create.now in
+    let was : EngineRepresents g.S.Store history old = subst (λ s. EngineRepresents g.S.Store history s) (sym c.self.view_is) kept in
+    uncreated_step g.S.Store history old new create c.in-Err-add_table.refusal was
+    (subst (λ (k : Catalog). NoneApplies (Holds (create_conditions k.tables create))) c.catalog.ensures c.in-Ok.ensures.sound)
+    (record {
+      stored = (c.in-Err-add_table.ensures.changes usable was.contents was.stored).1;
+      current = subst (HaveCurrentRows was.contents) (sym (c.remove_last.ensures ts c.in-Ok-no_rows.rows c.in-Ok-push.ensures.items)) was.current;
+    })
+    c.in-Err-add_table.ensures.named
+
+pub returns-in-Err-add_table-clause-kept : goal.returns-in-Err-add_table-clause-kept
+returns-in-Err-add_table-clause-kept g c = λ usable contents has.
+    let ts : List RowsByKey = c.self.inside.tables.items in
+    let was : HasContents g.S.Store (engine_of c.self.inside.store ts) contents = subst (λ s. HasContents g.S.Store s contents) (sym c.self.view_is) has in
+    record {
+      stored = (c.in-Err-add_table.ensures.changes usable contents was.stored).1;
+      current = subst (HaveCurrentRows contents) (sym (c.remove_last.ensures ts c.in-Ok-no_rows.rows c.in-Ok-push.ensures.items)) was.current;
+    }
