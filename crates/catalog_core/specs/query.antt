@@ -3,7 +3,6 @@ pub mod QueryParts
 pub mod Refusals
 pub mod Faults
 pub mod Matched
-pub mod SimpleSelects
 pub mod Selection
 pub mod Queries
 pub mod Resolving

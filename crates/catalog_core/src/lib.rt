@@ -3,14 +3,14 @@
 //!
 //! - a form of change or query: its resolved form in `change` or `query`, its conditions and what
 //!   it is by positions in the folder of that name in `specs/`, a file beside
-//!   `change/portion_changes.rt` or `query/selection.rt`, and what it makes of a day in
+//!   `change/portion_changes.rt` or `query/resolution.rt`, and what it makes of a day in
 //!   `history_model`;
 //! - a refusal of a statement: the list of its conditions (`create_conditions`,
-//!   `insert_conditions`, `update_conditions`, `delete_conditions`, `item_conditions`,
+//!   `insert_conditions`, `update_conditions`, `delete_conditions`, `refusals_of`,
 //!   `stored_query_conditions`), and the function that judges them (`first_fault`, `shape_fault`,
-//!   `value_fault`, `update_fault`, `delete_fault`, `items_fault`, `stored_fault`), both in
+//!   `value_fault`, `update_fault`, `delete_fault`, `Faults::first`, `stored_fault`), both in
 //!   ascending order; what may be wrong with a part of an UPDATE, a DELETE or a stored query is a
-//!   `Flaw`;
+//!   `Flaw`, with a part of a sequenced query one of `Faults`;
 //! - a test of a condition: `CompareValues` in `condition.rt` or `VersionTest` in `stored.rt`, its
 //!   truth in `specs/Conditions` or `specs/stored/StoredAnswers`, its flaws in `specs/Flaws`, and
 //!   its positions in `specs/Numbering` or `specs/stored/StoredQueries`;
@@ -39,8 +39,9 @@ pub use condition::{Comparand, CompareValues, Cond, holds, is_allowed};
 pub use create::define;
 pub use create::lawful::lawful;
 pub use query::fitting::fits;
-pub use query::selection::{resolve_query, resolve_sequenced};
-pub use query::{AnswerColumn, Query, Select, resolved};
+pub use query::resolution::{resolve_query, resolve_sequenced};
+pub use query::resolved::{Query, QueryReference, Select, Tables};
+pub use query::{AnswerColumn, resolved};
 pub use stored::resolution::{resolve_stored, resolve_stored_query};
 pub use stored::{PeriodSide, Stored, VersionTest, meets};
 pub use table::catalog::Catalog;

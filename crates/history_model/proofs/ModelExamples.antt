@@ -1,19 +1,24 @@
 -- Worked rows of the model: what an INSERT makes of a day, the last state, the ordinary query on a day.
 -- Those of UPDATE and DELETE are in ChangeExamples.
-use Rattle.std.proofs.Common.{◌≡◌, pos, neg_ℤ, List, [], ◌∷◌, codes, refl, arith}
+use Rattle.std.proofs.Common.{◌≡◌, pos, neg_ℤ, List, [], ◌∷◌, codes, refl, subst, arith}
+use Rattle.std.specs.List.{Contains}
+use Rattle.std.proofs.lemmas.Int.{ints}
 use Rattle.period_core.proofs.Periods.{period_over}
 use Rattle.period_core.specs.Moments.{forever}
 use Rattle.period_core.specs.declared.value.Value.{Value}
 use Rattle.period_core.specs.declared.value.Value.TheVariants.{Int}
 use Rattle.period_core.specs.declared.version.VersionRow.{VersionRow}
-use Rattle.history_model.specs.Versions.{current, values_at}
-use Rattle.history_model.specs.Answers.{InAnswerOn, IsProjection}
+use Rattle.period_core.specs.declared.window.Window.TheVariants.{Now}
+use Rattle.history_model.specs.Versions.{current, last_moment, values_at}
 use Rattle.history_model.specs.Effects.{Given, Kept, effect, traced}
 use Rattle.history_model.specs.Histories.{Advanced, Asked, Changed, History, catalog_of, clock_of, last_state, new_database, opened, state_at, versions_in, with_event}
 use Rattle.catalog_core.specs.declared.change.Action.TheVariants.{Insert}
 use Rattle.catalog_core.specs.declared.change.Change.{Change}
 use Rattle.catalog_core.specs.declared.change.GivenRow.{GivenRow}
-use Rattle.catalog_core.specs.declared.query.Select.{Select}
+use Rattle.catalog_core.specs.declared.query.resolved.Select.{Select}
+use Rattle.catalog_core.specs.declared.table.ValueKind.TheVariants.{Integer}
+use Rattle.catalog_core.specs.query.Queries.{one}
+use Rattle.history_model.specs.OrdinaryQuery.{InAnswerOn, IsProjection}
 
 -- employee 1 of department 3
 abbrev worker : List Value
@@ -107,7 +112,16 @@ not_current = refl
 
 -- the department and then the employee
 abbrev query : Select
-query = record { table = 1; items = record { position = 1; name = codes "DEPT" } ∷ record { position = 0; name = codes "ENO" } ∷ [] }
+query =
+    record {
+      references =
+          record { place = 0; table = 1; window = Now; kinds = Integer ∷ Integer ∷ [] } ∷ [];
+      conjuncts = [];
+      items =
+          record { position = 1; name = codes "DEPT" }
+          ∷ record { position = 0; name = codes "ENO" }
+          ∷ [];
+    }
 
 department_first : IsProjection query.items worker (Int (pos 3) ∷ Int (pos 1) ∷ [])
 department_first = refl
@@ -118,9 +132,23 @@ lacking [] e = cc
 lacking (value ∷ row) e = cc
 
 -- the ordinary query gives the projection on a day on which the row holds
-answered : InAnswerOn history query (pos 15) (Int (pos 3) ∷ Int (pos 1) ∷ [])
-answered = (worker, (0, omega arith, refl), refl)
+answered : InAnswerOn history (one query) (pos 15) (Int (pos 3) ∷ Int (pos 1) ∷ [])
+answered = (
+  worker,
+  (
+    worker,
+    [],
+    (last_moment, omega (arith, ints), refl, (0, omega arith, refl)),
+    refl,
+    refl,
+  ),
+  refl,
+  refl,
+)
 
 -- and nothing on a day on which it does not
-unanswered : (values : List Value) → InAnswerOn history query (pos 20) values → ⊥
-unanswered values (row, (place, inside, same), projection) = omega arith
+unanswered : (row : List Value) → InAnswerOn history (one query) (pos 20) row → ⊥
+unanswered row (values, (first, rest, (moment, before, now, there), none, made), met, its) =
+    let at_end : Contains (last_state history 1 (pos 20)) first =
+    subst (λ m. Contains (state_at history m 1 (pos 20)) first) now there in
+    let (place, inside, same) = at_end in omega arith

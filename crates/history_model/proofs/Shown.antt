@@ -149,37 +149,38 @@ looked clock (Between a b) v m before r (i, j) h =
     both (int_le a b) (int_le v.from b && int_lt a v.to) (le_test a b (omega (arith, ints)))
     (both (int_le v.from b) (int_lt a v.to) (le_test v.from b (omega (arith, ints))) (lt_test a v.to (omega (arith, ints))))
 
+-- what a window sees on a day of versions is what these hold at the moments that it looks at
+pub seen_at_moments : (clock : ℤ) (versions : List VersionRow) → clock <ℤ forever → All (IsRecorded clock) versions → (day : ℤ) (state : ℤ → List (List Value))
+    → ((moment : ℤ) → moment <ℤ forever → IsPermutation (values_at versions moment day) (state moment)) → (window : Window) (values : List Value)
+    → (Contains (values_seen window versions day) values ↔ ((moment : ℤ) × (moment <ℤ forever) × LooksAt window moment × Contains (state moment) values))
+seen_at_moments clock versions before recorded day state daily window values = (there, back)
+  where
+    of : (v : VersionRow) → Contains versions v → IsRecorded clock v
+    of v c = member (IsRecorded clock) versions recorded v c
+
+    there : Contains (values_seen window versions day) values → (moment : ℤ) × (moment <ℤ forever) × LooksAt window moment × Contains (state moment) values
+    there c =
+        let s : SeenIn window versions day values = from_seen window versions day values c in
+        let v : VersionRow = s.version in
+        let (sees, covers) = and_parts (window_sees window v.from v.to) (covers_day v.period.start v.period.end day) s.seen in
+        let (m, below, looks, stands) = meeting clock window v before (of v s.there) sees in
+        let here : Contains (values_at versions m day) v.values =
+        in_seen (AsOf m) versions day v s.there (both (window_sees (AsOf m) v.from v.to) (covers_day v.period.start v.period.end day) stands covers) in
+        (m, below, looks, subst (λ (z : List Value). Contains (state m) z) s.its (Contains-permutation (values_at versions m day) (state m) v.values (daily m below) here))
+
+    back : (moment : ℤ) × (moment <ℤ forever) × LooksAt window moment × Contains (state moment) values → Contains (values_seen window versions day) values
+    back (m, below, looks, held) =
+        let here : Contains (values_at versions m day) values = Contains-permutation (state m) (values_at versions m day) values (IsPermutation-sym (values_at versions m day) (state m) (daily m below)) held in
+        let s : SeenIn (AsOf m) versions day values = from_seen (AsOf m) versions day values here in
+        let v : VersionRow = s.version in
+        let (stands, covers) = and_parts (window_sees (AsOf m) v.from v.to) (covers_day v.period.start v.period.end day) s.seen in
+        let sees : window_sees window v.from v.to ≡ true = looked clock window v m before (of v s.there) looks stands in
+        subst (λ (z : List Value). Contains (values_seen window versions day) z) s.its
+        (in_seen window versions day v s.there (both (window_sees window v.from v.to) (covers_day v.period.start v.period.end day) sees covers))
+
 -- what a window sees on a day of a table's versions is what a reference with it sees
 pub shown_is_seen : (history : History) (database : Database) → IsRecord database → Represents history database → (window : Window) (table : ℕ) (day : ℤ) (values : List Value)
     → (Contains (values_seen window (versions_in database table) day) values ↔ SeesThrough history window day table values)
-shown_is_seen history database sound kept window table day values = (there, back)
-  where
-    of : (v : VersionRow) → Contains (versions_in database table) v → IsRecorded database.clock v
-    of v c = member (IsRecorded database.clock) (versions_in database table) (sound.recorded table) v c
-
-    there : Contains (values_seen window (versions_in database table) day) values → SeesThrough history window day table values
-    there c =
-        let s : SeenIn window (versions_in database table) day values = from_seen window (versions_in database table) day values c in
-        let v : VersionRow = s.version in
-        let (sees, covers) = and_parts (window_sees window v.from v.to) (covers_day v.period.start v.period.end day) s.seen in
-        let (m, below, looks, stands) = meeting database.clock window v sound.before (of v s.there) sees in
-        let here : Contains (values_at (versions_in database table) m day) v.values =
-        in_seen (AsOf m) (versions_in database table) day v s.there (both (window_sees (AsOf m) v.from v.to) (covers_day v.period.start v.period.end day) stands covers) in (
-          m,
-          below,
-          looks,
-          subst (λ (z : List Value). Contains (state_at history m table day) z) s.its
-              (Contains-permutation (values_at (versions_in database table) m day) (state_at history m table day) v.values (kept.daily table m day below) here),
-        )
-
-    back : SeesThrough history window day table values → Contains (values_seen window (versions_in database table) day) values
-    back (m, below, looks, held) =
-        let here : Contains (values_at (versions_in database table) m day) values =
-        Contains-permutation (state_at history m table day) (values_at (versions_in database table) m day) values
-        (IsPermutation-sym (values_at (versions_in database table) m day) (state_at history m table day) (kept.daily table m day below)) held in
-        let s : SeenIn (AsOf m) (versions_in database table) day values = from_seen (AsOf m) (versions_in database table) day values here in
-        let v : VersionRow = s.version in
-        let (stands, covers) = and_parts (window_sees (AsOf m) v.from v.to) (covers_day v.period.start v.period.end day) s.seen in
-        let sees : window_sees window v.from v.to ≡ true = looked database.clock window v m sound.before (of v s.there) looks stands in
-        subst (λ (z : List Value). Contains (values_seen window (versions_in database table) day) z) s.its
-        (in_seen window (versions_in database table) day v s.there (both (window_sees window v.from v.to) (covers_day v.period.start v.period.end day) sees covers))
+shown_is_seen history database sound kept window table day values =
+    seen_at_moments database.clock (versions_in database table) sound.before (sound.recorded table) day (λ moment. state_at history moment table day)
+    (λ moment below. kept.daily table moment day below) window values

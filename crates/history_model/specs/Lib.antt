@@ -3,7 +3,6 @@ pub mod Portions
 pub mod Versions
 pub mod Histories
 pub mod SystemWindows
-pub mod Answers
 pub mod OrdinaryQuery
 pub mod Left
 pub mod Represents

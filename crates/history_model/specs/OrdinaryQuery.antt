@@ -1,6 +1,7 @@
 -- The ordinary query on a day: the set of rows that it gives, by the sets that its table references
 -- see on that day.
-use Rattle.std.specs.Prelude.{◌≡◌, ◌++◌, ◌⊎◌, ℤ, Bool, IsTrue, List, [], ◌∷◌}
+use Rattle.std.specs.Prelude.{◌≡◌, ◌++◌, ◌⊎◌, ℤ, Bool, IsTrue, List, [], ◌∷◌, Option, Some, map}
+use Rattle.std.specs.Prelude.{slice_get}
 use Rattle.std.specs.List.{list_all}
 use Rattle.period_core.specs.declared.row.PeriodRow.{PeriodRow}
 use Rattle.period_core.specs.declared.value.Value.{Value}
@@ -10,10 +11,10 @@ use Rattle.sql_statements.specs.declared.tree.SetOperator.TheVariants.{Union, Ex
 use Rattle.sql_statements.specs.declared.tree.Tree.{Tree}
 use Rattle.catalog_core.specs.Conditions.{meets}
 use Rattle.catalog_core.specs.declared.condition.CompareValues.{CompareValues}
+use Rattle.catalog_core.specs.declared.query.AnswerColumn.{AnswerColumn}
 use Rattle.catalog_core.specs.declared.query.resolved.QueryReference.{QueryReference}
 use Rattle.catalog_core.specs.declared.query.resolved.Select.{Select}
 use Rattle.catalog_core.specs.query.Queries.{Query, one, both, rows_for}
-use Rattle.history_model.specs.Answers.{IsProjection}
 use Rattle.history_model.specs.Histories.{History}
 use Rattle.history_model.specs.SystemWindows.{SeesThrough}
 
@@ -31,6 +32,14 @@ InProduct Sees (reference ∷ more) values =
 -- each of the conditions holds
 abbrev pub meets_all : List (Tree CompareValues) → List Value → Bool
 meets_all conjuncts values = list_all (λ condition. meets condition values) conjuncts
+
+-- what a select list reads in a row: at each item's position a value, if the row has one there
+abbrev pub read_items : List AnswerColumn → List Value → List (Option Value)
+read_items items values = map (λ (item : AnswerColumn). slice_get values item.position) items
+
+-- the values of the select list: for each item the row has a value at its position, and this is it
+abbrev pub IsProjection : List AnswerColumn → List Value → List Value → Type 0
+IsProjection items values row = read_items items values ≡ map Some row
 
 -- a select's set: the combined rows that meet every ON and WHERE, projected
 abbrev pub InSelect : Sights → Select → List Value → Type 0

@@ -11,7 +11,7 @@ use Rattle.temporal_model.proofs.Certificate.{same_rows, unique}
 use Rattle.temporal_model.proofs.Members.{Contains-nil, Contains-cons_cases}
 use Rattle.temporal_model.proofs.OneToOne.{maps_one_to_one}
 use Rattle.temporal_model.proofs.Witnesses.{certified_by_witnesses}
-use Rattle.history_model.specs.Answers.{InAnswerOn}
+use Rattle.history_model.specs.OrdinaryQuery.{InAnswerOn}
 use Rattle.script_engine.specs.Headline.{IsSequencedAnswer}
 use Rattle.script_engine.specs.Laws.{AnswersAreUnique, AnswersMapOneToOne, SameSnapshotsSameAnswers}
 

@@ -78,66 +78,7 @@ rows_hold history c table rows said are moment day before =
     (subst₂ (λ (a b : List (List Value)). IsPermutation a b) (values_shown table rows moment day) (values_shown table holds.rows moment day) values)
     (left_hold history table holds.rows said.order holds.left moment day before)
 
-abbrev holds_on : ℤ → PeriodRow → Bool
-holds_on day row = covers_day row.period.start row.period.end day
-
--- the same rows in another order hold the same on each day
-values_along : (rows others : List PeriodRow) (day : ℤ) → IsPermutation rows others → IsPermutation (values_on rows day) (values_on others day)
-values_along rows others day same =
-    IsPermutation-map (λ (r : PeriodRow). r.values) (filter (holds_on day) rows) (filter (holds_on day) others) (IsPermutation-filter (holds_on day) rows others same)
-
--- the current rows hold on each day what the last state has
-held_last : (history : History) (c : Contents) (table : ℕ) (rows : List VersionRow) (day : ℤ) → AreOfHistory history c → AreCurrentOf c table rows →
-    IsPermutation (values_on (map row_of rows) day) (last_state history table day)
-held_last history c table rows day said are =
-    let holds = said.versions table in
-    let before : c.clock <ℤ forever = said.is_clock.1 in
-    let late : c.clock ≤ℤ last_moment = omega (arith, ints) in
-    let last : last_moment <ℤ forever = omega (arith, ints) in
-    let ours : List PeriodRow = map row_of rows in
-    let its : List PeriodRow = map row_of (current holds.rows) in
-    IsPermutation-trans (values_on ours day) (values_on its day) (last_state history table day)
-    (values_along ours its day (IsPermutation-map row_of rows (current holds.rows) (IsPermutation-sym (current holds.rows) rows (current_listed table c.versions holds.rows rows holds.all are))))
-    (subst (λ (l : List (List Value)). IsPermutation l (last_state history table day))
-    (current_hold c.clock last_moment day late last holds.rows (recorded_rows c table holds.rows said.recorded holds.all))
-    (left_hold history table holds.rows said.order holds.left last_moment day last))
-
--- a projection of a table's current rows has on each day the set of the query
-projection_daily : (history : History) (c : Contents) (query : Select) (found : List VersionRow) (projections : List PeriodRow) → AreOfHistory history c → AreCurrentOf c query.table found →
-    map (read_row query.items) found ≡ map whole_row projections →
-    (day : ℤ) (values : List Value) → (InSnapshot projections day values ↔ InAnswerOn history query day values)
-projection_daily history c query found projections said are made day values =
-    let rows = map row_of found in
-    let held = held_last history c query.table found day said are in
-    let read : map (read_items query.items) (values_on rows day) ≡ map (map Some) (values_on projections day) = values_on-read query.items found projections day made in (
-      λ snapshot.
-          let shown = image_of (map Some) (values_on projections day) values snapshot in
-          let (row, there, e) = image_from (read_items query.items) (values_on rows day) (map Some values) (subst (λ (l : List (List (Option Value))). Contains l (map Some values)) (sym read) shown) in
-          (row, Contains-permutation (values_on rows day) (last_state history query.table day) row held there, sym e),
-      λ answer.
-          let (row, there, e) = answer in
-          let member : Contains (values_on rows day) row = Contains-permutation (last_state history query.table day) (values_on rows day) row (IsPermutation-sym (values_on rows day) (last_state history query.table day) held) there in
-          let shown = subst (λ (l : List (List (Option Value))). Contains l (read_items query.items row)) read (image_of (read_items query.items) (values_on rows day) row member) in
-          let (projection, held_too, f) = image_from (map Some) (values_on projections day) (read_items query.items row) shown in
-          let same : projection ≡ values = same_values projection values (sym f ∙ e) in
-          subst (λ (v : List Value). Contains (values_on projections day) v) same held_too,
-    )
-
-answer_right : (history : History) (c : Contents) (query : Select) (found : List VersionRow) (answer : Answer) → AreOfHistory history c → AreCurrentOf c query.table found → IsAnswerTo query.items found answer →
-    IsSequencedAnswer (InAnswerOn history query) answer
-answer_right history c query found answer said are finds =
-    let daily : (day : ℤ) (values : List Value) → (InSnapshot answer.rows day values ↔ InAnswerOn history query day values) =
-    λ day values.
-    let same = projection_daily history c query found finds.projections said are finds.made day values in
-    (λ h. same.0 ((finds.equivalent day values).1 h), λ h. (finds.equivalent day values).0 (same.1 h)) in
-    record {
-      daily = daily;
-      shortest = finds.shortest;
-      ordered = finds.ordered;
-      witnessed = subst (WitnessEachRow (InAnswerOn history query) answer.rows) (sym finds.witnesses) (witnessed_by_sets (InAnswerOn history query) answer.rows finds.certified daily);
-    }
-
-module _ {S : Type 0} (g : Ghosts S) (history : History) (old : EngineState S) (asked : Query) (kept : EngineRepresents g history old) where
+module _ {S : Type 0} (g : Ghosts S) (history : History) (old : EngineState S) (asked : written.Query) (kept : EngineRepresents g history old) where
   abbrev s : Statement
   s = statement.sequenced asked
 
@@ -146,30 +87,28 @@ module _ {S : Type 0} (g : Ghosts S) (history : History) (old : EngineState S) (
       refused_step g history old s refusal kept
       (inl (subst (λ (tables : List TableDef). MayAnswer (Holds (query_conditions tables s)) refusal) (tables_of g history old kept) may))
 
-  pub failed_answer : (refusal : Refusal) → NoneApplies (Holds (query_conditions old.catalog.tables s)) → IsStoreRefusal refusal → StepsTo g history s (Err refusal) old
-  failed_answer refusal sound failure =
-      failed_step g history old old s refusal kept (its_contents g history old kept) failure
+  pub failed_answer : (new : EngineState S) (refusal : Refusal) → NoneApplies (Holds (query_conditions old.catalog.tables s)) → HasContents g new kept.contents → IsStoreRefusal refusal → StepsTo g history s (Err refusal) new
+  failed_answer new refusal sound has failure =
+      failed_step g history old new s refusal kept has failure
       (subst (λ (tables : List TableDef). NoneApplies (Holds (query_conditions tables s))) (tables_of g history old kept) sound)
 
-  -- the answer over the rows in memory of its table
-  pub answered_step : (query : Select) (rows : RowsByKey) (answer : Answer) → NoneApplies (Holds (query_conditions old.catalog.tables s)) → ResolvesQuery old.catalog.tables s query →
-      table_of old.tables query.table ≡ Some rows → IsAnswerTo query.items rows.rows answer → StepsTo g history s (Ok (Answered answer)) old
-  answered_step query rows answer sound resolved there finds =
-      let are : AreCurrentOf kept.contents query.table rows.rows = subst (AreCurrentOf kept.contents query.table) (some_rows old.tables query.table rows there) (kept.current.rows query.table) in (
-        with_event history Asked,
-        (
-          subst (λ (tables : List TableDef). NoneApplies (Holds (query_conditions tables s))) (tables_of g history old kept) sound,
-          (
-            answer,
-            refl,
-            record {
-              query = query;
-              resolved = subst (λ (tables : List TableDef). ResolvesQuery tables s query) (tables_of g history old kept) resolved;
-              columns = finds.columns;
-              right = answer_right history kept.contents query rows.rows answer kept.said are finds;
-              after = refl;
-            },
-          ),
-        ),
-        record { contents = kept.contents; stored = kept.stored; said = said-asked history kept.contents kept.said; current = kept.current },
-      )
+  pub answered_step : (new : EngineState S) (query : Query) (answer : Answer) → NoneApplies (Holds (query_conditions old.catalog.tables s)) → ResolvesQuery old.catalog.tables s query → HasContents g new kept.contents →
+      answer.columns ≡ map (λ (item : AnswerColumn). item.name) (columns_of query) → IsSequencedAnswer (InAnswerOn history query) answer → StepsTo g history s (Ok (Answered answer)) new
+  answered_step new query answer sound resolved has columns right = (
+    with_event history Asked,
+    (
+      subst (λ (tables : List TableDef). NoneApplies (Holds (query_conditions tables s))) (tables_of g history old kept) sound,
+      (
+        answer,
+        refl,
+        record {
+          query = query;
+          resolved = subst (λ (tables : List TableDef). ResolvesQuery tables s query) (tables_of g history old kept) resolved;
+          columns = columns;
+          right = right;
+          after = refl;
+        },
+      ),
+    ),
+    record { contents = kept.contents; stored = has.stored; said = said-asked history kept.contents kept.said; current = has.current },
+  )

@@ -1,13 +1,14 @@
 mod AnswerLaws
 mod Answered
+mod Answering
 mod Changed
 mod CheckSteps
-mod Given
 mod PieceFacts
 mod PieceSteps
 mod PlanFacts
 mod Refused
 mod ScriptFacts
+mod Seen
 mod Shown
 mod ShownFacts
 mod Images
@@ -37,3 +38,4 @@ pub mod ReportExamples
 pub mod RunExamples
 pub mod ScriptExamples
 pub mod StepExamples
+pub mod WholeQueryExamples

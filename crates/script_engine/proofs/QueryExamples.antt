@@ -2,9 +2,10 @@
 use Rattle.std.specs.Prelude.{int_le, int_lt}
 use Rattle.std.specs.List.Sorted.{IsPermutation}
 use Rattle.std.proofs.lemmas.List.Sorted.{Contains-permutation, IsPermutation-refl, IsPermutation-sym}
-use Rattle.std.proofs.Common.{◌≡◌, ◌==◌, ◌∷◌, ◌↔◌, ◌<ℤ◌, fold, filter_map, [], ℕ, zero, suc, ℤ, pos, Bool, true, false, List, Option, None, Some, Ok, map, codes, refl, sym, ap, ap₂, ◌∙◌, subst, inl, inr, arith}
+use Rattle.std.proofs.Common.{◌≡◌, ◌==◌, ◌∷◌, ◌++◌, ◌↔◌, append-nil, eqb-true, ◌<ℤ◌, fold, filter_map, [], ℕ, zero, suc, ℤ, pos, Bool, true, false, List, Option, None, Some, Ok, map, codes, refl, sym, ap, ap₂, ◌∙◌, subst, inl, inr, arith}
 use Rattle.std.proofs.lemmas.Int.{by_lt_z, ints}
 use Rattle.std.specs.List.{All, Contains}
+use Rattle.std.proofs.lemmas.Bool.{and_parts}
 use Rattle.std.proofs.lemmas.List.Elements.{All-nil}
 use Rattle.period_core.specs.Leasts.{NoneApplies}
 use Rattle.period_core.proofs.Periods.{period_over}
@@ -13,25 +14,36 @@ use Rattle.period_core.specs.declared.row.PeriodRow.{PeriodRow}
 use Rattle.period_core.specs.Moments.{first_moment, forever}
 use Rattle.period_core.specs.declared.value.Value.{Value}
 use Rattle.period_core.specs.declared.version.VersionRow.{VersionRow}
+use Rattle.period_core.specs.declared.window.Window.{Window}
+use Rattle.period_core.specs.declared.window.Window.TheVariants.{Now}
 use Rattle.temporal_model.specs.Snapshot.{covers_day, values_on}
 use Rattle.temporal_model.proofs.Members.{Contains-cons_cases, Contains-here, Contains-nil, Contains-one, Contains-there}
 use Rattle.temporal_model.proofs.Snapshots.{CoversDay, held, in_snapshot}
 use Rattle.sql_statements.specs.Trees as statement
 use Rattle.sql_statements.specs.declared.statement.SelectItem.{SelectItem}
 use Rattle.sql_statements.specs.declared.statement.TableReference.{TableReference}
-use Rattle.sql_statements.specs.Trees.{Query, combined, last, simple}
+use Rattle.sql_statements.specs.Trees as written
+use Rattle.sql_statements.specs.Trees.{combined, last, simple}
+use Rattle.sql_statements.specs.declared.tree.Tree.{Tree}
 use Rattle.history_model.specs.Effects.{effect}
-use Rattle.history_model.specs.Versions.{IsRecorded, plain_version, values_at}
-use Rattle.history_model.specs.Answers.{InAnswerOn, IsProjection, read_items}
+use Rattle.history_model.specs.Versions.{IsRecorded, last_moment, plain_version, values_at}
+use Rattle.history_model.specs.OrdinaryQuery.{InAnswerOn, IsProjection, read_items}
 use Rattle.history_model.specs.Histories.{Asked, Changed, Created, Database, History, IsInOrder, changed_until, last_state, state_at, versions_in, with_event}
 use Rattle.catalog_core.specs.Judged.{Holds}
 use Rattle.catalog_core.specs.table.Matches.{is_matching}
 use Rattle.catalog_core.specs.table.Naming.{Name}
 use Rattle.catalog_core.specs.query.Refusals.{compares_kinds, is_too_long, lacks_table, names_period, names_twice, some_column_matches}
-use Rattle.catalog_core.specs.query.Selection.{ResolvesQuery, item_parts, query_conditions, value_position, written_item}
+use Rattle.catalog_core.specs.query.Fitting.{are_in_place}
+use Rattle.catalog_core.specs.query.Queries.{Query, both, one, references_of}
+use Rattle.catalog_core.specs.query.Resolving.{ReferenceParts, ResolvesQuery, ResolvesSelect, ResolvesTree, conjunct_parts, query_conditions, reference_parts, written_item, written_reference}
+use Rattle.catalog_core.specs.query.Selection.{item_parts}
 use Rattle.catalog_core.specs.table.TableWords.{is_value_column, number_of, table_of, table_of_name}
 use Rattle.catalog_core.specs.declared.query.AnswerColumn.{AnswerColumn}
-use Rattle.catalog_core.specs.declared.query.Select.{Select}
+use Rattle.catalog_core.specs.declared.condition.CompareValues.{CompareValues}
+use Rattle.catalog_core.specs.declared.query.resolved.QueryReference.{QueryReference}
+use Rattle.catalog_core.specs.declared.query.resolved.Select.{Select}
+use Rattle.catalog_core.specs.declared.table.ValueKind.{ValueKind}
+use Rattle.catalog_core.specs.declared.table.ValueKind.TheVariants as value_kind
 use Rattle.catalog_core.specs.declared.table.TableDef.{TableDef}
 use Rattle.script_engine.specs.Headline.{IsSequencedAnswer}
 use Rattle.history_model.specs.Left.{AreLeftBy}
@@ -40,7 +52,6 @@ use Rattle.version_store.specs.Contents.{Contents, TableVersion, of_table, versi
 use Rattle.script_engine.specs.engine.Stored.{AreOfHistory, HoldsTable}
 use Rattle.script_engine.specs.engine.Runs.{Step}
 use Rattle.script_engine.specs.declared.engine.outcome.Outcome.TheVariants.{Answer as Answered}
-use Rattle.script_engine.proofs.Given.{same_values}
 use Rattle.script_engine.proofs.StepExamples.{colleague, emp, inserted_row, none_if_no_first, with_row, with_rows, worker}
 use Rattle.script_engine.proofs.RunExamples.{Sets, is_answer, one_row, seven, two_rows, whole}
 use Rattle.catalog_core.specs.table.Naming.{matches_among, repeats}
@@ -48,36 +59,67 @@ use Rattle.catalog_core.specs.table.Naming.{matches_among, repeats}
 -- ---- the query
 
 -- the column DEPT
-abbrev department : SelectItem
+abbrev pub department : SelectItem
 department = record { column = record { qualifier = None; name = codes "DEPT" }; new_name = None }
 
 -- EMP
-abbrev workers : TableReference
+abbrev pub workers : TableReference
 workers = record { table = codes "EMP"; window = None; new_name = None }
 
--- VALIDTIME SELECT DISTINCT DEPT FROM EMP
-abbrev pub question : Query
-question =
-    combined
-    (simple (record {
-      items = department ∷ [];
-      chains = record { first = workers; joins = [] } ∷ [];
-      condition = None;
-    }))
-    last
+-- SELECT DISTINCT DEPT FROM EMP, in it
+abbrev pub asked_select : written.Select
+asked_select = record {
+  items = department ∷ [];
+  chains = record { first = workers; joins = [] } ∷ [];
+  condition = None;
+}
 
--- the second value of the rows of table 1
-abbrev departments : Select
-departments = record { table = 1; items = record { position = 1; name = codes "DEPT" } ∷ [] }
+-- VALIDTIME SELECT DISTINCT DEPT FROM EMP
+abbrev pub question : written.Query
+question = combined (simple asked_select) last
+
+-- table 1 as the reference in a place: its current rows, of two integers
+abbrev pub current_in : ℕ → QueryReference
+current_in place = record { place = place; table = 1; window = Now; kinds = value_kind.Integer ∷ value_kind.Integer ∷ [] }
+
+-- the second value of its rows
+abbrev pub selected_in : ℕ → Select
+selected_in place = record { references = current_in place ∷ []; conjuncts = []; items = record { position = 1; name = codes "DEPT" } ∷ [] }
+
+abbrev pub departments : Query
+departments = one (selected_in 0)
 
 -- department 7 from day 5 on and before day 8, with the days 5 and 4 as its witness
 abbrev pub answer : Answer
 answer = record one_row { columns = codes "DEPT" ∷ [] }
 
 -- no condition of a refusal holds for it where EMP is the one table
-question_is_sound : NoneApplies (Holds (query_conditions (emp ∷ []) (statement.sequenced question)))
+pub question_is_sound : NoneApplies (Holds (query_conditions (emp ∷ []) (statement.sequenced question)))
 unfolding matches_among repeats is_matching number_of table_of_name is_too_long lacks_table some_column_matches names_twice names_period compares_kinds is_value_column
 question_is_sound = none_if_no_first (query_conditions (emp ∷ []) (statement.sequenced question)) refl
+
+-- the select with positions for names
+pub select_resolved : (place : ℕ) → ResolvesSelect (emp ∷ []) asked_select (selected_in place)
+unfolding number_of table_of_name is_value_column
+select_resolved place = record { references = refl; conjuncts = refl; items = refl }
+
+-- ---- its sets
+
+-- the values of DEPT in a row that the table has on the day in the last state
+abbrev FromRows : History → ℤ → List Value → Type 0
+FromRows history day values = (row : List Value) × Contains (last_state history 1 day) row × IsProjection (selected_in 0).items row values
+
+-- they are those that the query gives
+from_rows : (history : History) (day : ℤ) (values : List Value) → FromRows history day values → InAnswerOn history departments day values
+from_rows history day values (row, there, its) = (row, (row, [], (last_moment, omega (arith, ints), refl, there), refl, append-nil row), refl, its)
+
+to_rows : (history : History) (day : ℤ) (values : List Value) → InAnswerOn history departments day values → FromRows history day values
+to_rows history day values (combined_row, (first, rest, (moment, before, now, there), none, made), met, its) =
+    let is : combined_row ≡ first = sym made ∙ ap (λ (l : List Value). first ++ l) none ∙ append-nil first in (
+      first,
+      subst (λ (m : ℤ). Contains (state_at history m 1 day) first) now there,
+      subst (λ (row : List Value). IsProjection (selected_in 0).items row values) is its,
+    )
 
 -- the row that the table holds
 abbrev kept_row : PeriodRow
@@ -92,21 +134,32 @@ state_by day false e = rw e refl
 state_on : (day : ℤ) → last_state with_row 1 day ≡ values_on (kept_row ∷ []) day
 state_on day = state_by day (covers_day (pos 5) (pos 8) day) refl
 
+-- two lists of values that read alike are the same
+same_values : (values others : List Value) → map (λ (v : Value). Some v) values ≡ map (λ (v : Value). Some v) others → values ≡ others
+same_values [] [] e = refl
+same_values [] (other ∷ others) e = cc
+same_values (value ∷ values) [] e = cc
+same_values (value ∷ values) (other ∷ others) e =
+    let head : value ≡ other = cc in
+    let tail : map (λ (v : Value). Some v) values ≡ map (λ (v : Value). Some v) others = cc in
+    ap₂ (λ (v : Value) (vs : List Value). v ∷ vs) head (same_values values others tail)
+
 -- what the query reads in a row of department 7
-department_seven : (row same values : List Value) → IsProjection departments.items row seven → row ≡ same → IsProjection departments.items same values → seven ≡ values
-department_seven row same values first its second = same_values seven values (sym first ∙ ap (read_items departments.items) its ∙ second)
+department_seven : (row same values : List Value) → IsProjection (selected_in 0).items row seven → row ≡ same → IsProjection (selected_in 0).items same values → seven ≡ values
+department_seven row same values first its second = same_values seven values (sym first ∙ ap (read_items (selected_in 0).items) its ∙ second)
 
 -- the ordinary query gives department 7 on the days from 5 to 7, and nothing else
-daily : (day : ℤ) (values : List Value) → (Sets day values ↔ InAnswerOn with_row departments day values)
+pub daily : (day : ℤ) (values : List Value) → (Sets day values ↔ InAnswerOn with_row departments day values)
 daily day values = (
   λ among.
-      let (seven_same, from, to) = among in (
+      let (seven_same, from, to) = among in
+      from_rows with_row day values (
         worker,
         subst (λ (rows : List (List Value)). Contains rows worker) (sym (state_on day)) (in_snapshot (kept_row ∷ []) day worker (kept_row, Contains-here kept_row [], refl, (from, to))),
         ap (map (λ (v : Value). Some v)) seven_same,
       ),
   λ answered.
-      let (row_values, seen, projection) = answered in
+      let (row_values, seen, projection) = to_rows with_row day values answered in
       let (row, c, v, (from, to)) = held (kept_row ∷ []) day row_values (subst (λ (rows : List (List Value)). Contains rows row_values) (state_on day) seen) in
       let same : kept_row ≡ row = Contains-one kept_row row c in
       let its : worker ≡ row_values = ap (λ (r : PeriodRow). r.values) same ∙ v in
@@ -116,7 +169,7 @@ daily day values = (
 )
 
 -- where the sets are those of department 7 on the days from 5 to 7, the answer is right
-right_by : (InSet : ℤ → List Value → Type 0) → ((day : ℤ) (values : List Value) → (Sets day values ↔ InSet day values)) → IsSequencedAnswer InSet answer
+pub right_by : (InSet : ℤ → List Value → Type 0) → ((day : ℤ) (values : List Value) → (Sets day values ↔ InSet day values)) → IsSequencedAnswer InSet answer
 right_by InSet same = record {
   daily = λ day values. (
     λ there. (same day values).0 ((is_answer.daily day values).0 there),
@@ -136,7 +189,6 @@ right_by InSet same = record {
 
 -- the query is answered, and the rows stay as they are
 pub asked : Step with_row (statement.sequenced question) (Ok (Answered answer)) (with_event with_row Asked)
-unfolding number_of value_position is_value_column
 asked = (
   question_is_sound,
   (
@@ -144,7 +196,7 @@ asked = (
     refl,
     record {
       query = departments;
-      resolved = record { reference = workers; alone = refl; definition = emp; number = refl; table = refl; items = refl };
+      resolved = record { same = (departments, select_resolved 0, refl); placed = refl };
       columns = refl;
       right = right_by (InAnswerOn with_row departments) daily;
       after = refl;
@@ -152,14 +204,8 @@ asked = (
   ),
 )
 
--- a select of table 1 with these items is this one
-same_select : (query : Select) → query.table ≡ 1 → query.items ≡ departments.items → query ≡ departments
-same_select query table items =
-    let made : ℕ → List AnswerColumn → Select = λ number its. record { table = number; items = its } in
-    ap₂ made table items
-
 -- an item that stands for DEPT at the position 1 is this one
-one_item : (items : List AnswerColumn) → (Some 1, codes "DEPT") ∷ [] ≡ map item_parts items → items ≡ departments.items
+one_item : (items : List AnswerColumn) → (Some 1, codes "DEPT") ∷ [] ≡ map item_parts items → items ≡ (selected_in 0).items
 one_item [] e = cc
 one_item (item ∷ []) e =
     let made : ℕ → Name → List AnswerColumn = λ position name. record { position = position; name = name } ∷ [] in
@@ -170,18 +216,42 @@ one_item (item ∷ []) e =
     ap₂ made position name
 one_item (item ∷ other ∷ more) e = cc
 
+-- a reference to EMP in the first place is this one
+one_reference : (references : List QueryReference) → map (written_reference (emp ∷ [])) (workers ∷ []) ≡ map reference_parts references → are_in_place 0 references ≡ true → references ≡ current_in 0 ∷ []
+unfolding number_of table_of_name is_value_column
+one_reference [] e placed = cc
+one_reference (r ∷ []) e placed =
+    let parts : (Some 1, Now, Some (value_kind.Integer ∷ value_kind.Integer ∷ [])) ≡ reference_parts r = cc in
+    let number : Some 1 ≡ Some r.table = ap (λ (p : ReferenceParts). p.0) parts in
+    let window : Now ≡ r.window = ap (λ (p : ReferenceParts). p.1) parts in
+    let kinds : Some (value_kind.Integer ∷ value_kind.Integer ∷ []) ≡ Some r.kinds = ap (λ (p : ReferenceParts). p.2) parts in
+    let place : r.place ≡ 0 = eqb-true r.place 0 (and_parts (r.place == 0) true placed).0 in
+    let its_number : r.table ≡ 1 = cc in
+    let its_kinds : r.kinds ≡ value_kind.Integer ∷ value_kind.Integer ∷ [] = cc in
+    λ i. record { place = place i; table = its_number i; window = sym window i; kinds = its_kinds i } ∷ []
+one_reference (r ∷ other ∷ more) e placed = cc
+
+no_condition : (conjuncts : List (Tree CompareValues)) → [] ≡ map conjunct_parts conjuncts → conjuncts ≡ []
+no_condition [] e = refl
+no_condition (first ∷ conjuncts) e = cc
+
 -- the statement reads department and table in one way alone
-same_query : (query : Select) → ResolvesQuery (emp ∷ []) (statement.sequenced question) query → query ≡ departments
-unfolding number_of value_position is_value_column
+same_select : (select : Select) → ResolvesSelect (emp ∷ []) asked_select select → are_in_place 0 select.references ≡ true → select ≡ selected_in 0
+unfolding number_of table_of_name is_value_column
+same_select select resolved placed =
+    let references = one_reference select.references resolved.references placed in
+    let conjuncts = no_condition select.conjuncts resolved.conjuncts in
+    let items = one_item select.items resolved.items in
+    λ i. record { references = references i; conjuncts = conjuncts i; items = items i }
+
+same_tree : (query : Query) → ResolvesTree (emp ∷ []) (simple asked_select) query → are_in_place 0 (references_of query) ≡ true → query ≡ departments
+same_tree (one select) resolved placed = ap one (same_select select resolved placed)
+same_tree (both operator left right) resolved placed = absurd resolved
+
+same_query : (query : Query) → ResolvesQuery (emp ∷ []) (statement.sequenced question) query → query ≡ departments
 same_query query resolved =
-    let own : workers ∷ [] ≡ resolved.reference ∷ [] = resolved.alone in
-    let it : workers ≡ resolved.reference = cc in
-    let number : number_of (emp ∷ []) workers.table ≡ Some query.table = ap (λ (r : TableReference). number_of (emp ∷ []) r.table) it ∙ resolved.number in
-    let table : query.table ≡ 1 = cc in
-    let there : table_of (emp ∷ []) 1 ≡ Some resolved.definition = subst (λ (n : ℕ). table_of (emp ∷ []) n ≡ Some resolved.definition) table resolved.table in
-    let its : emp ≡ resolved.definition = cc in
-    let items : map (written_item emp) (department ∷ []) ≡ map item_parts query.items = subst (λ (d : TableDef). map (written_item d) (department ∷ []) ≡ map item_parts query.items) (sym its) resolved.items in
-    same_select query table (one_item query.items items)
+    let (left, tree, is) = resolved.same in
+    sym is ∙ same_tree left tree (subst (λ (q : Query). are_in_place 0 (references_of q) ≡ true) (sym is) resolved.placed)
 
 -- the row cut in two is no answer of it: the day before the second is one on which department 7 is there
 not_cut_in_two : (new : History) → Step with_row (statement.sequenced question) (Ok (Answered two_rows)) new → ⊥
@@ -189,7 +259,7 @@ not_cut_in_two new (sound, (given, same, answers)) =
     let it : two_rows ≡ given = cc in
     let right : IsSequencedAnswer (InAnswerOn with_row answers.query) two_rows = subst (λ (a : Answer). IsSequencedAnswer (InAnswerOn with_row answers.query) a) (sym it) answers.right in
     let of_departments : IsSequencedAnswer (InAnswerOn with_row departments) two_rows =
-    subst (λ (q : Select). IsSequencedAnswer (InAnswerOn with_row q) two_rows) (same_query answers.query answers.resolved) right in
+    subst (λ (q : Query). IsSequencedAnswer (InAnswerOn with_row q) two_rows) (same_query answers.query answers.resolved) right in
     of_departments.witnessed.1.0.absent ((daily (pos 5) seven).0 (refl, omega (arith, ints), omega (arith, ints)))
 
 -- ---- what is kept
@@ -297,11 +367,12 @@ daily_of_both day values = (
       let (seven_same, from, to) = among in
       let shown : (row : PeriodRow) → Contains both_rows row → CoversDay row day → Contains (last_state with_rows 1 day) row.values =
       λ row c covers. subst (λ (rows : List (List Value)). Contains rows row.values) (sym (both_on day)) (in_snapshot both_rows day row.values (row, c, refl, covers)) in
-      by_lt_z {P = InAnswerOn with_rows departments day values} day (pos 7)
+      from_rows with_rows day values
+      (by_lt_z {P = FromRows with_rows day values} day (pos 7)
       (λ before. (worker, shown earlier (Contains-here earlier (later ∷ [])) (from, before), ap (map (λ (v : Value). Some v)) seven_same))
-      (λ after. (colleague, shown later (Contains-there earlier (later ∷ []) later (Contains-here later [])) (omega (arith, ints), to), ap (map (λ (v : Value). Some v)) seven_same)),
+      (λ after. (colleague, shown later (Contains-there earlier (later ∷ []) later (Contains-here later [])) (omega (arith, ints), to), ap (map (λ (v : Value). Some v)) seven_same))),
   λ answered.
-      let (row_values, seen, projection) = answered in
+      let (row_values, seen, projection) = to_rows with_rows day values answered in
       let (row, c, v, (from, to)) = held both_rows day row_values (subst (λ (rows : List (List Value)). Contains rows row_values) (both_on day) seen) in
       elim (Contains-cons_cases earlier (later ∷ []) row c) [
         | inl same ↦
@@ -320,7 +391,6 @@ daily_of_both day values = (
 
 -- the query is answered by one row: who was in department 7 is not asked, so the two rows are of equal values
 asked_of_both : Step with_rows (statement.sequenced question) (Ok (Answered answer)) (with_event with_rows Asked)
-unfolding number_of value_position is_value_column
 asked_of_both = (
   question_is_sound,
   (
@@ -328,7 +398,7 @@ asked_of_both = (
     refl,
     record {
       query = departments;
-      resolved = record { reference = workers; alone = refl; definition = emp; number = refl; table = refl; items = refl };
+      resolved = record { same = (departments, select_resolved 0, refl); placed = refl };
       columns = refl;
       right = right_by (InAnswerOn with_rows departments) daily_of_both;
       after = refl;

@@ -26,14 +26,14 @@ ghost use Rattle.script_engine.specs.engine.Stored.{KeepsOnErr};
 ghost use Rattle.sql_statements.specs.Plain.{plain, plain_query, plain_stored};
 ghost use Rattle.sql_statements.specs.Trees as statement;
 
+mod answering;
 mod in_memory;
 pub mod outcome;
-mod rows;
 mod shown;
 
+use crate::engine::answering::answer_of;
 use crate::engine::in_memory::{apply_plan, load, no_rows, remove_last, rows_of_number};
 use crate::engine::outcome::{Outcome, VersionList, Word, done};
-use crate::engine::rows::answer_of;
 use crate::engine::shown::{shown_rows, table_of_number, version_columns};
 use catalog_core::{Catalog, Plan, define};
 use catalog_core::{resolve_change, resolve_sequenced, resolve_stored_query};
@@ -277,10 +277,7 @@ impl<S: Alter> Engine<S> {
             Ok(query) => query,
             Err(refusal) => return Err(refusal),
         };
-        let Some(rows) = rows_of_number(self.tables.as_slice(), query.table) else {
-            return Err(Refusal::Store);
-        };
-        match answer_of(alloc, query.items.as_slice(), rows) {
+        match answer_of(alloc, &mut self.store, self.tables.as_slice(), &query) {
             Ok(answer) => Ok(Outcome::Answer(answer)),
             Err(refusal) => Err(refusal),
         }

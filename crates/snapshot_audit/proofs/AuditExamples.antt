@@ -12,8 +12,7 @@ use Rattle.catalog_core.specs.declared.query.AnswerColumn.{AnswerColumn}
 use Rattle.catalog_core.specs.declared.query.resolved.Select.{Select}
 use Rattle.catalog_core.specs.declared.table.ValueKind.TheVariants.{Integer}
 use Rattle.catalog_core.specs.query.Queries.{Query, both, one}
-use Rattle.history_model.specs.Answers.{IsProjection}
-use Rattle.history_model.specs.OrdinaryQuery.{InAnswerOver}
+use Rattle.history_model.specs.OrdinaryQuery.{InAnswerOver, IsProjection}
 use Rattle.snapshot_audit.specs.ChangeDays.{seen_lists}
 use Rattle.snapshot_audit.specs.Verdicts.{IsFirstDifference}
 use Rattle.snapshot_audit.proofs.Examples.{seven, seven_over, long}

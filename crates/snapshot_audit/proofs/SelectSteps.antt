@@ -10,8 +10,7 @@ use Rattle.temporal_model.proofs.Members.{Contains-nil}
 use Rattle.catalog_core.specs.declared.query.AnswerColumn.{AnswerColumn}
 use Rattle.catalog_core.specs.declared.query.resolved.QueryReference.{QueryReference}
 use Rattle.catalog_core.specs.declared.query.resolved.Select.{Select}
-use Rattle.history_model.specs.Answers.{IsProjection, read_items}
-use Rattle.history_model.specs.OrdinaryQuery.{Sights, InSelect, meets_all}
+use Rattle.history_model.specs.OrdinaryQuery.{Sights, InSelect, IsProjection, meets_all, read_items}
 use Rattle.snapshot_audit.specs.declared.sweep.Sweep.{Sweep}
 use Rattle.snapshot_audit.specs.ActiveRows.{RowReferences, active_for, ActiveSights}
 use Rattle.snapshot_audit.specs.Selections.{IsSelected, InRest, InRests}

@@ -5,8 +5,7 @@ use Rattle.period_core.specs.declared.row.PeriodRow.{PeriodRow}
 use Rattle.period_core.specs.declared.value.Value.{Value}
 use Rattle.catalog_core.specs.declared.query.resolved.QueryReference.{QueryReference}
 use Rattle.catalog_core.specs.declared.query.resolved.Select.{Select}
-use Rattle.history_model.specs.Answers.{IsProjection}
-use Rattle.history_model.specs.OrdinaryQuery.{Sights, InProduct, meets_all}
+use Rattle.history_model.specs.OrdinaryQuery.{Sights, InProduct, IsProjection, meets_all}
 use Rattle.snapshot_audit.specs.ActiveRows.{RowReferences}
 
 -- the combined row meets every ON and WHERE, and this is the select list's row of it

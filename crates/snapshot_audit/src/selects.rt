@@ -2,8 +2,7 @@
 
 ghost use Rattle.std.specs.Prelude.{◌≡◌, ◌↔◌, ◌⊎◌, ◌++◌, List, Contains, IfOk, MatchOption, OnOk};
 ghost use Rattle.period_core.specs.declared.value.Value.{Value as ColumnValue};
-ghost use Rattle.history_model.specs.Answers.{IsProjection};
-ghost use Rattle.history_model.specs.OrdinaryQuery.{InSelect, meets_all};
+ghost use Rattle.history_model.specs.OrdinaryQuery.{InSelect, IsProjection, meets_all};
 ghost use Rattle.snapshot_audit.specs.ActiveRows.{ActiveSights};
 ghost use Rattle.snapshot_audit.specs.Selections.{InRest, IsSelected};
 ghost use Rattle.snapshot_audit.specs.Sets.{ListsSet};

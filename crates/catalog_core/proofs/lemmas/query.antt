@@ -1,6 +1,4 @@
 pub mod SeenColumns
-pub mod SimpleFacts
-pub mod SelectFaults
 pub mod InPlace
 pub mod FaultSums
 pub mod Matching

@@ -1,4 +1,4 @@
--- A sequenced query with positions for names: the same query.
+-- A sequenced query: the refusals that it may get, and what it is with positions for names.
 use Rattle.std.specs.Prelude.{◌≡◌, ◌+◌, ℕ, true, List, [], ◌∷◌, Option, Some, None, filter}
 use Rattle.std.specs.Prelude.{flat_map, length, map}
 use Rattle.std.specs.List.{position}
@@ -12,10 +12,12 @@ use Rattle.sql_statements.specs.declared.statement.ColumnReference.{ColumnRefere
 use Rattle.sql_statements.specs.declared.statement.SelectItem.{SelectItem}
 use Rattle.sql_statements.specs.declared.statement.TableReference.{TableReference}
 use Rattle.sql_statements.specs.declared.tree.Tree.{Tree}
+use Rattle.catalog_core.specs.Judged.{Judged}
 use Rattle.catalog_core.specs.Numbering.{compare_by, map_condition}
 use Rattle.catalog_core.specs.SystemWindows.{window_of}
 use Rattle.catalog_core.specs.query.Fitting.{are_in_place}
 use Rattle.catalog_core.specs.query.Queries.{Query, both, one, references_of}
+use Rattle.catalog_core.specs.query.Refusals.{refusals_of}
 use Rattle.catalog_core.specs.query.Scopes.{Scope, ScopedCondition, SeenColumn, conditions_in}
 use Rattle.catalog_core.specs.query.Scopes.{has_value, name_or, names_column, seen_columns}
 use Rattle.catalog_core.specs.query.Scopes.{tables_of, whole_scope}
@@ -98,26 +100,26 @@ reference_parts r = (Some r.table, r.window, Some r.kinds)
 
 -- an item as it is written: the position of its column, and its name, which is its new name or else
 -- the column's
-abbrev pub written_column : List TableDef → written.Select → SelectItem → Option ℕ × Name
-written_column catalog select item = (
+abbrev pub written_item : List TableDef → written.Select → SelectItem → Option ℕ × Name
+written_item catalog select item = (
   column_position catalog (whole_scope select) item.column,
   name_or item.new_name item.column.name,
 )
 
 -- the same select, with positions for names
-pub record IsResolved (catalog : List TableDef) (s : written.Select) (select : Select) : Type 0
+pub record ResolvesSelect (catalog : List TableDef) (s : written.Select) (select : Select) : Type 0
   where
     pub references : map (written_reference catalog) (tables_of s)
         ≡ map reference_parts select.references
     pub conjuncts : written_conjuncts catalog s ≡ map conjunct_parts select.conjuncts
-    pub items : map (written_column catalog s) s.items ≡ map item_parts select.items
+    pub items : map (written_item catalog s) s.items ≡ map item_parts select.items
 
 -- ---- queries
 
 -- the same tree: set operators apply from left to right
 abbrev mutual
   pub ResolvesTree : List TableDef → written.Query → Query → Type 0
-  ResolvesTree catalog (written.simple s) (one select) = IsResolved catalog s select
+  ResolvesTree catalog (written.simple s) (one select) = ResolvesSelect catalog s select
   ResolvesTree catalog (written.simple s) (both operator left right) = ⊥
   ResolvesTree catalog (written.combined first steps) query =
       (left : Query) × ResolvesTree catalog first left × ResolvesSteps catalog left steps query
@@ -130,7 +132,24 @@ abbrev mutual
       × ResolvesSteps catalog (both operator left right) steps query
 
 -- the same query, whose references have their places in the order of the text
-pub record IsQuery (catalog : List TableDef) (written : written.Query) (query : Query) : Type 0
+pub record ResolvesSequenced (catalog : List TableDef) (written : written.Query) (query : Query) : Type 0
   where
     pub same : ResolvesTree catalog written query
     pub placed : are_in_place 0 (references_of query) ≡ true
+
+-- ---- statements
+
+-- the statement is a sequenced query
+abbrev pub IsSequenced : Statement → Type 0
+IsSequenced (sequenced query) = Unit {0}
+IsSequenced _ = ⊥
+
+-- the refusals that a statement may get as a sequenced query; others have none
+abbrev pub query_conditions : List TableDef → Statement → List Judged
+query_conditions catalog (sequenced query) = refusals_of catalog query
+query_conditions catalog _ = []
+
+-- the same query as the statement asks; other statements ask none
+abbrev pub ResolvesQuery : List TableDef → Statement → Query → Type 0
+ResolvesQuery catalog (sequenced written) query = ResolvesSequenced catalog written query
+ResolvesQuery catalog _ query = ⊥

@@ -1,15 +1,14 @@
 //! Which columns of a table a reference names, where the table is known by a name.
 
-ghost use Rattle.std.specs.Prelude.{◌≡◌, false, length};
-ghost use Rattle.catalog_core.specs.query.Refusals.{are_matching, are_of_period};
+ghost use Rattle.std.specs.Prelude.{◌≡◌, length};
+ghost use Rattle.catalog_core.specs.query.Refusals.{are_of_period};
 ghost use Rattle.catalog_core.specs.query.Scopes as scope;
 ghost use Rattle.catalog_core.specs.query.Scopes.{matches_in, name_or};
-ghost use Rattle.catalog_core.specs.query.SimpleSelects.{some_item};
 
 use crate::table::TableDef;
 use crate::table::columns::names_no_value;
-use crate::table::matching::{Matching, def_matches};
-use sql_statements::{ColumnReference, Name, SelectItem, TableReference};
+use crate::table::matching::def_matches;
+use sql_statements::{ColumnReference, Name, TableReference};
 
 /// A new name, or else the old one.
 pub fn name_or<'a>(new: &'a Option<Name>, name: &'a Name) -> &'a Name
@@ -56,33 +55,4 @@ pub fn names_period_in(known: &Name, table: &TableDef, column: &ColumnReference)
     ensures { result ≡ are_of_period (matches_in known.now table.now column.now) }
 {
     is_qualified(&column.qualifier, known) && names_no_value(table, &column.name)
-}
-
-/// Whether an item names so many columns.
-pub fn some_item_matches(
-    wanted: Matching,
-    known: &Name,
-    table: &TableDef,
-    items: &[SelectItem],
-) -> bool
-    ensures { result ≡ some_item (are_matching wanted) known.now table.now items.now }
-{
-    for item in items {
-        if wanted.takes(count_in(known, table, &item.column)) {
-            return true;
-        }
-    }
-    false
-}
-
-/// Whether an item names a period or system column.
-pub fn some_item_of_period(known: &Name, table: &TableDef, items: &[SelectItem]) -> bool
-    ensures { result ≡ some_item are_of_period known.now table.now items.now }
-{
-    for item in items {
-        if names_period_in(known, table, &item.column) {
-            return true;
-        }
-    }
-    false
 }

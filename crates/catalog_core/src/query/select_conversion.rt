@@ -7,7 +7,7 @@ ghost use Rattle.sql_statements.specs.declared.statement.TableReference.{TableRe
 ghost use Rattle.catalog_core.specs.query.Fitting.{are_in_place};
 ghost use Rattle.catalog_core.specs.query.Places.{scoped_members};
 ghost use Rattle.catalog_core.specs.query.Refusals.{lacks_table, names_period, some_column_matches};
-ghost use Rattle.catalog_core.specs.query.Resolving.{IsResolved, conjunct_parts};
+ghost use Rattle.catalog_core.specs.query.Resolving.{ResolvesSelect, conjunct_parts};
 ghost use Rattle.catalog_core.specs.query.Scopes.{chain_conditions, chain_tables, conditions_in};
 ghost use Rattle.catalog_core.specs.query.Scopes.{seen_columns, tables_of};
 ghost use Rattle.catalog_core.specs.declared.table.matching.Matching.TheVariants.{Nothing};
@@ -92,7 +92,7 @@ pub fn number_select(
     requires values { names_period catalog.now.tables (plain_select select.now) ≡ false }
     requires room { place + length (tables_of (plain_select select.now)) < 1_000 }
     ensures resolved { IfOk result
-        (λ numbered. IsResolved catalog.now.tables (plain_select select.now) numbered) }
+        (λ numbered. ResolvesSelect catalog.now.tables (plain_select select.now) numbered) }
     ensures placed { IfOk result (λ numbered. are_in_place place numbered.references ≡ true) }
 {
     let references = references_of(alloc, select)?;

@@ -15,23 +15,24 @@ use Rattle.catalog_core.specs.create.Creation.{create_conditions}
 use Rattle.catalog_core.specs.create.Definition.{Defines}
 use Rattle.catalog_core.specs.Judged.{Holds}
 use Rattle.catalog_core.specs.change.Resolution.{ResolvesChange, change_conditions, empty_period}
-use Rattle.catalog_core.specs.query.Selection.{ResolvesQuery, query_conditions}
+use Rattle.catalog_core.specs.query.Queries.{Query}
+use Rattle.catalog_core.specs.query.Resolving.{ResolvesQuery, query_conditions}
 use Rattle.catalog_core.specs.stored.StoredQueries.{ResolvesStored, stored_conditions}
 use Rattle.catalog_core.specs.table.TableWords.{table_of}
-use Rattle.history_model.specs.Answers.{InAnswerOn}
 use Rattle.history_model.specs.Histories.{Advanced, Asked, Changed, Created, History}
 use Rattle.history_model.specs.Histories.{catalog_of, clock_of, with_event}
 use Rattle.history_model.specs.Left.{AreLeftBy, versions_of}
+use Rattle.history_model.specs.OrdinaryQuery.{InAnswerOn}
 use Rattle.sqlite.specs.Store.{Ghosts}
 use Rattle.version_store.specs.StoreState.{IsStoreRefusal}
 use Rattle.script_engine.specs.engine.EngineState.{EngineState}
 use Rattle.script_engine.specs.engine.Stored.{EngineRepresents}
 use Rattle.catalog_core.specs.declared.change.Change.{Change}
 use Rattle.catalog_core.specs.declared.query.AnswerColumn.{AnswerColumn}
-use Rattle.catalog_core.specs.declared.query.Select.{Select}
 use Rattle.catalog_core.specs.declared.stored.Stored.{Stored}
 use Rattle.catalog_core.specs.declared.table.TableDef.{TableDef}
 use Rattle.script_engine.specs.Headline.{IsSequencedAnswer}
+use Rattle.script_engine.specs.engine.Answering.{columns_of}
 use Rattle.script_engine.specs.engine.Planned.{count_of, word_of}
 use Rattle.script_engine.specs.engine.Shown.{AreShown, version_columns}
 use Rattle.script_engine.specs.declared.engine.outcome.Outcome.{Outcome}
@@ -108,15 +109,16 @@ pub record Changes
       ≡ Done (word_of change.action) (count_of change.action (versions_of history change.table))
   pub after : new ≡ with_event history (Changed (clock_of history) change)
 
--- a sequenced query is answered by the sets that the ordinary query gives on each day
+-- a sequenced query is answered by the sets that the ordinary query gives on each day; the leftmost
+-- select names the columns
 pub record Answers
     (history : History)
     (s : Statement)
     (answer : Answer)
     (new : History) : Type 0 where
-  pub query : Select
+  pub query : Query
   pub resolved : ResolvesQuery (catalog_of history) s query
-  pub columns : answer.columns ≡ map (λ (item : AnswerColumn). item.name) query.items
+  pub columns : answer.columns ≡ map (λ (item : AnswerColumn). item.name) (columns_of query)
   pub right : IsSequencedAnswer (InAnswerOn history query) answer
   pub after : new ≡ with_event history Asked
 

@@ -24,7 +24,7 @@ use Rattle.catalog_core.specs.table.TableWords.{is_value_column, number_of, tabl
 use Rattle.catalog_core.specs.query.Queries as resolved
 use Rattle.catalog_core.specs.query.Queries.{both, one}
 use Rattle.catalog_core.specs.query.Refusals.{compares_kinds, have_other_count, have_other_kinds, is_too_long, lacks_table, names_period, names_twice, refusals_of, some_column_matches}
-use Rattle.catalog_core.specs.query.Resolving.{IsResolved, Placed, ResolvesTree, written_column, written_conjuncts, written_reference}
+use Rattle.catalog_core.specs.query.Resolving.{ResolvesSelect, Placed, ResolvesTree, written_item, written_conjuncts, written_reference}
 use Rattle.catalog_core.specs.declared.condition.Comparand.TheVariants.{Position}
 use Rattle.catalog_core.specs.declared.query.resolved.Select.{Select}
 use Rattle.catalog_core.specs.declared.table.ValueKind.TheVariants as kind
@@ -160,7 +160,7 @@ record Positions : Type 0 where
   -- Z has the positions 0 and 1, X has 2 and 3, Y has 4 and 5; WHERE is cut at its AND
   conjuncts : written_conjuncts catalog (three (same (of X DNO) (of Y DNO)) (Some (all (conditions_of (same (of Z DNO) (of Y DNO) ∷ same (of X NAME) (of Z NAME) ∷ [])))))
       ≡ at 2 4 ∷ at 0 4 ∷ at 3 1 ∷ []
-  items : map (written_column catalog (three (same (of X DNO) (of Y DNO)) None)) (map item (of Y NAME ∷ of Z NAME ∷ [])) ≡ (Some 5, NAME) ∷ (Some 1, NAME) ∷ []
+  items : map (written_item catalog (three (same (of X DNO) (of Y DNO)) None)) (map item (of Y NAME ∷ of Z NAME ∷ [])) ≡ (Some 5, NAME) ∷ (Some 1, NAME) ∷ []
   reference : written_reference catalog (known_as X) ≡ (Some 1, window.Now, Some (kind.Integer ∷ kind.Text ∷ []))
 
 positions : Positions
@@ -168,6 +168,6 @@ unfolding number_of table_of_name is_value_column kind_of_column
 positions = record { conjuncts = refl; items = refl; reference = refl }
 
 -- set operators apply from left to right: a EXCEPT b UNION c is the union of c with what EXCEPT leaves
-from_left : (a b c : written.Select) (x y z : Select) → IsResolved catalog a x → IsResolved catalog b y → IsResolved catalog c z
+from_left : (a b c : written.Select) (x y z : Select) → ResolvesSelect catalog a x → ResolvesSelect catalog b y → ResolvesSelect catalog c z
     → ResolvesTree catalog (combined (simple a) (step Except (simple b) (step Union (simple c) last))) (both Union (both Except (one x) (one y)) (one z))
 from_left a b c x y z at_a at_b at_c = (one x, at_a, (one y, at_b, (one z, at_c, refl)))

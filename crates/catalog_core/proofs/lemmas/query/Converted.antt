@@ -26,7 +26,7 @@ use Rattle.catalog_core.specs.Placing.{or_zero, place_compare, place_side}
 use Rattle.catalog_core.specs.query.Faults.{matches_among}
 use Rattle.catalog_core.specs.query.Places.{place_among, placed_item, placed_members, scope_place, scoped_members}
 use Rattle.catalog_core.specs.query.Refusals.{are_matching, are_of_period, names_period, some_column_matches}
-use Rattle.catalog_core.specs.query.Resolving.{Placed, column_position, list_of, members, seen_values, written_column, written_conjuncts, written_members}
+use Rattle.catalog_core.specs.query.Resolving.{Placed, column_position, list_of, members, seen_values, written_item, written_conjuncts, written_members}
 use Rattle.catalog_core.specs.query.Scopes.{Scope, ScopedCondition, SeenColumn, chain_conditions, chain_tables, conditions_in, has_value, matches_of, name_or, names_column, on_conditions, seen_columns, tables_of, tests_among, tests_of, where_conditions, whole_scope}
 use Rattle.catalog_core.specs.table.Naming.{Name}
 use Rattle.catalog_core.specs.declared.condition.CompareValues.{CompareValues}
@@ -186,14 +186,14 @@ module _ (catalog : List TableDef) where
   items_agree : (s : Select) (items : List SelectItem)
       → list_any (λ (item : SelectItem). are_matching Nothing (matches_among (seen_columns catalog (tables_of s)) item.column)) items ≡ false
       → list_any (λ (item : SelectItem). are_of_period (matches_among (seen_columns catalog (tables_of s)) item.column)) items ≡ false
-      → map (written_column catalog s) items ≡ map (placed_item (scope_place catalog (whole_scope s))) items
+      → map (written_item catalog s) items ≡ map (placed_item (scope_place catalog (whole_scope s))) items
   items_agree s [] h k = refl
   items_agree s (item ∷ items) h k =
       let f : SelectItem → Bool = λ x. are_matching Nothing (matches_among (seen_columns catalog (tables_of s)) x.column) in
       let g : SelectItem → Bool = λ x. are_of_period (matches_among (seen_columns catalog (tables_of s)) x.column) in
       let first = or_parts (f item) (list_any f items) h in
       let second = or_parts (g item) (list_any g items) k in
-      ap (λ (o : Option ℕ). (o, name_or item.new_name item.column.name) ∷ map (written_column catalog s) items) (position_there catalog (whole_scope s) item.column first.0 second.0)
+      ap (λ (o : Option ℕ). (o, name_or item.new_name item.column.name) ∷ map (written_item catalog s) items) (position_there catalog (whole_scope s) item.column first.0 second.0)
       ∙ ap (λ (ps : List (Option ℕ × Name)). placed_item (scope_place catalog (whole_scope s)) item ∷ ps) (items_agree s items first.1 second.1)
 
   pub accepted_conjuncts : (s : Select) → some_column_matches Nothing catalog s ≡ false → names_period catalog s ≡ false → written_conjuncts catalog s ≡ flat_map (scoped_members catalog) (conditions_in s)
@@ -203,7 +203,7 @@ module _ (catalog : List TableDef) where
       let second = or_parts (list_any (some_test are_of_period) (conditions_in s)) _ (sym (column_asked are_of_period catalog s) ∙ values) in
       conjuncts_agree (conditions_in s) first.0 second.0
 
-  pub accepted_items : (s : Select) → some_column_matches Nothing catalog s ≡ false → names_period catalog s ≡ false → map (written_column catalog s) s.items ≡ map (placed_item (scope_place catalog (whole_scope s))) s.items
+  pub accepted_items : (s : Select) → some_column_matches Nothing catalog s ≡ false → names_period catalog s ≡ false → map (written_item catalog s) s.items ≡ map (placed_item (scope_place catalog (whole_scope s))) s.items
   unfolding some_column_matches names_period
   accepted_items s named values =
       let first = or_parts (list_any (some_test (are_matching Nothing)) (conditions_in s)) _ (sym (column_asked (are_matching Nothing) catalog s) ∙ named) in

@@ -2,8 +2,7 @@ use Rattle.std.proofs.Common.{◌≡◌, List, Option, true, false, sym, ◌∙�
 use Rattle.std.specs.Prelude.{MatchOption}
 use Rattle.period_core.specs.declared.value.Value.{Value}
 use Rattle.catalog_core.specs.declared.query.AnswerColumn.{AnswerColumn}
-use Rattle.history_model.specs.Answers.{IsProjection}
-use Rattle.history_model.specs.OrdinaryQuery.{meets_all}
+use Rattle.history_model.specs.OrdinaryQuery.{IsProjection, meets_all}
 use Rattle.snapshot_audit.proofs.SelectSteps.{selected_pushed, selected_skipped}
 use Rattle.snapshot_audit.proofs.selects.add_selected.Goals as goal
 

@@ -3,7 +3,7 @@ use Rattle.std.specs.Prelude.{slice_get}
 use Rattle.std.proofs.lemmas.Option.{slice_get_past, slice_get_read}
 use Rattle.period_core.specs.declared.value.Value.{Value}
 use Rattle.catalog_core.specs.declared.query.AnswerColumn.{AnswerColumn}
-use Rattle.history_model.specs.Answers.{IsProjection}
+use Rattle.history_model.specs.OrdinaryQuery.{IsProjection}
 use Rattle.snapshot_audit.proofs.SelectSteps.{no_value, projected_more}
 use Rattle.snapshot_audit.proofs.selects.item_values.Goals as goal
 

@@ -1,5 +1,5 @@
 use Rattle.std.proofs.Common.{take}
-use Rattle.history_model.specs.Answers.{IsProjection}
+use Rattle.history_model.specs.OrdinaryQuery.{IsProjection}
 use Rattle.snapshot_audit.proofs.selects.item_values.Given as goal
 
 abbrev pub invariant-loop-item : goal.invariant-loop-item
