@@ -1,3 +1,3 @@
 pub mod Script
-pub mod Audits
+pub mod AuditedRuns
 pub mod Check

@@ -1,5 +1,7 @@
 //! What a statement of an audited run gives.
 
+ghost use Rattle.std.specs.Prelude.{◌≡◌, None};
+
 use crate::engine::outcome::Outcome;
 use period_core::Refusal;
 use snapshot_audit::Verdict;
@@ -11,4 +13,16 @@ pub struct Entry {
     /// What the audit says of the answer, or the refusal of the audit, which is out of memory.
     /// Nothing where the result is no answer.
     pub audit: Option<Result<Verdict, Refusal>>,
+}
+
+impl Entry {
+    /// A result that is no answer.
+    pub(crate) fn unaudited(given: Result<Outcome, Refusal>) -> Entry
+        ensures { result ≡ record { result = given; audit = None } }
+    {
+        Entry {
+            result: given,
+            audit: None,
+        }
+    }
 }
