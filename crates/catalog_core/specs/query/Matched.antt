@@ -1,5 +1,5 @@
 -- For private functions: what a name matches, told in one pass over the columns.
-use Rattle.std.specs.Prelude.{◌||◌, Bool, not, List, [], ◌∷◌, Option, Some, is_some, length, nat_lt}
+use Rattle.std.specs.Prelude.{◌||◌, not, List, Some, is_some, length, nat_lt}
 use Rattle.std.specs.Prelude.{is_none}
 use Rattle.std.specs.Option.{option_or}
 use Rattle.catalog_core.specs.query.Faults.{match_kind, no_faults}

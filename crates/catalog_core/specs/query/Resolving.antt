@@ -1,5 +1,5 @@
 -- A sequenced query: the refusals that it may get, and what it is with positions for names.
-use Rattle.std.specs.Prelude.{◌≡◌, ◌+◌, ℕ, true, List, [], ◌∷◌, Option, Some, None, filter}
+use Rattle.std.specs.Prelude.{◌≡◌, ◌+◌, ℕ, true, List, [], ◌∷◌, Option, Some, filter}
 use Rattle.std.specs.Prelude.{flat_map, length, map}
 use Rattle.std.specs.List.{position}
 use Rattle.std.specs.Option.{option_map}

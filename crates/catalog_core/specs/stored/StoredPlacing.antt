@@ -1,6 +1,6 @@
 -- For private functions: tests by positions, where a name without a position has 0 and a period
 -- without a day is the row's. No statement that is accepted has such a name or period.
-use Rattle.std.specs.Prelude.{Bool, if◌then◌else◌, int_lt}
+use Rattle.std.specs.Prelude.{if◌then◌else◌, int_lt}
 use Rattle.sql_statements.specs.declared.statement.PeriodOperand.{PeriodOperand}
 use Rattle.sql_statements.specs.declared.statement.PeriodOperand.TheVariants.{Named, Dates}
 use Rattle.sql_statements.specs.declared.statement.StoredTest.{StoredTest}

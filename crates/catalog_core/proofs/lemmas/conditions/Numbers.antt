@@ -1,5 +1,5 @@
 -- Conditions with their tests replaced, by their parts; and what has a position in a sound statement.
-use Rattle.std.proofs.Common.{◌≡◌, ◌∙◌, ◌<◌, ◌≤◌, ◌+◌, ◌++◌, Bool, true, false, ℕ, List, [], ◌∷◌, Option, None, Some, ap, get_or, length, map, not, refl, sym, take, take_all}
+use Rattle.std.proofs.Common.{◌≡◌, ◌∙◌, ◌<◌, ◌≤◌, ◌+◌, ◌++◌, Bool, false, ℕ, List, [], ◌∷◌, Option, None, Some, ap, get_or, length, map, refl, sym, take, take_all}
 use Rattle.std.specs.Prelude.{◌||◌}
 use Rattle.std.specs.Global.{Box, Vec}
 use Rattle.std.specs.List.{list_any}

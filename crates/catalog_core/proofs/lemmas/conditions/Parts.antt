@@ -1,5 +1,5 @@
 -- A test that passes somewhere in a condition, by the condition's parts.
-use Rattle.std.proofs.Common.{◌≡◌, ◌⊎◌, inl, inr, Bool, List, [], ◌∷◌, map, refl, sym, ◌∙◌, ap}
+use Rattle.std.proofs.Common.{◌≡◌, ◌⊎◌, inl, inr, Bool, List, [], ◌∷◌, map, refl, ◌∙◌, ap}
 use Rattle.std.specs.Prelude.{◌||◌}
 use Rattle.std.specs.Global.{Box, Vec}
 use Rattle.std.specs.List.{list_any}

@@ -21,7 +21,6 @@ use Rattle.catalog_core.specs.table.Kinds.{differ, kind_of_column, same_kind}
 use Rattle.catalog_core.specs.table.Matches.{is_matching}
 use Rattle.catalog_core.specs.table.Naming.{Name, matches_among, repeats}
 use Rattle.catalog_core.specs.table.TableWords.{is_value_column, number_of, table_of_name}
-use Rattle.catalog_core.specs.query.Queries as resolved
 use Rattle.catalog_core.specs.query.Queries.{both, one}
 use Rattle.catalog_core.specs.query.Refusals.{compares_kinds, have_other_count, have_other_kinds, is_too_long, lacks_table, names_period, names_twice, refusals_of, some_column_matches}
 use Rattle.catalog_core.specs.query.Resolving.{ResolvesSelect, Placed, ResolvesTree, written_item, written_conjuncts, written_reference}

@@ -1,8 +1,7 @@
 -- Worked examples: which refusal a stored query gets, and which versions it shows.
-use Rattle.std.proofs.Common.{◌≡◌, ◌∷◌, ℕ, pos, Bool, true, false, List, [], Option, Some, None, refl}
+use Rattle.std.proofs.Common.{◌≡◌, ◌∷◌, ℕ, pos, Bool, true, false, [], Option, Some, None, refl}
 use Rattle.std.specs.Prelude.{codes}
 use Rattle.period_core.proofs.Periods.{period_over}
-use Rattle.period_core.specs.Moments.{forever}
 use Rattle.period_core.specs.declared.refusal.Refusal.{Refusal}
 use Rattle.period_core.specs.declared.refusal.Refusal.TheVariants.{UnknownTable, UnknownColumn, PeriodColumn, TypeMismatch, EmptyPeriod}
 use Rattle.period_core.specs.declared.value.Value.{Value}
@@ -11,7 +10,6 @@ use Rattle.period_core.specs.declared.version.VersionRow.{VersionRow}
 use Rattle.period_core.specs.declared.window.Window.{Window}
 use Rattle.period_core.specs.declared.window.Window.TheVariants as window
 use Rattle.sql_statements.specs.Trees.{Condition, any, conditions_of, negated, test}
-use Rattle.sql_statements.specs.Trees as written
 use Rattle.sql_statements.specs.declared.statement.Comparison.{Comparison}
 use Rattle.sql_statements.specs.declared.statement.Comparison.TheVariants as compared
 use Rattle.sql_statements.specs.declared.statement.Operand.TheVariants.{Column, Literal}
@@ -21,7 +19,7 @@ use Rattle.sql_statements.specs.declared.statement.PeriodPredicate.TheVariants.{
 use Rattle.sql_statements.specs.declared.statement.StoredTest.{StoredTest}
 use Rattle.sql_statements.specs.declared.statement.StoredTest.TheVariants as asked
 use Rattle.catalog_core.proofs.lemmas.examples.Tables.{dep}
-use Rattle.catalog_core.specs.Conditions.{compares, is_satisfied}
+use Rattle.catalog_core.specs.Conditions.{is_satisfied}
 use Rattle.catalog_core.specs.Flaws.{is_flawed_column, is_flawed_compare, is_flawed_period, is_flawed_test}
 use Rattle.catalog_core.specs.Judged.{first_holding}
 use Rattle.catalog_core.specs.change.PortionChanges.{lacks_named}
@@ -32,7 +30,6 @@ use Rattle.catalog_core.specs.table.Matches.{is_matching}
 use Rattle.catalog_core.specs.table.Naming.{Name, find_among, matches_among}
 use Rattle.catalog_core.specs.table.TableWords.{def_kind, is_value_column, number_of, table_of_name}
 use Rattle.catalog_core.specs.declared.condition.Comparand.TheVariants as comparand
-use Rattle.catalog_core.specs.declared.condition.CompareValues.{CompareValues}
 use Rattle.catalog_core.specs.declared.stored.PeriodSide.TheVariants.{Row, Days}
 use Rattle.catalog_core.specs.declared.stored.VersionTest.{VersionTest}
 use Rattle.catalog_core.specs.declared.stored.VersionTest.TheVariants.{ContainsDay, Periods, Values}

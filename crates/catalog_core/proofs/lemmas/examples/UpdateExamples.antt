@@ -1,5 +1,5 @@
 -- Worked examples: which refusal an UPDATE gets.
-use Rattle.std.proofs.Common.{◌≡◌, ◌∷◌, ℕ, pos, true, false, List, [], Option, Some, None, refl}
+use Rattle.std.proofs.Common.{◌≡◌, ◌∷◌, ℕ, pos, List, [], Option, Some, None, refl}
 use Rattle.std.specs.Prelude.{codes}
 use Rattle.std.specs.Str.{chars}
 use Rattle.period_core.specs.declared.refusal.Refusal.{Refusal}

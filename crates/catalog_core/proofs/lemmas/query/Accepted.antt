@@ -1,5 +1,5 @@
 -- An accepted query by positions: its steps from left to right, and how many tables it has.
-use Rattle.std.proofs.Common.{◌≡◌, ◌<◌, ◌≤◌, ◌+◌, ◌*◌, ◌++◌, ◌∷◌, ◌||◌, ◌∙◌, ℕ, Bool, true, false, List, [], arith, drop, get_or, length, length-append, map, nat_lt, refl, subst, sym, ap}
+use Rattle.std.proofs.Common.{◌≡◌, ◌<◌, ◌≤◌, ◌+◌, ◌*◌, ◌++◌, ◌∷◌, ◌||◌, ◌∙◌, ℕ, Bool, false, List, [], arith, drop, get_or, length, length-append, map, nat_lt, refl, subst, sym, ap}
 use Rattle.std.specs.Global.{Box, Vec}
 use Rattle.std.specs.List.{list_any}
 use Rattle.std.proofs.lemmas.Bool.{or_parts}

@@ -1,5 +1,5 @@
 -- The declared columns of a table that is seen, in a loop by place.
-use Rattle.std.proofs.Common.{◌≡◌, ◌<◌, ◌≤◌, ◌+◌, ◌++◌, ◌∷◌, ◌∙◌, ℕ, List, [], Some, None, append_assoc, get_or, take, length, map, refl, sym, ap}
+use Rattle.std.proofs.Common.{◌≡◌, ◌<◌, ◌≤◌, ◌+◌, ◌++◌, ◌∷◌, ◌∙◌, ℕ, List, [], Some, None, append_assoc, get_or, take, length, map, sym, ap}
 use Rattle.std.specs.List.{enumerate_from}
 use Rattle.std.proofs.lemmas.List.{append-nil, map_push, take_more}
 use Rattle.catalog_core.proofs.lemmas.table.Numbered.{numbered_all, numbered_at, numbered_within}

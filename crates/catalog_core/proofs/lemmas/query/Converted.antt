@@ -1,5 +1,5 @@
 -- A select by positions: in loops over joins and chains, and where no name is wrong.
-use Rattle.std.proofs.Common.{◌≡◌, ◌<◌, ◌+◌, ◌++◌, ◌∷◌, ◌||◌, ◌∙◌, ℕ, Bool, true, false, List, [], Option, None, Some, append_assoc, flat_map, get_or, length, map, refl, sym, take, ap}
+use Rattle.std.proofs.Common.{◌≡◌, ◌<◌, ◌+◌, ◌++◌, ◌∷◌, ◌||◌, ◌∙◌, ℕ, Bool, false, List, [], Option, None, Some, append_assoc, flat_map, get_or, length, map, refl, sym, take, ap}
 use Rattle.std.specs.List.{list_any, position}
 use Rattle.std.specs.Option.{option_map}
 use Rattle.std.proofs.lemmas.Bool.{or_parts}

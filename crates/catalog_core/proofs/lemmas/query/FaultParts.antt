@@ -1,5 +1,5 @@
 -- Each fault of a select is a condition of its refusals.
-use Rattle.std.proofs.Common.{◌≡◌, ◌++◌, ◌∷◌, ◌||◌, ◌∙◌, Bool, true, false, List, [], None, Some, Option, flat_map, map, refl, sym, ap}
+use Rattle.std.proofs.Common.{◌≡◌, ◌∷◌, ◌||◌, ◌∙◌, Bool, true, false, List, [], None, Some, Option, flat_map, map, refl, sym, ap}
 use Rattle.std.specs.List.{list_any}
 use Rattle.std.proofs.lemmas.List.Folds.{list_any-append}
 use Rattle.sql_statements.specs.Trees.{Condition, Select}
@@ -14,7 +14,7 @@ use Rattle.catalog_core.proofs.lemmas.query.ReferenceLists.{any_map}
 use Rattle.catalog_core.specs.query.Faults.{compare_faults, condition_faults, either, faults_among, item_faults, kind_faults, match_faults, matches_among, no_faults, reference_faults, scoped_faults, select_faults, side_faults, where_faults}
 use Rattle.catalog_core.specs.query.Faults as faults
 use Rattle.catalog_core.specs.query.Refusals.{are_matching, are_of_period, compares_kinds, lacks_table, names_period, names_twice, some_column, some_column_matches}
-use Rattle.catalog_core.specs.query.Scopes.{Scope, ScopedCondition, SeenColumn, columns_in, conditions_in, matches_of, on_conditions, seen_columns, side_columns, side_kind, tables_of, test_columns, tests_in, tests_of, where_conditions, whole_scope}
+use Rattle.catalog_core.specs.query.Scopes.{Scope, ScopedCondition, SeenColumn, conditions_in, matches_of, on_conditions, seen_columns, side_columns, side_kind, tables_of, test_columns, tests_in, tests_of, where_conditions, whole_scope}
 use Rattle.catalog_core.specs.table.Kinds.{differ}
 use Rattle.catalog_core.specs.declared.query.faults.Faults.{Faults}
 use Rattle.catalog_core.specs.declared.table.TableDef.{TableDef}

@@ -1,6 +1,5 @@
 -- What a name matches, in one pass.
-use Rattle.std.proofs.Common.{◌≡◌, ◌<◌, ◌+◌, ◌++◌, ◌∷◌, ◌||◌, ◌==◌, ◌∙◌, ℕ, suc, Bool, true, false, not, List, [], Some, cond, get_or, take, filter, length, nat_lt, refl, sym, ap, arith}
-use Rattle.std.specs.List.{list_any, slice_get}
+use Rattle.std.proofs.Common.{◌≡◌, ◌<◌, ◌+◌, ◌++◌, ◌∷◌, ◌||◌, ◌==◌, ◌∙◌, ℕ, suc, Bool, true, false, not, List, [], cond, get_or, take, filter, length, nat_lt, refl, sym, ap, arith}
 use Rattle.std.specs.Option.{option_or, is_some}
 use Rattle.std.proofs.lemmas.Bool.Decides.{nat_tests}
 use Rattle.std.proofs.lemmas.List.{append-nil}

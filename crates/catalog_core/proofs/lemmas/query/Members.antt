@@ -3,7 +3,7 @@ use Rattle.std.proofs.Common.{◌≡◌, ◌<◌, ◌≤◌, ◌+◌, ◌++◌, 
 use Rattle.std.proofs.lemmas.List.{map_push, take_more}
 use Rattle.std.specs.Global.{Box, Vec}
 use Rattle.sql_statements.specs.Plain.{plain_condition}
-use Rattle.sql_statements.specs.Trees.{Condition, Conditions, conditions_of}
+use Rattle.sql_statements.specs.Trees.{Condition, conditions_of}
 use Rattle.sql_statements.specs.declared.tree.Tree as code
 use Rattle.catalog_core.proofs.lemmas.conditions.Truth.{and_view, not_view, or_view, test_view}
 use Rattle.catalog_core.proofs.lemmas.conditions.Numbers.{mapped}

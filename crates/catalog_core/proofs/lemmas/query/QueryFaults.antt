@@ -1,5 +1,5 @@
 -- The refusals of a query are its limits and its faults.
-use Rattle.std.proofs.Common.{◌≡◌, ◌∷◌, ◌||◌, ◌==◌, ◌∙◌, Bool, true, false, not, List, [], Option, None, Some, length, lit≤, map, nat_lt, refl, sym, ap}
+use Rattle.std.proofs.Common.{◌≡◌, ◌∷◌, ◌||◌, ◌==◌, ◌∙◌, Bool, true, false, not, List, Option, None, Some, length, lit≤, nat_lt, refl, sym, ap}
 use Rattle.std.specs.Prelude.{MatchOption}
 use Rattle.std.specs.List.{list_any}
 use Rattle.std.proofs.lemmas.List.{length-map}
@@ -12,7 +12,7 @@ use Rattle.catalog_core.proofs.lemmas.judged.Least.{Ascending, first_least, none
 use Rattle.catalog_core.proofs.lemmas.lists.AnyTests.{any_same}
 use Rattle.catalog_core.proofs.lemmas.query.FaultParts.{ambiguous_is, any_false, count_is, kinds_is, or_none, period_is, table_is, twice_is, unknown_is}
 use Rattle.catalog_core.proofs.lemmas.query.FaultSums.{IsPart, part_among}
-use Rattle.catalog_core.specs.Judged.{Holds, Judged, first_holding}
+use Rattle.catalog_core.specs.Judged.{Holds, first_holding}
 use Rattle.catalog_core.specs.Limits.{most_operators}
 use Rattle.catalog_core.specs.query.Faults.{faults_among, judged_faults, match_kind, matches_among, operand_faults, query_faults, select_faults, side_kinds}
 use Rattle.catalog_core.specs.query.QueryParts.{operator_count, selects_of, sides_of}

@@ -1,5 +1,5 @@
 -- How large a query is, by which the recursion over it ends.
-use Rattle.std.proofs.Common.{◌≡◌, ◌<◌, ◌≤◌, ◌+◌, ◌∷◌, ◌∙◌, ℕ, zero, suc, List, [], arith, get_or, length, map, sym, ap}
+use Rattle.std.proofs.Common.{◌≡◌, ◌<◌, ◌≤◌, ◌+◌, ◌∷◌, ◌∙◌, ℕ, zero, suc, List, [], arith, get_or, length, map, ap}
 use Rattle.std.specs.Global.{Box, Vec}
 use Rattle.sql_statements.proofs.QueryViews.{combined_view}
 use Rattle.sql_statements.specs.Plain.{plain_query, plain_step, steps_of}

@@ -3,12 +3,12 @@
 use Rattle.std.proofs.Common.{◌≡◌, ◌<◌, ◌≤◌, ◌+◌, ◌++◌, ◌∷◌, ◌||◌, ◌∙◌, ℕ, Bool, List, [], Option, None, Some, IfNone, arith, drop, flat_map, get_or, length, length-append, map, refl, sym, take, take_all, ap}
 use Rattle.std.specs.Global.{Box, Vec}
 use Rattle.std.specs.List.{list_any}
-use Rattle.std.proofs.lemmas.List.{length-map, map-append, map_push, take-append-drop, take_more}
+use Rattle.std.proofs.lemmas.List.{length-map, map-append, take-append-drop, take_more}
 use Rattle.std.proofs.lemmas.List.Folds.{list_any-append}
 use Rattle.std.proofs.lemmas.Grind.{flat_map-append}
 use Rattle.sql_statements.proofs.QueryViews.{combined_view, simple_view}
 use Rattle.sql_statements.specs.Plain.{plain_chain, plain_join, plain_query, plain_select, plain_step, steps_of}
-use Rattle.sql_statements.specs.Trees.{Query, Select, Steps}
+use Rattle.sql_statements.specs.Trees.{Query, Select}
 use Rattle.sql_statements.specs.declared.statement.JoinChain.{JoinChain}
 use Rattle.sql_statements.specs.declared.statement.SelectDistinct.{SelectDistinct}
 use Rattle.sql_statements.specs.declared.tree.QueryTree as code

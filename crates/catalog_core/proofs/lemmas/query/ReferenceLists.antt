@@ -1,5 +1,5 @@
 -- The table references of a select, in a loop over its chains and their joins.
-use Rattle.std.proofs.Common.{◌≡◌, ◌<◌, ◌≤◌, ◌+◌, ◌++◌, ◌∷◌, ◌||◌, ◌∙◌, ℕ, suc, Bool, true, false, List, [], Some, None, Bor, append_assoc, arith, bytes_eq, cond, count_by, filter, flat_map, get_or, take, length, map, refl, sym, ap}
+use Rattle.std.proofs.Common.{◌≡◌, ◌<◌, ◌+◌, ◌++◌, ◌∷◌, ◌||◌, ◌∙◌, ℕ, suc, Bool, true, false, List, [], Some, None, Bor, append_assoc, arith, bytes_eq, cond, count_by, filter, flat_map, get_or, take, length, map, refl, sym, ap}
 use Rattle.std.specs.List.{list_any}
 use Rattle.std.specs.Option.{is_none}
 use Rattle.std.proofs.lemmas.List.{append-nil, map_push, take_more}

@@ -14,7 +14,7 @@ use Rattle.sql_statements.specs.declared.statement.JoinChain.{JoinChain}
 use Rattle.sql_statements.specs.declared.statement.TableReference.{TableReference}
 use Rattle.sql_statements.specs.declared.tree.Tree as code
 use Rattle.catalog_core.proofs.lemmas.conditions.Truth.{and_view, not_view, or_view, test_view}
-use Rattle.catalog_core.proofs.lemmas.query.FaultSums.{among_append, among_more, among_push, either_assoc, either_none}
+use Rattle.catalog_core.proofs.lemmas.query.FaultSums.{among_append, among_push, either_none}
 use Rattle.catalog_core.proofs.lemmas.query.ReferenceLists.{front_tables, front_tables_more, join_tables, join_tables_more}
 use Rattle.catalog_core.specs.query.Faults.{compare_faults, condition_faults, either, faults_among, item_faults, reference_faults, scoped_faults, select_faults_over, where_faults}
 use Rattle.catalog_core.specs.table.TableWords.{table_of_name}

@@ -1,5 +1,5 @@
 -- The place of a named column among those that rows have a value for.
-use Rattle.std.proofs.Common.{◌≡◌, ◌<◌, ◌≤◌, ◌+◌, ◌++◌, ◌∷◌, ◌==◌, ◌∙◌, ℕ, zero, suc, Bool, true, false, not, List, [], Option, None, Some, cond, arith, drop, drop-cons, filter, get_or, length, nat_lt, refl, sym, ap}
+use Rattle.std.proofs.Common.{◌≡◌, ◌<◌, ◌≤◌, ◌+◌, ◌∷◌, ◌==◌, ◌∙◌, ℕ, zero, suc, Bool, true, false, not, List, [], Option, None, Some, cond, arith, drop, drop-cons, filter, get_or, length, nat_lt, refl, sym, ap}
 use Rattle.std.specs.List.{list_any, position, position_or_len}
 use Rattle.std.specs.Option.{option_map}
 use Rattle.std.proofs.lemmas.Bool.{false≢true}

@@ -1,20 +1,18 @@
 -- The tests of an accepted stored query have positions, and their periods have days.
-use Rattle.std.proofs.Common.{◌≡◌, ◌∙◌, ◌<ℤ◌, ℤ, Bool, true, false, Option, Some, ap, arith, refl, sym}
-use Rattle.std.specs.Prelude.{◌||◌, int_le, int_lt}
+use Rattle.std.proofs.Common.{◌≡◌, ◌∙◌, true, false, Some, ap, arith, refl, sym}
+use Rattle.std.specs.Prelude.{int_lt}
 use Rattle.std.specs.Option.{option_map}
 use Rattle.std.proofs.lemmas.Bool.{or_parts}
 use Rattle.sql_statements.specs.Trees.{Condition}
 use Rattle.sql_statements.specs.declared.statement.PeriodOperand.{PeriodOperand}
 use Rattle.sql_statements.specs.declared.statement.PeriodOperand.TheVariants.{Named, Dates}
-use Rattle.sql_statements.specs.declared.statement.PeriodPredicate.{PeriodPredicate}
 use Rattle.sql_statements.specs.declared.statement.StoredTest.{StoredTest}
 use Rattle.sql_statements.specs.declared.statement.StoredTest.TheVariants.{Values, Periods, ContainsDay}
 use Rattle.catalog_core.proofs.lemmas.conditions.Numbers.{agree, compare_placed}
 use Rattle.catalog_core.specs.Flaws.{is_flawed_period, is_flawed_test, some_test}
-use Rattle.catalog_core.specs.Numbering.{map_condition, numbered_compare}
-use Rattle.catalog_core.specs.Placing.{placed_compare}
+use Rattle.catalog_core.specs.Numbering.{map_condition}
 use Rattle.catalog_core.specs.stored.StoredPlacing.{placed_days, placed_test}
-use Rattle.catalog_core.specs.stored.StoredQueries.{PlainSide, PlainTest, Compared, FromTo, HasDay, Related, written_parts, written_side}
+use Rattle.catalog_core.specs.stored.StoredQueries.{PlainSide, Compared, HasDay, Related, written_parts, written_side}
 use Rattle.catalog_core.specs.declared.condition.CompareValues.{CompareValues}
 use Rattle.catalog_core.specs.declared.flaw.Flaw.TheVariants.{Empty, NoValue, Unknown}
 use Rattle.catalog_core.specs.declared.table.TableDef.{TableDef}

@@ -1,4 +1,4 @@
-use Rattle.std.proofs.Common.{◌∙◌, ap, inl, map, sym}
+use Rattle.std.proofs.Common.{◌∙◌, inl, sym}
 use Rattle.sql_statements.specs.Plain.{plain_delete}
 use Rattle.catalog_core.proofs.lemmas.change.PortionFaults.{delete_least, delete_least_table, delete_none}
 use Rattle.catalog_core.proofs.lemmas.change.RowFacts.{table_named}

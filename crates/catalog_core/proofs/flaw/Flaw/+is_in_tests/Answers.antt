@@ -3,7 +3,6 @@ use Rattle.std.specs.List.{list_any}
 use Rattle.std.proofs.lemmas.List.{take_all}
 use Rattle.std.proofs.lemmas.List.Folds.{list_any_at}
 use Rattle.sql_statements.specs.declared.statement.StoredTest.{StoredTest}
-use Rattle.sql_statements.specs.declared.tree.Tree.{Tree}
 use Rattle.catalog_core.proofs.lemmas.conditions.Parts.{chain_some, passes_in}
 use Rattle.catalog_core.proofs.lemmas.conditions.Truth.{or_none, or_right}
 use Rattle.catalog_core.specs.Flaws.{is_flawed_test}

@@ -1,4 +1,4 @@
-use Rattle.std.proofs.Common.{◌≡◌, ◌+◌, ◌≤◌, ◌∙◌, ap, arith, length, map, sym, take_all}
+use Rattle.std.proofs.Common.{◌≡◌, ◌≤◌, ◌∙◌, ap, arith, length, map, sym, take_all}
 use Rattle.catalog_core.proofs.lemmas.conditions.Numbers.{map_more}
 use Rattle.catalog_core.proofs.lemmas.judged.Sound.{fails_at}
 use Rattle.catalog_core.proofs.lemmas.query.ReferenceLists.{Borrowed, any_map, map_both}
@@ -6,7 +6,6 @@ use Rattle.catalog_core.proofs.lemmas.query.ReferenceParts.{parts_count, placed_
 use Rattle.catalog_core.specs.query.Faults.{lacks_one}
 use Rattle.catalog_core.specs.query.Fitting.{are_in_place}
 use Rattle.catalog_core.specs.query.Resolving.{reference_parts, written_reference}
-use Rattle.catalog_core.specs.declared.query.resolved.QueryReference.{QueryReference}
 use Rattle.catalog_core.proofs.query.conversion.number_references.Goals as goal
 
 pub number_reference-requires : goal.number_reference-requires

@@ -1,7 +1,5 @@
-use Rattle.std.proofs.Common.{◌∷◌, ◌∙◌, List, ap, map, sym}
+use Rattle.std.proofs.Common.{◌∷◌, ◌∙◌, ap, map, sym}
 use Rattle.sql_statements.specs.Plain.{plain_condition}
-use Rattle.sql_statements.specs.Trees.{Condition}
-use Rattle.sql_statements.specs.declared.statement.Compare.{Compare}
 use Rattle.catalog_core.proofs.lemmas.query.Members.{and_members, not_member, or_member, test_member}
 use Rattle.catalog_core.specs.query.Resolving.{members}
 use Rattle.catalog_core.proofs.query.conversion.outer_and.Goals as goal

@@ -1,4 +1,4 @@
-use Rattle.std.proofs.Common.{◌∙◌, ap, sym}
+use Rattle.std.proofs.Common.{◌∙◌, ap}
 use Rattle.catalog_core.proofs.lemmas.query.FaultSums.{among_more}
 use Rattle.catalog_core.proofs.lemmas.query.Matching.{found_match}
 use Rattle.catalog_core.specs.query.Faults as faults

@@ -1,6 +1,5 @@
-use Rattle.std.proofs.Common.{◌≡◌, ◌∙◌, List, ap, map, sym, take, take_all}
-use Rattle.std.specs.Option.{option_map}
-use Rattle.sql_statements.specs.Plain.{plain_chain, plain_condition, plain_select}
+use Rattle.std.proofs.Common.{◌≡◌, ◌∙◌, List, ap, map, take_all}
+use Rattle.sql_statements.specs.Plain.{plain_chain, plain_select}
 use Rattle.sql_statements.specs.declared.statement.JoinChain.{JoinChain}
 use Rattle.catalog_core.proofs.lemmas.query.ScopeFaults.{faults_on, front_step, select_sum}
 use Rattle.catalog_core.proofs.lemmas.query.FaultSums.{among_front}

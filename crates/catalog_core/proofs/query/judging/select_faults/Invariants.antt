@@ -1,4 +1,4 @@
-use Rattle.std.proofs.Common.{◌≡◌, ◌++◌, map, take}
+use Rattle.std.proofs.Common.{◌≡◌, map, take}
 use Rattle.sql_statements.specs.Plain.{plain_chain}
 use Rattle.catalog_core.proofs.lemmas.query.ReferenceLists.{front_tables}
 use Rattle.catalog_core.proofs.lemmas.query.ScopeFaults.{faults_on}

@@ -4,7 +4,7 @@ use Rattle.std.proofs.lemmas.List.{length-map}
 use Rattle.sql_statements.proofs.QueryViews.{simple_view}
 use Rattle.sql_statements.specs.Plain.{plain_query, plain_select, plain_step, steps_of}
 use Rattle.sql_statements.specs.Trees as written
-use Rattle.catalog_core.proofs.lemmas.query.Accepted.{count_first, count_last, count_next, count_one, follows_first, follows_last, follows_next, rest_of, sound_first, sound_next, sound_one}
+use Rattle.catalog_core.proofs.lemmas.query.Accepted.{count_first, count_last, count_next, count_one, follows_first, follows_last, follows_next, sound_first, sound_next, sound_one}
 use Rattle.catalog_core.proofs.lemmas.query.InPlace.{both_within}
 use Rattle.catalog_core.proofs.lemmas.query.QuerySizes.{first_smaller, size_of, step_smaller}
 use Rattle.catalog_core.proofs.lemmas.query.QueryWalks.{Step}

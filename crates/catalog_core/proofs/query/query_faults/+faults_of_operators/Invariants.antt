@@ -1,6 +1,6 @@
 use Rattle.std.proofs.Common.{◌≡◌, take}
 use Rattle.catalog_core.proofs.lemmas.query.QueryWalks.{side_by}
-use Rattle.catalog_core.specs.query.Faults.{either, faults_among, operand_faults}
+use Rattle.catalog_core.specs.query.Faults.{either, faults_among}
 use Rattle.catalog_core.proofs.query.query_faults.+faults_of_operators.Given as goal
 
 abbrev pub invariant-loop-step : goal.invariant-loop-step

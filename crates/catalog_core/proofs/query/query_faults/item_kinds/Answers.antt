@@ -1,4 +1,4 @@
-use Rattle.std.proofs.Common.{◌≡◌, ◌∙◌, List, ap, map, sym, take, take_all}
+use Rattle.std.proofs.Common.{◌≡◌, ◌∙◌, List, ap, map, take, take_all}
 use Rattle.sql_statements.specs.Plain.{plain_select}
 use Rattle.sql_statements.specs.declared.statement.SelectItem.{SelectItem}
 use Rattle.catalog_core.proofs.lemmas.query.ReferenceLists.{Borrowed}

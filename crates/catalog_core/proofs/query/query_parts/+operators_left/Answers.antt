@@ -1,5 +1,5 @@
-use Rattle.std.proofs.Common.{◌≡◌, ◌+◌, ◌<◌, ◌∙◌, ap, arith, sym, take}
-use Rattle.catalog_core.proofs.lemmas.query.QueryWalks.{count_of, count_steps, if_none_any, left_over, steps_more, too_many}
+use Rattle.std.proofs.Common.{◌≡◌, ◌+◌, ◌∙◌, ap, arith, sym}
+use Rattle.catalog_core.proofs.lemmas.query.QueryWalks.{count_of, if_none_any, left_over, steps_more, too_many}
 use Rattle.catalog_core.proofs.query.query_parts.+operators_left.Goals as goal
 
 pub returns-in_err-checked_sub-clause-none : goal.returns-in_err-checked_sub-clause-none

@@ -1,4 +1,4 @@
-use Rattle.std.proofs.Common.{◌≡◌, ◌∙◌, Bool, List, ap, sym, take_all}
+use Rattle.std.proofs.Common.{◌≡◌, ◌∙◌, ap, sym, take_all}
 use Rattle.std.specs.List.{list_any}
 use Rattle.std.proofs.lemmas.List.Folds.{list_any_at}
 use Rattle.catalog_core.proofs.lemmas.query.ReferenceLists.{Borrowed, any_next, known_to, twice_by}

@@ -1,4 +1,4 @@
-use Rattle.std.proofs.Common.{◌∙◌, ◌++◌, ◌∷◌, List, ap, map, sym, take_all}
+use Rattle.std.proofs.Common.{◌∙◌, ◌++◌, ◌∷◌, List, ap, map, take_all}
 use Rattle.std.proofs.lemmas.List.{map_push}
 use Rattle.sql_statements.specs.declared.statement.Join.{Join}
 use Rattle.catalog_core.proofs.lemmas.query.ReferenceLists.{Borrowed, join_tables, tables_step}

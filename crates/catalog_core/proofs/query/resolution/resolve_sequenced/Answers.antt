@@ -1,4 +1,4 @@
-use Rattle.std.proofs.Common.{inl, subst}
+use Rattle.std.proofs.Common.{subst}
 use Rattle.std.specs.Prelude.{MatchOption}
 use Rattle.period_core.specs.Leasts.{IsLeast, NoneApplies}
 use Rattle.sql_statements.specs.Plain.{plain_query}

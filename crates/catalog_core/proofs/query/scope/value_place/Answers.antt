@@ -1,4 +1,4 @@
-use Rattle.std.proofs.Common.{◌≡◌, ◌+◌, ◌∙◌, ap, arith, drop, sym}
+use Rattle.std.proofs.Common.{◌+◌, ◌∙◌, ap, arith, drop, sym}
 use Rattle.std.specs.List.{position}
 use Rattle.catalog_core.proofs.lemmas.query.ValuePlaces.{place_behind, place_begun, place_found, place_more, place_none, place_passed}
 use Rattle.catalog_core.specs.query.Places.{values_among}

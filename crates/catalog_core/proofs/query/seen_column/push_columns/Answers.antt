@@ -1,4 +1,4 @@
-use Rattle.std.proofs.Common.{◌∙◌, ◌++◌, List, Some, ap, sym}
+use Rattle.std.proofs.Common.{◌∙◌, ◌++◌, Some, ap, sym}
 use Rattle.catalog_core.proofs.lemmas.change.RowFacts.{table_named}
 use Rattle.catalog_core.proofs.lemmas.query.ColumnLists.{front_end, front_more, front_none, not_there}
 use Rattle.catalog_core.specs.query.Scopes.{declared_columns, known_name}

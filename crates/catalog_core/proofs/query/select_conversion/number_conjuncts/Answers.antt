@@ -1,4 +1,4 @@
-use Rattle.std.proofs.Common.{◌≡◌, ◌∙◌, List, Some, [], ap, flat_map, map, sym, take_all}
+use Rattle.std.proofs.Common.{◌≡◌, ◌∙◌, List, [], ap, flat_map, map, take_all}
 use Rattle.std.specs.Option.{option_map}
 use Rattle.sql_statements.specs.Plain.{plain_chain, plain_condition, plain_select}
 use Rattle.sql_statements.specs.declared.statement.JoinChain.{JoinChain}

@@ -1,4 +1,4 @@
-use Rattle.std.proofs.Common.{◌≡◌, ◌<◌, ◌∙◌, List, [], ap, arith, length, map, sym}
+use Rattle.std.proofs.Common.{◌∙◌, List, [], ap, arith, length, map, sym}
 use Rattle.std.proofs.lemmas.List.{length-map}
 use Rattle.sql_statements.specs.Plain.{plain_select}
 use Rattle.catalog_core.proofs.lemmas.query.Converted.{accepted_conjuncts, accepted_items}
@@ -8,7 +8,7 @@ use Rattle.catalog_core.specs.query.Fitting.{are_in_place}
 use Rattle.catalog_core.specs.query.Places.{place_among, placed_item}
 use Rattle.catalog_core.specs.query.Refusals.{lacks_table}
 use Rattle.catalog_core.specs.query.Resolving.{conjunct_parts, reference_parts, written_reference}
-use Rattle.catalog_core.specs.query.Scopes.{SeenColumn, tables_of}
+use Rattle.catalog_core.specs.query.Scopes.{SeenColumn}
 use Rattle.catalog_core.specs.query.Selection.{item_parts}
 use Rattle.catalog_core.proofs.query.select_conversion.number_select.Goals as goal
 

@@ -1,7 +1,6 @@
 use Rattle.std.proofs.Common.{◌≡◌, ◌∙◌, ◌+◌, ◌++◌, ◌∷◌, List, [], ap, arith, flat_map, length, map, sym, take, take_all}
-use Rattle.std.proofs.Math.Seq.{take-append_seam}
 use Rattle.std.proofs.lemmas.List.{append-nil}
-use Rattle.sql_statements.specs.Plain.{plain_condition, plain_join}
+use Rattle.sql_statements.specs.Plain.{plain_join}
 use Rattle.sql_statements.specs.declared.statement.Join.{Join}
 use Rattle.catalog_core.proofs.lemmas.query.Converted.{joined_members}
 use Rattle.catalog_core.proofs.lemmas.query.ReferenceLists.{join_tables}

@@ -1,4 +1,4 @@
-use Rattle.std.proofs.Common.{◌∙◌, ap, inl, map, sym}
+use Rattle.std.proofs.Common.{◌∙◌, inl, sym}
 use Rattle.sql_statements.specs.Plain.{plain_stored}
 use Rattle.catalog_core.proofs.lemmas.stored.StoredFaults.{stored_least, stored_least_table, stored_none}
 use Rattle.catalog_core.proofs.lemmas.change.RowFacts.{table_named}

@@ -1,4 +1,4 @@
-use Rattle.std.proofs.Common.{sym, ◌∙◌}
+use Rattle.std.proofs.Common.{◌∙◌}
 use Rattle.sql_statements.specs.Plain.{plain_condition}
 use Rattle.catalog_core.proofs.lemmas.stored.StoredNumbers.{tests_placed}
 use Rattle.catalog_core.proofs.stored.tests.number_stored_where.Goals as goal
