@@ -8,7 +8,7 @@ use Rattle.period_core.specs.declared.refusal.Refusal.{Refusal}
 use Rattle.snapshot_audit.specs.declared.verdict.Verdict.{Verdict}
 use Rattle.snapshot_audit.specs.declared.verdict.Verdict.TheVariants.{Agrees, Differs, BadWitness}
 use Rattle.script_engine.specs.declared.entry.Entry.{Entry}
-use Rattle.script_engine.specs.script.Audits.{IsAuditedRunOf}
+use Rattle.script_engine.specs.script.AuditedRuns.{IsAuditedRunOf}
 use Rattle.script_engine.specs.script.Check.{IsCheckOf}
 use Rattle.script_engine.specs.report.AuditedReport.{audited_report}
 use Rattle.script_engine.specs.report.CheckReport.{check_text}

@@ -3,7 +3,7 @@
 
 ghost use Rattle.std.specs.Prelude.{◌≡◌, ◌≢◌, ◌≤◌, IfErr, IfOk};
 ghost use Rattle.std.specs.Io.KnownBytes.{Keeps};
-ghost use Rattle.script_engine.specs.script.Audits.{IsAuditedRunOf};
+ghost use Rattle.script_engine.specs.script.AuditedRuns.{IsAuditedRunOf};
 ghost use Rattle.script_engine.specs.script.Check.{IsCheckOf};
 ghost use Rattle.script_engine.specs.script.Script.{IsRunOf};
 ghost use Rattle.bitemporal_cli.specs.Program.{AreOfReader, EndsWell, IsOfReport, MayEndIn};

@@ -20,7 +20,7 @@ use Rattle.snapshot_audit.specs.Verdicts.{IsFirstDifference, IsVerdict}
 use Rattle.snapshot_audit.specs.declared.verdict.Verdict.{Verdict}
 use Rattle.snapshot_audit.specs.declared.verdict.Verdict.TheVariants.{Agrees, BadWitness, Differs}
 use Rattle.script_engine.specs.Headline.{IsSequencedAnswer}
-use Rattle.script_engine.specs.script.Audits.{AreSeen, AuditsAgree, IsAgreement}
+use Rattle.script_engine.specs.engine.Audits.{AreSeen, AuditsAgree, IsAgreement}
 use Rattle.script_engine.proofs.AnswerLaws.{certified}
 
 -- each row has its witness in its place

@@ -25,6 +25,7 @@ mod LeftSteps
 mod NewStore
 mod Openings
 mod AuditLaws
+mod Audited
 mod AuditedSteps
 pub mod AppendFacts
 pub mod AuditedExamples

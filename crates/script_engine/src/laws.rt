@@ -3,7 +3,7 @@
 
 ghost use Rattle.script_engine.specs.Laws.{AnswersAreUnique, AnswersMapOneToOne};
 ghost use Rattle.script_engine.specs.Laws.{SameSnapshotsSameAnswers};
-ghost use Rattle.script_engine.specs.script.Audits.{AuditsAgree};
+ghost use Rattle.script_engine.specs.engine.Audits.{AuditsAgree};
 
 /// A list with the same snapshots has a row of its own for each row of an answer, of the same
 /// values and first day. So no such list is shorter.

@@ -2,7 +2,7 @@ use Rattle.std.proofs.Common.{◌∙◌, ℕ, List, inl, refl, subst}
 use Rattle.std.proofs.lemmas.Option.{IfSome_then}
 use Rattle.sqlite.proofs.Callers.{memory_is_clean}
 use Rattle.history_model.specs.Histories.{new_database, opened}
-use Rattle.script_engine.specs.script.Audits.{IsAuditedRunOf}
+use Rattle.script_engine.specs.script.AuditedRuns.{IsAuditedRunOf}
 use Rattle.script_engine.specs.script.Script.{MayRefuseRun}
 use Rattle.bitemporal_cli.proofs.tool.audited_results.Goals as goal
 
