@@ -1,5 +1,5 @@
 -- An answer over the rows that a query's references see is one in the history.
-use Rattle.std.proofs.Common.{◌≡◌, ◌↔◌, ◌==◌, ◌+◌, ◌++◌, ◌∷◌, ◌∙◌, ℕ, ℤ, true, List, [], append_assoc, eqb-true, length, map, refl, sym, ap, subst, inl, inr, arith, length-append}
+use Rattle.std.proofs.Common.{◌≡◌, ◌↔◌, ◌&&◌, ◌==◌, ◌+◌, ◌++◌, ◌∷◌, ◌∙◌, ℕ, ℤ, true, List, [], append_assoc, eqb-true, length, map, refl, sym, ap, subst, inl, inr, arith, length-append}
 use Rattle.std.specs.Prelude.{slice_index_or}
 use Rattle.std.specs.List.{AllZip, Contains}
 use Rattle.std.proofs.lemmas.Bool.{and_parts}
@@ -20,8 +20,26 @@ use Rattle.history_model.specs.Histories.{History}
 use Rattle.history_model.specs.OrdinaryQuery.{HistorySights, InAnswerOn, InAnswerOver, TableSights}
 use Rattle.history_model.proofs.Sights.{SeeAlike, query_seen}
 use Rattle.sequenced_ops.specs.Operations.{SnapshotsAre}
+use Rattle.sqlite.specs.Store.{Ghosts}
+use Rattle.period_keys.specs.Rows.{RowsByKey}
+use Rattle.version_store.specs.StoreState.{IsOnlyRead, IsUsable, StoreState}
 use Rattle.script_engine.specs.Headline.{IsSequencedAnswer}
 use Rattle.script_engine.specs.engine.Answering.{AreSeenBy, EachSees}
+use Rattle.script_engine.specs.engine.EngineState.{engine_of}
+use Rattle.script_engine.specs.engine.Stored.{EngineRepresents}
+use Rattle.script_engine.proofs.Loaded.{represents_still}
+
+-- ---- the engine
+
+-- what an engine represents it goes on representing where its store is only read
+pub engine_still : {S : Type 0} (g : Ghosts S) (history : History) (old new : StoreState S) (tables : List RowsByKey) → IsOnlyRead g old new → IsUsable g new.connection → EngineRepresents g history (engine_of old tables) →
+    EngineRepresents g history (engine_of new tables)
+engine_still g history old new tables read usable kept = record {
+  contents = kept.contents;
+  stored = represents_still g old new kept.contents read usable kept.stored;
+  said = kept.said;
+  current = kept.current;
+}
 
 -- ---- lists
 
@@ -63,7 +81,8 @@ in_its_place history (first ∷ references) before (rows ∷ lists) placed each 
 pub sees_alike : (history : History) (query : Query) (tables : List (List PeriodRow)) → fits query tables ≡ true → EachSees history (references_of query) tables → (day : ℤ) →
     SeeAlike (TableSights tables day) (HistorySights history day) (references_of query)
 sees_alike history query tables fit each day reference among values =
-    let (placed, more) = and_parts (are_in_place 0 (references_of query)) ((length tables == length (references_of query)) && list_all (sees_its_kinds tables) (references_of query)) fit in
+    let (counted, kinds) = and_parts (are_in_place 0 (references_of query) && (length tables == length (references_of query))) (list_all (sees_its_kinds tables) (references_of query)) fit in
+    let (placed, long) = and_parts (are_in_place 0 (references_of query)) (length tables == length (references_of query)) counted in
     in_its_place history (references_of query) [] tables placed each reference among day values
 
 -- ---- answers

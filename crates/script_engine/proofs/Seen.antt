@@ -31,14 +31,14 @@ use Rattle.script_engine.proofs.PlanFacts.{filtered_twice, seen_rows}
 
 -- the current rows in memory
 pub current_seen : (c : Contents) (tables : List RowsByKey) (number : ℕ) (rows : List PeriodRow) → HaveCurrentRows c tables → rows ≡ map row_of (rows_in tables number) → AreRowsSeen c number Now rows
-current_seen c tables number rows current are = record { versions = rows_in tables number; all = current.rows number; rows = are }
+current_seen c tables number rows current are = record { versions = rows_in tables number; all = current.rows number; made = are }
 
 -- a window that sees no version
 pub none_seen : (c : Contents) (table : ℕ) (window : Window) (rows : List PeriodRow) → ((from to : ℤ) → window_sees window from to ≡ false) → rows ≡ [] → AreRowsSeen c table window rows
 none_seen c table window rows blind none =
     let sees : TableVersion → Bool = λ v. window_sees window v.from v.to in
     let empty : seen_of table window c.versions ≡ [] = filter_none sees (of_table table c.versions) (all_of (λ (v : TableVersion). sees v ≡ false) (λ v. blind v.from v.to) (of_table table c.versions)) in
-    record { versions = []; all = subst (λ (l : List TableVersion). IsPermutation l []) (sym empty) (IsPermutation-refl []); rows = none }
+    record { versions = []; all = subst (λ (l : List TableVersion). IsPermutation l []) (sym empty) (IsPermutation-refl []); made = none }
 
 -- what the visitor of a scan makes of one version more
 abbrev pub seen_next : List PeriodRow → VersionRow → List PeriodRow
@@ -57,7 +57,7 @@ scanned_seen c table window old new x none visits =
     record {
       versions = versions;
       all = subst (IsPermutation (seen_of table window c.versions)) (append-nil (map (version_in table) versions)) first.all;
-      rows = visits.3 ∙ ap (λ (l : List PeriodRow). fold seen_next l versions) none ∙ seen_each [] versions;
+      made = visits.3 ∙ ap (λ (l : List PeriodRow). fold seen_next l versions) none ∙ seen_each [] versions;
     }
 
 -- ---- what the window sees is what the reference sees
@@ -92,7 +92,7 @@ rows_seen_hold history c table window rows said seen day values =
     let versions : IsPermutation (filter sees holds.rows) seen.versions = seen_rows table window c.versions holds.rows seen.versions holds.all seen.all in
     let along : IsPermutation (values_on ours day) (values_on (map row_of seen.versions) day) =
     values_along ours (map row_of seen.versions) day (IsPermutation-map row_of (filter sees holds.rows) seen.versions versions) in
-    let same : IsPermutation whole here = subst (λ (l : List PeriodRow). IsPermutation whole (values_on l day)) (sym seen.rows) (subst (λ (l : List (List Value)). IsPermutation l (values_on (map row_of seen.versions) day)) (seen_values window holds.rows day) along) in
+    let same : IsPermutation whole here = subst (λ (l : List PeriodRow). IsPermutation whole (values_on l day)) (sym seen.made) (subst (λ (l : List (List Value)). IsPermutation l (values_on (map row_of seen.versions) day)) (seen_values window holds.rows day) along) in
     let (there, back) =
         seen_at_moments c.clock holds.rows said.is_clock.1 (recorded_rows c table holds.rows said.recorded holds.all) day (λ moment. state_at history moment table day)
         (λ moment before. left_hold history table holds.rows said.order holds.left moment day before) window values in (

@@ -21,7 +21,7 @@ pub record AreRowsSeen (c : Contents) (table : ℕ) (window : Window) (rows : Li
   where
     pub versions : List VersionRow
     pub all : IsPermutation (seen_of table window c.versions) (map (version_in table) versions)
-    pub rows : rows ≡ map row_of versions
+    pub made : rows ≡ map row_of versions
 
 -- on each day the rows hold what the reference sees through its window in the history
 abbrev pub AreSeenBy : History → QueryReference → List PeriodRow → Type 0

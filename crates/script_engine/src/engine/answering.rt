@@ -44,6 +44,17 @@ struct SeenRows {
     rows: Vec<PeriodRow>,
 }
 
+impl SeenRows {
+    /// No rows so far.
+    fn new(alloc: Global) -> SeenRows
+        ensures { result.rows.items ≡ [] }
+    {
+        SeenRows {
+            rows: Vec::new(alloc),
+        }
+    }
+}
+
 // A version is refused where there is no memory for it.
 impl RowVisitor for SeenRows {
     ghost Meaning = { List Row };
@@ -104,8 +115,8 @@ fn current_rows(
 }
 
 /// Whether a window sees no version, whatever its system time.
-fn is_blind(window: Window) -> bool
-    ensures { result ≡ true → (from to : ℤ) → window_sees window from to ≡ false }
+fn is_blind(window: &Window) -> bool
+    ensures { result ≡ true → (from to : ℤ) → window_sees window.now from to ≡ false }
 {
     match window {
         Window::Now | Window::AsOf(_) => false,
@@ -114,26 +125,25 @@ fn is_blind(window: Window) -> bool
     }
 }
 
-/// The rows of the table of a number that a window sees. A window that sees nothing reads nothing.
+/// The rows of a reference's table that its window sees, read from the store. Where the window sees
+/// no version nothing is read.
 fn scanned_rows<S: Alter>(
     alloc: Global,
     store: &mut VersionStore<S>,
-    number: u8,
-    window: Window,
+    reference: &QueryReference,
 ) -> Result<Vec<PeriodRow>, Refusal>
     ensures seen { IsUsable S.Store store.new.connection
         → (c : Contents) → StoreRepresents S.Store store.old c
-        → IfOk result (λ rows. AreRowsSeen c number window rows.items) }
+        → IfOk result (λ rows.
+        AreRowsSeen c reference.now.table reference.now.window rows.items) }
     ensures read { IsOnlyRead S.Store store.old store.new }
     ensures named { IfErr result IsStoreRefusal }
 {
-    let mut seen = SeenRows {
-        rows: Vec::new(alloc),
-    };
-    if is_blind(window) {
-        return Ok(seen.rows);
+    if is_blind(&reference.window) {
+        return Ok(Vec::new(alloc));
     }
-    match store.scan(alloc, number, window, &mut seen) {
+    let mut seen = SeenRows::new(alloc);
+    match store.scan(alloc, reference.table, reference.window, &mut seen) {
         Ok(()) => Ok(seen.rows),
         Err(refusal) => Err(refusal),
     }
@@ -159,7 +169,7 @@ fn seen_by<S: Alter>(
             Ok(rows) => Ok(Items::from_vec(rows)),
             Err(_) => Err(Refusal::Memory),
         },
-        window => match scanned_rows(alloc, store, reference.table, window) {
+        _ => match scanned_rows(alloc, store, reference) {
             Ok(rows) => Ok(Items::from_vec(rows)),
             Err(refusal) => Err(refusal),
         },

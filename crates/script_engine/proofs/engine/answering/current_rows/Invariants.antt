@@ -1,7 +1,9 @@
 use Rattle.std.proofs.Common.{◌≡◌, ◌++◌, map}
 use Rattle.history_model.specs.Versions.{row_of}
 use Rattle.period_keys.specs.Rows.{rows_of_lists}
+use Rattle.script_engine.specs.engine.InMemory.{rows_in}
 use Rattle.script_engine.proofs.engine.answering.current_rows.Given as goal
 
 abbrev pub invariant-loop-group : goal.invariant-loop-group
-invariant-loop-group l = map row_of l.current.rows ≡ l.rows.items ++ map row_of (rows_of_lists l.group-iterator)
+invariant-loop-group l =
+    map row_of (rows_in l.tables l.number) ≡ l.rows.items ++ map row_of (rows_of_lists l.group-iterator)
