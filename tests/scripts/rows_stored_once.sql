@@ -1,4 +1,4 @@
--- A store keeps one version of a row: the same values and first day from the same moment are 62.
+-- A row that is there already is 42: at the moment of its insertion, beside another, and later.
 CREATE TABLE EMP (ENO INTEGER, DEPT INTEGER, S DATE, E DATE,
  SS TIMESTAMP(12) GENERATED ALWAYS AS ROW START,
  SE TIMESTAMP(12) GENERATED ALWAYS AS ROW END,

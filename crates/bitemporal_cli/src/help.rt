@@ -32,7 +32,7 @@ A refusal has a number and a name. docs/PROFILE.md lists them all.";
 
 /// The refusals with their causes, a line each, below the statuses in the program's own help.
 pub const REFUSALS: &str = "\
-Refusals (this version does not give those marked *):
+Refusals:
    1 NotUtf8          the script is not UTF-8
    2 ScriptTooLarge   the script has more than 4,194,304 bytes
    3 BadToken         no token begins at the byte that is named, or a text begins and has no end
@@ -54,8 +54,8 @@ Refusals (this version does not give those marked *):
   31 TextTooLong      a text has more characters than its column takes
   40 MomentBack       AT names a moment before the clock
   41 EmptyPeriod      the start of a period is not before its end
-  42 KeyOverlap       two rows have one key on one day *
-  43 PeriodReference  a child row has no parent row on some day *
-  60 BadStore         the database holds no store of this program *
+  42 KeyOverlap       two rows have one key on one day
+  43 PeriodReference  a child row has no parent row on some day
+  60 BadStore         the database holds no store of this program
   61 Memory           out of memory
   62 Store            the database refused for another cause";

@@ -1,21 +1,16 @@
 -- The periods of each key are apart where no two rows clash.
-use Rattle.std.proofs.Common.{◌≡◌, ◌≤ℤ◌, ◌<ℤ◌, ◌∙◌, ℕ, ℤ, Bool, true, false, cond, Option, Some, None, List, [], ◌∷◌, length, map, get_or, refl, sym, subst, inl, inr, arith}
-use Rattle.std.specs.BTreeMap.{get}
-use Rattle.std.specs.Option.{option_map_or}
+use Rattle.std.proofs.Common.{◌≡◌, ◌≤ℤ◌, ◌<ℤ◌, ◌∙◌, ℕ, ℤ, Bool, true, false, cond, List, [], ◌∷◌, length, map, get_or, refl, sym, subst, inl, inr, arith}
 use Rattle.std.specs.List.{filter}
 use Rattle.std.proofs.lemmas.Int.{ints, by_lt_z}
 use Rattle.std.proofs.lemmas.List.{get_or_default, get_or-map, length-map}
-use Rattle.period_core.specs.Order.{values_cmp}
 use Rattle.period_core.specs.OrderLaws.{values_eq}
 use Rattle.period_core.specs.declared.value.Value.{Value}
 use Rattle.period_core.specs.declared.period.Period.{Period}
 use Rattle.period_core.specs.declared.row.PeriodRow.{PeriodRow}
 use Rattle.temporal_model.proofs.Members.{Contains-here, Contains-one}
-use Rattle.period_keys.specs.declared.keyed_periods.KeyedPeriods.{KeyedPeriods}
-use Rattle.period_keys.specs.declared.ordered_periods.OrderedPeriods.{OrderedPeriods}
 use Rattle.period_keys.specs.Keys.{BothHold, HasNoClash, ShareKeyOn, SomePair, key_values}
 use Rattle.period_keys.specs.Ordered.{AreApart, AreInOrder}
-use Rattle.period_keys.specs.Index.{AreAtKeys, has_key, periods_at, periods_of_key}
+use Rattle.period_keys.specs.Index.{AreAtKeys, has_key, periods_of_key}
 use Rattle.period_keys.proofs.Members.{from_filter}
 use Rattle.period_keys.proofs.Locality.{period_of}
 use Rattle.period_keys.proofs.Pairs.{SomePair-append, SomePair-cross, SomePair-nil, SomePair-one, SomePair-permutation, SomePair-right}

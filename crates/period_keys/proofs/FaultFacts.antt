@@ -1,8 +1,8 @@
 -- The least faulty days of a plan, by the rows that stand after it.
-use Rattle.std.proofs.Common.{◌≡◌, ◌⊎◌, ◌==◌, ◌++◌, ◌∙◌, ℕ, ℤ, Bool, true, false, List, Some, None, ap, arith, cond, inl, inr, map, not, refl, subst, sym}
-use Rattle.std.specs.Prelude.{◌↔◌, Contains, IsPermutation, Option, filter}
+use Rattle.std.proofs.Common.{◌≡◌, ◌==◌, ◌++◌, ℕ, ℤ, Bool, true, false, List, Some, ap, arith, cond, map, not, refl, subst, sym}
+use Rattle.std.specs.Prelude.{IsPermutation, Option, filter}
 use Rattle.std.proofs.lemmas.List.{map-append}
-use Rattle.std.proofs.lemmas.List.Sorted.{IsPermutation-append_right, IsPermutation-filter_both, IsPermutation-map, IsPermutation-refl, IsPermutation-sym, IsPermutation-trans}
+use Rattle.std.proofs.lemmas.List.Sorted.{IsPermutation-filter_both, IsPermutation-map, IsPermutation-refl, IsPermutation-sym, IsPermutation-trans}
 use Rattle.period_core.specs.declared.row.PeriodRow.{PeriodRow}
 use Rattle.period_core.specs.declared.value.Value.{Value}
 use Rattle.period_core.specs.declared.version.VersionRow.{VersionRow}
@@ -17,10 +17,9 @@ use Rattle.catalog_core.specs.declared.table.TableDef.{TableDef}
 use Rattle.history_model.specs.Effects.{rows_after}
 use Rattle.history_model.specs.Histories.{State}
 use Rattle.history_model.specs.Versions.{row_of}
-use Rattle.portion_dml.specs.Plans.{AreLeftCurrent, HaveEffect, Plans}
+use Rattle.portion_dml.specs.Plans.{AreLeftCurrent, HaveEffect}
 use Rattle.portion_dml.proofs.Daily.{daily}
-use Rattle.period_keys.specs.Days.{ShareKey}
-use Rattle.period_keys.specs.Faults.{IsPlanned, IsReferredTo, RefersToOther}
+use Rattle.period_keys.specs.Faults.{IsPlanned}
 use Rattle.period_keys.specs.Keys.{HasNoClash, IsEachCovered, IsKeyClash, IsLeastOf, IsUncovered, values_at}
 use Rattle.period_keys.specs.Lawful.{HoldsTable, IsKeyFault, IsKeyOf, IsLawfulState, LacksParentBy, Refers, key_positions, own_positions, parent_positions, state_after}
 use Rattle.period_keys.specs.Planned.{IsPlanOf}
@@ -34,6 +33,12 @@ use Rattle.period_keys.proofs.PlanParts.{touched}
 -- the rows that a plan leaves, of those in its order
 abbrev untouched : Action → List VersionRow → List VersionRow
 untouched action rows = filter (λ (v : VersionRow). not (touched action v)) rows
+
+-- rows in another order hold the same on each day
+pub shown_moved : (day : ℤ) (xs ys : List PeriodRow) → IsPermutation xs ys → IsPermutation (values_on xs day) (values_on ys day)
+shown_moved day xs ys moved =
+    let on_day : PeriodRow → Bool = λ (row : PeriodRow). covers_day row.period.start row.period.end day in
+    IsPermutation-map (λ (row : PeriodRow). row.values) (filter on_day xs) (filter on_day ys) (IsPermutation-filter on_day xs ys moved)
 
 -- the rows that stay, and those that go
 pub split_of : (action : Action) (current : List VersionRow) (plan : Plan) → IsPlanOf action current plan → (stay : List VersionRow) × IsPermutation current (plan.ended ++ stay) × HaveEffect action (map row_of current) (map row_of stay ++ plan.added)
@@ -51,11 +56,6 @@ split_of action current plan planned =
           (rows_moved action day (values_on (map row_of listed) day) (values_on (map row_of current) day)
           (shown_moved day (map row_of listed) (map row_of current) (IsPermutation-sym (map row_of current) (map row_of listed) (IsPermutation-map row_of current listed planned.are_rows)))),
     )
-  where
-    shown_moved : (day : ℤ) (xs ys : List PeriodRow) → IsPermutation xs ys → IsPermutation (values_on xs day) (values_on ys day)
-    shown_moved day xs ys moved =
-        let on_day : PeriodRow → Bool = λ (row : PeriodRow). covers_day row.period.start row.period.end day in
-        IsPermutation-map (λ (row : PeriodRow). row.values) (filter on_day xs) (filter on_day ys) (IsPermutation-filter on_day xs ys moved)
 
 -- no two rows of a lawful state's table clash
 pub no_clash : (catalog : List TableDef) (before : State) (table : ℕ) (def : TableDef) (rows : List PeriodRow) → IsLawfulState catalog before → table_of catalog table ≡ Some def → HoldsTable rows before table → HasNoClash (key_positions def) rows
@@ -79,7 +79,7 @@ least_key_fault catalog before change positions current plan found (def, is, at)
 -- ---- references
 
 -- the changed table's rows after the plan hold its state after the change
-holds_after : (before : State) (change : Change) (rows after : List PeriodRow) → HoldsTable rows before change.table → HaveEffect change.action rows after → HoldsTable after (state_after change before) change.table
+pub holds_after : (before : State) (change : Change) (rows after : List PeriodRow) → HoldsTable rows before change.table → HaveEffect change.action rows after → HoldsTable after (state_after change before) change.table
 holds_after before change rows after holds effect day =
     subst (IsPermutation (values_on after day)) (sym (ap (λ b. cond b (rows_after change.action day (before change.table day)) (before change.table day)) (itself change.table)))
     (IsPermutation-trans (values_on after day) (rows_after change.action day (values_on rows day)) (rows_after change.action day (before change.table day)) (effect day)
@@ -89,7 +89,7 @@ holds_after before change rows after holds effect day =
     itself n = grind arith
 
 -- another table's rows hold it too
-holds_still : (before : State) (change : Change) (table : ℕ) (rows : List PeriodRow) → (table ≡ change.table → ⊥) → HoldsTable rows before table → HoldsTable rows (state_after change before) table
+pub holds_still : (before : State) (change : Change) (table : ℕ) (rows : List PeriodRow) → (table ≡ change.table → ⊥) → HoldsTable rows before table → HoldsTable rows (state_after change before) table
 holds_still before change table rows other holds day =
     subst (IsPermutation (values_on rows day)) (sym (ap (λ b. cond b (rows_after change.action day (before table day)) (before table day)) (apart table change.table other))) (holds day)
   where
@@ -101,7 +101,7 @@ holds_still before change table rows other holds day =
         by_test false e = e
 
 -- all children are covered in a lawful state
-covered : (catalog : List TableDef) (before : State) (number : ℕ) (child : TableDef) (reference : Reference) (parent : TableDef) (children parents : List PeriodRow)
+pub covered : (catalog : List TableDef) (before : State) (number : ℕ) (child : TableDef) (reference : Reference) (parent : TableDef) (children parents : List PeriodRow)
     → IsLawfulState catalog before → Refers catalog number child reference parent → HoldsTable children before number → HoldsTable parents before reference.parent
     → IsEachCovered (own_positions child reference) children (parent_positions parent reference) parents
 covered catalog before number child reference parent children parents lawful refers below above day alone =

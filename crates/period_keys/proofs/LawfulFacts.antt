@@ -1,6 +1,6 @@
 -- The faults of a change among the period rows that stand after it.
-use Rattle.std.proofs.Common.{◌≡◌, ◌⊎◌, ◌==◌, ◌∙◌, ℕ, ℤ, Bool, true, false, List, Some, None, ap, arith, cond, inl, inr, refl, subst, sym}
-use Rattle.std.specs.Prelude.{◌↔◌, Contains, IsPermutation, Option, unwrap_or}
+use Rattle.std.proofs.Common.{◌≡◌, ◌⊎◌, ◌==◌, ◌∙◌, ℕ, ℤ, Bool, true, false, List, Some, ap, arith, cond, inl, inr, refl, subst, sym}
+use Rattle.std.specs.Prelude.{◌↔◌, IsPermutation, Option, unwrap_or}
 use Rattle.std.proofs.lemmas.List.Sorted.{Contains-permutation, IsPermutation-refl, IsPermutation-sym}
 use Rattle.period_core.specs.declared.row.PeriodRow.{PeriodRow}
 use Rattle.period_core.specs.declared.value.Value.{Value}
@@ -14,12 +14,11 @@ use Rattle.history_model.specs.Histories.{State}
 use Rattle.portion_dml.specs.Plans.{HaveEffect}
 use Rattle.period_keys.specs.Days.{LacksParent, ShareKey}
 use Rattle.period_keys.specs.Keys.{HasNoClash, IsKeyClash, IsUncovered}
-use Rattle.period_keys.specs.Lawful.{HoldsTable, IsKeyFault, IsLawfulChange, IsLawfulState, IsUnreferred, LacksParentBy, OriginsShareKey, Refers, key_positions, own_positions, parent_positions, state_after}
+use Rattle.period_keys.specs.Lawful.{HoldsTable, IsKeyFault, IsLawfulChange, IsLawfulState, LacksParentBy, OriginsShareKey, Refers, key_positions, own_positions, parent_positions, state_after}
 use Rattle.period_keys.proofs.ByDays.{clashes_of_days, uncovered_of_days}
-use Rattle.period_keys.proofs.Origins.{of_origins, origins_moved, rows_moved, traced_moved}
-use Rattle.period_keys.proofs.Pairs.{SomePair-permutation}
+use Rattle.period_keys.proofs.Origins.{of_origins, origins_moved, traced_moved}
 
-definition_is : (x y : TableDef) → Some x ≡ Some y → x ≡ y
+pub definition_is : (x y : TableDef) → Some x ≡ Some y → x ≡ y
 definition_is x y e = ap (λ (o : Option TableDef). unwrap_or o x) e
 
 pub faults_of_clashes :

@@ -19,8 +19,14 @@ pub mod VersionKeys
 pub mod Fixed
 pub mod PlanParts
 pub mod FaultFacts
+pub mod ReferenceFacts
+pub mod TableLists
+pub mod CurrentFacts
+pub mod Earlier
+pub mod StateFacts
 pub mod Partly
 pub mod Touched
 pub mod Covered
 mod KeyExamples
 mod LawfulExamples
+mod CurrentExamples

@@ -1,5 +1,5 @@
 -- Loops that take out the rows of a list one after another, or add them.
-use Rattle.std.proofs.Common.{◌≡◌, ◌<◌, ◌≤◌, ◌+◌, ◌++◌, ◌∷◌, [], ◌∙◌, ℕ, zero, suc, List, length, drop, take, get_or, map, refl, sym, ap, subst, arith}
+use Rattle.std.proofs.Common.{◌≡◌, ◌<◌, ◌≤◌, ◌+◌, ◌∷◌, [], ◌∙◌, ℕ, zero, suc, List, length, drop, take, get_or, map, refl, sym, ap, arith}
 use Rattle.std.proofs.lemmas.List.{drop_more, get_or-map, get_or-take, length-take-le}
 
 -- what was worked out for an element

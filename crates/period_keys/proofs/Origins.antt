@@ -1,15 +1,13 @@
 -- Traced rows: at two places they have two origins, where the day's rows differ; in another order they are the same ones.
-use Rattle.std.proofs.Common.{◌≡◌, ◌⊎◌, ◌+◌, ◌<◌, ◌≤◌, ◌++◌, ◌∷◌, ◌∙◌, ℕ, ℤ, Bool, true, false, List, [], ap, arith, cond, get_or, inl, inr, length, map, not, refl, subst, sym}
+use Rattle.std.proofs.Common.{◌≡◌, ◌+◌, ◌<◌, ◌≤◌, ◌∷◌, ◌∙◌, ℕ, ℤ, Bool, List, [], ap, arith, get_or, inl, inr, length, map, not, subst, sym}
 use Rattle.std.specs.Prelude.{◌↔◌, Contains, IsPermutation, filter}
 use Rattle.std.specs.List.{enumerate_from}
 use Rattle.std.proofs.lemmas.Bool.{cases_lt}
 use Rattle.std.proofs.lemmas.List.{get_or_default}
 use Rattle.std.proofs.lemmas.List.Sorted.{Contains-permutation, IsPermutation-append_left, IsPermutation-map, IsPermutation-sym}
-use Rattle.period_core.specs.declared.row.PeriodRow.{PeriodRow}
 use Rattle.period_core.specs.declared.value.Value.{Value}
 use Rattle.temporal_model.proofs.Members.{Contains-cons_cases, Contains-nil, Contains-one}
 use Rattle.temporal_model.proofs.Rearranged.{IsPermutation-filter}
-use Rattle.temporal_model.specs.Snapshot.{values_on}
 use Rattle.catalog_core.specs.declared.change.Action.{Action}
 use Rattle.catalog_core.specs.declared.change.Action.TheVariants.{Delete, Insert, Update}
 use Rattle.catalog_core.specs.declared.change.GivenRow.{GivenRow}

@@ -1,7 +1,9 @@
 -- What is known as a plan is judged: the state before it, and which rows hold it.
-use Rattle.std.specs.Prelude.{◌≡◌, ℕ, List, map}
+use Rattle.std.specs.Prelude.{◌≡◌, ℕ, ℤ, List, Some, map}
+use Rattle.std.specs.List.{Any}
 use Rattle.period_core.specs.declared.row.PeriodRow.{PeriodRow}
 use Rattle.period_core.specs.declared.version.VersionRow.{VersionRow}
+use Rattle.catalog_core.specs.table.TableWords.{table_of}
 use Rattle.catalog_core.specs.declared.change.Change.{Change}
 use Rattle.catalog_core.specs.declared.change.Plan.{Plan}
 use Rattle.catalog_core.specs.declared.table.Reference.{Reference}
@@ -10,9 +12,10 @@ use Rattle.history_model.specs.Histories.{State}
 use Rattle.history_model.specs.Versions.{row_of}
 use Rattle.period_keys.specs.Index.{IsIndexOf}
 use Rattle.period_keys.specs.declared.keyed_periods.KeyedPeriods.{KeyedPeriods}
-use Rattle.period_keys.specs.Keys.{HasNoClash}
-use Rattle.period_keys.specs.Lawful.{HoldsTable, IsLawfulState, Refers, own_positions}
-use Rattle.period_keys.specs.Lawful.{parent_positions}
+use Rattle.period_keys.specs.Current.{HoldCurrent, ReferToEarlier, rows_by_key}
+use Rattle.period_keys.specs.Lawful.{HoldsTable, IsLawfulState, LacksParentBy, Refers}
+use Rattle.period_keys.specs.Lawful.{own_positions, parent_positions, state_after}
+use Rattle.period_keys.specs.TableRows.{TableRows}
 use Rattle.period_keys.specs.Planned.{IsPlanOf}
 
 -- the plan is that of a change over its table's current rows, which hold a lawful state
@@ -33,7 +36,7 @@ pub record RefersToOther (catalog : List TableDef) (before : State) (change : Ch
   pub indexed : IsIndexOf (parent_positions parent reference) above parents
 
 -- another table refers to the changed one: its rows are in one index by its own columns, those of
--- the changed one in another by the columns referred to, by which no two share a day
+-- the changed one in another by the columns referred to
 pub record IsReferredTo (catalog : List TableDef) (before : State) (change : Change)
     (current : List VersionRow) (number : ℕ) (child : TableDef) (reference : Reference)
     (parent : TableDef) (children parents : KeyedPeriods) : Type 0 where
@@ -44,4 +47,26 @@ pub record IsReferredTo (catalog : List TableDef) (before : State) (change : Cha
   pub holds : HoldsTable below before number
   pub children_indexed : IsIndexOf (own_positions child reference) below children
   pub parents_indexed : IsIndexOf (parent_positions parent reference) (map row_of current) parents
-  pub distinct : HasNoClash (parent_positions parent reference) (map row_of current)
+
+-- ---- all references
+
+-- the change is planned over rows in memory, which hold a lawful state
+pub record IsPlannedIn (catalog : List TableDef) (before : State) (tables : List TableRows)
+    (change : Change) (plan : Plan) : Type 0 where
+  pub earlier : ReferToEarlier catalog
+  pub lawful : IsLawfulState catalog before
+  pub holds : HoldCurrent catalog before (map rows_by_key tables)
+  pub planned :
+      (table : TableRows) → table_of tables change.table ≡ Some table
+      → IsPlanOf change.action table.rows plan
+
+-- on the day the change leaves a row of this table without its parent by this reference
+abbrev pub IsFaultBy : List TableDef → State → Change → ℕ → TableDef → ℤ → Reference → Type 0
+IsFaultBy catalog before change number child day reference =
+    (parent : TableDef) × (table_of catalog reference.parent ≡ Some parent)
+    × LacksParentBy (state_after change before) number child reference parent day
+
+-- the same by one of the table's references
+abbrev pub IsFaultOf : List TableDef → State → Change → ℕ → TableDef → ℤ → Type 0
+IsFaultOf catalog before change number child day =
+    Any (IsFaultBy catalog before change number child day) child.references

@@ -1,5 +1,5 @@
 -- Days of a period that no period of a list holds.
-use Rattle.std.specs.Prelude.{◌⊎◌, ℕ, ℤ, Contains, List}
+use Rattle.std.specs.Prelude.{ℕ, ℤ, List}
 use Rattle.std.specs.List.{Any}
 use Rattle.period_core.specs.declared.period.Period.{Period}
 use Rattle.period_core.specs.declared.row.PeriodRow.{PeriodRow}
@@ -21,8 +21,3 @@ LacksKeyOf own children parents day =
     Any
     (λ (child : PeriodRow). IsGap (periods_at parents (key_values own child)) child.period day)
     children
-
--- the period is one that does not go, or one that comes
-abbrev pub ThereAfter : List Period → List Period → List Period → Period → Type 0
-ThereAfter periods gone new period =
-    (Contains periods period × (Contains gone period → ⊥)) ⊎ Contains new period

@@ -10,7 +10,6 @@ use Rattle.period_core.specs.declared.period.Period.{Period}
 use Rattle.period_core.specs.declared.row.PeriodRow.{PeriodRow}
 use Rattle.period_keys.specs.declared.keyed_periods.KeyedPeriods.{KeyedPeriods}
 use Rattle.period_keys.specs.Keys.{BothHold, IsKeyClash, key_values}
-use Rattle.period_keys.specs.Ordered.{AreApart}
 
 -- the periods of a key
 abbrev pub periods_at : KeyedPeriods → List Value → List Period

@@ -1,8 +1,7 @@
 -- Lawful changes: on no day do two of a table's rows share its key, and each child row has its
 -- parent. The days on which a change would break either.
-use Rattle.std.specs.Prelude.{◌≡◌, ◌↔◌, ℕ, ℤ, List, Option, Some, Contains, IsPermutation}
+use Rattle.std.specs.Prelude.{◌≡◌, ℕ, ℤ, List, Some, Contains, IsPermutation}
 use Rattle.period_core.specs.declared.row.PeriodRow.{PeriodRow}
-use Rattle.period_core.specs.declared.value.Value.{Value}
 use Rattle.temporal_model.specs.Snapshot.{values_on}
 use Rattle.catalog_core.specs.table.TableWords.{table_of}
 use Rattle.catalog_core.specs.declared.change.Change.{Change}
@@ -76,6 +75,20 @@ pub record IsLawfulState (catalog : List TableDef) (state : State) : Type 0 wher
   pub keys : (table : ℕ) (def : TableDef) → table_of catalog table ≡ Some def → (day : ℤ)
       → ShareKey (key_positions def) (state table day) → ⊥
   pub references : (day : ℤ) → IsUnreferred catalog state day → ⊥
+
+-- each row of the child table has its parent by this reference
+abbrev pub IsCoveredBy : List TableDef → State → ℕ → TableDef → Reference → Type 0
+IsCoveredBy catalog state number child reference =
+    (parent : TableDef) → table_of catalog reference.parent ≡ Some parent → (day : ℤ)
+    → LacksParentBy state number child reference parent day → ⊥
+
+-- the same of one table: no two of its rows share its key, and each has its parents
+pub record IsLawfulTable (catalog : List TableDef) (state : State) (number : ℕ) (def : TableDef)
+    : Type 0 where
+  pub keys : (day : ℤ) → ShareKey (key_positions def) (state number day) → ⊥
+  pub references :
+      (reference : Reference) → Contains def.references reference
+      → IsCoveredBy catalog state number def reference
 
 -- the change has no fault on any day
 pub record IsLawfulChange (catalog : List TableDef) (before : State) (change : Change)

@@ -12,6 +12,7 @@ pub mod Lawful
 pub mod LawfulLaws
 pub mod FixedKeys
 pub mod Planned
-pub mod Faults
 pub mod PeriodIndexes
 pub mod TableRows
+pub mod Current
+pub mod Faults

@@ -1,7 +1,6 @@
 -- A table's current rows, with the positions by which they are looked up.
-use Rattle.std.specs.Prelude.{◌≡◌, ℕ, IsPermutation, List, map}
+use Rattle.std.specs.Prelude.{◌≡◌, ℕ, Contains, IsPermutation, List, map}
 use Rattle.period_core.specs.declared.row.PeriodRow.{PeriodRow}
-use Rattle.period_core.specs.declared.value.Value.{Value}
 use Rattle.period_core.specs.declared.version.VersionRow.{VersionRow}
 use Rattle.period_keys.specs.Keys.{key_values}
 use Rattle.period_keys.specs.PeriodIndexes.{AreKeysByEach}
@@ -19,6 +18,12 @@ pub record HasTableRows (wanted : List VersionRow) (old new : TableRows) : Type 
   pub positions : new.positions ≡ old.positions
   pub indexed : new.indexed ≡ old.indexed
   pub rows : IsPermutation new.rows wanted
+
+-- the second has the same rows, and at least the indexes of the first
+pub record HasMoreIndexes (old new : TableRows) : Type 0 where
+  pub positions : new.positions ≡ old.positions
+  pub rows : new.rows ≡ old.rows
+  pub indexed : (positions : List ℕ) → Contains old.indexed positions → Contains new.indexed positions
 
 -- these are the rows' keys by all of the table's positions
 pub record AreTouchedKeys (table : TableRows) (rows : List PeriodRow) (keys : TouchedKeys)

@@ -5,6 +5,7 @@ ghost use Rattle.std.specs.Prelude.{OnErr, OnOk, if◌then◌else◌};
 ghost use Rattle.std.specs.Bool.{OnFalse, OnTrue};
 ghost use Rattle.std.specs.Ordering.{eq_by_cmp};
 ghost use Rattle.period_core.specs.Order.{values_cmp};
+ghost use Rattle.period_core.specs.declared.period.Period.{Period as PeriodModel};
 ghost use Rattle.period_core.specs.declared.value.Value.{Value as ColumnValue};
 ghost use Rattle.period_keys.specs.Index.{periods_at};
 ghost use Rattle.period_keys.specs.Ordered.{AreInOrder};
@@ -12,7 +13,7 @@ ghost use Rattle.period_keys.specs.Ordered.{AreInOrder};
 use crate::ordered_periods::OrderedPeriods;
 use period_core::{Memory, Period, Values};
 use std::alloc::Global;
-use std::collections::BTreeMap;
+use std::collections::{BTreeMap, btree_map};
 
 /// For each key its periods, in the order of their starts. Contracts read them by `periods_at`.
 #[derive(Drop)]
@@ -39,6 +40,14 @@ impl KeyedPeriods {
             Some(periods) => periods.as_slice(),
             None => &[],
         }
+    }
+
+    /// The keys in ascending order, among them each that has a period.
+    pub fn keys(&self) -> btree_map::Keys<'_, Values, OrderedPeriods>
+        ensures { (key : List ColumnValue) (period : PeriodModel)
+            → Contains (periods_at self.now key) period → Contains result key }
+    {
+        self.entries.keys()
     }
 
     /// Adds a period to those of a key. The only error is out of memory, and changes nothing.

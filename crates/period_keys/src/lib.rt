@@ -6,7 +6,10 @@
 //!   and beside them their periods by the columns of references (`period_indexes`, `keyed_periods`).
 //!   `TableIndex` has both, and follows a change all or none. `planning` makes a change's plan of
 //!   the rows of the key that its condition fixes (`fixed_keys`), or of all.
-//! - A plan is judged by the rows that it touches (`faults`, by `clashes` and `references`).
+//! - A plan is judged by the rows that it touches (`faults`, by `clashes` and `references`), and by
+//!   all references of the catalog (`reference_faults`).
+//! - `table_list` keeps the rows of all tables with the indexes that references need, and
+//!   `lawful_states` judges them as a whole.
 //! - `specs/Lawful` says which changes are lawful, over the traced rows of a state. The laws that
 //!   make the judgement right are in `key_laws` and `lawful_laws`.
 #![tactic(auto)]
@@ -23,14 +26,17 @@ mod key_rows;
 mod keyed_periods;
 mod keys;
 mod lawful_laws;
+mod lawful_states;
 mod ordered_periods;
 mod period_indexes;
 mod planning;
 mod positions;
+mod reference_faults;
 mod references;
 mod shared_days;
 mod sweep;
 mod table_index;
+mod table_list;
 mod tables;
 
 pub use changes::{add_rows, apply_change, keys_of, take_rows};
@@ -45,8 +51,11 @@ pub use lawful_laws::{
     changes_break_their_own_references, key_faults_are_clashes, lacking_parents_are_uncovered,
     states_stay_lawful,
 };
+pub use lawful_states::is_lawful;
 pub use planning::plan_change;
 pub use positions::positions_of;
+pub use reference_faults::reference_fault;
 pub use references::{uncovered_by_children, uncovered_by_parents};
 pub use table_index::{TableIndex, TouchedKeys};
+pub use table_list::{add_table, tables_of};
 pub use tables::{key_clash, uncovered};

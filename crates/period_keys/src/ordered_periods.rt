@@ -1,7 +1,7 @@
 //! Periods in the order of their starts, so that a period meets its neighbours alone.
 
 ghost use Rattle.std.specs.Prelude.{◌≡◌, ◌↔◌, ◌<◌, ◌≤◌, ◌<ℤ◌, ◌≤ℤ◌, ◌++◌, ◌∷◌, []};
-ghost use Rattle.std.specs.Prelude.{Contains, IsPermutation, IsTrue, MatchOption, OnErr, OnOk};
+ghost use Rattle.std.specs.Prelude.{Contains, IfOk, IsPermutation, IsTrue, MatchOption, OnErr, OnOk};
 ghost use Rattle.std.specs.Prelude.{length, slice_index_or, ℕ};
 ghost use Rattle.std.specs.Bool.{OnFalse, OnTrue};
 ghost use Rattle.period_core.specs.declared.period.Period.{Period as PeriodModel};
@@ -25,6 +25,16 @@ impl OrderedPeriods {
         OrderedPeriods {
             items: Vec::new(alloc),
         }
+    }
+
+    /// A copy of periods that are in order. The only error is out of memory.
+    pub fn copy_of(alloc: Global, periods: &[Period]) -> Result<OrderedPeriods, Memory>
+        requires { AreInOrder periods.now }
+        ensures { IfOk result (λ copied. copied.items.items ≡ periods.now) }
+    {
+        let mut items = Vec::new(alloc);
+        items.extend_from_slice(periods)?;
+        Ok(OrderedPeriods { items })
     }
 
     /// The periods.

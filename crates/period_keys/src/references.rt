@@ -1,21 +1,20 @@
 //! The least day on which a child has no parent after a change, judged by the rows that the change
 //! touches.
 
-ghost use Rattle.std.specs.Prelude.{◌≡◌, ◌↔◌, ◌⊎◌, ◌++◌, ℕ, Contains, IfOk, IsPermutation};
-ghost use Rattle.std.specs.Prelude.{List, OnOk};
+ghost use Rattle.std.specs.Prelude.{◌++◌, ℕ, IfOk, IsPermutation, List};
 ghost use Rattle.std.specs.List.{Any};
 ghost use Rattle.period_core.specs.declared.period.Period.{Period as PeriodModel};
 ghost use Rattle.period_core.specs.declared.row.PeriodRow.{PeriodRow as Row};
-ghost use Rattle.period_keys.specs.Keys.{HasNoClash, IsEachCovered, IsLeastOf, IsUncovered};
+ghost use Rattle.period_keys.specs.Keys.{IsEachCovered, IsLeastOf, IsUncovered};
 ghost use Rattle.period_keys.specs.Index.{IsIndexOf};
-ghost use Rattle.period_keys.specs.Gaps.{IsGap, LacksKeyOf, ThereAfter};
+ghost use Rattle.period_keys.specs.Gaps.{IsGap, LacksKeyOf};
 ghost use Rattle.period_keys.specs.Ordered.{AreInOrder};
 
 use crate::clashes::index_of;
 use crate::gaps::first_gap;
 use crate::keyed_periods::KeyedPeriods;
 use crate::keys::key_of;
-use crate::ordered_periods::place_of;
+use crate::ordered_periods::OrderedPeriods;
 use crate::shared_days::earlier;
 use period_core::{Day, Memory, Period, PeriodRow};
 use std::alloc::Global;
@@ -75,63 +74,70 @@ pub fn uncovered_by_parents(
     ensures { IfOk result (λ found. (own : List ℕ) (below before stay : List Row)
         → IsIndexOf own below children.now
         → IsIndexOf keys.now before parents.now
-        → HasNoClash keys.now before
         → IsEachCovered own below keys.now before
         → IsPermutation before (ended.now ++ stay)
         → IsLeastOf (IsUncovered own below keys.now (stay ++ added.now)) found) }
 {
     let gone = index_of(alloc, keys, ended)?;
     let new = index_of(alloc, keys, added)?;
+    let found = uncovered_by_keys(alloc, parents, &gone, &new, children)?;
+    Ok(found)
+}
+
+// The same for indexes of the ended parents and of the added ones. Each key of an ended one is
+// judged once.
+fn uncovered_by_keys(
+    alloc: Global,
+    parents: &KeyedPeriods,
+    gone: &KeyedPeriods,
+    new: &KeyedPeriods,
+    children: &KeyedPeriods,
+) -> Result<Option<Day>, Memory>
+    ensures { IfOk result (λ found. (own keys : List ℕ) (below before ended stay added : List Row)
+        → IsIndexOf own below children.now
+        → IsIndexOf keys before parents.now
+        → IsIndexOf keys ended gone.now
+        → IsIndexOf keys added new.now
+        → IsEachCovered own below keys before
+        → IsPermutation before (ended ++ stay)
+        → IsLeastOf (IsUncovered own below keys (stay ++ added)) found) }
+{
     let mut found = None;
-    for parent in ended {
-        let key = key_of(alloc, keys, parent)?;
+    for key in gone.keys() {
         let there = there_after(
             alloc,
-            parents.of_key(&key),
-            gone.of_key(&key),
-            new.of_key(&key),
+            parents.of_key(key),
+            gone.of_key(key),
+            new.of_key(key),
         )?;
         found = earlier(
             found,
-            first_gap_of_some(there.as_slice(), children.of_key(&key)),
+            first_gap_of_some(there.as_slice(), children.of_key(key)),
         );
     }
     Ok(found)
 }
 
-// The periods that do not go, and those that come.
+// A key's periods without those that go, and with those that come. Equal periods are as many.
 fn there_after(
     alloc: Global,
     periods: &[Period],
     gone: &[Period],
     new: &[Period],
-) -> Result<Vec<Period>, Memory>
-    requires { AreInOrder gone.now }
-    ensures { IfOk result (λ there. (period : PeriodModel)
-        → (Contains there.items period ↔ ThereAfter periods.now gone.now new.now period)) }
+) -> Result<OrderedPeriods, Memory>
+    requires { AreInOrder periods.now }
+    ensures { IfOk result (λ there. (stay : List PeriodModel)
+        → IsPermutation periods.now (gone.now ++ stay)
+        → IsPermutation there.items.items (stay ++ new.now)) }
 {
-    let mut there = Vec::new(alloc);
-    for period in periods {
-        push_kept(&mut there, gone, period)?;
+    let mut there = OrderedPeriods::copy_of(alloc, periods)?;
+    for going in gone {
+        let _taken = there.take_one(going);
     }
-    there.extend_from_slice(new)?;
+    for coming in new {
+        there.add(*coming)?;
+    }
     Ok(there)
-}
-
-// Adds the period where it does not go.
-fn push_kept(there: &mut Vec<Period>, gone: &[Period], period: &Period) -> Result<(), Memory>
-    requires { AreInOrder gone.now }
-    ensures { OnOk result ((other : PeriodModel)
-        → (Contains there.new.items other ↔ (Contains there.old.items other
-        ⊎ ((period.now ≡ other) × (Contains gone.now other → ⊥))))) }
-{
-    match place_of(gone, period) {
-        Some(_) => Ok(()),
-        None => {
-            there.push(*period)?;
-            Ok(())
-        }
-    }
 }
 
 // The first day of one of the children that none of the periods holds.

@@ -1,11 +1,11 @@
 //! A table's current rows by key, and beside them their periods by the columns of references.
 
-ghost use Rattle.std.specs.Prelude.{◌≡◌, ◌++◌, ◌∷◌, [], Contains, IfOk, IfSome, IsPermutation};
-ghost use Rattle.std.specs.Prelude.{IsSome, List, OnErr, OnOk, map};
+ghost use Rattle.std.specs.Prelude.{◌≡◌, ◌↔◌, ◌++◌, ◌∷◌, [], Contains, IfOk, IfSome, IsSome};
+ghost use Rattle.std.specs.Prelude.{IsPermutation, List, OnErr, OnOk, map};
 ghost use Rattle.period_core.specs.declared.version.VersionRow.{VersionRow as Version};
 ghost use Rattle.history_model.specs.Versions.{row_of};
 ghost use Rattle.period_keys.specs.Index.{IsIndexOf};
-ghost use Rattle.period_keys.specs.TableRows.{AreTouchedKeys, HasTableRows};
+ghost use Rattle.period_keys.specs.TableRows.{AreTouchedKeys, HasMoreIndexes, HasTableRows};
 ghost use Rattle.period_keys.specs.Versions.{begun};
 
 use crate::changes::keys_of;
@@ -74,7 +74,7 @@ impl TableIndex {
     pub fn by(&self, positions: &[usize]) -> Option<&KeyedPeriods>
         ensures found { IfSome result
             (λ periods. IsIndexOf positions.now (map row_of self.now.rows) periods.now) }
-        ensures there { Contains self.now.indexed positions.now → IsSome result }
+        ensures there { IsSome result ↔ Contains self.now.indexed positions.now }
     {
         for index in self.indexes.as_slice() {
             if index.positions.as_slice() == positions {
@@ -97,6 +97,18 @@ impl TableIndex {
         let periods = index_of_current(alloc, positions.as_slice(), &self.rows)?;
         self.indexes.push(PeriodIndex { positions, periods })?;
         Ok(())
+    }
+
+    /// Indexes the rows' periods by their values at these positions, if they are not yet. The only
+    /// error is out of memory.
+    pub fn index_once(&mut self, alloc: Global, positions: Items<usize>) -> Result<(), Memory>
+        ensures ok { OnOk result (Contains self.new.indexed positions) }
+        ensures kept { HasMoreIndexes self.old self.new }
+    {
+        match self.by(positions.as_slice()) {
+            Some(_) => Ok(()),
+            None => self.index_by(alloc, positions),
+        }
     }
 
     /// The rows' keys by all of the table's positions. The only error is out of memory.

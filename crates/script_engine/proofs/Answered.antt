@@ -1,54 +1,40 @@
--- An answer is right in the histories that the engine represents.
-use Rattle.std.proofs.Common.{◌≡◌, ◌↔◌, ◌==◌, ◌≤ℤ◌, ◌<ℤ◌, ◌&&◌, ◌⊎◌, ℕ, ℤ, Bool, List, Option, Some, filter, map, Ok, Err, refl, sym, ◌∙◌, ap, subst, subst₂, inl, inr, arith}
-use Rattle.std.specs.List.{All, AllByRecursion, Contains}
+-- The rows of a store hold the states of its history; and an answer is a step of the histories that the engine represents.
+use Rattle.std.proofs.Common.{◌≡◌, ◌<ℤ◌, ◌&&◌, ℕ, ℤ, Bool, List, filter, map, Ok, Err, refl, ◌∙◌, ap, subst, subst₂, inl}
 use Rattle.std.specs.List.Sorted.{IsPermutation}
-use Rattle.std.proofs.lemmas.Int.{ints}
-use Rattle.std.proofs.lemmas.List.Elements.{All-from_recursion}
-use Rattle.std.proofs.lemmas.List.Sorted.{Contains-permutation, IsPermutation-map, IsPermutation-sym, IsPermutation-trans}
+use Rattle.std.proofs.lemmas.List.Sorted.{IsPermutation-map, IsPermutation-sym, IsPermutation-trans}
 use Rattle.sqlite.specs.Store.{Ghosts}
-use Rattle.sqlite_trees.proofs.ListLemmas.{all-filter, all-permutation, all_from_map, all_weaker, filter-map, map-map}
+use Rattle.sqlite_trees.proofs.ListLemmas.{filter-map, map-map}
 use Rattle.period_core.specs.Leasts.{MayAnswer, NoneApplies}
 use Rattle.period_core.specs.Moments.{forever}
 use Rattle.period_core.specs.Windows.{window_sees}
 use Rattle.period_core.specs.declared.answer.Answer.{Answer}
 use Rattle.period_core.specs.declared.refusal.Refusal.{Refusal}
-use Rattle.period_core.specs.declared.row.PeriodRow.{PeriodRow}
 use Rattle.period_core.specs.declared.value.Value.{Value}
 use Rattle.period_core.specs.declared.version.VersionRow.{VersionRow}
 use Rattle.period_core.specs.declared.window.Window.TheVariants.{AsOf}
-use Rattle.temporal_model.specs.Snapshot.{InSnapshot, covers_day, values_on}
-use Rattle.temporal_model.specs.Witness.{WitnessEachRow}
+use Rattle.temporal_model.specs.Snapshot.{covers_day}
 use Rattle.temporal_model.proofs.Rearranged.{IsPermutation-filter}
-use Rattle.temporal_model.proofs.Witnesses.{witnessed_by_sets}
-use Rattle.sql_statements.specs.Trees.{Query, Statement}
+use Rattle.sql_statements.specs.Trees.{Statement}
 use Rattle.sql_statements.specs.Trees as statement
 use Rattle.catalog_core.specs.Judged.{Holds}
-use Rattle.catalog_core.specs.query.Selection.{IsSequenced, ResolvesQuery, query_conditions}
-use Rattle.catalog_core.specs.table.TableWords.{table_of}
-use Rattle.catalog_core.specs.declared.query.Select.{Select}
+use Rattle.catalog_core.specs.query.Queries.{Query}
+use Rattle.catalog_core.specs.query.Resolving.{ResolvesQuery, query_conditions}
+use Rattle.catalog_core.specs.declared.query.AnswerColumn.{AnswerColumn}
 use Rattle.catalog_core.specs.declared.table.TableDef.{TableDef}
-use Rattle.version_tables.specs.Good.{AreMoments}
 use Rattle.version_store.specs.Contents.{AreRowsOf, Contents, TableVersion, of_table, version_in}
 use Rattle.version_store.specs.StoreState.{IsStoreRefusal}
-use Rattle.period_keys.specs.Rows.{RowsByKey}
-use Rattle.history_model.specs.Answers.{InAnswerOn, read_items}
-use Rattle.history_model.specs.Histories.{Asked, History, last_state, state_at, with_event}
-use Rattle.history_model.specs.Versions.{IsRecorded, current, is_seen, last_moment, row_of, values_at}
+use Rattle.history_model.specs.Histories.{Asked, History, state_at, with_event}
+use Rattle.history_model.specs.OrdinaryQuery.{InAnswerOn}
+use Rattle.history_model.specs.Versions.{is_seen, values_at}
 use Rattle.history_model.proofs.LeftFacts.{left_hold}
-use Rattle.history_model.proofs.VersionFacts.{current_hold}
 use Rattle.script_engine.specs.Headline.{IsSequencedAnswer}
+use Rattle.script_engine.specs.engine.Answering.{columns_of}
 use Rattle.script_engine.specs.engine.EngineState.{EngineState}
-use Rattle.script_engine.specs.engine.InMemory.{AreCurrentOf}
-use Rattle.script_engine.specs.engine.Projected.{IsAnswerTo, read_row, whole_row}
 use Rattle.script_engine.specs.engine.Runs.{StatementApplies, StepsTo}
-use Rattle.script_engine.specs.engine.Stored.{AreOfHistory, EngineRepresents}
+use Rattle.script_engine.specs.engine.Stored.{AreOfHistory, EngineRepresents, HasContents}
 use Rattle.script_engine.specs.declared.engine.outcome.Outcome.TheVariants.{Answer as Answered}
-use Rattle.script_engine.proofs.Contents.{recorded_rows, said-asked}
-use Rattle.script_engine.proofs.Given.{same_values, values_on-read}
-use Rattle.script_engine.proofs.Images.{image_from, image_of}
-use Rattle.script_engine.proofs.InMemory.{some_rows}
-use Rattle.script_engine.proofs.PlanFacts.{current_listed}
-use Rattle.script_engine.proofs.Steps.{failed_step, its_contents, refused_step, tables_of}
+use Rattle.script_engine.proofs.Contents.{said-asked}
+use Rattle.script_engine.proofs.Steps.{failed_step, refused_step, tables_of}
 
 -- a version of a table is seen as of the moment, and holds on the day
 abbrev is_shown : ℤ → ℤ → TableVersion → Bool
@@ -78,7 +64,7 @@ rows_hold history c table rows said are moment day before =
     (subst₂ (λ (a b : List (List Value)). IsPermutation a b) (values_shown table rows moment day) (values_shown table holds.rows moment day) values)
     (left_hold history table holds.rows said.order holds.left moment day before)
 
-module _ {S : Type 0} (g : Ghosts S) (history : History) (old : EngineState S) (asked : written.Query) (kept : EngineRepresents g history old) where
+module _ {S : Type 0} (g : Ghosts S) (history : History) (old : EngineState S) (asked : statement.Query) (kept : EngineRepresents g history old) where
   abbrev s : Statement
   s = statement.sequenced asked
 

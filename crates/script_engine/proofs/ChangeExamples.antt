@@ -38,7 +38,7 @@ use Rattle.catalog_core.specs.declared.stored.Stored.{Stored as StoredQuery}
 use Rattle.catalog_core.specs.declared.stored.VersionTest.{VersionTest}
 use Rattle.catalog_core.specs.declared.table.TableDef.{TableDef}
 use Rattle.version_store.specs.Contents.{version_cmp, version_in}
-use Rattle.history_model.specs.Histories.{Advanced, Asked, Changed, History, with_event}
+use Rattle.history_model.specs.Histories.{Advanced, Asked, Changed, History, last_state, with_event}
 use Rattle.history_model.specs.Left.{is_touched, its_row, touched_rows, versions_of}
 use Rattle.history_model.specs.Portions.{PlainRow}
 use Rattle.history_model.specs.Versions.{PlainVersion, plain_version}
@@ -49,7 +49,8 @@ use Rattle.script_engine.specs.declared.engine.outcome.Cell.TheVariants as cell
 use Rattle.script_engine.specs.declared.engine.outcome.Outcome.TheVariants.{Done, Versions}
 use Rattle.script_engine.specs.declared.engine.outcome.VersionList.{VersionList}
 use Rattle.script_engine.specs.declared.engine.outcome.Word.TheVariants as word
-use Rattle.script_engine.proofs.StepExamples.{emp, none_if_no_first, with_row, worker}
+use Rattle.script_engine.proofs.LawfulSteps.{lawful_alone}
+use Rattle.script_engine.proofs.StepExamples.{emp, no_references, none_if_no_first, with_row, worker}
 
 -- AT a later moment, after the row of employee 1, who is in department 7 from day 5 on and before day 8
 abbrev later : History
@@ -58,6 +59,14 @@ later = with_event with_row (Advanced (pos 100))
 -- the row as it is kept
 abbrev kept : VersionRow
 kept = record { values = worker; period = period_over (pos 5) (pos 8) refl; from = first_moment; to = forever }
+
+-- on each day the table has at most one row
+at_most_one : (day : ℤ) → length (last_state later 1 day) + 0 ≤ 1
+at_most_one day = go (covers_day (pos 5) (pos 8) day) refl
+  where
+    go : (b : Bool) → covers_day (pos 5) (pos 8) day ≡ b → length (last_state later 1 day) + 0 ≤ 1
+    go true e = rw e (omega arith)
+    go false e = rw e (omega arith)
 
 -- ---- UPDATE
 
@@ -101,6 +110,7 @@ updated = (
   record {
     change = set_to 9;
     resolved = record { definition = emp; number = refl; table = refl; action = record { days = refl; sets = refl; rows = tt } };
+    lawful = lawful_alone (emp ∷ []) (last_state later) (set_to 9) no_references at_most_one;
     done = refl;
     after = refl;
   },
@@ -169,6 +179,7 @@ same_value = (
   record {
     change = set_to 7;
     resolved = record { definition = emp; number = refl; table = refl; action = record { days = refl; sets = refl; rows = tt } };
+    lawful = lawful_alone (emp ∷ []) (last_state later) (set_to 7) no_references at_most_one;
     done = refl;
     after = refl;
   },
@@ -195,6 +206,7 @@ deleted = (
   record {
     change = removal;
     resolved = record { definition = emp; number = refl; table = refl; action = record { days = refl; rows = tt } };
+    lawful = lawful_alone (emp ∷ []) (last_state later) removal no_references at_most_one;
     done = refl;
     after = refl;
   },

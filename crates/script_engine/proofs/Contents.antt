@@ -1,14 +1,14 @@
 -- The contents of a store after each event go on being what the history says.
-use Rattle.std.proofs.Common.{◌≡◌, ◌++◌, ◌∷◌, ◌<ℤ◌, ◌≤ℤ◌, ◌==◌, ℕ, ℤ, Bool, true, false, not, List, [], map, nat_eq, refl, sym, ap, ap₂, ◌∙◌, append-nil, append_assoc, subst, subst₂, inl, inr, ◌⊎◌, arith}
-use Rattle.std.specs.List.{All, AllByRecursion, filter, flat_map}
+use Rattle.std.proofs.Common.{◌≡◌, ◌++◌, ◌∷◌, ◌<ℤ◌, ◌≤ℤ◌, ◌==◌, ℕ, ℤ, Bool, true, false, not, List, [], map, nat_eq, refl, sym, ap, ap₂, ◌∙◌, append-nil, append_assoc, filter_map, fold, length, suc, subst, subst₂, inl, inr, arith}
+use Rattle.std.specs.List.{AllByRecursion, filter, flat_map}
 use Rattle.std.specs.List.Sorted.{IsPermutation}
 use Rattle.std.proofs.lemmas.Bool.Decides.{nat_tests}
 use Rattle.std.proofs.lemmas.Int.{ints}
 use Rattle.std.proofs.lemmas.List.{map-append}
 use Rattle.std.proofs.lemmas.List.Concat.{flat_map-append}
-use Rattle.std.proofs.lemmas.List.Elements.{All-from_recursion, filter-append}
+use Rattle.std.proofs.lemmas.List.Elements.{filter-append}
 use Rattle.std.proofs.lemmas.List.Sorted.{IsPermutation-append_left, IsPermutation-filter_both, IsPermutation-map, IsPermutation-refl, IsPermutation-trans}
-use Rattle.sqlite_trees.proofs.ListLemmas.{IsPermutation-flat_map, IsPermutation-same, all-filter, all-map, all-permutation, all_from_map, all_of, all_weaker, ascending-filter, filter_all, map-map}
+use Rattle.sqlite_trees.proofs.ListLemmas.{IsPermutation-flat_map, IsPermutation-same, all-map, all_of, all_weaker, ascending-filter, filter_all, map-map}
 use Rattle.period_core.specs.Moments.{first_moment, forever}
 use Rattle.period_core.specs.declared.row.PeriodRow.{PeriodRow}
 use Rattle.period_core.specs.declared.version.VersionRow.{VersionRow}
@@ -20,22 +20,26 @@ use Rattle.version_tables.specs.Good.{AreMoments, IsClock}
 use Rattle.version_store.specs.Changed.{is_ended, left_of, planned, with_clock, with_table}
 use Rattle.version_store.specs.Contents.{Contents, TableVersion, added_in, of_table, same_version, version_in}
 use Rattle.version_store.specs.DistinctKeys.{HaveDistinctKeys}
+use Rattle.version_store.specs.GoodStore.{AreLawful}
 use Rattle.version_store.proofs.Spared.{other_tables}
-use Rattle.history_model.specs.Histories.{Advanced, Asked, Changed, Created, History, catalog_of, clock_of, with_event}
+use Rattle.history_model.specs.Effects.{effect}
+use Rattle.history_model.specs.Histories.{Advanced, Asked, Changed, Created, Event, History, catalog_of, changed_until, clock_of, created_by, last_state, with_event}
 use Rattle.history_model.specs.Left.{Makes, begun_at, closed_at, versions_of}
 use Rattle.history_model.specs.Portions.{plain_row}
-use Rattle.history_model.specs.Versions.{IsRecorded, PlainVersion, current, plain_version}
-use Rattle.history_model.proofs.HistoryLemmas.{catalog_of-event, clock_of-event}
+use Rattle.history_model.specs.Versions.{PlainVersion, current, last_moment, plain_version}
+use Rattle.history_model.proofs.HistoryLemmas.{catalog_of-event, clock_of-event, state_at-event}
 use Rattle.history_model.proofs.Lists.{exchange}
 use Rattle.portion_dml.specs.Plans.{Plans}
 use Rattle.portion_dml.proofs.Applied.{applied_makes}
+use Rattle.period_keys.specs.Lawful.{IsLawfulChange, IsLawfulState}
 use Rattle.period_keys.specs.Planned.{IsPlanOf}
 use Rattle.period_keys.specs.Versions.{begun}
 use Rattle.script_engine.specs.engine.InMemory.{AreCurrentOf}
 use Rattle.script_engine.specs.engine.Planned.{count_of, planned_count}
-use Rattle.script_engine.specs.engine.Stored.{AreOfHistory, AreRecorded, HoldsTable}
+use Rattle.script_engine.specs.engine.Stored.{AreOfHistory, HoldsTable}
 use Rattle.script_engine.proofs.Ended.{all_closed, closed_in, closed_plain, closed_row, none_closed, of_left, recorded_planned}
 use Rattle.script_engine.proofs.KeyFacts.{are_ended, distinct_along, rest_stays}
+use Rattle.script_engine.proofs.LastState.{IsLeft, lawful_changed, lawful_same, lawful_with_table}
 use Rattle.script_engine.proofs.LeftSteps.{left-advanced, left-asked, left-changed_elsewhere, left-changed_there, left-created, order-event}
 use Rattle.script_engine.proofs.PlanFacts.{counted, current_listed, hits_end, is_hit}
 
@@ -58,6 +62,20 @@ recorded_later clock later late v was =
       );
     }
 
+-- what a history leaves, as the contents have it
+pub is_left : (history : History) (c : Contents) → AreOfHistory history c → IsLeft history c
+is_left history c said = record { order = said.order; versions = said.versions; is_clock = said.is_clock; recorded = said.recorded }
+
+-- an event that adds no table and changes no row leaves the last state lawful
+lawful_still : (history : History) (event : Event) (c : Contents) → AreOfHistory history c → filter_map created_by (event ∷ []) ≡ [] → filter_map (changed_until last_moment) (event ∷ []) ≡ [] →
+    IsLawfulState (catalog_of (with_event history event)) (last_state (with_event history event))
+lawful_still history event c said no_table no_change =
+    subst (λ (tables : List TableDef). IsLawfulState tables (last_state (with_event history event)))
+    (sym (catalog_of-event history event ∙ ap (λ (more : List TableDef). catalog_of history ++ more) no_table ∙ append-nil (catalog_of history)))
+    (lawful_same (catalog_of history) (last_state history) (last_state (with_event history event))
+    (λ table day. state_at-event history event last_moment table day ∙ ap (λ (changes : List Change). fold (λ rows change. effect change table day rows) (last_state history table day) changes) no_change)
+    said.lawful)
+
 pub said-advanced : (history : History) (c : Contents) (moment : ℤ) → AreOfHistory history c → c.clock ≤ℤ moment → moment <ℤ forever → AreOfHistory (with_event history (Advanced moment)) (with_clock moment c)
 said-advanced history c moment said late before =
     let first : first_moment ≤ℤ c.clock = said.is_clock.0 in
@@ -70,12 +88,13 @@ said-advanced history c moment said late before =
           record { rows = holds.rows; left = left-advanced history moment table holds.rows holds.left; all = holds.all };
       is_clock = (omega (arith, ints), before);
       recorded = all_weaker (λ (v : TableVersion). AreMoments c.clock v.from v.to) (λ (v : TableVersion). AreMoments moment v.from v.to) (recorded_later c.clock moment late) c.versions said.recorded;
+      lawful = lawful_still history (Advanced moment) c said refl refl;
     }
 
 -- ---- CREATE
 
-pub said-created : (history : History) (c : Contents) (definition : TableDef) → AreOfHistory history c → AreOfHistory (with_event history (Created definition)) (with_table definition c)
-said-created history c definition said = record {
+pub said-created : (history : History) (c : Contents) (definition : TableDef) → AreLawful [] c.tables → ((day : ℤ) → last_state history (suc (length c.tables)) day ≡ []) → AreOfHistory history c → AreOfHistory (with_event history (Created definition)) (with_table definition c)
+said-created history c definition ordered none said = record {
   order = order-event history (Created definition) said.order tt;
   clock = said.clock ∙ sym (clock_of-event history (Created definition));
   tables = ap (λ (tables : List TableDef). tables ++ definition ∷ []) said.tables ∙ sym (catalog_of-event history (Created definition));
@@ -84,6 +103,12 @@ said-created history c definition said = record {
       record { rows = holds.rows; left = left-created history definition table holds.rows holds.left; all = holds.all };
   is_clock = said.is_clock;
   recorded = said.recorded;
+  lawful =
+      subst (λ (tables : List TableDef). IsLawfulState tables (last_state (with_event history (Created definition)))) (sym (catalog_of-event history (Created definition)))
+      (lawful_same (catalog_of history ++ definition ∷ []) (last_state history) (last_state (with_event history (Created definition))) (λ table day. state_at-event history (Created definition) last_moment table day)
+      (subst (λ (tables : List TableDef). IsLawfulState (tables ++ definition ∷ []) (last_state history)) said.tables
+      (lawful_with_table c.tables definition (last_state history) ordered none
+      (subst (λ (tables : List TableDef). IsLawfulState tables (last_state history)) (sym said.tables) said.lawful))));
 }
 
 -- ---- queries
@@ -98,23 +123,8 @@ said-asked history c said = record {
       record { rows = holds.rows; left = left-asked history table holds.rows holds.left; all = holds.all };
   is_clock = said.is_clock;
   recorded = said.recorded;
+  lawful = lawful_still history Asked c said refl refl;
 }
-
--- ---- what is recorded
-
--- versions of a store are recorded up to its clock, as version rows too
-pub recorded_rows : (c : Contents) (table : ℕ) (rows : List VersionRow) → AreRecorded c → IsPermutation (of_table table c.versions) (map (version_in table) rows) → All (IsRecorded c.clock) rows
-recorded_rows c table rows recorded all =
-    let moments = λ (v : TableVersion). AreMoments c.clock v.from v.to in
-    All-from_recursion (IsRecorded c.clock) rows
-    (all_weaker (λ (v : VersionRow). AreMoments c.clock v.from v.to) (IsRecorded c.clock) (λ v is. record { lasts = is.rise; begun = is.past.0; ended = turned is.past.1 }) rows
-    (all_from_map moments (version_in table) rows
-    (all-permutation moments (of_table table c.versions) (map (version_in table) rows) all
-    (all-filter moments (λ (v : TableVersion). v.table == table) c.versions recorded))))
-  where
-    turned : {A B : Type 0} → A ⊎ B → B ⊎ A
-    turned (inl a) = inr a
-    turned (inr b) = inl b
 
 -- ---- changes
 
@@ -262,12 +272,15 @@ module _ (history : History) (c : Contents) (change : Change) (plan : Plan) (sai
         subst (HoldsTable (with_event history (Changed c.clock change)) after.versions) same holds_there
     holds_after table holds false off = holds_elsewhere table holds off
 
-    pub said-changed : AreOfHistory (with_event history (Changed c.clock change)) after
-    said-changed = record {
+    pub said-changed : IsLawfulChange (catalog_of history) (last_state history) change → AreOfHistory (with_event history (Changed c.clock change)) after
+    said-changed allowed = record {
       order = order-event history (Changed c.clock change) said.order (said.clock, tt);
       clock = said.clock ∙ sym (clock_of-event history (Changed c.clock change));
       tables = said.tables ∙ sym (catalog_of-event history (Changed c.clock change) ∙ append-nil (catalog_of history));
       versions = λ table. holds_after table (said.versions table) (nat_eq table change.table) refl;
       is_clock = said.is_clock;
       recorded = recorded_planned c change.table plan.ended plan.added said.is_clock said.recorded;
+      lawful =
+          subst (λ (tables : List TableDef). IsLawfulState tables (last_state (with_event history (Changed c.clock change)))) (sym (catalog_of-event history (Changed c.clock change) ∙ append-nil (catalog_of history)))
+          (lawful_changed history c.clock change said.is_clock.1 said.lawful allowed);
     }

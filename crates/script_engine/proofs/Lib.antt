@@ -20,7 +20,10 @@ mod CurrentAfter
 mod InMemory
 mod Loaded
 mod Ended
+mod Indexed
+mod Judged
 mod KeyFacts
+mod LastState
 mod LeftSteps
 mod NewStore
 mod Openings
@@ -33,6 +36,7 @@ pub mod BufferFacts
 pub mod ChangeExamples
 pub mod CheckExamples
 pub mod CsvFacts
+pub mod LawfulSteps
 pub mod PieceExamples
 pub mod QueryExamples
 pub mod ReportExamples

@@ -15,11 +15,13 @@ use Rattle.version_store.specs.Contents.{Contents, TableVersion, of_table, versi
 use Rattle.version_store.specs.GoodStore.{HaveTables, IsGoodStore, IsGoodVersion, NothingMore}
 use Rattle.sqlite.specs.Effect as sqlite
 use Rattle.sqlite.specs.Store.{Ghosts}
-use Rattle.history_model.specs.Histories.{Database, History, new_database, opened, versions_in}
+use Rattle.history_model.specs.Histories.{Database, History, last_state, new_database, opened, versions_in}
 use Rattle.history_model.specs.Versions.{plain_version}
+use Rattle.period_keys.specs.Lawful.{IsLawfulState}
 use Rattle.script_engine.specs.engine.EngineState.{EngineState}
+use Rattle.script_engine.specs.engine.Faults.{AreConstrained, current_state}
 use Rattle.script_engine.specs.engine.Stored.{AreOfHistory, AreRecorded, EngineRepresents, HasContents, HoldsTable}
-use Rattle.script_engine.proofs.Contents.{recorded_rows}
+use Rattle.script_engine.proofs.LastState.{IsLeft, lawful_along, recorded_rows, state_said}
 
 -- a good version as a version row
 abbrev row : (tables : List TableDef) (clock : ℤ) (v : TableVersion) → IsGoodVersion tables clock v → VersionRow
@@ -121,15 +123,13 @@ module _ (c : Contents) (clock : IsClock c.clock) (good : AllByRecursion (IsGood
   recorded : AreRecorded c
   recorded = all_weaker (IsGoodVersion c.tables c.clock) (λ (v : TableVersion). AreMoments c.clock v.from v.to) (λ v is. is.moments) c.versions good
 
-  pub said-opened : AreOfHistory (opened opening) c
-  said-opened = record {
+  left-opened : IsLeft (opened opening) c
+  left-opened = record {
     order = record {
       before = clock.1;
       recorded = λ table. recorded_rows c table (versions_in opening table) recorded (subst (IsPermutation (of_table table c.versions)) (holds table) (IsPermutation-refl (of_table table c.versions)));
       events = tt;
     };
-    clock = refl;
-    tables = sym (append-nil c.tables);
     versions = λ table. record {
       rows = versions_in opening table;
       left = IsPermutation-refl (map plain_version (versions_in opening table));
@@ -139,11 +139,57 @@ module _ (c : Contents) (clock : IsClock c.clock) (good : AllByRecursion (IsGood
     recorded = recorded;
   }
 
+  pub said-opened : AreConstrained c → AreOfHistory (opened opening) c
+  said-opened lawful = record {
+    order = left-opened.order;
+    clock = refl;
+    tables = sym (append-nil c.tables);
+    versions = left-opened.versions;
+    is_clock = clock;
+    recorded = recorded;
+    lawful =
+        subst (λ (tables : List TableDef). IsLawfulState tables (last_state (opened opening))) (sym (append-nil c.tables))
+        (lawful_along c.tables (current_state c) (last_state (opened opening)) (λ table day. state_said (opened opening) c table day left-opened) lawful);
+  }
+
 -- its versions are of its tables
 pub good_tables : {db : sqlite.Database} (good : IsGoodStore NothingMore db) → HaveTables good.contents
 good_tables good = all_weaker (IsGoodVersion good.contents.tables good.contents.clock) (λ (v : TableVersion). (d : TableDef) × (table_of good.contents.tables v.table ≡ Some d)) (λ v is. (is.definition, is.table)) good.contents.versions good.versions
 
+-- with point 6 judged, all points hold
+pub all_points : {db : sqlite.Database} (good : IsGoodStore NothingMore db) → AreConstrained good.contents → IsGoodStore AreConstrained db
+all_points good lawful = record {
+  contents = good.contents;
+  says = good.says;
+  tables_there = good.tables_there;
+  clock = good.clock;
+  few = good.few;
+  readable = good.readable;
+  lawful = good.lawful;
+  versions = good.versions;
+  distinct = good.distinct;
+  constrained = lawful;
+}
+
+-- without it the others do
+pub other_points : {db : sqlite.Database} → IsGoodStore AreConstrained db → IsGoodStore NothingMore db
+other_points good = record {
+  contents = good.contents;
+  says = good.says;
+  tables_there = good.tables_there;
+  clock = good.clock;
+  few = good.few;
+  readable = good.readable;
+  lawful = good.lawful;
+  versions = good.versions;
+  distinct = good.distinct;
+  constrained = tt;
+}
+
 -- so a good store is one of the history to which nothing was done since it was opened
-pub good_history : {S : Type 0} (g : Ghosts S) (engine : EngineState S) (db : sqlite.Database) (good : IsGoodStore NothingMore db) → HasContents g engine good.contents → (history : History) × EngineRepresents g history engine
-good_history g engine db good has =
-    (opened (opening good.contents good.clock good.versions), record { contents = good.contents; stored = has.stored; said = said-opened good.contents good.clock good.versions; current = has.current })
+pub good_history : {S : Type 0} (g : Ghosts S) (engine : EngineState S) (db : sqlite.Database) (good : IsGoodStore NothingMore db) → AreConstrained good.contents → HasContents g engine good.contents →
+    (history : History) × EngineRepresents g history engine
+good_history g engine db good lawful has = (
+  opened (opening good.contents good.clock good.versions),
+  record { contents = good.contents; stored = has.stored; said = said-opened good.contents good.clock good.versions lawful; current = has.current },
+)

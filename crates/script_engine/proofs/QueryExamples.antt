@@ -22,7 +22,6 @@ use Rattle.temporal_model.proofs.Snapshots.{CoversDay, held, in_snapshot}
 use Rattle.sql_statements.specs.Trees as statement
 use Rattle.sql_statements.specs.declared.statement.SelectItem.{SelectItem}
 use Rattle.sql_statements.specs.declared.statement.TableReference.{TableReference}
-use Rattle.sql_statements.specs.Trees as written
 use Rattle.sql_statements.specs.Trees.{combined, last, simple}
 use Rattle.sql_statements.specs.declared.tree.Tree.{Tree}
 use Rattle.history_model.specs.Effects.{effect}
@@ -52,7 +51,9 @@ use Rattle.version_store.specs.Contents.{Contents, TableVersion, of_table, versi
 use Rattle.script_engine.specs.engine.Stored.{AreOfHistory, HoldsTable}
 use Rattle.script_engine.specs.engine.Runs.{Step}
 use Rattle.script_engine.specs.declared.engine.outcome.Outcome.TheVariants.{Answer as Answered}
-use Rattle.script_engine.proofs.StepExamples.{colleague, emp, inserted_row, none_if_no_first, with_row, with_rows, worker}
+use Rattle.script_engine.proofs.LastState.{lawful_changed, lawful_empty}
+use Rattle.script_engine.proofs.LawfulSteps.{lawful_alone}
+use Rattle.script_engine.proofs.StepExamples.{colleague, emp, inserted_row, no_references, none_if_no_first, with_row, with_rows, with_table, worker}
 use Rattle.script_engine.proofs.RunExamples.{Sets, is_answer, one_row, seven, two_rows, whole}
 use Rattle.catalog_core.specs.table.Naming.{matches_among, repeats}
 
@@ -67,7 +68,7 @@ abbrev pub workers : TableReference
 workers = record { table = codes "EMP"; window = None; new_name = None }
 
 -- SELECT DISTINCT DEPT FROM EMP, in it
-abbrev pub asked_select : written.Select
+abbrev pub asked_select : statement.Select
 asked_select = record {
   items = department ∷ [];
   chains = record { first = workers; joins = [] } ∷ [];
@@ -75,7 +76,7 @@ asked_select = record {
 }
 
 -- VALIDTIME SELECT DISTINCT DEPT FROM EMP
-abbrev pub question : written.Query
+abbrev pub question : statement.Query
 question = combined (simple asked_select) last
 
 -- table 1 as the reference in a place: its current rows, of two integers
@@ -307,8 +308,13 @@ represented = record {
     },
     tt,
   );
+  lawful = lawful_changed with_table first_moment inserted_row (omega (arith, ints)) (lawful_empty (emp ∷ []) (last_state with_table) none_at_first) (lawful_alone (emp ∷ []) (last_state with_table) inserted_row no_references (λ day. omega arith));
 }
   where
+    none_at_first : (table : ℕ) (day : ℤ) → last_state with_table table day ≡ []
+    none_at_first zero day = refl
+    none_at_first (suc place) day = refl
+
     elsewhere : (table : ℕ) → (table == 1) ≡ false → (1 == table) ≡ false → HoldsTable with_row kept_contents.versions table
     elsewhere table off out = record {
       rows = [];

@@ -78,7 +78,7 @@ lacking_result history new piece h = h
 no_table : (rows : Delete) → Step (opened new_database) (statement.delete rows) (Err UnknownTable) (opened new_database)
 unfolding lacks_named number_of table_of_name
 no_table rows = (
-  inl (inl (first_least (change_conditions [] (statement.delete rows) ++ empty_period [] (statement.delete rows) ∷ []) UnknownTable (lit≤ tt, (lit≤ tt, (lit≤ tt, (lit≤ tt, (lit≤ tt, (lit≤ tt, (lit≤ tt, tt))))))) refl)),
+  inl (inl (inl (first_least (change_conditions [] (statement.delete rows) ++ empty_period [] (statement.delete rows) ∷ []) UnknownTable (lit≤ tt, (lit≤ tt, (lit≤ tt, (lit≤ tt, (lit≤ tt, (lit≤ tt, (lit≤ tt, tt))))))) refl))),
   refl,
 )
 
@@ -91,11 +91,14 @@ not_the_database : (rows : Delete) → Step (opened new_database) (statement.del
 unfolding lacks_named number_of table_of_name
 not_the_database rows step =
     elim step.0 [
-      | inl may ↦ elim may [
-        | inl least ↦ let low : code_of Store ≤ 23 = least.least UnknownTable (inl (refl, refl)) in omega arith
-        | inr memory ↦ absurd cc
+      | inl refused ↦ elim refused [
+        | inl may ↦ elim may [
+          | inl least ↦ let low : code_of Store ≤ 23 = least.least UnknownTable (inl (refl, refl)) in omega arith
+          | inr memory ↦ absurd cc
+        ]
+        | inr failed ↦ let late : 40 < 23 = failed.1 UnknownTable (inl (refl, refl)) in omega arith
       ]
-      | inr failed ↦ let late : 40 < 23 = failed.1 UnknownTable (inl (refl, refl)) in omega arith
+      | inr unlawful ↦ unlawful.fault
     ]
 
 -- ---- moments

@@ -1,10 +1,11 @@
 -- Worked rows: CREATE TABLE and INSERT, accepted and refused, each as a step of the history.
-use Rattle.std.proofs.Common.{◌≡◌, ◌∷◌, ◌++◌, [], ℕ, pos, true, false, List, None, Some, Ok, Err, codes, refl, inl, inr, arith, lit≤}
+use Rattle.std.proofs.Common.{◌≡◌, ◌∷◌, ◌++◌, ◌≤ℤ◌, [], ℕ, zero, suc, ℤ, pos, Bool, true, false, cond, List, None, Some, Ok, Err, ap, codes, refl, inl, inr, subst, sym, arith, lit≤}
 use Rattle.std.proofs.lemmas.Bool.{false≢true}
+use Rattle.std.proofs.lemmas.Int.{ints}
 use Rattle.std.specs.Str.{chars}
 use Rattle.period_core.specs.Moments.{first_moment}
 use Rattle.period_core.specs.Leasts.{NoneApplies}
-use Rattle.period_core.specs.declared.refusal.Refusal.TheVariants.{EmptyPeriod, TableExists}
+use Rattle.period_core.specs.declared.refusal.Refusal.TheVariants.{EmptyPeriod, KeyOverlap, TableExists}
 use Rattle.period_core.specs.declared.value.Value.{Value}
 use Rattle.period_core.specs.declared.value.Value.TheVariants.{Int, Date}
 use Rattle.sql_statements.specs.Trees as statement
@@ -15,7 +16,9 @@ use Rattle.sql_statements.specs.declared.create.TypeName.TheVariants as type_nam
 use Rattle.sql_statements.specs.declared.statement.InsertRows.{InsertRows}
 use Rattle.catalog_core.specs.create.Creation.{create_conditions, period_matches, some_parent_match, some_match, has_sort, sort_count, exceeds_limits, is_there, lacks_parent, names_other_period, lacks_period, lacks_name, is_ambiguous, is_shared, repeats_name, is_no_value_column, some_no_value, keys_period_column, lacks_one_of_each, has_bad_period, has_bad_system_period, is_bad_type, has_bad_column, is_used_otherwise, has_other_period, is_at, is_key_name, is_named, are_key, names_no_key, references_no_key, is_bad_definition, has_unequal_lists, own_kind, have_other_kinds, names_other_kind, references_other_kind}
 use Rattle.catalog_core.specs.create.Definition.{declared_kind, declared_reference}
-use Rattle.history_model.specs.Histories.{Changed, Created, History, new_database, opened, with_event}
+use Rattle.temporal_model.specs.Snapshot.{covers_day}
+use Rattle.history_model.specs.Effects.{Given, Kept, Traced, given_row, kept, traced}
+use Rattle.history_model.specs.Histories.{Changed, Created, History, last_state, new_database, opened, with_event}
 use Rattle.history_model.specs.Left.{versions_of}
 use Rattle.history_model.specs.Versions.{PlainVersion}
 use Rattle.script_engine.specs.engine.Planned.{count_of}
@@ -35,6 +38,9 @@ use Rattle.catalog_core.specs.declared.table.TableDef.{TableDef}
 use Rattle.script_engine.specs.engine.Runs.{StatementApplies, Step}
 use Rattle.script_engine.specs.declared.engine.outcome.Outcome.TheVariants.{Done}
 use Rattle.script_engine.specs.declared.engine.outcome.Word.TheVariants as word
+use Rattle.period_keys.specs.Keys.{IsLeastDay}
+use Rattle.period_keys.specs.Lawful.{IsKeyFault, IsLawfulChange, OriginsShareKey, key_positions}
+use Rattle.script_engine.proofs.LawfulSteps.{HaveNoReferences, in_none, lawful_alone, lawful_by_key, two_apart}
 use Rattle.script_engine.proofs.Refused.{may_answer-empty}
 use Rattle.catalog_core.specs.table.Naming.{matches_among, place_among, some_match_among}
 use Rattle.catalog_core.specs.table.Naming.{find_among}
@@ -161,6 +167,12 @@ inserted_row = record { table = 1; action = Insert (record { values = worker; st
 abbrev pub with_row : History
 with_row = with_event with_table (Changed first_moment inserted_row)
 
+-- the table has no references
+pub no_references : HaveNoReferences (emp ∷ [])
+no_references zero child is = cc
+no_references (suc zero) child is = let same : emp ≡ child = cc in ap (λ (d : TableDef). d.references) (sym same)
+no_references (suc (suc place)) child is = cc
+
 -- no condition of a refusal holds for it
 insertion_is_sound : NoneApplies (StatementApplies with_table (statement.insert insertion))
 unfolding matches_among some_match_among def_kind repeats is_matching number_of table_of_name kind_of_column same_kind differ wanted_names given_names lacks_table lists_unknown lists_ambiguous lists_twice is_system_name some_system_name lists_system lacks_some some_other_length has_other_count is_of_other_kind is_longer is_too_long is_wrong gives_wrong has_wrong given_value value_for is_no_period gives_no_period has_no_period is_value_column chars find_among
@@ -177,6 +189,7 @@ inserted = (
   record {
     change = inserted_row;
     resolved = record { definition = emp; number = refl; table = refl; action = refl };
+    lawful = lawful_alone (emp ∷ []) (last_state with_table) inserted_row no_references (λ day. omega arith);
     done = refl;
     after = refl;
   },
@@ -207,17 +220,71 @@ half_empty = into_emp (employee 1 5 8 ∷ employee 2 8 8 ∷ [])
 refused_whole : Step with_table (statement.insert half_empty) (Err EmptyPeriod) with_table
 unfolding matches_among some_match_among def_kind repeats is_matching number_of table_of_name kind_of_column same_kind differ wanted_names given_names lacks_table lists_unknown lists_ambiguous lists_twice is_system_name some_system_name lists_system lacks_some some_other_length has_other_count is_of_other_kind is_longer is_too_long is_wrong gives_wrong has_wrong given_value value_for is_no_period gives_no_period has_no_period is_value_column chars find_among
 refused_whole = (
-  inl (may_answer-empty
+  inl (inl (may_answer-empty
       (change_conditions (emp ∷ []) (statement.insert half_empty))
       (gives_empty_row (emp ∷ []) half_empty)
       (none_if_no_first (change_conditions (emp ∷ []) (statement.insert half_empty)) refl)
-      refl),
+      refl)),
   refl,
 )
 
 -- no history in which the first row is there follows it
 first_row_not_added : Step with_table (statement.insert half_empty) (Err EmptyPeriod) with_row → ⊥
 first_row_not_added (may, same) = cc
+
+-- ---- a row that is there
+
+-- the same row once more: its key is there from day 5 on
+abbrev before_again : ℤ → List (List Value)
+before_again = last_state with_row 1
+
+-- on a day of the row's period the given row is beside the one that is there; on another day neither is
+again_traced : (day : ℤ) (a : Bool) → covers_day (pos 5) (pos 8) day ≡ a → traced inserted_row.action day (before_again day) ≡ cond a (kept worker ∷ given_row (0, record { values = worker; start = pos 5; end = pos 8 }) ∷ []) []
+again_traced day true e = rw e refl
+again_traced day false e = rw e refl
+
+-- so day 5 is the first on which two rows have the key
+again_on_five : IsLeastDay (IsKeyFault (emp ∷ []) (last_state with_row) inserted_row) (pos 5)
+again_on_five = record {
+  faulty = (
+    emp,
+    refl,
+    (
+      kept worker,
+      given_row (0, record { values = worker; start = pos 5; end = pos 8 }),
+      (0, omega arith, refl),
+      (1, omega arith, refl),
+      origins_apart,
+      refl,
+    ),
+  );
+  least = λ day (def, is, shared). no_earlier day def shared (covers_day (pos 5) (pos 8) day) refl;
+} where
+  origins_apart : Kept worker ≡ Given 0 → ⊥
+  origins_apart e = cc
+
+  no_earlier : (day : ℤ) (def : TableDef) → OriginsShareKey (key_positions def) (traced inserted_row.action day (before_again day)) → (a : Bool) → covers_day (pos 5) (pos 8) day ≡ a → pos 5 ≤ℤ day
+  no_earlier day def shared true e = grind (arith, e)
+  no_earlier day def shared false e =
+      let (x, y, in_x, in_y, apart, same) = subst (OriginsShareKey (key_positions def)) (again_traced day false e) shared in
+      absurd (in_none x in_x)
+
+-- it is refused with 42 and that day, and the history stays
+inserted_again : Step with_row (statement.insert insertion) (Err (KeyOverlap (pos 5))) with_row
+unfolding number_of wanted_names given_names given_value value_for is_value_column
+inserted_again = (
+  inr (record {
+    sound = insertion_is_sound;
+    change = inserted_row;
+    resolved = record { definition = emp; number = refl; table = refl; action = refl };
+    fault = again_on_five;
+  }),
+  refl,
+)
+
+-- and not with a later day
+not_a_later_day : IsLeastDay (IsKeyFault (emp ∷ []) (last_state with_row) inserted_row) (pos 6) → ⊥
+not_a_later_day later = let early : pos 6 ≤ℤ pos 5 = later.least (pos 5) again_on_five.faulty in omega (arith, ints)
 
 -- ---- rows whose periods overlap
 
@@ -249,6 +316,34 @@ overlapping_is_sound =
     (change_conditions (emp ∷ []) (statement.insert overlapping) ++ empty_period (emp ∷ []) (statement.insert overlapping) ∷ [])
     refl
 
+-- on a day that holds the one's period or doesn't, and the other's
+both_traced : (day : ℤ) (a b : Bool) → covers_day (pos 5) (pos 7) day ≡ a → covers_day (pos 6) (pos 8) day ≡ b → OriginsShareKey (0 ∷ []) (traced inserted_rows.action day []) → ⊥
+both_traced day a b e f shared = two_apart (0 ∷ []) (of_first) (of_second) a b numbers_apart (subst (OriginsShareKey (0 ∷ [])) (there a b e f) shared)
+  where
+    of_first : Traced
+    of_first = given_row (0, record { values = worker; start = pos 5; end = pos 7 })
+
+    of_second : Traced
+    of_second = given_row (1, record { values = colleague; start = pos 6; end = pos 8 })
+
+    numbers_apart : Int (pos 1) ∷ [] ≡ Int (pos 2) ∷ [] → ⊥
+    numbers_apart e = cc
+
+    there : (a b : Bool) → covers_day (pos 5) (pos 7) day ≡ a → covers_day (pos 6) (pos 8) day ≡ b → traced inserted_rows.action day [] ≡ cond a (of_first ∷ cond b (of_second ∷ []) []) (cond b (of_second ∷ []) [])
+    there true true e f = rw (e, f) refl
+    there true false e f = rw (e, f) refl
+    there false true e f = rw (e, f) refl
+    there false false e f = rw (e, f) refl
+
+-- their keys are not the same, so the change is lawful
+both_lawful : IsLawfulChange (emp ∷ []) (last_state with_table) inserted_rows
+unfolding is_value_column
+both_lawful =
+    lawful_by_key (emp ∷ []) (last_state with_table) inserted_rows no_references
+    (λ day def is shared.
+    let same : def ≡ emp = cc in
+    both_traced day (covers_day (pos 5) (pos 7) day) (covers_day (pos 6) (pos 8) day) refl refl (subst (λ (d : TableDef). OriginsShareKey (key_positions d) (traced inserted_rows.action day [])) same shared))
+
 -- the statement is accepted, and gives two rows
 inserted_both : Step with_table (statement.insert overlapping) (Ok (Done word.Insert 2)) with_rows
 unfolding number_of wanted_names given_names given_value value_for is_value_column
@@ -257,6 +352,7 @@ inserted_both = (
   record {
     change = inserted_rows;
     resolved = record { definition = emp; number = refl; table = refl; action = refl };
+    lawful = both_lawful;
     done = refl;
     after = refl;
   },

@@ -19,16 +19,18 @@ use Rattle.catalog_core.specs.Judged.{Holds}
 use Rattle.catalog_core.specs.declared.table.TableDef.{TableDef}
 use Rattle.version_store.specs.Changed.{with_clock, with_table}
 use Rattle.version_store.specs.Contents.{Contents}
+use Rattle.version_store.specs.GoodStore.{AreLawful}
 use Rattle.version_store.specs.StoreState.{Changes, IsStoreRefusal, IsUsable}
-use Rattle.history_model.specs.Histories.{Advanced, Created, History, catalog_of, clock_of, with_event}
-use Rattle.script_engine.specs.engine.Runs.{MayRefuse, MayRefuseMoment, NoneBeforeStore, StatementApplies, StepsTo}
+use Rattle.history_model.specs.Histories.{Advanced, Created, History, catalog_of, clock_of, last_state, with_event}
+use Rattle.script_engine.specs.engine.Runs.{MayRefuse, MayRefuseMoment, MayRefuseStatement, NoneBeforeStore, StatementApplies, StepsTo}
 use Rattle.script_engine.specs.engine.EngineState.{EngineState, store_of}
 use Rattle.script_engine.specs.engine.InMemory.{HaveCurrentRows}
 use Rattle.script_engine.specs.engine.Stored.{AreOfHistory, EngineRepresents, HasContents, KeepsOnErr}
 use Rattle.script_engine.specs.declared.engine.outcome.Outcome.{Outcome}
 use Rattle.script_engine.specs.declared.engine.outcome.Outcome.TheVariants.{Done}
 use Rattle.script_engine.specs.declared.engine.outcome.Word.TheVariants as word
-use Rattle.script_engine.proofs.Contents.{said-advanced, said-created}
+use Rattle.script_engine.proofs.Contents.{is_left, said-advanced, said-created}
+use Rattle.script_engine.proofs.LastState.{nothing_beyond, state_said}
 
 -- where no refusal applies, a failure of the database may be answered
 pub may_refuse-store : (Applies : Refusal → Type 0) (refusal : Refusal) → IsStoreRefusal refusal → NoneApplies Applies → MayRefuse Applies refusal
@@ -42,9 +44,19 @@ tables_of g history engine kept = kept.stored.catalog ∙ kept.said.tables
 pub clock_is : {S : Type 0} (g : Ghosts S) (history : History) (engine : EngineState S) → EngineRepresents g history engine → engine.clock ≡ clock_of history
 clock_is g history engine kept = kept.stored.clock ∙ kept.said.clock
 
+-- each statement may be refused by a condition of its own
+pub by_condition : (history : History) (s : Statement) (refusal : Refusal) → MayRefuse (StatementApplies history s) refusal → MayRefuseStatement history s refusal
+by_condition history (statement.insert i) refusal may = inl may
+by_condition history (statement.update u) refusal may = inl may
+by_condition history (statement.delete d) refusal may = inl may
+by_condition history (statement.at moment) refusal may = may
+by_condition history (statement.create c) refusal may = may
+by_condition history (statement.sequenced q) refusal may = may
+by_condition history (statement.stored q) refusal may = may
+
 -- a refusal leaves the history and what is kept as they were
 pub refused_step : {S : Type 0} (g : Ghosts S) (history : History) (engine : EngineState S) (s : Statement) (refusal : Refusal) → EngineRepresents g history engine → MayRefuse (StatementApplies history s) refusal → StepsTo g history s (Err refusal) engine
-refused_step g history engine s refusal kept may = (history, (may, refl), kept)
+refused_step g history engine s refusal kept may = (history, (by_condition history s refusal may, refl), kept)
 
 -- what an engine that represents a history has
 pub its_contents : {S : Type 0} (g : Ghosts S) (history : History) (engine : EngineState S) (kept : EngineRepresents g history engine) → HasContents g engine kept.contents
@@ -123,9 +135,9 @@ unmade_step g history engine create refusal kept may =
     (inl (subst (λ (tables : List TableDef). MayAnswer (Holds (create_conditions tables create)) refusal) (tables_of g history engine kept) may))
 
 pub created_step : {S : Type 0} (g : Ghosts S) (history : History) (old new : EngineState S) (create : CreateTable) (definition : TableDef) (kept : EngineRepresents g history old) →
-    NoneApplies (Holds (create_conditions old.catalog.tables create)) → Defines old.catalog.tables create definition → HasContents g new (with_table definition kept.contents) →
+    AreLawful [] old.catalog.tables → NoneApplies (Holds (create_conditions old.catalog.tables create)) → Defines old.catalog.tables create definition → HasContents g new (with_table definition kept.contents) →
     StepsTo g history (statement.create create) (Ok (Done word.Create 0)) new
-created_step g history old new create definition kept sound defined has = (
+created_step g history old new create definition kept ordered sound defined has = (
   with_event history (Created definition),
   (
     subst (λ (tables : List TableDef). NoneApplies (Holds (create_conditions tables create))) (tables_of g history old kept) sound,
@@ -136,7 +148,15 @@ created_step g history old new create definition kept sound defined has = (
       after = refl;
     },
   ),
-  record { contents = with_table definition kept.contents; stored = has.stored; said = said-created history kept.contents definition kept.said; current = has.current },
+  record {
+    contents = with_table definition kept.contents;
+    stored = has.stored;
+    said =
+        said-created history kept.contents definition (subst (AreLawful []) kept.stored.catalog ordered)
+        (nothing_beyond kept.contents old.tables kept.current (last_state history) (λ table day. state_said history kept.contents table day (is_left history kept.contents kept.said)))
+        kept.said;
+    current = has.current;
+  },
 )
 
 pub uncreated_step : {S : Type 0} (g : Ghosts S) (history : History) (old new : EngineState S) (create : CreateTable) (refusal : Refusal) (kept : EngineRepresents g history old) →

@@ -10,7 +10,6 @@ use Rattle.period_core.specs.declared.window.Window.TheVariants as window
 use Rattle.temporal_model.specs.Snapshot.{covers_day}
 use Rattle.temporal_model.proofs.Members.{Contains-nil}
 use Rattle.sql_statements.specs.Trees as statement
-use Rattle.sql_statements.specs.Trees as written
 use Rattle.sql_statements.specs.Trees.{combined, last, simple, step}
 use Rattle.sql_statements.specs.declared.statement.SystemTime.TheVariants.{AsOf}
 use Rattle.sql_statements.specs.declared.statement.TableReference.{TableReference}
@@ -39,7 +38,7 @@ use Rattle.script_engine.proofs.StepExamples.{emp, none_if_no_first, with_row}
 -- ---- set operators
 
 -- VALIDTIME SELECT DISTINCT DEPT FROM EMP, a set operator, and the same select
-abbrev twice : SetOperator → written.Query
+abbrev twice : SetOperator → statement.Query
 twice operator = combined (simple asked_select) (step operator (simple asked_select) last)
 
 abbrev both_of : SetOperator → Query
@@ -115,10 +114,10 @@ gone = with_event (with_event with_row (Advanced (pos 100))) (Changed (pos 100) 
 abbrev past : TableReference
 past = record workers { window = Some (AsOf (pos 99)) }
 
-abbrev past_select : written.Select
+abbrev past_select : statement.Select
 past_select = record asked_select { chains = record { first = past; joins = [] } ∷ [] }
 
-abbrev past_question : written.Query
+abbrev past_question : statement.Query
 past_question = combined (simple past_select) last
 
 abbrev past_departments : Query

@@ -13,12 +13,13 @@ ghost use Rattle.version_tables.specs.Steps.{IsAsBefore};
 ghost use Rattle.version_store.specs.Changed.{planned};
 ghost use Rattle.version_store.specs.Contents.{AreRowsOf, Contents};
 ghost use Rattle.version_store.specs.DistinctKeys.{HaveDistinctKeys};
-ghost use Rattle.version_store.specs.GoodStore.{IsGoodStore, NothingMore};
+ghost use Rattle.version_store.specs.GoodStore.{IsGoodStore};
 ghost use Rattle.version_store.specs.StoreState.{Changes, IsOpenRefusal, IsOurs, IsStoreRefusal};
 ghost use Rattle.version_store.specs.StoreState.{IsUsable, StoreRepresents};
 ghost use Rattle.history_model.specs.Histories.{Advanced, History, state_at, with_event};
 ghost use Rattle.history_model.specs.Versions.{values_at};
 ghost use Rattle.script_engine.specs.engine.EngineState.{store_of};
+ghost use Rattle.script_engine.specs.engine.Faults.{AreConstrained};
 ghost use Rattle.script_engine.specs.engine.InMemory.{HaveRows, rows_in};
 ghost use Rattle.script_engine.specs.engine.Runs.{MayRefuseMoment, StepsTo};
 ghost use Rattle.script_engine.specs.engine.Stored.{DatabaseRepresents, EngineRepresents};
@@ -29,17 +30,20 @@ ghost use Rattle.sql_statements.specs.Trees as statement;
 mod answering;
 mod auditing;
 mod in_memory;
+mod indexed;
+mod lawfulness;
 pub mod outcome;
 mod shown;
 
 use crate::engine::answering::answer_of;
-use crate::engine::in_memory::{apply_plan, load, no_rows, remove_last, rows_of_number};
+use crate::engine::indexed::{add_index, apply_plan, load_lawful, remove_last, rows_of_number};
+use crate::engine::lawfulness::lawful_plan;
 use crate::engine::outcome::{Outcome, VersionList, Word, done};
 use crate::engine::shown::{shown_rows, table_of_number, version_columns};
 use catalog_core::{Catalog, Plan, define};
 use catalog_core::{resolve_change, resolve_sequenced, resolve_stored_query};
 use period_core::{Items, Moment, Refusal, VersionRow};
-use period_keys::{CurrentRows, plan_change};
+use period_keys::TableIndex;
 use sql_statements::{
     ClockMoment, CreateTable, QueryTree, SelectDistinct, Statement, StatementForm, StoredQuery,
 };
@@ -50,22 +54,27 @@ use std::marker::Model;
 use version_store::VersionStore;
 
 /// The engine: its store, and in memory the current rows of each table, in the order of the
-/// catalog. So a change reads no row from the database.
+/// catalog, with the indexes that its references need. So a change reads no row from the database.
 #[derive(Drop)]
 pub struct Engine<S: Alter> {
     store: VersionStore<S>,
-    tables: Vec<CurrentRows>,
+    tables: Vec<TableIndex>,
 }
 
 impl<S: Alter> Model for Engine<S> {
+    ghost use Rattle.std.specs.Prelude.{map};
+    ghost use Rattle.period_keys.specs.Current.{rows_by_key};
     ghost use Rattle.script_engine.specs.engine.EngineState.{EngineState, engine_of};
     ghost use Rattle.script_engine.specs.engine.EngineState.{engine_state_code};
+    ghost use Rattle.script_engine.specs.engine.InMemory.{FollowCatalog};
 
     ghost Value = { EngineState S };
 
     ghost coded = { engine_state_code S.code };
 
-    ghost view = { λ e. engine_of e.store e.tables.items };
+    ghost view = { λ e. engine_of e.store (map rows_by_key e.tables.items) };
+
+    ghost invariant = { λ e. FollowCatalog e.store.catalog.tables e.tables.items };
 }
 
 // What the clauses say of a store holds where its connection is usable as the call ends: its disk
@@ -90,12 +99,12 @@ impl<S: Alter> Engine<S> {
         ensures good { IfOk result (λ engine. IsUsable S.Store engine.connection
             → IsOurs (state S.Store connection).now.schema
             → IsNoneThere (state S.Store connection).now.schema
-            ⊎ (IsGoodStore NothingMore (state S.Store connection).now
+            ⊎ (IsGoodStore AreConstrained (state S.Store connection).now
             × ((history : History) × EngineRepresents S.Store history engine))) }
 
         ensures bad { IfErr result (λ failed. IsUsable S.Store failed.1 → failed.0 ≡ BadStore
             → (¬ IsNoneThere (state S.Store connection).now.schema)
-            × ¬ IsGoodStore NothingMore (state S.Store connection).now) }
+            × ¬ IsGoodStore AreConstrained (state S.Store connection).now) }
         ensures none { IfErr result (λ failed. IsUsable S.Store failed.1
             → IsAsBefore (state S.Store connection) (state S.Store failed.1)) }
         ensures settled { IfErr result (λ failed. failed.1.in_transaction ≡ false) }
@@ -105,7 +114,7 @@ impl<S: Alter> Engine<S> {
             Ok(store) => store,
             Err(failed) => return Err(failed),
         };
-        match load(alloc, &mut store) {
+        match load_lawful(alloc, &mut store) {
             Ok(tables) => Ok(Engine { store, tables }),
             Err(refusal) => Err((refusal, store.close())),
         }
@@ -195,10 +204,8 @@ impl<S: Alter> Engine<S> {
             Ok(definition) => definition,
             Err(refusal) => return Err(refusal),
         };
-        let Ok(rows) = no_rows(alloc, &definition) else {
-            return Err(Refusal::Memory);
-        };
-        let Ok(()) = self.tables.push(rows) else {
+        let catalog = self.store.catalog();
+        let Ok(()) = add_index(alloc, catalog, &mut self.tables, &definition) else {
             return Err(Refusal::Memory);
         };
         match self.store.add_table(alloc, definition) {
@@ -210,9 +217,11 @@ impl<S: Alter> Engine<S> {
         }
     }
 
-    /// Makes what a plan says of the table of a number at the clock, in the database and in memory.
-    /// On `Err` nothing is changed.
+    /// Makes what a plan says of the table of a number at the clock, in the database and in memory,
+    /// where the plan ends some of its current rows. On `Err` nothing is changed.
     fn apply(&mut self, alloc: Global, table: u8, plan: &Plan) -> Result<(), Refusal>
+        requires { (stay : List Version)
+            × IsPermutation (rows_in self.old.tables table) (plan.now.ended ++ stay) }
         ensures changes { Changes S.Store (store_of self.old) (store_of self.new) result
             (planned table self.old.clock plan.now.ended plan.now.added) }
         ensures distinct { IsUsable S.Store self.new.connection
@@ -231,13 +240,13 @@ impl<S: Alter> Engine<S> {
             return Err(Refusal::Store);
         }
         match self.tables.get_mut(usize::from(table) - 1) {
-            Some(rows) => apply_plan(alloc, &mut self.store, rows, table, plan),
+            Some(index) => apply_plan(alloc, &mut self.store, index, table, plan),
             None => Err(Refusal::Store),
         }
     }
 
-    /// Runs an INSERT, an UPDATE or a DELETE: what its plan ends and adds is ended and added in one
-    /// transaction, and in memory. An `Err` changes nothing.
+    /// Runs an INSERT, an UPDATE or a DELETE: where it is lawful, what its plan ends and adds is
+    /// ended and added in one transaction, and in memory. An `Err` changes nothing.
     fn change(&mut self, alloc: Global, statement: &Statement) -> Result<Outcome, Refusal>
         requires { IsChange (plain statement.now) }
         ensures step { IsUsable S.Store self.new.connection
@@ -249,10 +258,8 @@ impl<S: Alter> Engine<S> {
             Ok(change) => change,
             Err(refusal) => return Err(refusal),
         };
-        let Some(rows) = rows_of_number(self.tables.as_slice(), change.table) else {
-            return Err(Refusal::Store);
-        };
-        let plan = match plan_change(alloc, rows, &change) {
+        let catalog = self.store.catalog();
+        let plan = match lawful_plan(alloc, catalog, self.tables.as_slice(), &change) {
             Ok(plan) => plan,
             Err(refusal) => return Err(refusal),
         };

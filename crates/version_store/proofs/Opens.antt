@@ -46,7 +46,7 @@ all_readable before [] (t ∷ ts) all = absurd all
 all_readable before (row ∷ rows) [] all = absurd all
 all_readable before (row ∷ rows) (t ∷ ts) all = (all.0.readable, all_readable (before ++ t ∷ []) rows ts all.1)
 
-all_lawful : (before : List TableDef) (rows : List Row) (ts : List TableDef) → AreTableRows before rows ts → AreLawful before ts
+pub all_lawful : (before : List TableDef) (rows : List Row) (ts : List TableDef) → AreTableRows before rows ts → AreLawful before ts
 all_lawful before [] [] all = tt
 all_lawful before [] (t ∷ ts) all = absurd all
 all_lawful before (row ∷ rows) [] all = absurd all

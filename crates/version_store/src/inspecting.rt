@@ -1,12 +1,12 @@
 //! A store that is there, judged.
 
-ghost use Rattle.std.specs.Prelude.{◌≡◌, false, IfErr, IfOk, IsTrue};
+ghost use Rattle.std.specs.Prelude.{◌≡◌, [], false, IfErr, IfOk, IsTrue};
 ghost use Rattle.period_core.specs.declared.refusal.Refusal.TheVariants.{BadStore};
 ghost use Rattle.sqlite.specs.Held.{state};
 ghost use Rattle.sqlite.specs.State.{HasCleanDisk};
 ghost use Rattle.version_tables.specs.Steps.{Keeps};
 ghost use Rattle.version_tables.specs.Tables.{store_schema};
-ghost use Rattle.version_store.specs.GoodStore.{IsGoodStore, NothingMore};
+ghost use Rattle.version_store.specs.GoodStore.{AreLawful, IsGoodStore, NothingMore};
 ghost use Rattle.version_store.specs.StoreState.{IsOpenRefusal};
 ghost use Rattle.version_store.specs.Written.{Has};
 
@@ -40,6 +40,7 @@ pub(crate) fn inspect<S: Alter>(
         → (state S.Store connection.old).now.schema ≡ store_schema
         → IfErr result (λ refusal. refusal ≡ BadStore
         → ¬ IsGoodStore NothingMore (state S.Store connection.old).now) }
+    ensures lawful { IfOk result (λ found. AreLawful [] found.0.tables) }
     ensures same { HasCleanDisk (state S.Store connection.new)
         → Keeps (state S.Store connection.old) (state S.Store connection.new) }
     ensures mode { connection.new.in_transaction ≡ false }

@@ -1,7 +1,7 @@
 //! The store: what is kept in memory over a connection.
 
 ghost use Rattle.std.specs.Prelude.{◌≡◌, ◌≢◌, ◌⊎◌, ◌<◌, ◌<ℤ◌, ◌≤ℤ◌, ◌++◌, ◌∷◌, [], List};
-ghost use Rattle.std.specs.Prelude.{IfErr, IfOk, IsTrue, false, length, true};
+ghost use Rattle.std.specs.Prelude.{IfErr, IfOk, IsTrue, OnErr, OnOk, false, length, true};
 ghost use Rattle.catalog_core.specs.Limits.{most_tables};
 ghost use Rattle.catalog_core.specs.table.TableWords.{has_date_period, has_distinct_names};
 ghost use Rattle.catalog_core.specs.declared.table.TableDef.{TableDef};
@@ -14,7 +14,8 @@ ghost use Rattle.version_tables.specs.Tables.{no_schema};
 ghost use Rattle.version_store.specs.Changed.{planned, with_clock, with_table};
 ghost use Rattle.version_store.specs.Contents.{AreRowsOf, Contents, empty_contents};
 ghost use Rattle.version_store.specs.DistinctKeys.{HaveDistinctKeys};
-ghost use Rattle.version_store.specs.GoodStore.{AreGood, HaveTables, IsGoodStore, NothingMore};
+ghost use Rattle.version_store.specs.GoodStore.{AreGood, AreLawful, HaveTables, IsGoodStore};
+ghost use Rattle.version_store.specs.GoodStore.{NothingMore};
 ghost use Rattle.version_store.specs.Scans.{Visits};
 ghost use Rattle.version_store.specs.StoreState.{Changes, IsOpenRefusal, IsOurs, IsStoreRefusal};
 ghost use Rattle.version_store.specs.StoreState.{IsOnlyRead, IsUsable, StoreRepresents};
@@ -127,6 +128,9 @@ impl<S: Alter> VersionStore<S> {
         ensures unchanged { IfOk result (λ store. IsUsable S.Store store.connection
             → (store.catalog.tables ≡ [])
             ⊎ IsAsBefore (state S.Store connection) (state S.Store store.connection)) }
+        ensures empty { IfOk result (λ store. IsNoneThere (state S.Store connection).now.schema
+            → store.catalog.tables ≡ []) }
+        ensures lawful { IfOk result (λ store. AreLawful [] store.catalog.tables) }
         ensures bad { IfErr result (λ failed. IsUsable S.Store failed.1 → failed.0 ≡ BadStore
             → (¬ IsNoneThere (state S.Store connection).now.schema)
             × ¬ IsGoodStore NothingMore (state S.Store connection).now) }
@@ -201,6 +205,9 @@ impl<S: Alter> VersionStore<S> {
         requires dated { has_date_period definition ≡ true }
         requires distinct { has_distinct_names definition ≡ true }
         ensures changes { Changes S.Store self.old self.new result (with_table definition) }
+        ensures added { OnOk result
+            (self.new.catalog.tables ≡ self.old.catalog.tables ++ definition ∷ []) }
+        ensures none { OnErr result (self.new.catalog.tables ≡ self.old.catalog.tables) }
         ensures named { IfErr result IsStoreRefusal }
     {
         let Ok(bytes) = encode_def(alloc, &definition) else {
@@ -225,6 +232,7 @@ impl<S: Alter> VersionStore<S> {
         requires later { self.old.clock ≤ℤ moment }
         requires before_the_end { moment <ℤ forever }
         ensures changes { Changes S.Store self.old self.new result (with_clock moment) }
+        ensures catalog { self.new.catalog ≡ self.old.catalog }
         ensures named { IfErr result IsStoreRefusal }
     {
         match write_clock(&mut self.connection, moment) {
@@ -249,6 +257,7 @@ impl<S: Alter> VersionStore<S> {
     ) -> Result<(), Refusal>
         ensures changes { Changes S.Store self.old self.new result
             (planned table moment plan.now.ended plan.now.added) }
+        ensures catalog { self.new.catalog ≡ self.old.catalog }
         ensures usable { IsUsable S.Store self.new.connection
             → IsUsable S.Store self.old.connection }
         ensures distinct { IsUsable S.Store self.new.connection
@@ -268,6 +277,7 @@ impl<S: Alter> VersionStore<S> {
         ensures same { IsUsable S.Store self.new.connection
             → (c : Contents) → StoreRepresents S.Store self.old c
             → StoreRepresents S.Store self.new c }
+        ensures catalog { self.new.catalog ≡ self.old.catalog }
         ensures named { IfErr result IsStoreRefusal }
     {
         table_rows(alloc, &mut self.connection, table)

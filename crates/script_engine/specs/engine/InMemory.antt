@@ -1,12 +1,16 @@
 -- The current rows of each table in memory.
-use Rattle.std.specs.Prelude.{◌≡◌, ℕ, List, [], IsPermutation, map}
+use Rattle.std.specs.Prelude.{◌≡◌, ℕ, List, [], IsPermutation, length, map}
 use Rattle.std.specs.Option.{option_map_or}
 use Rattle.period_core.specs.declared.version.VersionRow.{VersionRow}
 use Rattle.period_core.specs.declared.window.Window.TheVariants.{Now}
 use Rattle.catalog_core.specs.table.TableWords.{table_of}
+use Rattle.catalog_core.specs.declared.table.TableDef.{TableDef}
+use Rattle.period_keys.specs.Current.{HaveIndexes}
 use Rattle.period_keys.specs.Lawful.{key_positions}
 use Rattle.period_keys.specs.Rows.{RowsByKey}
+use Rattle.period_keys.specs.TableRows.{TableRows}
 use Rattle.version_store.specs.Contents.{Contents, version_in}
+use Rattle.version_store.specs.GoodStore.{AreLawful}
 use Rattle.version_store.specs.Scans.{seen_of}
 
 -- the rows are the current versions of the table, in any order
@@ -34,3 +38,10 @@ pub record HaveRows (number : ℕ) (wanted : List VersionRow) (old new : List Ro
     pub keys : keys_in new ≡ keys_in old
     pub there : IsPermutation (rows_in new number) wanted
     pub others : (other : ℕ) → (other ≡ number → ⊥) → rows_in new other ≡ rows_in old other
+
+-- the tables in memory are those of a catalog, with the indexes that its references need; each
+-- definition is one that CREATE gives over those before it
+pub record FollowCatalog (catalog : List TableDef) (tables : List TableRows) : Type 0 where
+  pub lawful : AreLawful [] catalog
+  pub count : length tables ≡ length catalog
+  pub indexed : HaveIndexes catalog tables

@@ -20,9 +20,10 @@ use Rattle.catalog_core.specs.query.Resolving.{ResolvesQuery, query_conditions}
 use Rattle.catalog_core.specs.stored.StoredQueries.{ResolvesStored, stored_conditions}
 use Rattle.catalog_core.specs.table.TableWords.{table_of}
 use Rattle.history_model.specs.Histories.{Advanced, Asked, Changed, Created, History}
-use Rattle.history_model.specs.Histories.{catalog_of, clock_of, with_event}
+use Rattle.history_model.specs.Histories.{catalog_of, clock_of, last_state, with_event}
 use Rattle.history_model.specs.Left.{AreLeftBy, versions_of}
 use Rattle.history_model.specs.OrdinaryQuery.{InAnswerOn}
+use Rattle.period_keys.specs.Lawful.{IsLawfulChange}
 use Rattle.sqlite.specs.Store.{Ghosts}
 use Rattle.version_store.specs.StoreState.{IsStoreRefusal}
 use Rattle.script_engine.specs.engine.EngineState.{EngineState}
@@ -33,6 +34,7 @@ use Rattle.catalog_core.specs.declared.stored.Stored.{Stored}
 use Rattle.catalog_core.specs.declared.table.TableDef.{TableDef}
 use Rattle.script_engine.specs.Headline.{IsSequencedAnswer}
 use Rattle.script_engine.specs.engine.Answering.{columns_of}
+use Rattle.script_engine.specs.engine.Faults.{IsFault}
 use Rattle.script_engine.specs.engine.Planned.{count_of, word_of}
 use Rattle.script_engine.specs.engine.Shown.{AreShown, version_columns}
 use Rattle.script_engine.specs.declared.engine.outcome.Outcome.{Outcome}
@@ -80,6 +82,27 @@ MayRefuseMoment clock moment refusal =
     ⊎ (((refusal ≡ MomentBack) × (moment <ℤ clock))
     ⊎ (IsStoreRefusal refusal × (clock ≤ℤ moment) × (moment <ℤ forever)))
 
+-- no condition of 1 to 41 holds, and the change that the statement makes breaks its table's key or a
+-- reference: 42 or 43, with the least day on which it does
+pub record IsUnlawful (history : History) (s : Statement) (refusal : Refusal) : Type 0 where
+  pub sound : NoneApplies (StatementApplies history s)
+  pub change : Change
+  pub resolved : ResolvesChange (catalog_of history) s change
+  pub fault : IsFault (catalog_of history) (last_state history) change refusal
+
+-- what a statement may be refused with: by a condition of its own; a change also by its fault
+abbrev pub MayRefuseStatement : History → Statement → Refusal → Type 0
+MayRefuseStatement history (statement.insert i) refusal =
+    MayRefuse (StatementApplies history (statement.insert i)) refusal
+    ⊎ IsUnlawful history (statement.insert i) refusal
+MayRefuseStatement history (statement.update u) refusal =
+    MayRefuse (StatementApplies history (statement.update u)) refusal
+    ⊎ IsUnlawful history (statement.update u) refusal
+MayRefuseStatement history (statement.delete d) refusal =
+    MayRefuse (StatementApplies history (statement.delete d)) refusal
+    ⊎ IsUnlawful history (statement.delete d) refusal
+MayRefuseStatement history s refusal = MayRefuse (StatementApplies history s) refusal
+
 -- AT moves the clock
 pub record Advances
     (history : History) (moment : ℤ) (outcome : Outcome) (new : History) : Type 0 where
@@ -97,7 +120,8 @@ pub record Creates
   pub done : outcome ≡ Done word.Create 0
   pub after : new ≡ with_event history (Created definition)
 
--- a change is made as it is resolved, at the clock; the history as it was tells what is counted
+-- a change is made as it is resolved, at the clock, where it is lawful; the history as it was tells
+-- what is counted
 pub record Changes
     (history : History)
     (s : Statement)
@@ -105,6 +129,7 @@ pub record Changes
     (new : History) : Type 0 where
   pub change : Change
   pub resolved : ResolvesChange (catalog_of history) s change
+  pub lawful : IsLawfulChange (catalog_of history) (last_state history) change
   pub done : outcome
       ≡ Done (word_of change.action) (count_of change.action (versions_of history change.table))
   pub after : new ≡ with_event history (Changed (clock_of history) change)
@@ -159,7 +184,7 @@ Accepts history (statement.stored q) outcome new =
 -- a statement's result: refused, and the history stays; or accepted, and added to the history
 abbrev pub Step : History → Statement → Result Outcome Refusal → History → Type 0
 Step history s (Err refusal) new =
-    MayRefuse (StatementApplies history s) refusal × (new ≡ history)
+    MayRefuseStatement history s refusal × (new ≡ history)
 Step history s (Ok outcome) new =
     NoneApplies (StatementApplies history s) × Accepts history s outcome new
 

@@ -12,8 +12,9 @@ use Rattle.version_store.specs.Contents.{Contents, TableVersion, of_table, versi
 use Rattle.version_store.specs.StoreState.{IsUsable, StoreRepresents}
 use Rattle.version_store.specs.Written.{Has}
 use Rattle.history_model.specs.Histories.{History, IsInOrder, catalog_of, clock_of, new_database}
-use Rattle.history_model.specs.Histories.{opened}
+use Rattle.history_model.specs.Histories.{last_state, opened}
 use Rattle.history_model.specs.Left.{AreLeftBy}
+use Rattle.period_keys.specs.Lawful.{IsLawfulState}
 use Rattle.script_engine.specs.engine.EngineState.{EngineState, store_of}
 use Rattle.script_engine.specs.engine.InMemory.{HaveCurrentRows}
 
@@ -38,6 +39,9 @@ pub record AreOfHistory (history : History) (c : Contents) : Type 0 where
   -- the clock is below FOREVER, and no version is recorded after it
   pub is_clock : IsClock c.clock
   pub recorded : AreRecorded c
+  -- in the last state no two rows of a table share its key on any day, and each child row has its
+  -- parent
+  pub lawful : IsLawfulState (catalog_of history) (last_state history)
 
 -- the engine has these contents: in the database, as it was last committed, and in memory, with
 -- the current versions of each table

@@ -13,6 +13,7 @@ ghost use Rattle.history_model.specs.Versions.{row_of};
 ghost use Rattle.period_core.specs.Windows.{window_sees};
 ghost use Rattle.period_core.specs.declared.refusal.Refusal.TheVariants.{Memory as OutOfMemory};
 ghost use Rattle.period_core.specs.declared.row.PeriodRow.{PeriodRow as Row};
+ghost use Rattle.period_keys.specs.Current.{rows_by_key};
 ghost use Rattle.version_store.specs.Contents.{Contents};
 ghost use Rattle.version_store.specs.StoreState.{IsOnlyRead, IsStoreRefusal, IsUsable};
 ghost use Rattle.version_store.specs.StoreState.{StoreRepresents};
@@ -24,12 +25,12 @@ ghost use Rattle.script_engine.specs.engine.EngineState.{engine_of};
 ghost use Rattle.script_engine.specs.engine.InMemory.{rows_in};
 ghost use Rattle.script_engine.specs.engine.Stored.{EngineRepresents};
 
-use crate::engine::in_memory::rows_of_number;
+use crate::engine::indexed::rows_of_number;
 use catalog_core::resolved::{Query, QueryReference, Tables};
 use catalog_core::{AnswerColumn, fits};
 use coalesce_core::{coalesce, witnesses};
 use period_core::{Answer, Items, Memory, PeriodRow, Refusal, Text, VersionRow, Window};
-use period_keys::CurrentRows;
+use period_keys::TableIndex;
 use sequenced_ops::run_query;
 use sqlite_trees::store::Alter;
 use std::alloc::Global;
@@ -99,10 +100,10 @@ fn push_rows(
 /// The current rows of the table of a number, copied from memory.
 fn current_rows(
     alloc: Global,
-    tables: &[CurrentRows],
+    tables: &[TableIndex],
     number: u8,
 ) -> Result<Vec<PeriodRow>, Memory>
-    ensures { IfOk result (λ rows. rows.items ≡ map row_of (rows_in tables.now number)) }
+    ensures { IfOk result (λ rows. rows.items ≡ map row_of (rows_in (map rows_by_key tables.now) number)) }
 {
     let mut rows = Vec::new(alloc);
     let Some(current) = rows_of_number(tables, number) else {
@@ -155,11 +156,11 @@ fn scanned_rows<S: Alter>(
 fn seen_by<S: Alter>(
     alloc: Global,
     store: &mut VersionStore<S>,
-    tables: &[CurrentRows],
+    tables: &[TableIndex],
     reference: &QueryReference,
 ) -> Result<Items<PeriodRow>, Refusal>
     ensures seen { IsUsable S.Store store.new.connection
-        → (history : History) → EngineRepresents S.Store history (engine_of store.old tables.now)
+        → (history : History) → EngineRepresents S.Store history (engine_of store.old (map rows_by_key tables.now))
         → IfOk result (AreSeenBy history reference.now) }
     ensures read { IsOnlyRead S.Store store.old store.new }
     ensures named { IfErr result IsStoreRefusal }
@@ -182,12 +183,12 @@ fn seen_by<S: Alter>(
 fn push_seen<S: Alter>(
     alloc: Global,
     store: &mut VersionStore<S>,
-    tables: &[CurrentRows],
+    tables: &[TableIndex],
     references: &[QueryReference],
     lists: &mut Vec<Items<PeriodRow>>,
 ) -> Result<(), Refusal>
     ensures seen { IsUsable S.Store store.new.connection
-        → (history : History) → EngineRepresents S.Store history (engine_of store.old tables.now)
+        → (history : History) → EngineRepresents S.Store history (engine_of store.old (map rows_by_key tables.now))
         → (before : List Ref) → EachSees history before lists.old.items
         → OnOk result (EachSees history (before ++ references.now) lists.new.items) }
     ensures read { IsOnlyRead S.Store store.old store.new }
@@ -209,12 +210,12 @@ fn push_seen<S: Alter>(
 fn push_tables<S: Alter>(
     alloc: Global,
     store: &mut VersionStore<S>,
-    tables: &[CurrentRows],
+    tables: &[TableIndex],
     query: &Query,
     lists: &mut Vec<Items<PeriodRow>>,
 ) -> Result<(), Refusal>
     ensures seen { IsUsable S.Store store.new.connection
-        → (history : History) → EngineRepresents S.Store history (engine_of store.old tables.now)
+        → (history : History) → EngineRepresents S.Store history (engine_of store.old (map rows_by_key tables.now))
         → (before : List Ref) → EachSees history before lists.old.items
         → OnOk result (EachSees history
         (before ++ references_of (plain_query query.now)) lists.new.items) }
@@ -239,11 +240,11 @@ fn push_tables<S: Alter>(
 fn tables_of<S: Alter>(
     alloc: Global,
     store: &mut VersionStore<S>,
-    tables: &[CurrentRows],
+    tables: &[TableIndex],
     query: &Query,
 ) -> Result<Tables, Refusal>
     ensures seen { IsUsable S.Store store.new.connection
-        → (history : History) → EngineRepresents S.Store history (engine_of store.old tables.now)
+        → (history : History) → EngineRepresents S.Store history (engine_of store.old (map rows_by_key tables.now))
         → IfOk result (EachSees history (references_of (plain_query query.now))) }
     ensures read { IsOnlyRead S.Store store.old store.new }
     ensures named { IfErr result IsStoreRefusal }
@@ -336,11 +337,11 @@ pub fn answered<S: Alter>(
 pub fn answer_of<S: Alter>(
     alloc: Global,
     store: &mut VersionStore<S>,
-    tables: &[CurrentRows],
+    tables: &[TableIndex],
     query: &Query,
 ) -> Result<Answer, Refusal>
     ensures right { IsUsable S.Store store.new.connection
-        → (history : History) → EngineRepresents S.Store history (engine_of store.old tables.now)
+        → (history : History) → EngineRepresents S.Store history (engine_of store.old (map rows_by_key tables.now))
         → IfOk result (IsSequencedAnswer (InAnswerOn history (plain_query query.now))) }
     ensures columns { IfOk result (λ answer. answer.columns
         ≡ map (λ (item : Item). item.name) (columns_of (plain_query query.now))) }

@@ -146,6 +146,7 @@ pub fn shown_rows<S: Alter>(
     ensures same { IsUsable S.Store store.new.connection
         → (c : Contents) → StoreRepresents S.Store store.old c
         → StoreRepresents S.Store store.new c }
+    ensures catalog { store.new.catalog ≡ store.old.catalog }
     ensures named { IfErr result IsStoreRefusal }
 {
     let (table, window) = (query.table, query.window);

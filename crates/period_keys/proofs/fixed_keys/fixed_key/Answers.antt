@@ -1,4 +1,4 @@
-use Rattle.std.proofs.Common.{◌≡◌, ◌+◌, ◌++◌, ◌∷◌, [], ◌∙◌, ℕ, List, Some, take, get_or, sym, ap, arith}
+use Rattle.std.proofs.Common.{◌≡◌, ◌++◌, ◌∷◌, [], ◌∙◌, ℕ, List, take, get_or, sym, ap, arith}
 use Rattle.std.specs.Prelude.{Option}
 use Rattle.std.specs.List.{filter_map, slice_get}
 use Rattle.std.proofs.lemmas.List.{take_more}

@@ -1,16 +1,15 @@
-use Rattle.std.proofs.Common.{◌≡◌, ◌++◌, ◌∷◌, [], ◌∙◌, ℕ, List, Some, None, inl, inr, refl, sym, ap, subst}
+use Rattle.std.proofs.Common.{◌≡◌, ◌++◌, ◌∷◌, [], ◌∙◌, ℕ, List, inl, inr, sym, ap, subst}
 use Rattle.std.specs.Prelude.{◌⊎◌, Contains, IsPermutation, Result, Ok, Err, OnErr}
 use Rattle.std.specs.List.{AllByRecursion}
-use Rattle.std.specs.BTreeMap.{get, insert_entry, is_at}
-use Rattle.std.specs.Map.{set_value}
+use Rattle.std.specs.BTreeMap.{insert_entry, is_at}
 use Rattle.std.proofs.lemmas.List.Sorted.{IsPermutation-append_comm, IsPermutation-append_left, IsPermutation-trans, Contains-permutation}
 use Rattle.std.proofs.lemmas.List.Elements.{Contains-append_cases}
 use Rattle.period_core.specs.Order.{values_cmp}
 use Rattle.period_core.specs.declared.value.Value.{Value}
 use Rattle.period_core.specs.declared.version.VersionRow.{VersionRow}
-use Rattle.temporal_model.proofs.Members.{Contains-nil, Contains-one}
+use Rattle.temporal_model.proofs.Members.{Contains-one}
 use Rattle.period_keys.specs.declared.key_rows.KeyRows.{KeyRows}
-use Rattle.period_keys.specs.Rows.{AreGrouped, HaveKey, rows_of_groups}
+use Rattle.period_keys.specs.Rows.{HaveKey, rows_of_groups}
 use Rattle.period_keys.specs.Versions.{version_key}
 use Rattle.period_keys.proofs.Grouped.{Entries, Groups, Writes, grouped_after, inserted_group, keyed_inserted, rows_in, unmoved, written}
 use Rattle.period_keys.proofs.groups.add_to.Goals as goal

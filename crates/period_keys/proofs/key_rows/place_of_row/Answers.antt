@@ -1,4 +1,4 @@
-use Rattle.std.proofs.Common.{◌≡◌, ◌+◌, ◌-◌, ◌<ℤ◌, ◌∙◌, ℕ, List, length, get_or, ap, arith, map, subst, sym}
+use Rattle.std.proofs.Common.{◌≡◌, ◌+◌, ◌-◌, ◌<ℤ◌, ◌∙◌, ℕ, List, length, get_or, ap, arith, subst, sym}
 use Rattle.std.proofs.lemmas.List.{length-map}
 use Rattle.period_core.specs.declared.period.Period.{Period}
 use Rattle.period_core.specs.declared.version.VersionRow.{VersionRow}

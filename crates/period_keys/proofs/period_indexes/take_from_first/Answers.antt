@@ -1,9 +1,7 @@
-use Rattle.std.proofs.Common.{◌≡◌, ◌+◌, ◌-◌, ◌<◌, ◌≤◌, ◌++◌, ◌∙◌, ℕ, List, length, set, get_or, map, sym, ap, subst, arith}
+use Rattle.std.proofs.Common.{◌≡◌, ◌+◌, ◌-◌, ◌<◌, ◌++◌, ◌∙◌, ℕ, List, length, set, get_or, map, sym, subst, arith}
 use Rattle.std.proofs.lemmas.List.{get_or_default, length-set}
 use Rattle.period_core.specs.declared.row.PeriodRow.{PeriodRow}
-use Rattle.period_core.specs.declared.value.Value.{Value}
 use Rattle.period_keys.specs.declared.period_indexes.PeriodIndex.{PeriodIndex}
-use Rattle.period_keys.specs.Keys.{key_values}
 use Rattle.period_keys.specs.PeriodIndexes.{AreKeysByEach, PartlyIndex, positions_by}
 use Rattle.period_keys.proofs.Partly.{each_second, keys_at_place, partly_down, set_same}
 use Rattle.period_keys.proofs.period_indexes.take_from_first.Goals as goal

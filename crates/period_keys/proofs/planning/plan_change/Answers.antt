@@ -1,6 +1,5 @@
-use Rattle.std.proofs.Common.{◌≡◌, ◌∙◌, ℕ, List, true, refl, sym, ap, subst}
-use Rattle.std.specs.Prelude.{IfOk, IfSome, Option}
-use Rattle.std.specs.List.{filter}
+use Rattle.std.proofs.Common.{◌≡◌, ℕ, List, true, sym, subst}
+use Rattle.std.specs.Prelude.{IfSome, Option}
 use Rattle.catalog_core.specs.Conditions.{meets}
 use Rattle.catalog_core.specs.declared.change.Action.{Action}
 use Rattle.catalog_core.specs.declared.condition.CompareValues.{CompareValues}

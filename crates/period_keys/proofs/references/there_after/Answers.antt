@@ -1,39 +1,52 @@
-use Rattle.std.proofs.Common.{◌≡◌, ◌+◌, ◌++◌, ◌∷◌, [], List, take, sym, ◌∙◌, ap, subst, inl, inr, arith}
-use Rattle.std.specs.List.{Contains}
-use Rattle.std.proofs.lemmas.List.{take_more, take_all}
-use Rattle.std.proofs.lemmas.List.Elements.{Contains-push, Contains-push_cases, Contains-append_left, Contains-append_right, Contains-append_cases}
+use Rattle.std.proofs.Common.{◌≡◌, ◌+◌, ◌++◌, ◌∷◌, [], ◌∙◌, ℕ, Bool, true, false, List, append_assoc, append-nil, drop, take, sym, ap, subst, arith}
+use Rattle.std.specs.Bool.{OnFalse, OnTrue}
+use Rattle.std.specs.Prelude.{Contains, IsPermutation}
+use Rattle.std.proofs.lemmas.List.{drop_more, take_all, take_more}
+use Rattle.std.proofs.lemmas.List.Sorted.{IsPermutation-append_left, IsPermutation-sym, IsPermutation-trans, Contains-permutation}
 use Rattle.period_core.specs.declared.period.Period.{Period}
+use Rattle.temporal_model.proofs.Members.{Contains-here}
+use Rattle.temporal_model.proofs.Rearranged.{IsPermutation-uncons}
+use Rattle.period_keys.proofs.Indexes.{drop_all}
 use Rattle.period_keys.proofs.references.there_after.Goals as goal
 
-pub loop-period-preserved : goal.loop-period-preserved
-loop-period-preserved c = λ p.
-    let periods : List Period = c.args.periods.now in
-    let i = c.loop-period.period-index in
-    let x : Period = c.period-item.result in
-    let more : take (i + 1) periods ≡ take i periods ++ x ∷ [] = take_more periods i x (omega arith) ∙ ap (λ y. take i periods ++ y ∷ []) (sym c.period-item.is) in
-    let pushed = c.in_ok-push_kept.ensures p in
-    let inv = c.loop-period.invariant p in (
-      λ h. elim (pushed.0 h) [
-        | inl old ↦ let (there, kept) = inv.0 old in (subst (λ (list : List Period). Contains list p) (sym more) (Contains-append_left (take i periods) (x ∷ []) p there), kept)
-        | inr (same, kept) ↦ (subst (λ (list : List Period). Contains list p) (sym more) (subst (Contains (take i periods ++ x ∷ [])) same (Contains-push (take i periods) x)), kept)
-      ],
-      λ (there, kept). elim (Contains-push_cases (take i periods) x p (subst (λ (list : List Period). Contains list p) more there)) [
-        | inl old ↦ pushed.1 (inl (inv.1 (old, kept)))
-        | inr same ↦ pushed.1 (inr (same, kept))
-      ],
-    )
+pub loop-going-init : goal.loop-going-init
+loop-going-init c = λ stay moved. subst (λ (list : List Period). IsPermutation list (c.args.gone.now ++ stay)) (sym c.in_ok-there.ensures) moved
+
+-- one that is there was taken out
+less : (r : Bool) (old new rest : List Period) (p : Period) → OnTrue r (IsPermutation old (p ∷ new)) → OnFalse r (Contains old p → ⊥) → IsPermutation old (p ∷ rest) → IsPermutation new rest
+less true old new rest p taken absent moved = IsPermutation-uncons p new rest (IsPermutation-trans (p ∷ new) old (p ∷ rest) (IsPermutation-sym old (p ∷ new) taken) moved)
+less false old new rest p taken absent moved = absurd (absent (Contains-permutation (p ∷ rest) old p (IsPermutation-sym old (p ∷ rest) moved) (Contains-here p rest)))
+
+pub loop-going-preserved : goal.loop-going-preserved
+loop-going-preserved c = λ stay moved.
+    let gone : List Period = c.args.gone.now in
+    let i : ℕ = c.loop-going.going-index in
+    let p : Period = c.going-item.result in
+    let old : List Period = c.loop-going.there.items.items in
+    let more : drop i gone ≡ p ∷ drop (i + 1) gone = drop_more gone i p (omega arith) ∙ ap (λ x. x ∷ drop (i + 1) gone) (sym c.going-item.is) in
+    less c.take_one-taken.result old c.take_one-taken.new.self.items.items (drop (i + 1) gone ++ stay) p c.take_one-taken.ensures.taken c.take_one-taken.ensures.absent
+    (subst (λ (list : List Period). IsPermutation old (list ++ stay)) more (c.loop-going.invariant stay moved))
+
+pub loop-coming-init : goal.loop-coming-init
+loop-coming-init c = λ stay moved.
+    let there : List Period = c.loop-going.there.items.items in
+    let none : drop c.loop-going.going-index c.args.gone.now ≡ [] = drop_all c.args.gone.now c.loop-going.going-index (omega arith) in
+    subst (IsPermutation there) (sym (append-nil stay)) (subst (λ (list : List Period). IsPermutation there (list ++ stay)) none (c.loop-going.invariant stay moved))
+
+pub loop-coming-preserved : goal.loop-coming-preserved
+loop-coming-preserved c = λ stay moved.
+    let new : List Period = c.args.new.now in
+    let i : ℕ = c.loop-coming.coming-index in
+    let p : Period = c.coming-item.result in
+    let old : List Period = c.loop-coming.there.items.items in
+    let there : List Period = c.add.new.self.items.items in
+    let more : stay ++ take (i + 1) new ≡ (stay ++ take i new) ++ p ∷ [] =
+    ap (λ (list : List Period). stay ++ list) (take_more new i p (omega arith) ∙ ap (λ x. take i new ++ x ∷ []) (sym c.coming-item.is)) ∙ sym (append_assoc stay (take i new) (p ∷ [])) in
+    subst (IsPermutation there) (sym more)
+    (IsPermutation-trans there (old ++ p ∷ []) ((stay ++ take i new) ++ p ∷ []) c.in_ok-add.ensures.ok
+    (IsPermutation-append_left (p ∷ []) old (stay ++ take i new) (c.loop-coming.invariant stay moved)))
 
 pub returns : goal.returns
-returns c = λ p.
-    let items : c.extend_from_slice.new.self.items ≡ c.loop-period.there.items ++ c.args.new.now = c.in_ok-extend_from_slice.ensures.items in
-    let all : take c.loop-period.period-index c.args.periods.now ≡ c.args.periods.now = take_all _ _ (omega arith) in
-    let inv = c.loop-period.invariant p in (
-      λ h. elim (Contains-append_cases c.loop-period.there.items c.args.new.now p (subst (λ (list : List Period). Contains list p) items h)) [
-        | inl old ↦ let (there, kept) = inv.0 old in inl (subst (λ (list : List Period). Contains list p) all there, kept)
-        | inr comes ↦ inr comes
-      ],
-      λ h. subst (λ (list : List Period). Contains list p) (sym items) (elim h [
-        | inl (there, kept) ↦ Contains-append_left c.loop-period.there.items c.args.new.now p (inv.1 (subst (λ (list : List Period). Contains list p) (sym all) there, kept))
-        | inr comes ↦ Contains-append_right c.loop-period.there.items c.args.new.now p comes
-      ]),
-    )
+returns c = λ stay moved.
+    let all : take c.loop-coming.coming-index c.args.new.now ≡ c.args.new.now = take_all _ _ (omega arith) in
+    subst (λ (list : List Period). IsPermutation c.loop-coming.there.items.items (stay ++ list)) all (c.loop-coming.invariant stay moved)

@@ -1,5 +1,6 @@
-use Rattle.std.proofs.Common.{◌∙◌, List, ap, map, subst, subst₂, sym}
+use Rattle.std.proofs.Common.{◌∙◌, [], List, ap, map, subst, subst₂, sym}
 use Rattle.std.specs.List.Sorted.{IsPermutation}
+use Rattle.std.proofs.lemmas.Result.{IfOk-weaker}
 use Rattle.sqlite.specs.Effect.{Database}
 use Rattle.sqlite.specs.Held.{state}
 use Rattle.sqlite.specs.Order.{Row}
@@ -9,7 +10,7 @@ use Rattle.version_tables.proofs.Ordered.{own_rowids}
 use Rattle.version_tables.specs.Rows.{AreNumbered, AreRising, InOrder, by_rowid}
 use Rattle.version_tables.specs.Represents.{meta_shown, rowid_shown, table_shown, version_shown}
 use Rattle.version_store.proofs.Keys.{keys_kept}
-use Rattle.version_store.proofs.Opens.{found_contents, judged_bad, judged_good}
+use Rattle.version_store.proofs.Opens.{all_lawful, found_contents, judged_bad, judged_good}
 use Rattle.version_store.proofs.Twins.{good_keys}
 use Rattle.version_store.proofs.inspecting.inspect.Goals as goal
 
@@ -57,6 +58,9 @@ returns-clause-bad g c clean on has =
     let pt = subst₂ (λ (d : Database) (rows : List Row). InOrder table_shown by_rowid (d.trees 1) rows) now1 (sym c.deref-5.ensures.value) (c.in-Ok-table_rows.ensures.shows clean2 has1) in
     let pv = subst₂ (λ (d : Database) (rows : List Row). IsPermutation (map version_shown (d.trees 2)) rows) now2 (sym c.deref-6.ensures.value) (c.in-Ok-version_rows.ensures.shows clean3 has2) in
     judged_bad old c.deref-4.result.now c.deref-5.result.now c.deref-6.result.now pm pt pv c.judge_rows.result c.judge_rows.ensures.bad
+
+pub returns-clause-lawful : goal.returns-clause-lawful
+returns-clause-lawful g c = IfOk-weaker c.judge_rows.result _ _ (λ found says. all_lawful [] c.deref-5.result.now found.0.tables says.defined.each) c.judge_rows.ensures.good
 
 -- a good store's tables have their columns
 pub returns-then-not-columns_there-clause-bad : goal.returns-then-not-columns_there-clause-bad

@@ -1,6 +1,5 @@
-use Rattle.std.proofs.Common.{◌≡◌, ◌∷◌, [], ◌∙◌, List, map, refl, ap}
-use Rattle.period_core.specs.declared.version.VersionRow.{VersionRow}
-use Rattle.period_keys.specs.Rows.{RowsByKey, rows_of_groups, rows_of_lists}
+use Rattle.std.proofs.Common.{◌∙◌, ap}
+use Rattle.period_keys.specs.Rows.{RowsByKey, rows_of_lists}
 use Rattle.period_keys.proofs.Grouped.{lists_of_groups}
 use Rattle.period_keys.proofs.current_rows.CurrentRows.groups.Goals as goal
 

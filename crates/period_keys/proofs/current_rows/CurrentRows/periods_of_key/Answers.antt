@@ -1,10 +1,6 @@
-use Rattle.std.proofs.Common.{◌≡◌, ◌∙◌, [], List, Some, None, map, sym, ap}
-use Rattle.std.specs.Prelude.{Option, filter}
-use Rattle.std.specs.BTreeMap.{get}
+use Rattle.std.proofs.Common.{◌∙◌, [], map, sym, ap}
+use Rattle.std.specs.Prelude.{Option}
 use Rattle.std.specs.Option.{option_map_or}
-use Rattle.period_core.specs.Order.{values_cmp}
-use Rattle.period_core.specs.declared.value.Value.{Value}
-use Rattle.period_core.specs.declared.version.VersionRow.{VersionRow}
 use Rattle.period_keys.specs.declared.key_rows.KeyRows.{KeyRows}
 use Rattle.period_keys.specs.Rows.{RowsByKey, rows_of_key}
 use Rattle.period_keys.specs.Versions.{period_of}

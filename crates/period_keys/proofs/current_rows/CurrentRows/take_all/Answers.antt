@@ -1,6 +1,5 @@
-use Rattle.std.proofs.Common.{◌≡◌, ◌<◌, ◌++◌, ◌∷◌, [], ◌+◌, ◌∙◌, ℕ, List, length, drop, map, sym, ap, subst, arith}
+use Rattle.std.proofs.Common.{◌≡◌, ◌<◌, ◌++◌, [], ◌+◌, ◌∙◌, ℕ, List, length, drop, sym, ap, subst, arith}
 use Rattle.std.specs.Prelude.{IsPermutation}
-use Rattle.period_core.specs.declared.value.Value.{Value}
 use Rattle.period_core.specs.declared.version.VersionRow.{VersionRow}
 use Rattle.period_keys.specs.Versions.{version_key}
 use Rattle.period_keys.proofs.Loops.{next_left, none_left, worked_at}

@@ -1,4 +1,4 @@
-use Rattle.std.proofs.Common.{◌≡◌, ◌++◌, ◌∙◌, List, drop, length, map, take, sym, ap, subst}
+use Rattle.std.proofs.Common.{◌++◌, List, map, sym, subst}
 use Rattle.std.specs.Prelude.{IsPermutation}
 use Rattle.std.proofs.lemmas.List.Sorted.{IsPermutation-append_comm, IsPermutation-map, IsPermutation-sym, IsPermutation-trans}
 use Rattle.period_core.specs.declared.row.PeriodRow.{PeriodRow}

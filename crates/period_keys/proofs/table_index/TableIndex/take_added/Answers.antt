@@ -1,4 +1,4 @@
-use Rattle.std.proofs.Common.{◌≡◌, ◌++◌, ◌∙◌, List, drop, length, map, take, sym, ap, subst}
+use Rattle.std.proofs.Common.{◌++◌, List, map, sym, subst}
 use Rattle.std.specs.Prelude.{IsPermutation}
 use Rattle.period_core.specs.declared.row.PeriodRow.{PeriodRow}
 use Rattle.period_core.specs.declared.version.VersionRow.{VersionRow}

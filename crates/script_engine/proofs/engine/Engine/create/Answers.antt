@@ -1,20 +1,27 @@
-use Rattle.std.proofs.Common.{◌≡◌, ◌<◌, ◌∙◌, List, ap, length, subst, sym}
+use Rattle.std.proofs.Common.{◌≡◌, ◌<◌, ◌++◌, ◌∷◌, ◌∙◌, List, [], ap, length, map, refl, subst, sym}
 use Rattle.period_core.specs.Leasts.{MayAnswer, NoneApplies}
 use Rattle.catalog_core.specs.create.Creation.{create_conditions}
 use Rattle.catalog_core.specs.create.Definition.{Defines}
+use Rattle.catalog_core.specs.create.Lawful.{IsLawful}
 use Rattle.catalog_core.specs.Judged.{Holds}
 use Rattle.catalog_core.specs.Limits.{most_tables}
 use Rattle.catalog_core.specs.declared.table.TableDef.{TableDef}
 use Rattle.catalog_core.specs.declared.table.catalog.Catalog.{Catalog}
+use Rattle.period_keys.specs.Current.{rows_by_key}
+use Rattle.period_keys.specs.Lawful.{key_positions}
 use Rattle.period_keys.specs.Rows.{RowsByKey}
 use Rattle.version_store.specs.Changed.{with_table}
 use Rattle.script_engine.specs.engine.EngineState.{EngineState, engine_of}
-use Rattle.script_engine.specs.engine.InMemory.{HaveCurrentRows}
+use Rattle.script_engine.specs.engine.InMemory.{FollowCatalog, HaveCurrentRows}
 use Rattle.script_engine.specs.engine.Stored.{EngineRepresents, HasContents}
 use Rattle.script_engine.proofs.InMemory.{current-created}
 use Rattle.script_engine.proofs.Steps.{created_step, uncreated_step, unmade_step}
 use Rattle.script_engine.proofs.TableNumbers.{few_tables}
 use Rattle.script_engine.proofs.engine.Engine.create.Goals as goal
+
+-- a table without rows
+abbrev without_rows : TableDef → RowsByKey
+without_rows definition = record { positions = key_positions definition; rows = [] }
 
 pub returns-in-Err-clause-step : goal.returns-in-Err-clause-step
 returns-in-Err-clause-step g c usable history kept =
@@ -22,49 +29,56 @@ returns-in-Err-clause-step g c usable history kept =
     unmade_step g.S.Store history c.args.self.now c.args.create.now c.in-Err.refusal kept
     (subst (λ (tables : List TableDef). MayAnswer (Holds (create_conditions tables c.args.create.now)) c.in-Err.refusal) same c.in-Err.ensures.refused)
 
+pub add_index-requires : goal.add_index-requires
+add_index-requires g c = record {
+  follow = subst (λ (k : Catalog). FollowCatalog k.tables c.self.inside.tables.items) (sym c.catalog-catalog.ensures) c.self.invariant;
+  lawful =
+      subst (λ (k : Catalog). IsLawful k.tables c.in-Ok.definition) (c.catalog.ensures ∙ sym c.catalog-catalog.ensures)
+      (c.args.create.now, c.in-Ok.ensures.sound, c.in-Ok.ensures.defined);
+}
+
 pub add_table-requires-clause-room : goal.add_table-requires-clause-room
 add_table-requires-clause-room g c =
     subst (λ (k : Catalog). length k.tables < most_tables) c.catalog.ensures (few_tables c.catalog.result.now.tables c.args.create.now c.in-Ok.ensures.sound)
 
 pub returns-in-Ok-add_table-clause-step : goal.returns-in-Ok-add_table-clause-step
 returns-in-Ok-add_table-clause-step g c usable history kept =
-    let ts : List RowsByKey = c.self.inside.tables.items in
+    let ts : List RowsByKey = map rows_by_key c.self.inside.tables.items in
     let old : EngineState g.row.S.Denot = engine_of c.self.inside.store ts in
-    let new : EngineState g.row.S.Denot = engine_of c.add_table.new.self c.push.new.self.items in
+    let new : EngineState g.row.S.Denot = engine_of c.add_table.new.self (map rows_by_key c.add_index.new.tables.items) in
     let create = c.args.create.now in
     let definition = c.in-Ok.definition in
-    let rows : RowsByKey = c.in-Ok-no_rows.rows in
     let was : EngineRepresents g.S.Store history old = subst (λ s. EngineRepresents g.S.Store history s) (sym c.self.view_is) kept in
-    created_step g.S.Store history old new create definition was
+    created_step g.S.Store history old new create definition was c.self.invariant.lawful
     (subst (λ (k : Catalog). NoneApplies (Holds (create_conditions k.tables create))) c.catalog.ensures c.in-Ok.ensures.sound)
     (subst (λ (k : Catalog). Defines k.tables create definition) c.catalog.ensures c.in-Ok.ensures.defined)
     (record {
       stored = (c.in-Ok-add_table.ensures.changes usable was.contents was.stored).0;
       current =
-          subst (HaveCurrentRows (with_table definition was.contents)) (sym c.in-Ok-push.ensures.items)
-          (current-created was.contents ts definition rows was.current c.in-Ok-no_rows.ensures.keys c.in-Ok-no_rows.ensures.none);
+          subst (HaveCurrentRows (with_table definition was.contents)) (sym c.in-Ok-add_index.ensures.rows)
+          (current-created was.contents ts definition (without_rows definition) was.current refl refl);
     })
 
 pub returns-in-Err-add_table-clause-step : goal.returns-in-Err-add_table-clause-step
 returns-in-Err-add_table-clause-step g c usable history kept =
-    let ts : List RowsByKey = c.self.inside.tables.items in
+    let ts : List RowsByKey = map rows_by_key c.self.inside.tables.items in
     let old : EngineState g.row.S.Denot = engine_of c.self.inside.store ts in
-    let new : EngineState g.row.S.Denot = engine_of c.add_table.new.self c.remove_last.new.tables.items in
+    let new : EngineState g.row.S.Denot = engine_of c.add_table.new.self (map rows_by_key c.remove_last.new.tables.items) in
     let create = c.args.create.now in
     let was : EngineRepresents g.S.Store history old = subst (λ s. EngineRepresents g.S.Store history s) (sym c.self.view_is) kept in
     uncreated_step g.S.Store history old new create c.in-Err-add_table.refusal was
     (subst (λ (k : Catalog). NoneApplies (Holds (create_conditions k.tables create))) c.catalog.ensures c.in-Ok.ensures.sound)
     (record {
       stored = (c.in-Err-add_table.ensures.changes usable was.contents was.stored).1;
-      current = subst (HaveCurrentRows was.contents) (sym (c.remove_last.ensures ts c.in-Ok-no_rows.rows c.in-Ok-push.ensures.items)) was.current;
+      current = subst (HaveCurrentRows was.contents) (sym (c.remove_last.ensures.rows ts (without_rows c.in-Ok.definition) c.in-Ok-add_index.ensures.rows)) was.current;
     })
     c.in-Err-add_table.ensures.named
 
 pub returns-in-Err-add_table-clause-kept : goal.returns-in-Err-add_table-clause-kept
 returns-in-Err-add_table-clause-kept g c = λ usable contents has.
-    let ts : List RowsByKey = c.self.inside.tables.items in
+    let ts : List RowsByKey = map rows_by_key c.self.inside.tables.items in
     let was : HasContents g.S.Store (engine_of c.self.inside.store ts) contents = subst (λ s. HasContents g.S.Store s contents) (sym c.self.view_is) has in
     record {
       stored = (c.in-Err-add_table.ensures.changes usable contents was.stored).1;
-      current = subst (HaveCurrentRows contents) (sym (c.remove_last.ensures ts c.in-Ok-no_rows.rows c.in-Ok-push.ensures.items)) was.current;
+      current = subst (HaveCurrentRows contents) (sym (c.remove_last.ensures.rows ts (without_rows c.in-Ok.definition) c.in-Ok-add_index.ensures.rows)) was.current;
     }

@@ -1,5 +1,6 @@
-use Rattle.std.proofs.Common.{subst, sym}
+use Rattle.std.proofs.Common.{map, subst, sym}
 use Rattle.std.proofs.lemmas.Result.{IfOk-weaker}
+use Rattle.period_keys.specs.Current.{rows_by_key}
 use Rattle.script_engine.specs.engine.EngineState.{engine_of}
 use Rattle.script_engine.specs.engine.Stored.{EngineRepresents}
 use Rattle.script_engine.proofs.Answered.{rows_hold}
@@ -7,5 +8,5 @@ use Rattle.script_engine.proofs.engine.Engine.rows.Goals as goal
 
 pub returns-clause-states : goal.returns-clause-states
 returns-clause-states g c usable history kept =
-    let was : EngineRepresents g.S.Store history (engine_of c.self.inside.store c.self.inside.tables.items) = subst (λ s. EngineRepresents g.S.Store history s) (sym c.self.view_is) kept in
+    let was : EngineRepresents g.S.Store history (engine_of c.self.inside.store (map rows_by_key c.self.inside.tables.items)) = subst (λ s. EngineRepresents g.S.Store history s) (sym c.self.view_is) kept in
     IfOk-weaker c.rows.result _ _ (λ rows are moment day before. rows_hold history was.contents c.args.table rows.items was.said are moment day before) (c.rows.ensures.rows usable was.contents was.stored)

@@ -1,10 +1,11 @@
-use Rattle.std.proofs.Common.{◌≡◌, ◌++◌, ◌∙◌, List, OnOk, append_assoc, ap, ap₂, subst, sym}
+use Rattle.std.proofs.Common.{◌≡◌, ◌++◌, ◌∙◌, List, OnOk, append_assoc, ap, ap₂, map, subst, sym}
 use Rattle.catalog_core.specs.declared.query.resolved.Query as code
 use Rattle.catalog_core.specs.declared.query.resolved.QueryReference.{QueryReference}
 use Rattle.catalog_core.specs.query.Queries.{plain_query, references_of}
 use Rattle.script_engine.specs.engine.Answering.{EachSees}
 use Rattle.script_engine.proofs.Answering.{engine_still}
 use Rattle.script_engine.proofs.Loaded.{read_more}
+use Rattle.period_keys.specs.Current.{rows_by_key}
 use Rattle.script_engine.proofs.engine.answering.+push_tables.Goals as goal
 
 -- the references of a query of the program
@@ -20,7 +21,7 @@ pub returns-in-Ok-clause-seen : goal.returns-in-Ok-clause-seen
 returns-in-Ok-clause-seen g t c usable history kept before each =
     let middle = c.push_tables-in-Combined.ensures.read.usable usable in
     let first = c.in-Ok.ensures.seen middle history kept before each in
-    let still = engine_still g.S.Store history c.args.store.now c.push_tables.new.store c.args.tables.now c.in-Ok.ensures.read middle kept in
+    let still = engine_still g.S.Store history c.args.store.now c.push_tables.new.store (map rows_by_key c.args.tables.now) c.in-Ok.ensures.read middle kept in
     let same : (before ++ refs c.deref.result.now) ++ refs c.deref-in-Combined.result.now ≡ before ++ refs c.args.query.now =
     append_assoc before (refs c.deref.result.now) (refs c.deref-in-Combined.result.now)
     ∙ ap (λ (l : List QueryReference). before ++ l) (ap₂ (λ (a b : List QueryReference). a ++ b) (ap refs c.deref.ensures) (ap refs c.deref-in-Combined.ensures) ∙ ap refs (sym c.in-Combined.is)) in

@@ -6,12 +6,13 @@ use Rattle.history_model.specs.Versions.{row_of}
 use Rattle.period_keys.specs.Rows.{rows_of_lists}
 use Rattle.period_keys.specs.declared.key_rows.KeyRows.{KeyRows}
 use Rattle.script_engine.proofs.InMemory.{some_rows}
+use Rattle.period_keys.specs.Current.{rows_by_key}
 use Rattle.script_engine.proofs.engine.answering.current_rows.Goals as goal
 
 pub loop-group-init : goal.loop-group-init
 loop-group-init c =
     let all = ap rows_of_lists c.into_iter-group-iterator.ensures.into_iter_gives ∙ c.groups-group-items.ensures in
-    ap (map row_of) (some_rows c.args.tables.now c.args.number c.in-Some.current.now c.in-Some.ensures ∙ sym all)
+    ap (map row_of) (some_rows (map rows_by_key c.args.tables.now) c.args.number c.in-Some.current.now c.in-Some.ensures ∙ sym all)
     ∙ ap (λ (l : List PeriodRow). l ++ map row_of (rows_of_lists c.into_iter-group-iterator.result)) (sym c.new-rows.ensures.items)
 
 pub loop-group-preserved : goal.loop-group-preserved

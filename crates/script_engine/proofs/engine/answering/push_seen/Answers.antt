@@ -1,10 +1,11 @@
-use Rattle.std.proofs.Common.{◌≡◌, ◌+◌, ◌++◌, ◌∷◌, ◌∙◌, List, [], append-nil, append_assoc, ap, subst, sym, take, take_all}
+use Rattle.std.proofs.Common.{◌≡◌, ◌+◌, ◌++◌, ◌∷◌, ◌∙◌, List, [], append-nil, append_assoc, ap, map, subst, sym, take, take_all}
 use Rattle.std.proofs.lemmas.List.{take_more}
 use Rattle.period_core.specs.declared.row.PeriodRow.{PeriodRow}
 use Rattle.catalog_core.specs.declared.query.resolved.QueryReference.{QueryReference}
 use Rattle.script_engine.specs.engine.Answering.{EachSees}
 use Rattle.script_engine.proofs.Answering.{each_more, engine_still}
 use Rattle.script_engine.proofs.Loaded.{read_more, read_nothing}
+use Rattle.period_keys.specs.Current.{rows_by_key}
 use Rattle.script_engine.proofs.engine.answering.push_seen.Goals as goal
 
 pub loop-reference-init : goal.loop-reference-init
@@ -26,7 +27,7 @@ loop-reference-preserved g c =
       seen = λ usable history kept before each.
           let middle = read.usable usable in
           let so_far = c.loop-reference.invariant.seen middle history kept before each in
-          let sees = c.in-Ok.ensures.seen usable history (engine_still g.S.Store history c.args.store.now c.loop-reference.store c.args.tables.now before_read middle kept) in
+          let sees = c.in-Ok.ensures.seen usable history (engine_still g.S.Store history c.args.store.now c.loop-reference.store (map rows_by_key c.args.tables.now) before_read middle kept) in
           let more = each_more history (before ++ take i references) c.loop-reference.lists.items reference rows so_far sees in
           let placed : (before ++ take i references) ++ reference ∷ [] ≡ before ++ take (i + 1) references =
           append_assoc before (take i references) (reference ∷ []) ∙ ap (λ (l : List QueryReference). before ++ l) (ap (λ (r : QueryReference). take i references ++ r ∷ []) c.reference-item.is ∙ sym (take_more references i reference c.loop-reference-test.true)) in

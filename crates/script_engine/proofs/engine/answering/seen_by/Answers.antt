@@ -4,13 +4,14 @@ use Rattle.period_core.specs.declared.window.Window.{Window}
 use Rattle.script_engine.specs.engine.Answering.{AreRowsSeen}
 use Rattle.script_engine.proofs.Loaded.{read_nothing}
 use Rattle.script_engine.proofs.Seen.{current_seen, rows_seen_hold}
+use Rattle.period_keys.specs.Current.{rows_by_key}
 use Rattle.script_engine.proofs.engine.answering.seen_by.Goals as goal
 
 pub returns-in-Ok-clause-seen : goal.returns-in-Ok-clause-seen
 returns-in-Ok-clause-seen g c usable history kept =
     let reference = c.args.reference.now in
     let rows : List PeriodRow = c.in-Ok.rows.items in
-    let seen = current_seen kept.contents c.args.tables.now reference.table rows kept.current c.in-Ok.ensures in
+    let seen = current_seen kept.contents (map rows_by_key c.args.tables.now) reference.table rows kept.current c.in-Ok.ensures in
     let through : AreRowsSeen kept.contents reference.table reference.window rows = subst (λ (w : Window). AreRowsSeen kept.contents reference.table w rows) (sym c.in-Now.is) seen in
     rows_seen_hold history kept.contents reference.table reference.window c.from_vec.result kept.said (subst (AreRowsSeen kept.contents reference.table reference.window) (sym c.from_vec.ensures) through)
 

@@ -1,4 +1,4 @@
-use Rattle.std.proofs.Common.{◌≡◌, ◌<◌, ◌≤◌, ◌+◌, ◌∙◌, ℕ, List, ap, arith, get_or, length, subst, sym}
+use Rattle.std.proofs.Common.{◌≡◌, ◌<◌, ◌≤◌, ◌+◌, ◌++◌, ◌∷◌, ◌∙◌, ℕ, List, [], ap, arith, get_or, length, length-append, subst, sym}
 use Rattle.catalog_core.specs.declared.table.TableDef.{TableDef}
 use Rattle.catalog_core.specs.declared.table.catalog.Catalog.{Catalog}
 use Rattle.period_keys.specs.Lawful.{key_positions}
@@ -13,6 +13,14 @@ loop-place-preserved g c =
     let before = c.loop-place.invariant.read in
     record {
       read = read_more g.S.Store c.args.store.now c.loop-place.store c.load_table.new.store before read;
+      long =
+          (let was = c.loop-place.invariant.long in
+          let more : length c.push.new.self.items ≡ length (c.loop-place.tables.items ++ c.in-Ok-load_table.rows ∷ []) = ap length c.in-Ok-push.ensures.items in
+          omega (arith, was, more, length-append c.loop-place.tables.items (c.in-Ok-load_table.rows ∷ [])));
+      below =
+          (let ends : c.len-place-end.result ≡ length c.args.store.now.catalog.tables = c.len-place-end.ensures ∙ ap (λ (k : Catalog). length k.tables) c.catalog.ensures in
+          let inside = c.loop-place-test.true in
+          omega (arith, inside, ends));
       loaded = λ usable d stored.
           let was = c.loop-place.invariant.loaded (read.usable usable) d stored in
           let mid = represents_still g.S.Store c.args.store.now c.loop-place.store d before (read.usable usable) stored in
@@ -25,6 +33,13 @@ loop-place-preserved g c =
           subst (AreLoaded d (place + 1)) (sym c.in-Ok-push.ensures.items)
           (one_loaded d place c.loop-place.tables.items c.in-Ok-load_table.rows definition was inside key (c.in-Ok-load_table.ensures.current usable d mid));
     }
+
+pub returns-clause-count : goal.returns-clause-count
+returns-clause-count g c =
+    let ends : c.len-place-end.result ≡ length c.args.store.now.catalog.tables = c.len-place-end.ensures ∙ ap (λ (k : Catalog). length k.tables) c.catalog.ensures in
+    let long = c.loop-place.invariant.long in
+    let below = c.loop-place.invariant.below in
+    omega (arith, long, below, c.loop-place-test.false, ends)
 
 pub returns-clause-loaded : goal.returns-clause-loaded
 returns-clause-loaded g c usable d stored tabled =

@@ -1,4 +1,4 @@
-use Rattle.std.proofs.Common.{◌≤◌, length}
+use Rattle.std.proofs.Common.{◌≡◌, ◌≤◌, length}
 use Rattle.version_store.specs.Contents.{Contents}
 use Rattle.version_store.specs.StoreState.{IsOnlyRead, IsUsable, StoreRepresents}
 use Rattle.script_engine.proofs.Loaded.{AreLoaded}
@@ -7,6 +7,8 @@ use Rattle.script_engine.proofs.engine.in_memory.load.Given as goal
 abbrev pub invariant-loop-place : goal.invariant-loop-place
 invariant-loop-place g l = record {
   read : IsOnlyRead g.S.Store l.fn.store l.store;
+  long : length l.tables.items ≡ l.place;
+  below : l.place ≤ length l.fn.store.catalog.tables;
   loaded : IsUsable g.S.Store l.store.connection → (c : Contents) → StoreRepresents g.S.Store l.fn.store c →
       AreLoaded c l.place l.tables.items;
 }

@@ -1,4 +1,4 @@
-use Rattle.std.proofs.Common.{◌≡◌, ◌∙◌, Result, Ok, Err, IsTrue, inl, inr, refl, rules, subst, sym}
+use Rattle.std.proofs.Common.{◌≡◌, ◌∙◌, [], Result, Ok, Err, IsTrue, inl, inr, refl, rules, subst, sym}
 use Rattle.std.specs.Prelude.{IfOk}
 use Rattle.std.proofs.lemmas.Result.{IfOk-weaker}
 use Rattle.sqlite.specs.Effect.{Database}
@@ -7,6 +7,7 @@ use Rattle.version_tables.proofs.There.{not_both_ways, store_is_whole}
 use Rattle.version_tables.specs.Presence.{IsNoneThere}
 use Rattle.version_tables.specs.declared.presence.Presence.TheVariants.{Missing, Partial, Whole}
 use Rattle.version_store.proofs.Opens.{have_tables, same_contents}
+use Rattle.version_store.specs.GoodStore.{AreLawful}
 use Rattle.version_store.specs.Written.{Has}
 use Rattle.version_store.proofs.store.VersionStore.open.Goals as goal
 
@@ -90,3 +91,12 @@ returns-in-Ok-clause-tabled g c = λ usable d is.
 
 pub returns-in-Ok-clause-unchanged : goal.returns-in-Ok-clause-unchanged
 returns-in-Ok-clause-unchanged g c = λ usable. let same = c.in-Ok.ensures.same usable.0 in inr (same.now usable.1, same.committed usable.1)
+
+pub returns-in-Missing-clause-lawful : goal.returns-in-Missing-clause-lawful
+returns-in-Missing-clause-lawful g c = IfOk-weaker c.create.result _ _ (λ store none. subst (AreLawful []) (sym none) tt) c.create.ensures.empty
+
+pub returns-in-Missing-clause-empty : goal.returns-in-Missing-clause-empty
+returns-in-Missing-clause-empty g c = IfOk-weaker c.create.result _ _ (λ store none there. none) c.create.ensures.empty
+
+pub returns-in-Ok-clause-empty : goal.returns-in-Ok-clause-empty
+returns-in-Ok-clause-empty g c = λ none. absurd (not_both_ways c.args.connection.schema none (c.in-Whole.ensures.whole.0 refl))

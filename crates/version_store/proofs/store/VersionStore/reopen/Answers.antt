@@ -1,5 +1,6 @@
 use Rattle.std.proofs.Common.{Result, Ok, Err, sym, subst}
 use Rattle.std.specs.Prelude.{IfErr}
+use Rattle.std.proofs.lemmas.Result.{IfOk-weaker}
 use Rattle.sqlite.specs.Held.{Held, state}
 use Rattle.version_store.specs.Written.{Has}
 use Rattle.version_store.proofs.Keys.{keys_kept}
@@ -16,3 +17,7 @@ returns-clause-kept g c =
     let has = subst (λ (h : Held _). Has (state g.S.Store h).now d) (sym c.close-connection.ensures.same) stands.now in
     let keys = keys_kept (state g.S.Store c.close-connection.result).now has.rows.schema (c.schema-live.ensures.live (was usable)).0 has.rows.untied has.rows.keyed in
     (bad usable is_bad).1 (good_store (state g.S.Store c.close-connection.result).now d has keys good)) c.open.ensures.bad c.open.ensures.was_open
+
+pub returns-clause-same : goal.returns-clause-same
+returns-clause-same g c =
+    IfOk-weaker c.open.result _ _ (λ store same usable d stands. same usable d (subst (λ (h : Held _). Has (state g.S.Store h).now d) (sym c.close-connection.ensures.same) stands.now)) c.open.ensures.same

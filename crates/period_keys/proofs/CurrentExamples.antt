@@ -1,0 +1,88 @@
+-- Worked rows of tables in memory: workers refer to departments by the second of their values. Where the departments go, a worker is left without a parent.
+use Rattle.std.proofs.Common.{◌≡◌, ◌==◌, ◌∷◌, [], cond, pos, None, List, refl}
+use Rattle.std.specs.Prelude.{codes}
+use Rattle.period_core.specs.declared.value.Value.TheVariants.{Int}
+use Rattle.temporal_model.proofs.Members.{Contains-here, Contains-nil}
+use Rattle.catalog_core.specs.table.TableWords.{is_value_column}
+use Rattle.catalog_core.specs.declared.change.Action.TheVariants.{Delete}
+use Rattle.catalog_core.specs.declared.change.Change.{Change}
+use Rattle.catalog_core.specs.declared.table.ColumnKind.TheVariants as kind
+use Rattle.catalog_core.specs.declared.table.Column.{Column}
+use Rattle.catalog_core.specs.declared.table.Reference.{Reference}
+use Rattle.catalog_core.specs.declared.table.TableDef.{TableDef}
+use Rattle.history_model.specs.Histories.{State}
+use Rattle.period_keys.specs.Current.{IsIndexed}
+use Rattle.period_keys.specs.Faults.{IsFaultBy}
+use Rattle.period_keys.specs.Lawful.{own_positions, parent_positions}
+use Rattle.period_keys.specs.TableRows.{TableRows}
+
+-- the columns of a period and of the system time, and then these
+abbrev with_periods : List Column → List Column
+with_periods columns =
+    record { name = codes "S"; kind = kind.Date }
+    ∷ record { name = codes "E"; kind = kind.Date }
+    ∷ record { name = codes "SS"; kind = kind.RowStart None }
+    ∷ record { name = codes "SE"; kind = kind.RowEnd None }
+    ∷ columns
+
+-- DEP (.., DNO INTEGER, key DNO)
+abbrev departments : TableDef
+departments =
+    record {
+      name = codes "DEP";
+      columns = with_periods (record { name = codes "DNO"; kind = kind.Integer } ∷ []);
+      period = record { name = codes "P"; start = 0; end = 1 };
+      key = 4 ∷ [];
+      references = [];
+      sound = refl;
+    }
+
+-- DNO refers to DNO of table 1
+abbrev to_department : Reference
+to_department = record { parent = 1; own = 5 ∷ []; keys = 4 ∷ [] }
+
+-- WRK (.., WNO INTEGER, DNO INTEGER, key WNO)
+abbrev workers : TableDef
+workers =
+    record {
+      name = codes "WRK";
+      columns = with_periods (record { name = codes "WNO"; kind = kind.Integer } ∷ record { name = codes "DNO"; kind = kind.Integer } ∷ []);
+      period = record { name = codes "P"; start = 0; end = 1 };
+      key = 4 ∷ [];
+      references = to_department ∷ [];
+      sound = refl;
+    }
+
+own-second : own_positions workers to_department ≡ 1 ∷ []
+unfolding is_value_column
+own-second = refl
+
+keys-first : parent_positions departments to_department ≡ 0 ∷ []
+unfolding is_value_column
+keys-first = refl
+
+abbrev in_memory : List TableRows
+in_memory =
+    record { positions = 0 ∷ []; rows = []; indexed = (0 ∷ []) ∷ [] }
+    ∷ record { positions = 0 ∷ []; rows = []; indexed = (1 ∷ []) ∷ [] }
+    ∷ []
+
+-- the indexes that the reference needs
+indexed-both : IsIndexed in_memory 2 workers to_department departments
+unfolding is_value_column
+indexed-both = record {
+  children = (record { positions = 0 ∷ []; rows = []; indexed = (1 ∷ []) ∷ [] }, refl, Contains-here (1 ∷ []) []);
+  parents = (record { positions = 0 ∷ []; rows = []; indexed = (0 ∷ []) ∷ [] }, refl, Contains-here (0 ∷ []) []);
+}
+
+-- on each day department 5 and a worker of it
+abbrev before : State
+before number day = cond (number == 1) ((Int (pos 5) ∷ []) ∷ []) ((Int (pos 1) ∷ Int (pos 5) ∷ []) ∷ [])
+
+-- all departments go
+abbrev closing : Change
+closing = record { table = 1; action = Delete None None }
+
+left_alone : IsFaultBy (departments ∷ workers ∷ []) before closing 2 workers (pos 12) to_department
+unfolding is_value_column
+left_alone = (departments, refl, (Int (pos 1) ∷ Int (pos 5) ∷ [], Contains-here (Int (pos 1) ∷ Int (pos 5) ∷ []) [], λ parent there same. Contains-nil parent there))

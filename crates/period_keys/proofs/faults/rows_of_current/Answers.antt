@@ -1,0 +1,27 @@
+use Rattle.std.proofs.Common.{◌≡◌, ◌++◌, [], ◌∙◌, List, map, sym, ap, append_assoc, append-nil}
+use Rattle.std.proofs.lemmas.List.{map-append}
+use Rattle.period_core.specs.declared.row.PeriodRow.{PeriodRow}
+use Rattle.period_core.specs.declared.version.VersionRow.{VersionRow}
+use Rattle.history_model.specs.Versions.{row_of}
+use Rattle.period_keys.specs.Rows.{rows_of_lists}
+use Rattle.period_keys.proofs.faults.rows_of_current.Goals as goal
+
+pub loop-group-init : goal.loop-group-init
+loop-group-init c = ([], sym (ap rows_of_lists c.into_iter-group-iterator.ensures.into_iter_gives ∙ c.groups-group-items.ensures), c.new-rows.ensures.items)
+
+pub loop-group-preserved : goal.loop-group-preserved
+loop-group-preserved c =
+    let (done, split, made) = c.loop-group.invariant in
+    let group : List VersionRow = c.in-Some.group.now.rows.items in
+    let left : rows_of_lists c.loop-group.group-iterator ≡ group ++ rows_of_lists c.next.new.self = ap rows_of_lists c.in-Some.ensures.steps in (
+      done ++ group,
+      split ∙ ap (λ (xs : List VersionRow). done ++ xs) left ∙ sym (append_assoc done group (rows_of_lists c.next.new.self)),
+      c.in_ok-push_rows.ensures ∙ ap (λ (xs : List PeriodRow). xs ++ map row_of c.as_slice.result.now) made
+          ∙ ap (λ (xs : List VersionRow). map row_of done ++ map row_of xs) c.as_slice.ensures.value ∙ sym (map-append row_of done group),
+    )
+
+pub returns : goal.returns
+returns c =
+    let (done, split, made) = c.loop-group.invariant in
+    let all : done ≡ c.args.current.now.rows = sym (split ∙ ap (λ (xs : List VersionRow). done ++ xs) (ap rows_of_lists c.in-None.ensures.steps.0) ∙ append-nil done) in
+    made ∙ ap (map row_of) all

@@ -1,0 +1,10 @@
+use Rattle.std.proofs.Common.{take}
+use Rattle.std.specs.List.{Any}
+use Rattle.history_model.specs.Histories.{State}
+use Rattle.period_keys.specs.Faults.{IsFaultBy, IsPlannedIn}
+use Rattle.period_keys.specs.Keys.{IsLeastOf}
+use Rattle.period_keys.proofs.reference_faults.fault_of.Given as goal
+
+abbrev pub invariant-loop-reference : goal.invariant-loop-reference
+invariant-loop-reference l = (before : State) → IsPlannedIn l.definitions before l.tables l.change l.plan
+    → IsLeastOf (λ day. Any (IsFaultBy l.definitions before l.change l.number l.child day) (take l.reference-index l.references)) l.found

@@ -1,0 +1,60 @@
+use Rattle.std.proofs.Common.{◌≡◌, ◌++◌, ◌∷◌, [], ◌∙◌, ℤ, List, append_assoc, append-nil, sym, ap, subst}
+use Rattle.std.specs.List.{Any, Contains}
+use Rattle.std.specs.List.Sorted.{IsPermutation}
+use Rattle.period_core.specs.declared.period.Period.{Period}
+use Rattle.period_core.specs.declared.row.PeriodRow.{PeriodRow}
+use Rattle.period_core.specs.declared.value.Value.{Value}
+use Rattle.period_keys.specs.declared.keyed_periods.KeyedPeriods.{KeyedPeriods}
+use Rattle.period_keys.specs.Keys.{IsUncovered}
+use Rattle.period_keys.specs.Index.{periods_at, periods_of_key}
+use Rattle.period_keys.proofs.Covered.{LosesParent, lost_least, there_afterwards, uncovered_of_parents}
+use Rattle.period_keys.proofs.Leasts.{IsLeastOf-same, least_none, least_one_more}
+use Rattle.period_keys.proofs.references.uncovered_by_keys.Goals as goal
+
+pub loop-key-init : goal.loop-key-init
+loop-key-init c = (
+  [],
+  λ key p there. subst (λ (list : List (List Value)). Contains list key) (sym c.into_iter-key-iterator.ensures.into_iter_gives) (c.keys-key-items.ensures key p there),
+  λ keys before ended stay added is gone_is new_is moved. least_none (λ key day. LosesParent (periods_of_key keys (stay ++ added)) c.args.children.now key day),
+)
+
+-- what the function that was called says of the key's periods, of the indexes
+of_indexes : (parents gone new : KeyedPeriods) (key : List Value) (xs gs ns made there : List Period) → xs ≡ periods_at parents key → gs ≡ periods_at gone key → ns ≡ periods_at new key → there ≡ made
+    → ((stay : List Period) → IsPermutation xs (gs ++ stay) → IsPermutation made (stay ++ ns))
+    → (stay : List Period) → IsPermutation (periods_at parents key) (periods_at gone key ++ stay) → IsPermutation there (stay ++ periods_at new key)
+of_indexes parents gone new key xs gs ns made there xs_is gs_is ns_is there_is ensured stay split =
+    subst (λ (list : List Period). IsPermutation list (stay ++ periods_at new key)) (sym there_is)
+    (subst (λ (list : List Period). IsPermutation made (stay ++ list)) ns_is
+    (ensured stay (subst (λ (list : List Period). IsPermutation list (gs ++ stay)) (sym xs_is) (subst (λ (list : List Period). IsPermutation (periods_at parents key) (list ++ stay)) (sym gs_is) split))))
+
+pub loop-key-preserved : goal.loop-key-preserved
+loop-key-preserved c =
+    let (done, have, least) = c.loop-key.invariant in
+    let key : List Value = c.in-Some.key.now in
+    let rest : List (List Value) = c.next.new.self in
+    let left : c.loop-key.key-iterator ≡ key ∷ rest = c.in-Some.ensures.steps in
+    let there : List Period = c.as_slice.result.now in (
+      done ++ key ∷ [],
+      λ k p has. subst (λ (list : List (List Value)). Contains list k) (sym (append_assoc done (key ∷ []) rest)) (subst (λ (list : List (List Value)). Contains (done ++ list) k) left (have k p has)),
+      λ keys before ended stay added is gone_is new_is moved.
+          let after : List Period = periods_of_key keys (stay ++ added) key in
+          let moved_there : IsPermutation there after =
+          there_afterwards keys c.args.parents.now c.args.gone.now c.args.new.now before ended stay added key there is moved gone_is new_is
+          (of_indexes c.args.parents.now c.args.gone.now c.args.new.now key c.of_key.result.now c.of_key-in-loop-key.result.now c.of_key-in-loop-key-2.result.now c.in_ok-there.there.items.items there
+          c.of_key.ensures.value c.of_key-in-loop-key.ensures.value c.of_key-in-loop-key-2.ensures.value c.as_slice.ensures.value c.in_ok-there.ensures) in
+          least_one_more (λ key day. LosesParent (periods_of_key keys (stay ++ added)) c.args.children.now key day) done key c.loop-key.found c.first_gap_of_some.result c.earlier-found.result
+          (least keys before ended stay added is gone_is new_is moved)
+          (lost_least there after c.of_key-in-loop-key-3.result.now c.args.children.now key c.first_gap_of_some.result c.of_key-in-loop-key-3.ensures.value moved_there c.first_gap_of_some.ensures)
+          c.earlier-found.ensures,
+    )
+
+pub returns : goal.returns
+returns c = λ own keys below before ended stay added children_is parents_is gone_is new_is covered moved.
+    let (done, have, least) = c.loop-key.invariant in
+    let after : List PeriodRow = stay ++ added in
+    let Loses : ℤ → List Value → Type 0 = λ day key. LosesParent (periods_of_key keys after) c.args.children.now key day in
+    let all : done ++ c.loop-key.key-iterator ≡ done = ap (λ (list : List (List Value)). done ++ list) c.in-None.ensures.steps.0 ∙ append-nil done in
+    IsLeastOf-same (λ day. Any (Loses day) done) (IsUncovered own below keys after)
+    (uncovered_of_parents own keys below before ended stay added done c.args.children.now c.args.parents.now c.args.gone.now children_is parents_is gone_is
+    (λ key p there. subst (λ (list : List (List Value)). Contains list key) all (have key p there)) covered moved)
+    c.loop-key.found (least keys before ended stay added parents_is gone_is new_is moved)

@@ -1,0 +1,200 @@
+//! The least day on which a change would leave a row without its parent, over all references that it
+//! touches: those from the changed table, and those to it.
+
+ghost use Rattle.std.specs.Prelude.{◌≡◌, ℕ, Contains, IfOk, List, MatchOption, None, Some, map};
+ghost use Rattle.catalog_core.specs.declared.change.Change.{Change as ChangeModel};
+ghost use Rattle.catalog_core.specs.declared.table.TableDef.{TableDef as Definition};
+ghost use Rattle.catalog_core.specs.table.TableWords.{table_of};
+ghost use Rattle.history_model.specs.Histories.{State};
+ghost use Rattle.history_model.specs.Versions.{row_of};
+ghost use Rattle.period_keys.specs.Current.{HaveIndexes, IsIndexed, IsIndexedBy};
+ghost use Rattle.period_keys.specs.Faults.{IsFaultBy, IsFaultOf, IsPlannedIn};
+ghost use Rattle.period_keys.specs.Index.{IsIndexOf};
+ghost use Rattle.period_keys.specs.Keys.{IsLeastOf};
+ghost use Rattle.period_keys.specs.Lawful.{IsReferenceFault, LacksParentBy, Refers};
+ghost use Rattle.period_keys.specs.Lawful.{state_after};
+ghost use Rattle.period_keys.specs.TableRows.{TableRows};
+
+use crate::faults::{child_fault, parent_fault};
+use crate::keyed_periods::KeyedPeriods;
+use crate::positions::positions_of;
+use crate::shared_days::earlier;
+use crate::table_index::TableIndex;
+use catalog_core::{Catalog, Change, Plan, Reference, TableDef};
+use period_core::{Day, Memory};
+use std::alloc::Global;
+
+/// The least day on which a row of some table would have no parent by one of its references. The
+/// change is planned over the rows of its table, and each table refers to earlier ones alone. The
+/// only error is out of memory.
+pub fn reference_fault(
+    alloc: Global,
+    catalog: &Catalog,
+    tables: &[TableIndex],
+    change: &Change,
+    plan: &Plan,
+) -> Result<Option<Day>, Memory>
+    requires { HaveIndexes catalog.now.tables tables.now }
+    ensures { IfOk result (λ found. (before : State)
+        → IsPlannedIn catalog.now.tables before tables.now change.now plan.now
+        → IsLeastOf (IsReferenceFault catalog.now.tables before change.now) found) }
+{
+    let definitions = catalog.tables.as_slice();
+    let mut found = None;
+    for place in 0..definitions.len() {
+        let child = &definitions[place];
+        let here = fault_of(alloc, definitions, tables, change, plan, place + 1, child)?;
+        found = earlier(found, here);
+    }
+    Ok(found)
+}
+
+// The same of a row of one table.
+fn fault_of(
+    alloc: Global,
+    definitions: &[TableDef],
+    tables: &[TableIndex],
+    change: &Change,
+    plan: &Plan,
+    number: usize,
+    child: &TableDef,
+) -> Result<Option<Day>, Memory>
+    requires indexed { HaveIndexes definitions.now tables.now }
+    requires child { table_of definitions.now number ≡ Some child.now }
+    ensures { IfOk result (λ found. (before : State)
+        → IsPlannedIn definitions.now before tables.now change.now plan.now
+        → IsLeastOf (IsFaultOf definitions.now before change.now number child.now) found) }
+{
+    let references = child.references.as_slice();
+    let mut found = None;
+    for reference in references {
+        let by_it = fault_by(
+            alloc,
+            definitions,
+            tables,
+            change,
+            plan,
+            number,
+            child,
+            reference,
+        )?;
+        found = earlier(found, by_it);
+    }
+    Ok(found)
+}
+
+// The same by one of its references.
+fn fault_by(
+    alloc: Global,
+    definitions: &[TableDef],
+    tables: &[TableIndex],
+    change: &Change,
+    plan: &Plan,
+    number: usize,
+    child: &TableDef,
+    reference: &Reference,
+) -> Result<Option<Day>, Memory>
+    requires indexed { HaveIndexes definitions.now tables.now }
+    requires child { table_of definitions.now number ≡ Some child.now }
+    requires reference { Contains child.now.references reference.now }
+    ensures { IfOk result (λ found. (before : State)
+        → IsPlannedIn definitions.now before tables.now change.now plan.now
+        → IsLeastOf (λ day.
+        IsFaultBy definitions.now before change.now number child.now day reference.now) found) }
+{
+    let Some(parent) = definition_of(definitions, reference.parent) else {
+        return Ok(None);
+    };
+    if number == usize::from(change.table) {
+        let found = fault_from(alloc, tables, plan, number, child, reference, parent)?;
+        return Ok(found);
+    }
+    if reference.parent == change.table {
+        let found = fault_to(alloc, tables, plan, number, child, reference, parent)?;
+        return Ok(found);
+    }
+    Ok(None)
+}
+
+// The same by a reference from the changed table.
+fn fault_from(
+    alloc: Global,
+    tables: &[TableIndex],
+    plan: &Plan,
+    number: usize,
+    child: &TableDef,
+    reference: &Reference,
+    parent: &TableDef,
+) -> Result<Option<Day>, Memory>
+    requires { IsIndexed tables.now number child.now reference.now parent.now }
+    ensures { IfOk result (λ found. (catalog : List Definition) (before : State)
+        (change : ChangeModel)
+        → IsPlannedIn catalog before tables.now change plan.now
+        → Refers catalog number child.now reference.now parent.now
+        → number ≡ change.table
+        → IsLeastOf (LacksParentBy (state_after change before) number child.now reference.now
+        parent.now) found) }
+{
+    let own = positions_of(alloc, child, reference.own.as_slice())?;
+    let keys = positions_of(alloc, parent, reference.keys.as_slice())?;
+    let parents = periods_by(tables, usize::from(reference.parent), keys.as_slice());
+    let found = child_fault(alloc, own.as_slice(), plan, parents)?;
+    Ok(found)
+}
+
+// The same by a reference of another table to the changed one.
+fn fault_to(
+    alloc: Global,
+    tables: &[TableIndex],
+    plan: &Plan,
+    number: usize,
+    child: &TableDef,
+    reference: &Reference,
+    parent: &TableDef,
+) -> Result<Option<Day>, Memory>
+    requires { IsIndexed tables.now number child.now reference.now parent.now }
+    ensures { IfOk result (λ found. (catalog : List Definition) (before : State)
+        (change : ChangeModel)
+        → IsPlannedIn catalog before tables.now change plan.now
+        → Refers catalog number child.now reference.now parent.now
+        → reference.now.parent ≡ change.table
+        → (number ≡ change.table → ⊥)
+        → IsLeastOf (LacksParentBy (state_after change before) number child.now reference.now
+        parent.now) found) }
+{
+    let own = positions_of(alloc, child, reference.own.as_slice())?;
+    let keys = positions_of(alloc, parent, reference.keys.as_slice())?;
+    let children = periods_by(tables, number, own.as_slice());
+    let parents = periods_by(tables, usize::from(reference.parent), keys.as_slice());
+    let found = parent_fault(alloc, keys.as_slice(), parents, plan, children)?;
+    Ok(found)
+}
+
+/// The periods of the table of a number by its rows' values at these positions, by which it is
+/// indexed.
+pub fn periods_by<'a>(
+    tables: &'a [TableIndex],
+    number: usize,
+    positions: &[usize],
+) -> &'a KeyedPeriods
+    requires { IsIndexedBy tables.now number positions.now }
+    ensures { (table : TableRows) → table_of tables.now number ≡ Some table
+        → IsIndexOf positions.now (map row_of table.rows) result.now }
+{
+    let table = &tables[number - 1];
+    let Some(periods) = table.by(positions) else {
+        unreachable!()
+    };
+    periods
+}
+
+/// The definition of the table of a number.
+pub fn definition_of(definitions: &[TableDef], number: u8) -> Option<&TableDef>
+    ensures { MatchOption result (table_of definitions.now number ≡ None)
+        (λ definition. table_of definitions.now number ≡ Some definition.now) }
+{
+    if number == 0 {
+        return None;
+    }
+    definitions.get(usize::from(number) - 1)
+}

@@ -1,0 +1,86 @@
+-- For worked rows: a change is lawful where at most one row of its table is there on a day, or rows of distinct keys, and no table has a reference.
+use Rattle.std.proofs.Common.{◌≡◌, ◌∷◌, ◌++◌, ◌+◌, ◌≤◌, ◌<◌, ◌∙◌, ℕ, zero, suc, ℤ, Bool, true, false, List, [], Option, Some, cond, inl, inr, length, length-append, map, not, refl, sym, ap, subst, arith}
+use Rattle.std.specs.List.{Contains, enumerate_from, filter}
+use Rattle.std.proofs.lemmas.List.{length-map}
+use Rattle.period_core.specs.declared.value.Value.{Value}
+use Rattle.temporal_model.proofs.Members.{Contains-cons_cases, Contains-one}
+use Rattle.catalog_core.specs.table.TableWords.{table_of}
+use Rattle.catalog_core.specs.declared.change.Action.{Action}
+use Rattle.catalog_core.specs.declared.change.Action.TheVariants.{Delete, Insert, Update}
+use Rattle.catalog_core.specs.declared.change.Change.{Change}
+use Rattle.catalog_core.specs.declared.change.GivenRow.{GivenRow}
+use Rattle.catalog_core.specs.declared.table.TableDef.{TableDef}
+use Rattle.history_model.specs.Effects.{Traced, acts_on, given_covers, given_of, given_row, kept, traced, updated}
+use Rattle.history_model.specs.Histories.{State}
+use Rattle.period_keys.specs.Keys.{values_at}
+use Rattle.period_keys.specs.Lawful.{IsLawfulChange, OriginsShareKey, Refers, key_positions}
+
+-- a list without an element has none
+pub in_none : {X : Type 0} (x : X) → Contains {A = X} [] x → ⊥
+in_none x (k, inside, is) = omega arith
+
+-- ---- how many rows are traced
+
+shorter : {X : Type 0} (p : X → Bool) (xs : List X) → length (filter p xs) ≤ length xs
+shorter p [] = omega arith
+shorter {X} p (x ∷ xs) = go (p x) (shorter p xs)
+  where
+    go : (b : Bool) → length (filter p xs) ≤ length xs → length (cond b (x ∷ filter p xs) (filter p xs)) ≤ length (x ∷ xs)
+    go true h = omega (arith, h)
+    go false h = omega (arith, h)
+
+numbered : (from : ℕ) (given : List GivenRow) → length (enumerate_from from given) ≡ length given
+numbered from [] = refl
+numbered from (g ∷ given) = ap suc (numbered (suc from) given)
+
+few_traced : (action : Action) (day : ℤ) (rows : List (List Value)) → length (traced action day rows) ≤ length rows + length (given_of action)
+few_traced (Insert given) day rows =
+    let ours : List (ℕ × GivenRow) = filter (given_covers day) (enumerate_from 0 given) in
+    omega (arith, length-append (map kept rows) (map given_row ours), length-map rows kept, length-map ours given_row, shorter (given_covers day) (enumerate_from 0 given), numbered 0 given)
+few_traced (Update portion assignments condition) day rows = omega (arith, length-map rows (updated portion assignments condition day))
+few_traced (Delete portion condition) day rows =
+    let left : List (List Value) = filter (λ row. not (acts_on portion condition day row)) rows in
+    omega (arith, length-map left kept, shorter (λ row. not (acts_on portion condition day row)) rows)
+
+-- one row is of one origin
+alone : (positions : List ℕ) (rows : List Traced) → length rows ≤ 1 → OriginsShareKey positions rows → ⊥
+alone positions [] short (a, b, in_a, in_b, apart, same) = in_none a in_a
+alone positions (row ∷ []) short (a, b, in_a, in_b, apart, same) = apart (ap (λ (t : Traced). t.origin) (sym (Contains-one row a in_a) ∙ Contains-one row b in_b))
+alone positions (row ∷ other ∷ rows) short shared = omega (arith, short)
+
+-- two rows of distinct keys, of which some are there
+pub two_apart : (positions : List ℕ) (x y : Traced) (a b : Bool) → (values_at positions x.row ≡ values_at positions y.row → ⊥) → OriginsShareKey positions (cond a (x ∷ cond b (y ∷ []) []) (cond b (y ∷ []) [])) → ⊥
+two_apart positions x y true true differ (t, u, in_t, in_u, apart, same) =
+    elim (Contains-cons_cases x (y ∷ []) t in_t) [
+      | inl t_first ↦ elim (Contains-cons_cases x (y ∷ []) u in_u) [
+        | inl u_first ↦ apart (ap (λ (r : Traced). r.origin) (sym t_first ∙ u_first))
+        | inr u_rest ↦ differ (ap (λ (r : Traced). values_at positions r.row) t_first ∙ same ∙ ap (λ (r : Traced). values_at positions r.row) (sym (Contains-one y u u_rest)))
+      ]
+      | inr t_rest ↦ elim (Contains-cons_cases x (y ∷ []) u in_u) [
+        | inl u_first ↦ differ (ap (λ (r : Traced). values_at positions r.row) u_first ∙ sym same ∙ ap (λ (r : Traced). values_at positions r.row) (sym (Contains-one y t t_rest)))
+        | inr u_rest ↦ apart (ap (λ (r : Traced). r.origin) (sym (Contains-one y t t_rest) ∙ Contains-one y u u_rest))
+      ]
+    ]
+two_apart positions x y true false differ shared = alone positions (x ∷ []) (omega arith) shared
+two_apart positions x y false true differ shared = alone positions (y ∷ []) (omega arith) shared
+two_apart positions x y false false differ shared = alone positions [] (omega arith) shared
+
+-- ---- lawful changes
+
+-- no table has a reference
+abbrev pub HaveNoReferences : List TableDef → Type 0
+HaveNoReferences catalog = (number : ℕ) (child : TableDef) → table_of catalog number ≡ Some child → child.references ≡ []
+
+-- a change is lawful where it leaves no two rows of different origins with one key
+pub lawful_by_key : (catalog : List TableDef) (before : State) (change : Change) → HaveNoReferences catalog →
+    ((day : ℤ) (def : TableDef) → table_of catalog change.table ≡ Some def → OriginsShareKey (key_positions def) (traced change.action day (before change.table day)) → ⊥) → IsLawfulChange catalog before change
+lawful_by_key catalog before change none apart = record {
+  keys = λ day (def, is, shared). apart day def is shared;
+  references = λ day (number, child, reference, parent, refers, lacks). in_none reference (subst (λ l. Contains l reference) (none number child refers.is_child) refers.is_reference);
+}
+
+pub lawful_alone : (catalog : List TableDef) (before : State) (change : Change) → HaveNoReferences catalog →
+    ((day : ℤ) → length (before change.table day) + length (given_of change.action) ≤ 1) → IsLawfulChange catalog before change
+lawful_alone catalog before change none few =
+    lawful_by_key catalog before change none
+    (λ day def is shared. alone (key_positions def) (traced change.action day (before change.table day)) (let most = few day in omega (arith, few_traced change.action day (before change.table day), most)) shared)

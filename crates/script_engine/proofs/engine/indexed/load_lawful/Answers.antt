@@ -1,0 +1,39 @@
+use Rattle.std.proofs.Common.{◌≡◌, ◌∙◌, List, ap, length, map, sym, subst, subst₂, true}
+use Rattle.std.proofs.lemmas.Bool.{false≢true}
+use Rattle.std.proofs.lemmas.List.{length-map}
+use Rattle.std.proofs.lemmas.List.Sorted.{IsPermutation-refl}
+use Rattle.catalog_core.specs.declared.table.TableDef.{TableDef}
+use Rattle.catalog_core.specs.declared.table.catalog.Catalog.{Catalog}
+use Rattle.period_keys.specs.Current.{HaveIndexes, HoldCurrent, rows_by_key}
+use Rattle.period_keys.specs.Lawful.{IsLawfulState}
+use Rattle.period_keys.specs.Rows.{RowsByKey}
+use Rattle.period_keys.specs.TableRows.{TableRows}
+use Rattle.script_engine.specs.engine.Faults.{current_state}
+use Rattle.script_engine.proofs.LastState.{hold_now}
+use Rattle.script_engine.proofs.engine.indexed.load_lawful.Goals as goal
+
+pub returns-in-Ok-true-clause-follow : goal.returns-in-Ok-true-clause-follow
+returns-in-Ok-true-clause-follow g c =
+    let tables : List TableRows = c.in-Ok-tables_of.tables.items in
+    record {
+      lawful = c.requires;
+      count = sym (length-map tables rows_by_key) ∙ ap length c.in-Ok-tables_of.ensures.rows ∙ c.in-Ok.ensures.count;
+      indexed = subst (λ (k : Catalog). HaveIndexes k.tables tables) (c.catalog.ensures ∙ c.in-Ok.ensures.read.catalog) c.in-Ok-tables_of.ensures.indexed;
+    }
+
+pub returns-in-Ok-true-clause-lawful : goal.returns-in-Ok-true-clause-lawful
+returns-in-Ok-true-clause-lawful g c = λ usable d stored tabled.
+    let same : c.catalog-2.result.now.tables ≡ d.tables = ap (λ (k : Catalog). k.tables) (c.catalog-2.ensures ∙ c.in-Ok.ensures.read.catalog) ∙ stored.catalog in
+    let rows : map rows_by_key c.as_slice.result.now ≡ c.in-Ok.rows.items = ap (map rows_by_key) c.as_slice.ensures.value ∙ c.in-Ok-tables_of.ensures.rows in
+    let hold = hold_now d c.in-Ok.rows.items (c.in-Ok.ensures.loaded usable d stored tabled) (current_state d) (λ table day. IsPermutation-refl (current_state d table day)) in
+    let law = c.in-Ok-true.ensures (current_state d) (subst₂ (λ (tables : List TableDef) (ts : List RowsByKey). HoldCurrent tables (current_state d) ts) (sym same) (sym rows) hold) in
+    subst (λ (tables : List TableDef). IsLawfulState tables (current_state d)) same (law.0 c.in-Ok-true.field-0-test)
+
+pub returns-in-Ok-false-clause-bad : goal.returns-in-Ok-false-clause-bad
+returns-in-Ok-false-clause-bad g c = λ usable d stored tabled bad lawful.
+    let same : c.catalog-2.result.now.tables ≡ d.tables = ap (λ (k : Catalog). k.tables) (c.catalog-2.ensures ∙ c.in-Ok.ensures.read.catalog) ∙ stored.catalog in
+    let rows : map rows_by_key c.as_slice.result.now ≡ c.in-Ok.rows.items = ap (map rows_by_key) c.as_slice.ensures.value ∙ c.in-Ok-tables_of.ensures.rows in
+    let hold = hold_now d c.in-Ok.rows.items (c.in-Ok.ensures.loaded usable d stored tabled) (current_state d) (λ table day. IsPermutation-refl (current_state d table day)) in
+    let law = c.in-Ok-false.ensures (current_state d) (subst₂ (λ (tables : List TableDef) (ts : List RowsByKey). HoldCurrent tables (current_state d) ts) (sym same) (sym rows) hold) in
+    let on : c.in-Ok-false.field-0 ≡ true = law.1 (subst (λ (tables : List TableDef). IsLawfulState tables (current_state d)) (sym same) lawful) in
+    false≢true (sym c.in-Ok-false.field-0-test ∙ on)

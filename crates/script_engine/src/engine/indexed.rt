@@ -1,0 +1,182 @@
+//! The tables in memory, with the indexes that references need: loaded from a store, and changed
+//! together with it.
+
+ghost use Rattle.std.specs.Prelude.{◌≡◌, ◌++◌, ◌∷◌, [], IfErr, IfOk, IsPermutation, List};
+ghost use Rattle.std.specs.Prelude.{MatchOption, None, OnErr, OnOk, Some, map};
+ghost use Rattle.catalog_core.specs.create.Lawful.{IsLawful};
+ghost use Rattle.catalog_core.specs.declared.table.TableDef.{TableDef as Definition};
+ghost use Rattle.catalog_core.specs.table.TableWords.{table_of};
+ghost use Rattle.period_core.specs.declared.refusal.Refusal.TheVariants.{BadStore};
+ghost use Rattle.period_core.specs.declared.version.VersionRow.{VersionRow as Version};
+ghost use Rattle.period_keys.specs.Current.{rows_by_key};
+ghost use Rattle.period_keys.specs.Lawful.{key_positions};
+ghost use Rattle.period_keys.specs.Rows.{RowsByKey};
+ghost use Rattle.period_keys.specs.TableRows.{HasTableRows};
+ghost use Rattle.period_keys.specs.Versions.{begun};
+ghost use Rattle.version_store.specs.Changed.{planned};
+ghost use Rattle.version_store.specs.Contents.{Contents};
+ghost use Rattle.version_store.specs.DistinctKeys.{HaveDistinctKeys};
+ghost use Rattle.version_store.specs.GoodStore.{AreLawful, HaveTables};
+ghost use Rattle.version_store.specs.StoreState.{Changes, IsOnlyRead, IsOpenRefusal};
+ghost use Rattle.version_store.specs.StoreState.{IsStoreRefusal, IsUsable, StoreRepresents};
+ghost use Rattle.script_engine.specs.engine.Faults.{AreConstrained};
+ghost use Rattle.script_engine.specs.engine.InMemory.{FollowCatalog, HaveCurrentRows};
+
+use crate::engine::in_memory::load;
+use catalog_core::{Catalog, Plan, TableDef};
+use period_core::{Memory, Refusal};
+use period_keys::{CurrentRows, TableIndex, add_table, is_lawful, rows_of, tables_of};
+use sqlite_trees::store::Alter;
+use std::alloc::Global;
+use version_store::VersionStore;
+
+/// The table of a number.
+pub fn index_of_number(tables: &[TableIndex], number: u8) -> Option<&TableIndex>
+    ensures { MatchOption result (table_of tables.now number ≡ None)
+        (λ table. table_of tables.now number ≡ Some table.now) }
+{
+    if number == 0 {
+        return None;
+    }
+    tables.get(usize::from(number) - 1)
+}
+
+/// The current rows of the table of a number.
+pub fn rows_of_number(tables: &[TableIndex], number: u8) -> Option<&CurrentRows>
+    ensures { MatchOption result (table_of (map rows_by_key tables.now) number ≡ None)
+        (λ rows. table_of (map rows_by_key tables.now) number ≡ Some rows.now) }
+{
+    match index_of_number(tables, number) {
+        Some(table) => Some(table.rows()),
+        None => None,
+    }
+}
+
+/// Adds a table without rows, of a definition that the catalog does not have yet, with the indexes
+/// that its references need. The only error is out of memory: then no table is added, and those that
+/// are there have the same rows.
+pub fn add_index(
+    alloc: Global,
+    catalog: &Catalog,
+    tables: &mut Vec<TableIndex>,
+    definition: &TableDef,
+) -> Result<(), Memory>
+    requires follow { FollowCatalog catalog.now.tables tables.old.items }
+    requires lawful { IsLawful catalog.now.tables definition.now }
+    ensures rows { OnOk result (map rows_by_key tables.new.items
+        ≡ map rows_by_key tables.old.items
+        ++ record { positions = key_positions definition.now; rows = [] } ∷ []) }
+    ensures follow { OnOk result
+        (FollowCatalog (catalog.now.tables ++ definition.now ∷ []) tables.new.items) }
+    ensures none { OnErr result
+        ((map rows_by_key tables.new.items ≡ map rows_by_key tables.old.items)
+        × FollowCatalog catalog.now.tables tables.new.items) }
+{
+    add_table(alloc, catalog, tables, definition)
+}
+
+/// Removes the last table.
+pub fn remove_last(tables: &mut Vec<TableIndex>)
+    ensures rows { (rows : List RowsByKey) (last : RowsByKey)
+        → map rows_by_key tables.old.items ≡ rows ++ last ∷ []
+        → map rows_by_key tables.new.items ≡ rows }
+    ensures follow { (catalog : List Definition) (last : Definition)
+        → FollowCatalog (catalog ++ last ∷ []) tables.old.items
+        → FollowCatalog catalog tables.new.items }
+{
+    let _last = tables.pop();
+}
+
+/// The tables of a store, with their current rows. A store in which two current rows share a key on
+/// some day, or a child row has no parent, is refused as a bad one. Nothing is changed, and a store
+/// without tables is not refused.
+pub fn load_lawful<S: Alter>(
+    alloc: Global,
+    store: &mut VersionStore<S>,
+) -> Result<Vec<TableIndex>, Refusal>
+    requires { AreLawful [] store.old.catalog.tables }
+    ensures follow { IfOk result
+        (λ tables. FollowCatalog store.old.catalog.tables tables.items) }
+    ensures loaded { IsUsable S.Store store.new.connection
+        → (c : Contents) → StoreRepresents S.Store store.old c → HaveTables c
+        → IfOk result (λ tables. HaveCurrentRows c (map rows_by_key tables.items)) }
+    ensures lawful { IsUsable S.Store store.new.connection
+        → (c : Contents) → StoreRepresents S.Store store.old c → HaveTables c
+        → OnOk result (AreConstrained c) }
+    ensures bad { IsUsable S.Store store.new.connection
+        → (c : Contents) → StoreRepresents S.Store store.old c → HaveTables c
+        → IfErr result (λ refusal. refusal ≡ BadStore → AreConstrained c → ⊥) }
+    ensures read { IsOnlyRead S.Store store.old store.new }
+    ensures some { OnErr result (store.old.catalog.tables ≡ [] → ⊥) }
+    ensures named { IfErr result IsOpenRefusal }
+{
+    let rows = match load(alloc, store) {
+        Ok(rows) => rows,
+        Err(refusal) => return Err(refusal),
+    };
+    if rows.is_empty() {
+        return Ok(Vec::new(alloc));
+    }
+    let Ok(tables) = tables_of(alloc, store.catalog(), rows) else {
+        return Err(Refusal::Memory);
+    };
+    match is_lawful(alloc, store.catalog(), tables.as_slice()) {
+        Ok(true) => Ok(tables),
+        Ok(false) => Err(Refusal::BadStore),
+        Err(_) => Err(Refusal::Memory),
+    }
+}
+
+/// Makes what a plan says of the table of a number at the clock, in the store and in the table's
+/// current rows, of which the plan ends some. On `Err` nothing is changed.
+pub fn apply_plan<S: Alter>(
+    alloc: Global,
+    store: &mut VersionStore<S>,
+    table: &mut TableIndex,
+    number: u8,
+    plan: &Plan,
+) -> Result<(), Refusal>
+    requires { (stay : List Version)
+        × IsPermutation table.old.rows (plan.now.ended ++ stay) }
+    ensures changes { Changes S.Store store.old store.new result
+        (planned number store.old.clock plan.now.ended plan.now.added) }
+    ensures catalog { store.new.catalog ≡ store.old.catalog }
+    ensures distinct { IsUsable S.Store store.new.connection
+        → (c : Contents) → StoreRepresents S.Store store.old c
+        → OnOk result (HaveDistinctKeys c.versions) }
+
+    // The rows that the plan ends go, and those that it adds come.
+    ensures made { (stay : List Version)
+        → IsPermutation table.old.rows (plan.now.ended ++ stay)
+        → OnOk result (HasTableRows (map (begun store.old.clock) plan.now.added ++ stay)
+        table.old table.new) }
+    ensures none { OnErr result (HasTableRows table.old.rows table.old table.new) }
+    ensures indexed { table.new.indexed ≡ table.old.indexed }
+    ensures named { IfErr result IsStoreRefusal }
+{
+    let moment = store.clock();
+    let ended = plan.ended.as_slice();
+    let added = plan.added.as_slice();
+    let Ok(rows) = rows_of(alloc, ended) else {
+        return Err(Refusal::Memory);
+    };
+    let Ok(going) = table.keys_of(alloc, rows.as_slice()) else {
+        return Err(Refusal::Memory);
+    };
+    let Ok(coming) = table.keys_of(alloc, added) else {
+        return Err(Refusal::Memory);
+    };
+    let Ok(()) = table.add_all(alloc, moment, &coming, added) else {
+        return Err(Refusal::Memory);
+    };
+    match store.apply(alloc, number, moment, plan) {
+        Ok(()) => {
+            table.take_all(&going, ended, rows.as_slice());
+            Ok(())
+        }
+        Err(refusal) => {
+            table.take_added(moment, &coming, added);
+            Err(refusal)
+        }
+    }
+}

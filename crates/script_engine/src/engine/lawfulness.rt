@@ -1,0 +1,96 @@
+//! A change is judged before it is made: by the key of its table, and by each reference from the
+//! table and to it.
+
+ghost use Rattle.std.specs.Prelude.{◌≡◌, ◌⊎◌, IfErr, IfOk, IsTrue, OnOk, Some, map};
+ghost use Rattle.catalog_core.specs.change.Resolution.{has_empty_row};
+ghost use Rattle.catalog_core.specs.declared.table.TableDef.{TableDef as Definition};
+ghost use Rattle.catalog_core.specs.table.TableWords.{table_of};
+ghost use Rattle.history_model.specs.Histories.{State};
+ghost use Rattle.period_core.specs.declared.refusal.Refusal.TheVariants as refused;
+ghost use Rattle.period_keys.specs.Current.{HoldCurrent, rows_by_key};
+ghost use Rattle.period_keys.specs.Lawful.{IsLawfulChange, IsLawfulState};
+ghost use Rattle.period_keys.specs.Planned.{IsPlanOf};
+ghost use Rattle.script_engine.specs.engine.Faults.{IsFault};
+ghost use Rattle.script_engine.specs.engine.InMemory.{FollowCatalog, rows_in};
+
+use crate::engine::indexed::index_of_number;
+use catalog_core::{Catalog, Change, Plan};
+use period_core::Refusal;
+use period_keys::{TableIndex, key_fault, plan_change, reference_fault};
+use std::alloc::Global;
+
+/// Judges a change by its plan: by the key of its table, and then by the references from the table
+/// and to it. It is refused with the least day of a fault, or out of memory.
+fn judge_change(
+    alloc: Global,
+    catalog: &Catalog,
+    tables: &[TableIndex],
+    table: &TableIndex,
+    change: &Change,
+    plan: &Plan,
+) -> Result<(), Refusal>
+    requires follow { FollowCatalog catalog.now.tables tables.now }
+    requires defined { (d : Definition)
+        × (table_of catalog.now.tables change.now.table ≡ Some d) }
+    requires table { table_of tables.now change.now.table ≡ Some table.now }
+    requires plan { IsPlanOf change.now.action table.now.rows plan.now }
+    ensures lawful { OnOk result ((before : State)
+        → IsLawfulState catalog.now.tables before
+        → HoldCurrent catalog.now.tables before (map rows_by_key tables.now)
+        → IsLawfulChange catalog.now.tables before change.now) }
+    ensures fault { IfErr result (λ refusal. (refusal ≡ refused.Memory) ⊎ ((before : State)
+        → IsLawfulState catalog.now.tables before
+        → HoldCurrent catalog.now.tables before (map rows_by_key tables.now)
+        → IsFault catalog.now.tables before change.now refusal)) }
+{
+    let Ok(found) = key_fault(alloc, table.rows(), change, plan) else {
+        return Err(Refusal::Memory);
+    };
+    if let Some(day) = found {
+        return Err(Refusal::KeyOverlap(day));
+    }
+    match reference_fault(alloc, catalog, tables, change, plan) {
+        Ok(None) => Ok(()),
+        Ok(Some(day)) => Err(Refusal::PeriodReference(day)),
+        Err(_) => Err(Refusal::Memory),
+    }
+}
+
+/// The plan of a change over its table's current rows, where the change is lawful. It is refused
+/// where an INSERT gives a row with a period without a day; with the least day on which it breaks
+/// its table's key, or else a reference; and else only out of memory.
+pub fn lawful_plan(
+    alloc: Global,
+    catalog: &Catalog,
+    tables: &[TableIndex],
+    change: &Change,
+) -> Result<Plan, Refusal>
+    requires follow { FollowCatalog catalog.now.tables tables.now }
+    requires defined { (d : Definition)
+        × (table_of catalog.now.tables change.now.table ≡ Some d) }
+    ensures plan { IfOk result (IsPlanOf change.now.action
+        (rows_in (map rows_by_key tables.now) change.now.table)) }
+    ensures lawful { OnOk result ((before : State)
+        → IsLawfulState catalog.now.tables before
+        → HoldCurrent catalog.now.tables before (map rows_by_key tables.now)
+        → IsLawfulChange catalog.now.tables before change.now) }
+    ensures refused { IfErr result (λ refusal.
+        ((refusal ≡ refused.EmptyPeriod) × IsTrue (has_empty_row change.now.action))
+        ⊎ ((refusal ≡ refused.Memory)
+        ⊎ ((¬ IsTrue (has_empty_row change.now.action)) × ((before : State)
+        → IsLawfulState catalog.now.tables before
+        → HoldCurrent catalog.now.tables before (map rows_by_key tables.now)
+        → IsFault catalog.now.tables before change.now refusal)))) }
+{
+    let Some(table) = index_of_number(tables, change.table) else {
+        unreachable!()
+    };
+    let plan = match plan_change(alloc, table.rows(), change) {
+        Ok(plan) => plan,
+        Err(refusal) => return Err(refusal),
+    };
+    match judge_change(alloc, catalog, tables, table, change, &plan) {
+        Ok(()) => Ok(plan),
+        Err(refusal) => Err(refusal),
+    }
+}
