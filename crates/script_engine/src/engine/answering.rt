@@ -305,15 +305,15 @@ fn answer_over(alloc: Global, query: &Query, tables: &Tables) -> Result<Answer, 
 pub fn answered<S: Alter>(
     alloc: Global,
     store: &mut VersionStore<S>,
-    tables: &[CurrentRows],
+    tables: &[TableIndex],
     query: &Query,
 ) -> Result<(Answer, Tables), Refusal>
     ensures right { IsUsable S.Store store.new.connection
-        → (history : History) → EngineRepresents S.Store history (engine_of store.old tables.now)
+        → (history : History) → EngineRepresents S.Store history (engine_of store.old (map rows_by_key tables.now))
         → IfOk result (λ found.
         IsSequencedAnswer (InAnswerOn history (plain_query query.now)) found.0) }
     ensures seen { IsUsable S.Store store.new.connection
-        → (history : History) → EngineRepresents S.Store history (engine_of store.old tables.now)
+        → (history : History) → EngineRepresents S.Store history (engine_of store.old (map rows_by_key tables.now))
         → IfOk result (λ found. AreSeen history (plain_query query.now) found.1) }
     ensures columns { IfOk result (λ found. found.0.columns
         ≡ map (λ (item : Item). item.name) (columns_of (plain_query query.now))) }
