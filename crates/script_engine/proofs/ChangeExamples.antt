@@ -1,5 +1,5 @@
 -- Worked rows: UPDATE over a portion, DELETE and stored queries, each as a step of the history.
-use Rattle.std.proofs.Common.{◌≡◌, ◌≤◌, ◌∷◌, ◌++◌, ◌∙◌, ◌&&◌, [], ℕ, pos, Bool, true, false, cond, List, Option, None, Some, Ok, codes, refl, sym, ap, ap₂, subst, length, map, arith}
+use Rattle.std.proofs.Common.{◌≡◌, ◌≤◌, ◌∷◌, ◌++◌, ◌+◌, ◌∙◌, ◌&&◌, [], ℕ, ℤ, pos, Bool, true, false, cond, List, Option, None, Some, Ok, codes, refl, sym, ap, ap₂, subst, length, map, arith}
 use Rattle.std.specs.Prelude.{IsSorted, int_lt}
 use Rattle.std.proofs.lemmas.List.Sorted.{IsPermutation-refl, IsPermutation-trans, length_permutation}
 use Rattle.std.specs.List.Sorted.{IsPermutation}

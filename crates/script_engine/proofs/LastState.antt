@@ -70,7 +70,7 @@ abbrev version_holds : ℤ → TableVersion → Bool
 version_holds day v = covers_day v.start v.end day
 
 -- the same rows in another order hold the same on each day
-values_along : (rows others : List PeriodRow) (day : ℤ) → IsPermutation rows others → IsPermutation (values_on rows day) (values_on others day)
+pub values_along : (rows others : List PeriodRow) (day : ℤ) → IsPermutation rows others → IsPermutation (values_on rows day) (values_on others day)
 values_along rows others day same =
     IsPermutation-map (λ (r : PeriodRow). r.values) (filter (holds_on day) rows) (filter (holds_on day) others) (IsPermutation-filter (holds_on day) rows others same)
 

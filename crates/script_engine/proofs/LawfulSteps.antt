@@ -3,7 +3,7 @@ use Rattle.std.proofs.Common.{◌≡◌, ◌∷◌, ◌++◌, ◌+◌, ◌≤◌
 use Rattle.std.specs.List.{Contains, enumerate_from, filter}
 use Rattle.std.proofs.lemmas.List.{length-map}
 use Rattle.period_core.specs.declared.value.Value.{Value}
-use Rattle.temporal_model.proofs.Members.{Contains-cons_cases, Contains-one}
+use Rattle.temporal_model.proofs.Members.{Contains-cons_cases, Contains-nil, Contains-one}
 use Rattle.catalog_core.specs.table.TableWords.{table_of}
 use Rattle.catalog_core.specs.declared.change.Action.{Action}
 use Rattle.catalog_core.specs.declared.change.Action.TheVariants.{Delete, Insert, Update}
@@ -14,10 +14,6 @@ use Rattle.history_model.specs.Effects.{Traced, acts_on, given_covers, given_of,
 use Rattle.history_model.specs.Histories.{State}
 use Rattle.period_keys.specs.Keys.{values_at}
 use Rattle.period_keys.specs.Lawful.{IsLawfulChange, OriginsShareKey, Refers, key_positions}
-
--- a list without an element has none
-pub in_none : {X : Type 0} (x : X) → Contains {A = X} [] x → ⊥
-in_none x (k, inside, is) = omega arith
 
 -- ---- how many rows are traced
 
@@ -31,7 +27,7 @@ shorter {X} p (x ∷ xs) = go (p x) (shorter p xs)
 
 numbered : (from : ℕ) (given : List GivenRow) → length (enumerate_from from given) ≡ length given
 numbered from [] = refl
-numbered from (g ∷ given) = ap suc (numbered (suc from) given)
+numbered from (g ∷ given) = ap suc (numbered (from + 1) given)
 
 few_traced : (action : Action) (day : ℤ) (rows : List (List Value)) → length (traced action day rows) ≤ length rows + length (given_of action)
 few_traced (Insert given) day rows =
@@ -44,7 +40,7 @@ few_traced (Delete portion condition) day rows =
 
 -- one row is of one origin
 alone : (positions : List ℕ) (rows : List Traced) → length rows ≤ 1 → OriginsShareKey positions rows → ⊥
-alone positions [] short (a, b, in_a, in_b, apart, same) = in_none a in_a
+alone positions [] short (a, b, in_a, in_b, apart, same) = Contains-nil a in_a
 alone positions (row ∷ []) short (a, b, in_a, in_b, apart, same) = apart (ap (λ (t : Traced). t.origin) (sym (Contains-one row a in_a) ∙ Contains-one row b in_b))
 alone positions (row ∷ other ∷ rows) short shared = omega (arith, short)
 
@@ -76,7 +72,7 @@ pub lawful_by_key : (catalog : List TableDef) (before : State) (change : Change)
     ((day : ℤ) (def : TableDef) → table_of catalog change.table ≡ Some def → OriginsShareKey (key_positions def) (traced change.action day (before change.table day)) → ⊥) → IsLawfulChange catalog before change
 lawful_by_key catalog before change none apart = record {
   keys = λ day (def, is, shared). apart day def is shared;
-  references = λ day (number, child, reference, parent, refers, lacks). in_none reference (subst (λ l. Contains l reference) (none number child refers.is_child) refers.is_reference);
+  references = λ day (number, child, reference, parent, refers, lacks). Contains-nil reference (subst (λ l. Contains l reference) (none number child refers.is_child) refers.is_reference);
 }
 
 pub lawful_alone : (catalog : List TableDef) (before : State) (change : Change) → HaveNoReferences catalog →

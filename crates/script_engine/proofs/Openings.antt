@@ -172,7 +172,7 @@ all_points good lawful = record {
 }
 
 -- without it the others do
-pub other_points : {db : sqlite.Database} → IsGoodStore AreConstrained db → IsGoodStore NothingMore db
+abbrev pub other_points : {db : sqlite.Database} → IsGoodStore AreConstrained db → IsGoodStore NothingMore db
 other_points good = record {
   contents = good.contents;
   says = good.says;

@@ -36,6 +36,7 @@ use Rattle.catalog_core.specs.query.Fitting.{are_in_place}
 use Rattle.catalog_core.specs.query.Queries.{Query, both, one, references_of}
 use Rattle.catalog_core.specs.query.Resolving.{ReferenceParts, ResolvesQuery, ResolvesSelect, ResolvesTree, conjunct_parts, query_conditions, reference_parts, written_item, written_reference}
 use Rattle.catalog_core.specs.query.Selection.{item_parts}
+use Rattle.catalog_core.specs.table.Kinds.{kind_of_column}
 use Rattle.catalog_core.specs.table.TableWords.{is_value_column, number_of, table_of, table_of_name}
 use Rattle.catalog_core.specs.declared.query.AnswerColumn.{AnswerColumn}
 use Rattle.catalog_core.specs.declared.condition.CompareValues.{CompareValues}
@@ -101,7 +102,7 @@ question_is_sound = none_if_no_first (query_conditions (emp ∷ []) (statement.s
 
 -- the select with positions for names
 pub select_resolved : (place : ℕ) → ResolvesSelect (emp ∷ []) asked_select (selected_in place)
-unfolding number_of table_of_name is_value_column
+unfolding number_of table_of_name is_value_column kind_of_column
 select_resolved place = record { references = refl; conjuncts = refl; items = refl }
 
 -- ---- its sets
@@ -217,12 +218,24 @@ one_item (item ∷ []) e =
     ap₂ made position name
 one_item (item ∷ other ∷ more) e = cc
 
+-- what EMP is written for
+abbrev its_parts : ReferenceParts
+its_parts = (Some 1, Now, Some (value_kind.Integer ∷ value_kind.Integer ∷ []))
+
+workers_written : written_reference (emp ∷ []) workers ≡ its_parts
+unfolding number_of table_of_name is_value_column kind_of_column
+workers_written = refl
+
+first_part : List ReferenceParts → ReferenceParts
+first_part [] = its_parts
+first_part (parts ∷ more) = parts
+
 -- a reference to EMP in the first place is this one
 one_reference : (references : List QueryReference) → map (written_reference (emp ∷ [])) (workers ∷ []) ≡ map reference_parts references → are_in_place 0 references ≡ true → references ≡ current_in 0 ∷ []
-unfolding number_of table_of_name is_value_column
+unfolding first_part
 one_reference [] e placed = cc
 one_reference (r ∷ []) e placed =
-    let parts : (Some 1, Now, Some (value_kind.Integer ∷ value_kind.Integer ∷ [])) ≡ reference_parts r = cc in
+    let parts : its_parts ≡ reference_parts r = sym workers_written ∙ ap first_part e in
     let number : Some 1 ≡ Some r.table = ap (λ (p : ReferenceParts). p.0) parts in
     let window : Now ≡ r.window = ap (λ (p : ReferenceParts). p.1) parts in
     let kinds : Some (value_kind.Integer ∷ value_kind.Integer ∷ []) ≡ Some r.kinds = ap (λ (p : ReferenceParts). p.2) parts in

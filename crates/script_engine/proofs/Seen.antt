@@ -12,7 +12,6 @@ use Rattle.period_core.specs.declared.version.VersionRow.{VersionRow}
 use Rattle.period_core.specs.declared.window.Window.{Window}
 use Rattle.period_core.specs.declared.window.Window.TheVariants.{Now}
 use Rattle.temporal_model.specs.Snapshot.{InSnapshot, covers_day, values_on}
-use Rattle.temporal_model.proofs.Rearranged.{IsPermutation-filter}
 use Rattle.period_keys.specs.Rows.{RowsByKey}
 use Rattle.version_store.specs.Contents.{Contents, TableVersion, of_table, version_in}
 use Rattle.version_store.specs.Scans.{AreFirstSeen, Visits, seen_of}
@@ -24,7 +23,7 @@ use Rattle.history_model.proofs.Shown.{seen_at_moments}
 use Rattle.script_engine.specs.engine.Answering.{AreRowsSeen}
 use Rattle.script_engine.specs.engine.InMemory.{HaveCurrentRows, rows_in}
 use Rattle.script_engine.specs.engine.Stored.{AreOfHistory}
-use Rattle.script_engine.proofs.Contents.{recorded_rows}
+use Rattle.script_engine.proofs.LastState.{recorded_rows, values_along}
 use Rattle.script_engine.proofs.PlanFacts.{filtered_twice, seen_rows}
 
 -- ---- what is kept is what the window sees
@@ -76,10 +75,6 @@ seen_values window versions day =
     ap (map its_values) (filter-map (holds_on day) row_of (filter sees versions))
     ∙ map-map its_values row_of (filter holds (filter sees versions))
     ∙ ap (map (λ (v : VersionRow). v.values)) (filtered_twice sees holds versions)
-
--- the same rows in another order hold the same on each day
-values_along : (rows others : List PeriodRow) (day : ℤ) → IsPermutation rows others → IsPermutation (values_on rows day) (values_on others day)
-values_along rows others day same = IsPermutation-map its_values (filter (holds_on day) rows) (filter (holds_on day) others) (IsPermutation-filter (holds_on day) rows others same)
 
 pub rows_seen_hold : (history : History) (c : Contents) (table : ℕ) (window : Window) (rows : List PeriodRow) → AreOfHistory history c → AreRowsSeen c table window rows → (day : ℤ) (values : List Value) →
     (InSnapshot rows day values ↔ SeesThrough history window day table values)

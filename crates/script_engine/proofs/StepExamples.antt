@@ -17,6 +17,7 @@ use Rattle.sql_statements.specs.declared.statement.InsertRows.{InsertRows}
 use Rattle.catalog_core.specs.create.Creation.{create_conditions, period_matches, some_parent_match, some_match, has_sort, sort_count, exceeds_limits, is_there, lacks_parent, names_other_period, lacks_period, lacks_name, is_ambiguous, is_shared, repeats_name, is_no_value_column, some_no_value, keys_period_column, lacks_one_of_each, has_bad_period, has_bad_system_period, is_bad_type, has_bad_column, is_used_otherwise, has_other_period, is_at, is_key_name, is_named, are_key, names_no_key, references_no_key, is_bad_definition, has_unequal_lists, own_kind, have_other_kinds, names_other_kind, references_other_kind}
 use Rattle.catalog_core.specs.create.Definition.{declared_kind, declared_reference}
 use Rattle.temporal_model.specs.Snapshot.{covers_day}
+use Rattle.temporal_model.proofs.Members.{Contains-nil}
 use Rattle.history_model.specs.Effects.{Given, Kept, Traced, given_row, kept, traced}
 use Rattle.history_model.specs.Histories.{Changed, Created, History, last_state, new_database, opened, with_event}
 use Rattle.history_model.specs.Left.{versions_of}
@@ -40,7 +41,7 @@ use Rattle.script_engine.specs.declared.engine.outcome.Outcome.TheVariants.{Done
 use Rattle.script_engine.specs.declared.engine.outcome.Word.TheVariants as word
 use Rattle.period_keys.specs.Keys.{IsLeastDay}
 use Rattle.period_keys.specs.Lawful.{IsKeyFault, IsLawfulChange, OriginsShareKey, key_positions}
-use Rattle.script_engine.proofs.LawfulSteps.{HaveNoReferences, in_none, lawful_alone, lawful_by_key, two_apart}
+use Rattle.script_engine.proofs.LawfulSteps.{HaveNoReferences, lawful_alone, lawful_by_key, two_apart}
 use Rattle.script_engine.proofs.Refused.{may_answer-empty}
 use Rattle.catalog_core.specs.table.Naming.{matches_among, place_among, some_match_among}
 use Rattle.catalog_core.specs.table.Naming.{find_among}
@@ -267,7 +268,7 @@ again_on_five = record {
   no_earlier day def shared true e = grind (arith, e)
   no_earlier day def shared false e =
       let (x, y, in_x, in_y, apart, same) = subst (OriginsShareKey (key_positions def)) (again_traced day false e) shared in
-      absurd (in_none x in_x)
+      absurd (Contains-nil x in_x)
 
 -- it is refused with 42 and that day, and the history stays
 inserted_again : Step with_row (statement.insert insertion) (Err (KeyOverlap (pos 5))) with_row

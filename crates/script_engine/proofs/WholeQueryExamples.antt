@@ -58,7 +58,7 @@ union_daily day values = (
   λ united. elim united [ inl a ↦ (daily day values).1 a | inr b ↦ (daily day values).1 b ],
 )
 
-united : Step with_row (statement.sequenced (twice Union)) (Ok (Answered answer)) (with_event with_row Asked)
+pub united : Step with_row (statement.sequenced (twice Union)) (Ok (Answered answer)) (with_event with_row Asked)
 united = (
   twice_is_sound Union,
   (
@@ -88,7 +88,7 @@ nothing_by InSet none = record {
 }
 
 -- the difference of a set and itself has no rows
-subtracted : Step with_row (statement.sequenced (twice Except)) (Ok (Answered nothing)) (with_event with_row Asked)
+pub subtracted : Step with_row (statement.sequenced (twice Except)) (Ok (Answered nothing)) (with_event with_row Asked)
 subtracted = (
   twice_is_sound Except,
   (
@@ -145,7 +145,7 @@ past_daily day values = (λ among. before ((daily day values).0 among), λ seen.
         let held : Contains (last_state with_row 1 day) first = subst (λ (m : ℤ). Contains (state_at gone m 1 day) first) as_of there in
         (row, (first, rest, (last_moment, omega (arith, ints), refl, held), none, made), met, its)
 
-past_answered : Step gone (statement.sequenced past_question) (Ok (Answered answer)) (with_event gone Asked)
+pub past_answered : Step gone (statement.sequenced past_question) (Ok (Answered answer)) (with_event gone Asked)
 past_answered = (
   past_is_sound,
   (
@@ -171,7 +171,7 @@ none_left day values (row, (first, rest, (moment, below, now, there), none, made
     let held : Contains (last_state gone 1 day) first = subst (λ (m : ℤ). Contains (state_at gone m 1 day) first) now there in
     Contains-nil first (subst (λ (rows : List (List Value)). Contains rows first) (gone_by day (covers_day (pos 5) (pos 8) day) refl) held)
 
-now_answered : Step gone (statement.sequenced question) (Ok (Answered nothing)) (with_event gone Asked)
+pub now_answered : Step gone (statement.sequenced question) (Ok (Answered nothing)) (with_event gone Asked)
 now_answered = (
   question_is_sound,
   (

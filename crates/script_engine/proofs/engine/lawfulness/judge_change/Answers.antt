@@ -19,8 +19,8 @@ returns-in-Some-clause-fault c = inr (λ before lawful hold.
     (is_planned catalog c.args.tables.now c.args.table.now c.args.change.now c.args.plan.now def c.requires.follow is c.requires.table c.requires.plan before lawful hold))))
 
 none_if_not_some : {X : Type 0} (found : Option X) → ((x : X) → found ≡ Some x → ⊥) → found ≡ None
-none_if_not_some None no = refl
-none_if_not_some (Some x) no = absurd (no x refl)
+none_if_not_some None off = refl
+none_if_not_some (Some x) off = absurd (off x refl)
 
 pub returns-in-Ok-None-clause-lawful : goal.returns-in-Ok-None-clause-lawful
 returns-in-Ok-None-clause-lawful c = λ before lawful hold.
