@@ -5,8 +5,13 @@ use Rattle.period_core.specs.declared.answer.Answer.{Answer}
 use Rattle.period_core.specs.declared.refusal.Refusal.{Refusal}
 use Rattle.period_core.specs.declared.refusal.Refusal.TheVariants.{Memory}
 use Rattle.period_core.specs.declared.row.PeriodRow.{PeriodRow}
+use Rattle.sql_statements.specs.Plain.{plain_form}
 use Rattle.sql_statements.specs.Trees.{Statement}
 use Rattle.sql_statements.specs.Trees as statement
+use Rattle.sql_statements.specs.declared.statement.SelectDistinct as selects
+use Rattle.sql_statements.specs.declared.statement.StatementForm as forms
+use Rattle.sql_statements.specs.declared.statement.StatementForm.TheVariants as variant
+use Rattle.sql_statements.specs.declared.tree.QueryTree as queries
 use Rattle.catalog_core.specs.query.Queries.{Query}
 use Rattle.catalog_core.specs.query.Resolving.{IsSequenced, ResolvesQuery}
 use Rattle.history_model.specs.Histories.{History, catalog_of}
@@ -45,6 +50,16 @@ no_answer history (statement.update update) (Ok (Answered answer)) new other ste
 no_answer history (statement.delete delete) (Ok (Answered answer)) new other step = absurd (let wrong = step.1.done in cc)
 no_answer history (statement.sequenced query) (Ok (Answered answer)) new other step = absurd (other tt)
 no_answer history (statement.stored query) (Ok (Answered answer)) new other step = absurd (let wrong = step.1.1 in cc)
+
+-- a statement of another form is no sequenced query
+pub not_sequenced : (form : forms.StatementForm) → ((query : queries.QueryTree selects.SelectDistinct) → form ≡ variant.Sequenced query → ⊥) → IsSequenced (plain_form form) → ⊥
+not_sequenced (variant.At moment) none is = is
+not_sequenced (variant.Create table) none is = is
+not_sequenced (variant.Insert rows) none is = is
+not_sequenced (variant.Update rows) none is = is
+not_sequenced (variant.Delete rows) none is = is
+not_sequenced (variant.Sequenced query) none is = none query refl
+not_sequenced (variant.Stored query) none is = is
 
 module _ {S : Type 0} (g : Ghosts S) (history : History) (s : Statement) (engine : EngineState S) where
   pub refused_entry : (refusal : Refusal) → StepsTo g history s (Err refusal) engine → AuditedStepsTo g history s (record { result = Err refusal; audit = None }) engine

@@ -37,3 +37,18 @@ returns-in-Ok-answer_of-clause-step g c usable history kept =
     (subst (λ (k : Catalog). ResolvesQuery k.tables s query) c.catalog.ensures c.in-Ok.ensures.resolved)
     has c.in-Ok-answer_of.ensures.columns
     (c.in-Ok-answer_of.ensures.right usable history (subst (λ (l : List TableRows). EngineRepresents g.S.Store history (engine_of c.self.inside.store (map rows_by_key l))) (sym c.as_slice.ensures.value) was))
+
+pub returns-clause-step : goal.returns-clause-step
+returns-clause-step g c usable history kept =
+    let asked = plain_query c.args.query.now in
+    let s : Statement = statement.sequenced asked in
+    let tables : List RowsByKey = map rows_by_key c.self.inside.tables.items in
+    let old : EngineState g.row.S.Denot = engine_of c.self.inside.store tables in
+    let new : EngineState g.row.S.Denot = engine_of c.answer_of.new.store tables in
+    let was : EngineRepresents g.S.Store history old = subst (λ s. EngineRepresents g.S.Store history s) (sym c.self.view_is) kept in
+    let has : HasContents g.S.Store new was.contents = record {
+      stored = represents_still g.S.Store c.self.inside.store c.answer_of.new.store was.contents c.in-Err-answer_of.ensures.read usable was.stored;
+      current = was.current;
+    } in
+    failed_answer g.S.Store history old asked was new c.in-Err-answer_of.refusal
+    (subst (λ (k : Catalog). NoneApplies (Holds (query_conditions k.tables s))) c.catalog.ensures c.in-Ok.ensures.sound) has c.in-Err-answer_of.ensures.named
