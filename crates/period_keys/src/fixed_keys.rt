@@ -1,8 +1,7 @@
 //! The key that a condition fixes, by `column = literal` for each of the key's columns.
 
 ghost use Rattle.std.specs.Prelude.{◌≡◌, IfOk, IfSome, List, Some, slice_get, true};
-ghost use Rattle.std.specs.List.{list_all};
-ghost use Rattle.catalog_core.specs.Conditions.{compares, meets};
+ghost use Rattle.catalog_core.specs.Conditions.{compares};
 ghost use Rattle.catalog_core.specs.declared.condition.Comparand.TheVariants.{Literal, Position};
 ghost use Rattle.period_core.specs.declared.value.Value.{Value as ColumnValue};
 ghost use Rattle.period_keys.specs.FixedKeys.{Fixes, FixesKey};
@@ -13,7 +12,8 @@ use sql_statements::{Comparison, Tree};
 use std::alloc::Global;
 
 /// The key at these positions of each row that meets the condition, where it says `column =
-/// literal` of each as a part of its outermost AND, or as a whole. The only error is out of memory.
+/// literal` of each as a whole, or as a part of an AND that is in no NOT and in no OR with other
+/// parts. The only error is out of memory.
 pub fn fixed_key(
     alloc: Global,
     condition: &Cond,
@@ -31,38 +31,24 @@ pub fn fixed_key(
     Ok(Some(Values::from_vec(key)))
 }
 
-// The value that the condition fixes at a position.
+// The value that the condition fixes at a position. The parser gives a chain of OR or of AND even
+// where it has one part, so an OR of one part counts as that part.
 fn fixed_value(condition: &Cond, position: usize) -> Option<&Value>
     ensures { IfSome result (λ value. Fixes condition.now position value.now) }
 {
     match condition {
-        Tree::And(first, others) => match fixed_by_part(first, position) {
-            Some(value) => Some(value),
-            None => fixed_by_some(others.as_slice(), position),
-        },
-        part => fixed_by_part(part, position),
-    }
-}
-
-// The value that one of the parts fixes, where each of them is met.
-fn fixed_by_some(parts: &[Cond], position: usize) -> Option<&Value>
-    ensures { IfSome result (λ value. (values : List ColumnValue)
-        → list_all (λ part. meets part values) parts.now ≡ true
-        → slice_get values position ≡ Some value.now) }
-{
-    for part in parts {
-        if let Some(value) = fixed_by_part(part, position) {
-            return Some(value);
+        Tree::And(first, others) => {
+            if let Some(value) = fixed_value(first, position) {
+                return Some(value);
+            }
+            for part in others {
+                if let Some(value) = fixed_value(part, position) {
+                    return Some(value);
+                }
+            }
+            None
         }
-    }
-    None
-}
-
-// The value that a part fixes, if it is a comparison.
-fn fixed_by_part(part: &Cond, position: usize) -> Option<&Value>
-    ensures { IfSome result (λ value. Fixes part.now position value.now) }
-{
-    match part {
+        Tree::Or(first, others) if others.is_empty() => fixed_value(first, position),
         Tree::Test(test) => fixed_by_test(test, position),
         _ => None,
     }
