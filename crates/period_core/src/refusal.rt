@@ -17,7 +17,7 @@ pub enum Refusal {
     /// No token begins at this byte of the script, or a text that is opened here does not end. It
     /// carries the byte's offset, the least such, from 0.
     BadToken(usize),
-    /// The tokens have the syntax of no statement, or of one that does not run yet.
+    /// The tokens have the syntax of no statement.
     Syntax,
     /// Up to some token there are over 32 more `(` than `)`.
     TooDeep,
