@@ -273,8 +273,9 @@ class Scope:
 class Model:
     """The tables after some statements, and their report."""
 
-    def __init__(self, keys):
+    def __init__(self, keys, audits):
         self.keys = keys  # whether keys and references are checked
+        self.audits = audits  # whether answers are audited
         self.clock = MOMENTS[0]
         self.tables = {}
         self.statements = 0
@@ -692,3 +693,16 @@ class Model:
         for values, first, end in rows:
             self.record('row', *values, first, end, first,
                         'none' if first == FIRST else first - DAY)
+        if self.audits:
+            self.record('audit', 'agrees', len(self.change_days(query, rows)))
+
+    def change_days(self, query, rows):
+        """The first day, and the ends of the answer's rows and of those that a reference sees."""
+        days = {FIRST, *(day for _, *ends in rows for day in ends)}
+        for select in self.selects(query.query)[0]:
+            for reference in self.references_of(select):
+                table = self.tables[reference.name]
+                for _, start, end, since, until in table.versions:
+                    if table.shows(reference.window, since, until):
+                        days |= {start, end}
+        return days

@@ -1,20 +1,25 @@
 -- Worked rows: the lines of faults, the status of results, what is read, and what a command line chooses.
-use Rattle.std.specs.Prelude.{◌≡◌, ◌∷◌, [], ℕ, Err, None, Ok, Option, Some, codes, false, refl, true}
+use Rattle.std.specs.Prelude.{◌≡◌, ◌∷◌, [], ℕ, Err, None, Ok, Option, Result, Some, codes, false, pos, refl, true}
 use Rattle.std.proofs.Common.{inl, inr}
+use Rattle.std.proofs.lemmas.Option.{same_Some}
 use Rattle.std.specs.Fmt.{digits}
 use Rattle.std.specs.declared.io.ErrorKind.TheVariants.{InvalidData, OutOfMemory}
 use Rattle.clap.specs.Words.{Row}
 use Rattle.clap.specs.declared.builder.value_parser.Reading.{Reading}
 use Rattle.clap.specs.declared.parser.matches.ValueSource.{ValueSource}
-use Rattle.period_core.specs.declared.refusal.Refusal.TheVariants.{BadToken, NotUtf8, ScriptTooLarge, Syntax}
+use Rattle.period_core.specs.declared.refusal.Refusal.{Refusal}
+use Rattle.period_core.specs.declared.refusal.Refusal.TheVariants.{BadToken, Memory as NoMemory, NotUtf8, ScriptTooLarge, Syntax}
+use Rattle.snapshot_audit.specs.declared.verdict.Verdict.{Verdict}
+use Rattle.snapshot_audit.specs.declared.verdict.Verdict.TheVariants.{Agrees, BadWitness, Differs}
+use Rattle.script_engine.specs.declared.entry.Entry.{Entry}
 use Rattle.script_engine.specs.declared.engine.outcome.Outcome.{Outcome}
-use Rattle.script_engine.specs.declared.engine.outcome.Outcome.TheVariants.{Done}
+use Rattle.script_engine.specs.declared.engine.outcome.Outcome.TheVariants.{Answer as Answered, Done}
 use Rattle.script_engine.specs.declared.engine.outcome.Word.TheVariants.{Create}
 use Rattle.script_engine.specs.declared.report.ReportFault.TheVariants as report
 use Rattle.bitemporal_cli.specs.CommandLine.{Chooses, IsMode}
 use Rattle.bitemporal_cli.specs.Lines.{GetsFrontOf, IsTold, fault_line, fault_of, words_fault}
-use Rattle.bitemporal_cli.specs.Program.{IsRefusedWhole, MayEndSilently, read_of, status_of}
-use Rattle.bitemporal_cli.specs.declared.command.Mode.TheVariants.{Run, Check}
+use Rattle.bitemporal_cli.specs.Program.{IsRefusedWhole, MayEndSilently, audited_status, read_of, status_of}
+use Rattle.bitemporal_cli.specs.declared.command.Mode.TheVariants.{Run, RunAudited, Check}
 use Rattle.bitemporal_cli.specs.declared.fault.RunFault.TheVariants.{Script, Memory, Words, Read, Write}
 
 -- ---- lines
@@ -94,6 +99,32 @@ refused_after_done = refl
 refused_before_done : status_of (Err Syntax ∷ Ok (Done Create 0) ∷ []) ≡ 1
 refused_before_done = refl
 
+-- ---- statuses of audited runs
+
+-- an audit that agrees changes nothing
+abbrev answered : Option (Result Verdict Refusal) → Entry
+answered audit =
+    record { result = Ok (Answered record { columns = []; rows = []; witnesses = [] }); audit = audit }
+
+abbrev refused : Entry
+refused = record { result = Err Syntax; audit = None }
+
+audit_agrees : audited_status (answered (Some (Ok (Agrees 1))) ∷ []) ≡ 0
+audit_agrees = refl
+
+agrees_beside_refused : audited_status (refused ∷ answered (Some (Ok (Agrees 1))) ∷ []) ≡ 1
+agrees_beside_refused = refl
+
+-- one that differs, finds a bad witness, or is refused comes before a refused statement
+audit_differs : audited_status (refused ∷ answered (Some (Ok (Differs (pos 0)))) ∷ []) ≡ 3
+audit_differs = refl
+
+bad_witness : audited_status (answered (Some (Ok (BadWitness 1))) ∷ refused ∷ []) ≡ 3
+bad_witness = refl
+
+audit_refused : audited_status (answered (Some (Err NoMemory)) ∷ answered (Some (Ok (Agrees 1))) ∷ []) ≡ 3
+audit_refused = refl
+
 -- ---- what is read
 
 -- a short script is read whole
@@ -117,23 +148,37 @@ not_known h = h
 -- ---- command lines
 
 -- a subcommand chooses its mode, and without FILE there is no file
+no_flag : None ≡ Some (codes "true") → ⊥
+no_flag same = cc
+
 chooses_run : Chooses (Some (codes "run", [])) Run None
-chooses_run = (refl, refl)
+chooses_run = ((refl, no_flag), refl)
 
 chooses_check : Chooses (Some (codes "check", [])) Check None
 chooses_check = (refl, refl)
 
--- behind FILE there is one
-abbrev file_row : Option ℕ → Option ValueSource → Reading → Row
-file_row count source reading =
-    record { id = codes "FILE"; values = codes "a.sql" ∷ []; count = count; source = source; reading = reading }
+-- what clap found for an argument: one value
+abbrev one_value : List ℕ → List ℕ → Option ℕ → Option ValueSource → Reading → Row
+one_value id value count source reading =
+    record { id = id; values = value ∷ []; count = count; source = source; reading = reading }
 
-chooses_file : (count : Option ℕ) (source : Option ValueSource) (reading : Reading) → Chooses (Some (codes "run", file_row count source reading ∷ [])) Run (Some (codes "a.sql"))
-chooses_file count source reading = (refl, refl)
+-- --audit sets its flag, which else is false
+chooses_audit : (count : Option ℕ) (source : Option ValueSource) (reading : Reading) → Chooses (Some (codes "run", one_value (codes "audit") (codes "true") count source reading ∷ [])) RunAudited None
+chooses_audit count source reading = ((refl, refl), refl)
+
+flag_is_false : Some (codes "false") ≡ Some (codes "true") → ⊥
+flag_is_false same = let wrong : codes "false" ≡ codes "true" = same_Some _ _ same in cc
+
+chooses_no_audit : (count : Option ℕ) (source : Option ValueSource) (reading : Reading) → Chooses (Some (codes "run", one_value (codes "audit") (codes "false") count source reading ∷ [])) Run None
+chooses_no_audit count source reading = ((refl, flag_is_false), refl)
+
+-- behind FILE there is one
+chooses_file : (count : Option ℕ) (source : Option ValueSource) (reading : Reading) → Chooses (Some (codes "run", one_value (codes "FILE") (codes "a.sql") count source reading ∷ [])) Run (Some (codes "a.sql"))
+chooses_file count source reading = ((refl, no_flag), refl)
 
 -- no subcommand chooses nothing
 chooses_none : Chooses None Run None → ⊥
 chooses_none h = h
 
-check_is_no_run : IsMode (codes "check") Run → ⊥
-check_is_no_run same = cc
+check_is_no_run : IsMode (codes "check", []) Run → ⊥
+check_is_no_run is = let wrong : codes "check" ≡ codes "run" = is.0 in cc

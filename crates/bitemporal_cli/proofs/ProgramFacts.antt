@@ -32,7 +32,7 @@ line_told mode script read_failed old new before after err_failed fault ended (t
 pub ends_silently : (r : ProgramRun) (fault : RunFault) → r.status ≡ 2 → MayEndSilently r.mode r.script r.read_failed fault → Keeps r.out_before r.out_after
     → (told : RunFault) × MayBeToldAs fault told × IsTold r.err_failed r.err_before r.err_after (fault_line told) → EndsWell r
 ends_silently r fault status silent kept told =
-    let bound : r.status ≤ 2 = omega (arith, status) in
+    let bound : r.status ≤ 3 = omega (arith, status) in
     (bound, (λ other. absurd (other status)), (λ _. line_told r.mode r.script r.read_failed r.out_before r.out_after r.err_before r.err_after r.err_failed fault (inl (silent, kept)) told), (λ _. (status, kept)))
 
 silent_if_failed : (mode : Mode) (script : Option (List ℕ)) (read_failed : Bool) (fault : RunFault) → MayEndSilently mode script read_failed fault → MayEndSilently mode script true fault

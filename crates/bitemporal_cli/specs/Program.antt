@@ -1,17 +1,23 @@
 -- What a run of the program gives: its exit status, its report, and its line on standard error.
 use Rattle.std.specs.Prelude.{◌≡◌, ◌≢◌, ◌≤◌, ◌⊎◌, ◌+◌, ℕ, Bool, List, Option, None, Some, Result}
-use Rattle.std.specs.Prelude.{IfSome, length, take, true, is_err, if◌then◌else◌, ⊤}
+use Rattle.std.specs.Prelude.{Ok, Err, IfSome, length, take, false, true, is_err}
+use Rattle.std.specs.Prelude.{if◌then◌else◌, ⊤}
 use Rattle.std.specs.List.{list_any}
 use Rattle.std.specs.Io.KnownBytes.{Appends, Consumes, Keeps}
 use Rattle.period_core.specs.declared.refusal.Refusal.{Refusal}
+use Rattle.snapshot_audit.specs.declared.verdict.Verdict.{Verdict}
+use Rattle.snapshot_audit.specs.declared.verdict.Verdict.TheVariants.{Agrees, Differs, BadWitness}
+use Rattle.script_engine.specs.declared.entry.Entry.{Entry}
+use Rattle.script_engine.specs.script.AuditedRuns.{IsAuditedRunOf}
 use Rattle.script_engine.specs.script.Check.{IsCheckOf}
+use Rattle.script_engine.specs.report.AuditedReport.{audited_report}
 use Rattle.script_engine.specs.report.CheckReport.{check_text}
 use Rattle.script_engine.specs.report.Report.{report}
 use Rattle.script_engine.specs.script.Script.{IsRunOf, MayRefuseRun, MayRefuseScript}
 use Rattle.script_engine.specs.script.Script.{ScriptApplies, most_bytes}
 use Rattle.bitemporal_cli.specs.Lines.{IsTold, fault_line}
 use Rattle.bitemporal_cli.specs.declared.command.Mode.{Mode}
-use Rattle.bitemporal_cli.specs.declared.command.Mode.TheVariants.{Run, Check}
+use Rattle.bitemporal_cli.specs.declared.command.Mode.TheVariants.{Run, RunAudited, Check}
 use Rattle.bitemporal_cli.specs.declared.fault.RunFault.{RunFault}
 use Rattle.bitemporal_cli.specs.declared.fault.RunFault.TheVariants.{Script, Memory, Words, Read}
 use Rattle.bitemporal_cli.specs.declared.fault.RunFault.TheVariants.{Write}
@@ -32,28 +38,47 @@ TakesAtMost most old new = (bytes : List ℕ) × Consumes old new bytes × (leng
 abbrev pub status_of : {T : Type 0} → List (Result T Refusal) → ℕ
 status_of results = if list_any is_err results then 1 else 0
 
+-- an audit was made, and it did not agree or was refused
+abbrev pub fails_audit : Option (Result Verdict Refusal) → Bool
+fails_audit None = false
+fails_audit (Some (Ok (Agrees days))) = false
+fails_audit (Some (Ok (Differs day))) = true
+fails_audit (Some (Ok (BadWitness row))) = true
+fails_audit (Some (Err refusal)) = true
+
+-- 3 where an audit did not agree or was refused; else 1 where a statement was refused, else 0
+abbrev pub audited_status : List Entry → ℕ
+audited_status entries =
+    if list_any (λ (entry : Entry). fails_audit entry.audit) entries then 3
+    else (if list_any (λ (entry : Entry). is_err entry.result) entries then 1 else 0)
+
+-- the status of a report: 2 is that of a fault
+abbrev pub IsOfReport : ℕ → Type 0
+IsOfReport status = (status ≤ 3) × (status ≢ 2)
+
 -- the results are of this kind for the script that the reader has, where its bytes are known
 abbrev pub AreOfReader :
-    {T : Type 0} → (List ℕ → List (Result T Refusal) → Type 0)
-    → Option (List ℕ) → List (Result T Refusal) → Type 0
+    {R : Type 0} → (List ℕ → List R → Type 0) → Option (List ℕ) → List R → Type 0
 AreOfReader IsOf input results = IfSome input (λ all. IsOf (read_of all) results)
 
--- results of this kind have the status, and their text was written, and nothing else
+-- results of this kind have this status, and their text was written, and nothing else
 abbrev pub ReportsText :
-    {T : Type 0} → (List ℕ → List (Result T Refusal) → Type 0) → (List (Result T Refusal) → List ℕ)
+    {R : Type 0} → (List ℕ → List R → Type 0) → (List R → List ℕ) → (List R → ℕ)
     → Option (List ℕ) → Option (List ℕ) → Option (List ℕ) → ℕ → Type 0
-ReportsText {T} IsOf text_of input old new status =
-    (results : List (Result T Refusal)) × AreOfReader IsOf input results
-    × Appends old new (text_of results) × (status ≡ status_of results)
+ReportsText {R} IsOf text_of status_for input old new status =
+    (results : List R) × AreOfReader IsOf input results
+    × Appends old new (text_of results) × (status ≡ status_for results)
 
--- a run of the script is reported, or its check
+-- a run of the script is reported, a run with its audits, or the script's check
 abbrev pub Reports : Mode → Option (List ℕ) → Option (List ℕ) → Option (List ℕ) → ℕ → Type 0
-Reports Run = ReportsText IsRunOf report
-Reports Check = ReportsText IsCheckOf check_text
+Reports Run = ReportsText IsRunOf report status_of
+Reports RunAudited = ReportsText IsAuditedRunOf audited_report audited_status
+Reports Check = ReportsText IsCheckOf check_text status_of
 
 -- which refusals a whole script may get: only a run opens a store
 abbrev pub MayRefuseIn : Mode → List ℕ → Refusal → Type 0
 MayRefuseIn Run = MayRefuseRun
+MayRefuseIn RunAudited = MayRefuseRun
 MayRefuseIn Check = MayRefuseScript
 
 -- a fault of a script that gave no results; its reader is at fault only if a read failed
@@ -66,13 +91,13 @@ MayEndSilently mode input read_failed Read = read_failed ≡ true
 MayEndSilently mode input read_failed Write = ⊥
 
 -- the script that the reader has gives results of this kind
-abbrev pub GivesResults :
-    {T : Type 0} → (List ℕ → List (Result T Refusal) → Type 0) → Option (List ℕ) → Type 0
-GivesResults {T} IsOf input = (results : List (Result T Refusal)) × AreOfReader IsOf input results
+abbrev pub GivesResults : {R : Type 0} → (List ℕ → List R → Type 0) → Option (List ℕ) → Type 0
+GivesResults {R} IsOf input = (results : List R) × AreOfReader IsOf input results
 
--- the script gives results of a run, or of a check
+-- the script gives results of a run, with audits or without, or of a check
 abbrev pub HasResults : Mode → Option (List ℕ) → Type 0
 HasResults Run = GivesResults IsRunOf
+HasResults RunAudited = GivesResults IsAuditedRunOf
 HasResults Check = GivesResults IsCheckOf
 
 -- a fault that the program may end in: the output got nothing; or the script has results, and
@@ -101,7 +126,7 @@ pub record ProgramRun : Type 0 where
   pub err_failed : Bool
   pub status : ℕ
 
--- with status 0 or 1 the output got the report, and standard error nothing
+-- with another status than 2 the output got the report, and standard error nothing
 abbrev pub EndsInReport : ProgramRun → Type 0
 EndsInReport r = r.status ≢ 2
     → Reports r.mode r.script r.out_before r.out_after r.status × Keeps r.err_before r.err_after
@@ -118,7 +143,7 @@ EndsRefused r = IsRefusedWhole r.script → (r.status ≡ 2) × Keeps r.out_befo
 
 -- how each run ends
 abbrev pub EndsWell : ProgramRun → Type 0
-EndsWell r = (r.status ≤ 2) × EndsInReport r × EndsInFault r × EndsRefused r
+EndsWell r = (r.status ≤ 3) × EndsInReport r × EndsInFault r × EndsRefused r
 
 -- the bytes of the script: those of the file that is named, or else of the reader
 abbrev pub script_of :

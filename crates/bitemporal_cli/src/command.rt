@@ -1,15 +1,19 @@
 //! The command line: what it may say, and what it chooses.
 
-ghost use Rattle.std.specs.Prelude.{◌≡◌, ◌≢◌, [], ℕ, List, Option, false, codes, IfSome, IfNone};
-ghost use Rattle.std.specs.Prelude.{IfErr, IfOk, MatchResult, OnOk, map, option_map};
+ghost use Rattle.std.specs.Prelude.{◌≡◌, ◌≢◌, ◌↔◌, [], ℕ, List, Option, false, codes, IfSome};
+ghost use Rattle.std.specs.Prelude.{IfErr, IfNone, IfOk, IsTrue, MatchResult, OnOk, map};
+ghost use Rattle.std.specs.Prelude.{option_map};
 ghost use Rattle.std.specs.String.{string_bytes};
 ghost use Rattle.clap.specs.Words.{app_of, fault_of, first_of, found_of, kind_of, rows_of, rule_of};
 ghost use Rattle.clap.specs.Words.{subcommand_of};
 ghost use Rattle.clap.specs.declared.builder.Command.TheViews.{out-Command};
-ghost use Rattle.bitemporal_cli.specs.CommandLine.{AsksFor, Chooses, IsMode, bitemporal, file_word};
+ghost use Rattle.bitemporal_cli.specs.CommandLine.{AsksFor, Chooses, IsAudited, IsMode, audit_flag};
+ghost use Rattle.bitemporal_cli.specs.CommandLine.{bitemporal, file_word, run_command};
 ghost use Rattle.bitemporal_cli.specs.CommandLine.{script_command};
 
-use crate::help::{ABOUT, CHECK_ABOUT, FILE_HELP, REFUSALS, RUN_ABOUT, STATUSES, VERSION};
+use crate::help::{
+    ABOUT, AUDIT_HELP, CHECK_ABOUT, FILE_HELP, REFUSALS, RUN_ABOUT, STATUSES, VERSION,
+};
 use clap::error::ErrorKind;
 use clap::{Arg, ArgAction, ArgMatches, Command};
 use std::alloc::{AllocError, Global};
@@ -21,6 +25,8 @@ use thiserror::Error;
 pub enum Mode {
     /// Runs a script and prints its report.
     Run,
+    /// Runs a script, audits each answer, and prints the report of both.
+    RunAudited,
     /// Checks the syntax of a script without running it.
     Check,
 }
@@ -45,6 +51,16 @@ fn file_argument<'a>(alloc: Global) -> Arg<'a>
         .action(ArgAction::Set)
 }
 
+fn audit_argument<'a>(alloc: Global) -> Arg<'a>
+    ensures rule { rule_of result ≡ audit_flag }
+    ensures local { result.global ≡ false }
+{
+    Arg::new(alloc, "audit")
+        .long("audit")
+        .help(AUDIT_HELP)
+        .action(ArgAction::SetTrue)
+}
+
 // A subcommand that takes a script.
 fn script_subcommand<'a>(
     alloc: Global,
@@ -60,11 +76,22 @@ fn script_subcommand<'a>(
     Ok(whole)
 }
 
+// The subcommand that runs a script.
+fn run_subcommand<'a>(alloc: Global) -> Result<Command<'a>, AllocError>
+    ensures app { IfOk result (λ c. app_of c ≡ run_command) }
+    ensures local { IfOk result (λ c. (out-Command c).has_globals ≡ false) }
+{
+    let audit = audit_argument(alloc);
+    let plain = script_subcommand(alloc, "run", RUN_ABOUT)?;
+    let whole = plain.arg(audit)?;
+    Ok(whole)
+}
+
 // The program's command line, with this text below its own help.
 fn command<'a>(alloc: Global, after: &'a str) -> Result<Command<'a>, AllocError>
     ensures { IfOk result (λ c. app_of c ≡ bitemporal) }
 {
-    let run = script_subcommand(alloc, "run", RUN_ABOUT)?;
+    let run = run_subcommand(alloc)?;
     let check = script_subcommand(alloc, "check", CHECK_ABOUT)?;
     let named = Command::new(alloc, "bitemporal")
         .about(ABOUT)
@@ -83,11 +110,22 @@ fn value_of<'a>(matches: &ArgMatches<'a>, id: &str) -> Option<&'a str>
     matches.get_str(id)
 }
 
-fn mode_of(name: &str) -> Option<Mode>
-    ensures mode { IfSome result (IsMode name.now) }
+fn is_audited(matches: &ArgMatches<'_>) -> bool
+    ensures { IsTrue result ↔ IsAudited (rows_of (found_of matches.now)) }
+{
+    match value_of(matches, "audit") {
+        Some(value) => value == "true",
+        None => false,
+    }
+}
+
+// The mode of a subcommand with its matches.
+fn mode_of(name: &str, matches: &ArgMatches<'_>) -> Option<Mode>
+    ensures mode { IfSome result (IsMode (name.now, rows_of (found_of matches.now))) }
     ensures other { IfNone result ((name.now ≢ codes "run") × (name.now ≢ codes "check")) }
 {
     match name {
+        "run" if is_audited(matches) => Some(Mode::RunAudited),
         "run" => Some(Mode::Run),
         "check" => Some(Mode::Check),
         _ => None,
@@ -137,7 +175,7 @@ pub fn command_line<S: AsStr>(
     let Some((name, inner)) = matches.subcommand() else {
         return Err(usage_fault(&mut command));
     };
-    let Some(mode) = mode_of(name) else {
+    let Some(mode) = mode_of(name, inner) else {
         return Err(usage_fault(&mut command));
     };
     match file_of(alloc, inner) {

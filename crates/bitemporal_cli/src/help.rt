@@ -10,6 +10,9 @@ pub const ABOUT: &str =
 /// What `run` does.
 pub const RUN_ABOUT: &str = "Runs the statements of a script in order, and prints what each gives.";
 
+/// What `--audit` does.
+pub const AUDIT_HELP: &str = "Checks each answer day by day, and reports what that finds";
+
 /// What `check` does.
 pub const CHECK_ABOUT: &str = "Checks the syntax of a script without running it.";
 
@@ -22,6 +25,7 @@ Exit status:
   0  every statement was accepted
   1  a statement was refused
   2  the command line, the file, the whole script or the output was refused, or memory was
+  3  an audit found a fault in an answer, or was refused
 
 A refusal has a number and a name. docs/PROFILE.md lists them all.";
 

@@ -45,7 +45,7 @@ pub fn run_program<S: Scripts, R: Read, W: Write, E: Write>(
     out: &mut W,
     err: &mut Tracked<E>,
 ) -> u8
-    ensures status { result ≤ 2 }
+    ensures status { result ≤ 3 }
     ensures lost { IfErr words (λ _. (result ≡ 2)
         × Keeps (W.contents out.old) (W.contents out.new)) }
     ensures runs { IfOk words (λ said. (mode : Mode) (file : Option (List ℕ))

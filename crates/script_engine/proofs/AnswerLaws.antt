@@ -25,7 +25,7 @@ its_witness sets (first ∷ rows) (witness ∷ witnesses) each row c =
       | inr k ↦ its_witness sets rows witnesses each.1 row k
     ]
 
-certified : (sets : ℤ → List Value → Type 0) (answer : Answer) → IsSequencedAnswer sets answer → IsCertified answer.rows
+pub certified : (sets : ℤ → List Value → Type 0) (answer : Answer) → IsSequencedAnswer sets answer → IsCertified answer.rows
 certified sets answer right =
     certified_by_witnesses sets answer.rows right.ordered (λ day values. (right.daily day values).0) (its_witness sets answer.rows answer.witnesses right.witnessed)
 

@@ -27,7 +27,11 @@ mod LastState
 mod LeftSteps
 mod NewStore
 mod Openings
+mod AuditLaws
+mod Audited
+mod AuditedSteps
 pub mod AppendFacts
+pub mod AuditedExamples
 pub mod BufferFacts
 pub mod ChangeExamples
 pub mod CheckExamples

@@ -1,5 +1,5 @@
--- The results of pieces, one after the other.
-use Rattle.std.proofs.Common.{◌≡◌, ◌<◌, ◌+◌, ◌-◌, ◌++◌, ◌∷◌, ℕ, List, [], get_or, length, map, take, drop, Result, refl, subst, inr}
+-- The results of pieces, one after the other, with audits or without.
+use Rattle.std.proofs.Common.{◌≡◌, ◌<◌, ◌+◌, ◌-◌, ◌++◌, ◌∷◌, ℕ, List, [], get_or, length, map, take, drop, Result, refl, ap, subst, inl, inr}
 use Rattle.period_core.specs.Leasts.{NoneApplies}
 use Rattle.period_core.specs.declared.refusal.Refusal.{Refusal}
 use Rattle.sql_front.specs.Grammar.{IsStatement}
@@ -12,27 +12,58 @@ use Rattle.history_model.specs.Histories.{History}
 use Rattle.sqlite.specs.Store.{Ghosts}
 use Rattle.script_engine.specs.engine.EngineState.{EngineState}
 use Rattle.script_engine.specs.engine.Runs.{StepsTo}
-use Rattle.script_engine.specs.script.Script.{PieceStep, PieceStepsTo, RunPieces, TextApplies}
+use Rattle.script_engine.specs.engine.Audits.{AuditedStepsTo}
+use Rattle.script_engine.specs.engine.Stored.{RepresentsSome}
+use Rattle.script_engine.specs.script.AuditedRuns.{AuditedPieceStep, IsAuditedRunFrom, results_of}
+use Rattle.script_engine.specs.script.Script.{IsRunFrom, PieceStep, RunPieces, StepPieces, TextApplies}
+use Rattle.script_engine.specs.declared.entry.Entry.{Entry}
 use Rattle.script_engine.specs.declared.engine.outcome.Outcome.{Outcome}
 use Rattle.script_engine.proofs.PieceFacts.{pieces_next}
 
 -- a piece that spells a statement steps as the statement does
-pub stated_piece : {S : Type 0} (g : Ghosts S) (history : History) (piece : List Lexeme) (s : Statement) (result : Result Outcome Refusal) (engine : EngineState S) → NoneApplies (TextApplies piece) → IsStatement piece s → StepsTo g history s result engine → PieceStepsTo g history piece result engine
+pub stated_piece : {S : Type 0} (g : Ghosts S) (history : History) (piece : List Lexeme) (s : Statement) (result : Result Outcome Refusal) (engine : EngineState S) → NoneApplies (TextApplies piece) → IsStatement piece s → StepsTo g history s result engine →
+    RepresentsSome g (PieceStep history piece result) engine
 stated_piece g history piece s result engine none spelled (new, step, kept) = (new, inr (s, none, spelled, step), kept)
 
--- one more piece, with its result
-pub run_more : (history : History) (pieces : List (List Lexeme)) (results : List (Result Outcome Refusal)) (middle : History) (piece : List Lexeme) (result : Result Outcome Refusal) (new : History) →
-    RunPieces history pieces results middle → PieceStep middle piece result new → RunPieces history (pieces ++ piece ∷ []) (results ++ result ∷ []) new
-run_more history [] [] middle piece result new same step = (new, subst (λ h. PieceStep h piece result new) same step, refl)
-run_more history [] (first ∷ results) middle piece result new none step = absurd none
-run_more history (first ∷ pieces) [] middle piece result new none step = absurd none
-run_more history (first ∷ pieces) (its ∷ results) middle piece result new (next, here, rest) step = (next, here, run_more next pieces results middle piece result new rest step)
+-- the same, where its answer is audited
+pub audited_piece : {S : Type 0} (g : Ghosts S) (history : History) (piece : List Lexeme) (s : Statement) (entry : Entry) (engine : EngineState S) → NoneApplies (TextApplies piece) → IsStatement piece s → AuditedStepsTo g history s entry engine →
+    RepresentsSome g (AuditedPieceStep history piece entry) engine
+audited_piece g history piece s entry engine none spelled (new, step, kept) = (new, inr (s, none, spelled, step), kept)
 
--- the same, for the next of the spans of a list of tokens
-pub run_next : (history : History) (tokens : List Token) (spans : List Span) (i : ℕ) (d : Span) (results more : List (Result Outcome Refusal)) (middle : History) (result : Result Outcome Refusal) (new : History) →
-    i < length spans → more ≡ results ++ result ∷ [] → RunPieces history (map (spanned (lexemes tokens)) (take i spans)) results middle →
-    PieceStep middle (lexemes (take ((get_or spans i d).end - (get_or spans i d).start) (drop (get_or spans i d).start tokens))) result new →
-    RunPieces history (map (spanned (lexemes tokens)) (take (i + 1) spans)) more new
-run_next history tokens spans i d results more middle result new inside added run step =
-    rw (pieces_next tokens spans i d inside, added)
-    (run_more history (map (spanned (lexemes tokens)) (take i spans)) results middle (lexemes (take ((get_or spans i d).end - (get_or spans i d).start) (drop (get_or spans i d).start tokens))) result new run step)
+module _ {R : Type 0} (IsStep : History → List Lexeme → R → History → Type 0) where
+  -- one more piece, with its result
+  pub run_more : (history : History) (pieces : List (List Lexeme)) (results : List R) (middle : History) (piece : List Lexeme) (result : R) (new : History) →
+      StepPieces IsStep history pieces results middle → IsStep middle piece result new → StepPieces IsStep history (pieces ++ piece ∷ []) (results ++ result ∷ []) new
+  run_more history [] [] middle piece result new same step = (new, subst (λ h. IsStep h piece result new) same step, refl)
+  run_more history [] (first ∷ results) middle piece result new none step = absurd none
+  run_more history (first ∷ pieces) [] middle piece result new none step = absurd none
+  run_more history (first ∷ pieces) (its ∷ results) middle piece result new (next, here, rest) step = (next, here, run_more next pieces results middle piece result new rest step)
+
+  -- the same, for the next of the spans of a list of tokens
+  pub run_next : (history : History) (tokens : List Token) (spans : List Span) (i : ℕ) (d : Span) (results more : List R) (middle : History) (result : R) (new : History) →
+      i < length spans → more ≡ results ++ result ∷ [] → StepPieces IsStep history (map (spanned (lexemes tokens)) (take i spans)) results middle →
+      IsStep middle (lexemes (take ((get_or spans i d).end - (get_or spans i d).start) (drop (get_or spans i d).start tokens))) result new →
+      StepPieces IsStep history (map (spanned (lexemes tokens)) (take (i + 1) spans)) more new
+  run_next history tokens spans i d results more middle result new inside added run step =
+      rw (pieces_next tokens spans i d inside, added)
+      (run_more history (map (spanned (lexemes tokens)) (take i spans)) results middle (lexemes (take ((get_or spans i d).end - (get_or spans i d).start) (drop (get_or spans i d).start tokens))) result new run step)
+
+-- the results of an audited run are those of a run
+unaudited_piece : (history : History) (piece : List Lexeme) (entry : Entry) (new : History) → AuditedPieceStep history piece entry new → PieceStep history piece entry.result new
+unaudited_piece history piece entry new (inl (refusal, is, may, same)) = inl (refusal, ap (λ (e : Entry). e.result) is, may, same)
+unaudited_piece history piece entry new (inr (s, none, spelled, audited)) = inr (s, none, spelled, audited.step)
+
+unaudited_pieces : (history : History) (pieces : List (List Lexeme)) (entries : List Entry) (new : History) → StepPieces AuditedPieceStep history pieces entries new → RunPieces history pieces (results_of entries) new
+unaudited_pieces history [] [] new same = same
+unaudited_pieces history [] (entry ∷ entries) new none = absurd none
+unaudited_pieces history (piece ∷ pieces) [] new none = absurd none
+unaudited_pieces history (piece ∷ pieces) (entry ∷ entries) new (middle, here, rest) =
+    (middle, unaudited_piece history piece entry middle here, unaudited_pieces middle pieces entries new rest)
+
+pub unaudited_run : (opening : History) (script : List ℕ) (entries : List Entry) → IsAuditedRunFrom opening script entries → IsRunFrom opening script (results_of entries)
+unaudited_run opening script entries all = record {
+  pieces = all.pieces;
+  cut = all.cut;
+  last = all.last;
+  run = unaudited_pieces opening all.pieces entries all.last all.run;
+}

@@ -6,3 +6,4 @@ pub mod Planned
 pub mod Shown
 pub mod Answering
 pub mod Runs
+pub mod Audits

@@ -1,2 +1,3 @@
 pub mod Report
+pub mod AuditedReport
 pub mod CheckReport

@@ -28,6 +28,7 @@ ghost use Rattle.sql_statements.specs.Plain.{plain, plain_query, plain_stored};
 ghost use Rattle.sql_statements.specs.Trees as statement;
 
 mod answering;
+mod auditing;
 mod in_memory;
 mod indexed;
 mod lawfulness;

@@ -3,6 +3,7 @@
 
 ghost use Rattle.script_engine.specs.Laws.{AnswersAreUnique, AnswersMapOneToOne};
 ghost use Rattle.script_engine.specs.Laws.{SameSnapshotsSameAnswers};
+ghost use Rattle.script_engine.specs.engine.Audits.{AuditsAgree};
 
 /// A list with the same snapshots has a row of its own for each row of an answer, of the same
 /// values and first day. So no such list is shorter.
@@ -18,4 +19,10 @@ pub fn answers_are_unique()
 /// Two answers with the same snapshots have the same rows in the same order.
 pub fn same_snapshots_same_answers()
     ensures { SameSnapshotsSameAnswers }
+{}
+
+/// An audit of a sequenced answer agrees: there is no other verdict over what the references of its
+/// query see.
+pub fn audits_agree()
+    ensures { AuditsAgree }
 {}

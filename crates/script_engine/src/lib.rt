@@ -11,14 +11,18 @@
 #![tactic(auto)]
 
 pub mod engine;
+pub mod entry;
 pub mod laws;
 pub mod report;
 pub mod script;
 
 pub use engine::Engine;
 pub use engine::outcome::{Cell, Outcome, VersionColumn, VersionList, Word};
+pub use entry::Entry;
+pub use report::audited::{write_audited, write_audited_with_capacity};
 pub use report::check::{write_check, write_check_with_capacity};
 pub use report::writer::{ReportWriter, WriteRefused};
 pub use report::{ReportFault, write_report, write_report_with_capacity};
 pub use script::check::check_script;
 pub use script::{MOST_BYTES, MOST_TOKENS, run_script};
+pub use snapshot_audit::Verdict;

@@ -7,6 +7,7 @@ ghost use Rattle.script_engine.specs.report.Report.{answer_record, columns_recor
 ghost use Rattle.script_engine.specs.report.Report.{names_record, refused_record, row_record};
 ghost use Rattle.script_engine.specs.report.Report.{version_record, versions_record};
 
+pub mod audited;
 pub(crate) mod buffer;
 pub mod check;
 pub(crate) mod record;
@@ -236,7 +237,7 @@ fn write_versions<W: ReportWriter>(
     Ok(())
 }
 
-fn write_result<W: ReportWriter>(
+pub(crate) fn write_result<W: ReportWriter>(
     alloc: Global,
     line: &mut Record,
     buffer: &mut ReportBuffer,

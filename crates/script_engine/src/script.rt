@@ -13,15 +13,19 @@ ghost use Rattle.sqlite.specs.Held.{state};
 ghost use Rattle.version_store.specs.StoreState.{IsUsable};
 ghost use Rattle.history_model.specs.Histories.{History};
 ghost use Rattle.script_engine.specs.engine.Stored.{DatabaseRepresents, EngineRepresents};
-ghost use Rattle.script_engine.specs.engine.Stored.{IsAlwaysUsable, KeepsOnErr};
-ghost use Rattle.script_engine.specs.script.Script.{IsRunFrom, MayRefuseRun, MayRefuseScript};
-ghost use Rattle.script_engine.specs.script.Script.{PieceStepsTo, RunPieces};
+ghost use Rattle.script_engine.specs.engine.Stored.{IsAlwaysUsable, RepresentsSome};
+ghost use Rattle.script_engine.specs.script.AuditedRuns.{IsAuditedRunFrom, results_of};
+ghost use Rattle.script_engine.specs.script.Script.{IsRunBy, IsRunFrom, MayRefuseRun};
+ghost use Rattle.script_engine.specs.script.Script.{MayRefuseScript, StepPieces};
 ghost use Rattle.script_engine.specs.script.Script.{TextApplies, most_bytes};
 
 pub mod check;
+mod kept;
 
 use crate::engine::Engine;
 use crate::engine::outcome::Outcome;
+use crate::entry::Entry;
+use crate::script::kept::Kept;
 use period_core::Refusal;
 use sql_front::{LexFault, Span, cut, lex, parse};
 use sql_statements::{Statement, Token};
@@ -82,42 +86,42 @@ pub(crate) fn statement_of(
     parse(alloc, script, piece)
 }
 
-/// The result of a piece of a script. An `Err` changes nothing.
-fn run_piece<S: Alter>(
+/// What a run keeps of a piece of a script.
+fn run_piece<S: Alter, K: Kept<S>>(
     alloc: Global,
     engine: &mut Engine<S>,
     script: &str,
     piece: &[Token<'_>],
-) -> Result<Outcome, Refusal>
-    ensures step { IsUsable S.Store engine.new.connection
+) -> K
+    ensures { IsUsable S.Store engine.new.connection
         → (history : History) → EngineRepresents S.Store history engine.old
-        → PieceStepsTo S.Store history (lexemes piece.now) result engine.new }
-    ensures kept { KeepsOnErr S.Store engine.old engine.new result }
+        → RepresentsSome S.Store (K.is_step history (lexemes piece.now) result) engine.new }
 {
     let statement = match statement_of(alloc, script, piece) {
         Ok(statement) => statement,
-        Err(refusal) => return Err(refusal),
+        Err(refusal) => return K::refused(refusal),
     };
-    let result = engine.execute(alloc, &statement);
+    let kept = K::executed(alloc, engine, &statement);
     // By a call: the proof of an implicit drop goes through each kind of statement.
     drop(statement);
-    result
+    kept
 }
 
-/// The results of the pieces of a script, one after the other, from any history that the engine
-/// represents, over a store that is always usable.
-fn run_pieces<S: Alter>(
+/// What a run keeps of the pieces of a script, one after the other, from any history that the
+/// engine represents, over a store that is always usable.
+fn run_pieces<S: Alter, K: Kept<S> + Drop>(
     alloc: Global,
     engine: &mut Engine<S>,
     script: &str,
     tokens: &[Token<'_>],
     pieces: &[Span],
-) -> Result<Vec<Result<Outcome, Refusal>>, Refusal>
+) -> Result<Vec<K>, Refusal>
     requires within { All (IsWithin (length tokens.now)) pieces.now }
     ensures run { IsAlwaysUsable S.Store
         → (history : History) → EngineRepresents S.Store history engine.old
-        → IfOk result (λ results. (last : History)
-        × RunPieces history (map (spanned (lexemes tokens.now)) pieces.now) results.items last) }
+        → IfOk result (λ kept. (last : History)
+        × StepPieces K.is_step history (map (spanned (lexemes tokens.now)) pieces.now)
+        kept.items last) }
     ensures memory { IfErr result (λ refusal. refusal ≡ Refusal.Memory) }
 {
     let mut results = Vec::with_capacity(alloc, pieces.len())?;
@@ -126,6 +130,34 @@ fn run_pieces<S: Alter>(
         results.push_reserved(result);
     }
     Ok(results)
+}
+
+/// What a run of a script over the store of a connection keeps of its pieces.
+pub(crate) fn run_kept<S: Alter + Drop, K: Kept<S> + Drop>(
+    alloc: Global,
+    connection: Connection<S>,
+    script: &[u8],
+) -> Result<Vec<K>, Refusal>
+    requires { connection.in_transaction ≡ false }
+    ensures run { IsAlwaysUsable S.Store
+        → (history : History) → DatabaseRepresents history (state S.Store connection).now
+        → IfOk result (λ kept. IsRunBy K.is_step history script.now kept.items) }
+    ensures refused { IfErr result (MayRefuseRun script.now) }
+{
+    let text = script_text(script)?;
+    let tokens = script_tokens(alloc, text)?;
+    let pieces = cut(alloc, tokens.as_slice())?;
+    let mut engine = match Engine::open(alloc, connection) {
+        Ok(engine) => engine,
+        Err((refusal, _connection)) => return Err(refusal),
+    };
+    run_pieces(
+        alloc,
+        &mut engine,
+        text,
+        tokens.as_slice(),
+        pieces.as_slice(),
+    )
 }
 
 /// Runs a script over the store of a connection, a new one where there is none. The results are
@@ -145,18 +177,25 @@ pub fn run_script<S: Alter + Drop>(
         → IfOk result (λ results. IsRunFrom history script.now results.items) }
     ensures refused { IfErr result (MayRefuseRun script.now) }
 {
-    let text = script_text(script)?;
-    let tokens = script_tokens(alloc, text)?;
-    let pieces = cut(alloc, tokens.as_slice())?;
-    let mut engine = match Engine::open(alloc, connection) {
-        Ok(engine) => engine,
-        Err((refusal, _connection)) => return Err(refusal),
-    };
-    run_pieces(
-        alloc,
-        &mut engine,
-        text,
-        tokens.as_slice(),
-        pieces.as_slice(),
-    )
+    run_kept(alloc, connection, script)
+}
+
+/// The same, with an audit of each answer at once, over the rows that were seen for it. The entries
+/// are those of the script's statements, refused ones too, in order. An audit says that the answer
+/// agrees, or is refused for memory; the script goes on either way.
+pub fn run_audited<S: Alter + Drop>(
+    alloc: Global,
+    connection: Connection<S>,
+    script: &[u8],
+) -> Result<Vec<Entry>, Refusal>
+    requires { connection.in_transaction ≡ false }
+    ensures audited { IsAlwaysUsable S.Store
+        → (history : History) → DatabaseRepresents history (state S.Store connection).now
+        → IfOk result (λ entries. IsAuditedRunFrom history script.now entries.items) }
+    ensures run { IsAlwaysUsable S.Store
+        → (history : History) → DatabaseRepresents history (state S.Store connection).now
+        → IfOk result (λ entries. IsRunFrom history script.now (results_of entries.items)) }
+    ensures refused { IfErr result (MayRefuseRun script.now) }
+{
+    run_kept(alloc, connection, script)
 }

@@ -27,7 +27,7 @@ use Rattle.period_keys.specs.Lawful.{IsLawfulChange}
 use Rattle.sqlite.specs.Store.{Ghosts}
 use Rattle.version_store.specs.StoreState.{IsStoreRefusal}
 use Rattle.script_engine.specs.engine.EngineState.{EngineState}
-use Rattle.script_engine.specs.engine.Stored.{EngineRepresents}
+use Rattle.script_engine.specs.engine.Stored.{RepresentsSome}
 use Rattle.catalog_core.specs.declared.change.Change.{Change}
 use Rattle.catalog_core.specs.declared.query.AnswerColumn.{AnswerColumn}
 use Rattle.catalog_core.specs.declared.stored.Stored.{Stored}
@@ -192,5 +192,4 @@ Step history s (Ok outcome) new =
 -- history says
 abbrev pub StepsTo : {S : Type 0} → Ghosts S → History → Statement → Result Outcome Refusal
     → EngineState S → Type 0
-StepsTo g history s result engine =
-    (new : History) × Step history s result new × EngineRepresents g new engine
+StepsTo g history s result = RepresentsSome g (Step history s result)

@@ -58,6 +58,11 @@ pub record EngineRepresents {S : Type 0} (g : Ghosts S) (history : History)
   pub said : AreOfHistory history contents
   pub current : HaveCurrentRows contents engine.tables
 
+-- the engine represents a history of which this holds
+abbrev pub RepresentsSome : {S : Type 0} → Ghosts S → (History → Type 0) → EngineState S → Type 0
+RepresentsSome g Holds engine =
+    (history : History) × Holds history × EngineRepresents g history engine
+
 -- the database is what the history says; one without tables is a new store
 abbrev pub DatabaseRepresents : History → Database → Type 0
 DatabaseRepresents history db =

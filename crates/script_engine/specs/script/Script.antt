@@ -12,11 +12,8 @@ use Rattle.sql_statements.specs.Lexis.{StopsAt, TokensOf}
 use Rattle.sql_front.specs.Pieces.{HasPieces}
 use Rattle.sql_statements.specs.Trees.{Statement}
 use Rattle.history_model.specs.Histories.{History, new_database, opened}
-use Rattle.sqlite.specs.Store.{Ghosts}
 use Rattle.version_store.specs.StoreState.{IsOpenRefusal}
-use Rattle.script_engine.specs.engine.EngineState.{EngineState}
 use Rattle.script_engine.specs.engine.Runs.{Step}
-use Rattle.script_engine.specs.engine.Stored.{EngineRepresents}
 use Rattle.script_engine.specs.declared.engine.outcome.Outcome.{Outcome}
 
 -- a piece of more than 10,000 tokens
@@ -39,14 +36,20 @@ PieceStep history piece result new =
     ⊎ ((s : Statement) × NoneApplies (TextApplies piece) × IsStatement piece s
     × Step history s result new)
 
--- the results of the pieces, one after the other
-abbrev pub RunPieces :
-    History → List (List Lexeme) → List (Result Outcome Refusal) → History → Type 0
-RunPieces history [] [] new = new ≡ history
-RunPieces history (piece ∷ pieces) (result ∷ results) new =
-    (middle : History) × PieceStep history piece result middle × RunPieces middle pieces results new
-RunPieces history [] (result ∷ results) new = ⊥
-RunPieces history (piece ∷ pieces) [] new = ⊥
+-- the results of the pieces, one after the other, each by such a step
+abbrev pub StepPieces : {R : Type 0} → (History → List Lexeme → R → History → Type 0)
+    → History → List (List Lexeme) → List R → History → Type 0
+StepPieces IsStep history [] [] new = new ≡ history
+StepPieces IsStep history (piece ∷ pieces) (result ∷ results) new =
+    (middle : History)
+    × IsStep history piece result middle × StepPieces IsStep middle pieces results new
+StepPieces IsStep history [] (result ∷ results) new = ⊥
+StepPieces IsStep history (piece ∷ pieces) [] new = ⊥
+
+-- those of a run
+abbrev pub RunPieces
+    : History → List (List Lexeme) → List (Result Outcome Refusal) → History → Type 0
+RunPieces = StepPieces PieceStep
 
 -- the most bytes that a script may have
 abbrev pub most_bytes : ℕ
@@ -79,21 +82,18 @@ pub record IsCutInto (script : List ℕ) (pieces : List (List Lexeme)) : Type 0 
   pub lexed : TokensOf script tokens
   pub parted : HasPieces tokens pieces
 
--- the results are those of the script's pieces, from the opening on
-pub record IsRunFrom
-    (opening : History) (script : List ℕ) (results : List (Result Outcome Refusal)) : Type 0 where
+-- the results are those of the script's pieces, from the opening on, each by such a step
+pub record IsRunBy {R : Type 0} (IsStep : History → List Lexeme → R → History → Type 0)
+    (opening : History) (script : List ℕ) (results : List R) : Type 0 where
   pub pieces : List (List Lexeme)
   pub cut : IsCutInto script pieces
   pub last : History
-  pub run : RunPieces opening pieces results last
+  pub run : StepPieces IsStep opening pieces results last
+
+-- those of a run
+abbrev pub IsRunFrom : History → List ℕ → List (Result Outcome Refusal) → Type 0
+IsRunFrom = IsRunBy PieceStep
 
 -- from a new store on
 abbrev pub IsRunOf : List ℕ → List (Result Outcome Refusal) → Type 0
 IsRunOf = IsRunFrom (opened new_database)
-
--- a piece's result is a step of the history, and what the engine then holds is what the new history
--- says
-abbrev pub PieceStepsTo : {S : Type 0} → Ghosts S → History → List Lexeme → Result Outcome Refusal
-    → EngineState S → Type 0
-PieceStepsTo g history piece result engine =
-    (new : History) × PieceStep history piece result new × EngineRepresents g new engine

@@ -20,6 +20,7 @@ ghost use Rattle.version_store.specs.StoreState.{StoreRepresents};
 ghost use Rattle.script_engine.specs.Headline.{IsSequencedAnswer};
 ghost use Rattle.script_engine.specs.engine.Answering.{AreRowsSeen, AreSeenBy, EachSees};
 ghost use Rattle.script_engine.specs.engine.Answering.{columns_of};
+ghost use Rattle.script_engine.specs.engine.Audits.{AreSeen};
 ghost use Rattle.script_engine.specs.engine.EngineState.{engine_of};
 ghost use Rattle.script_engine.specs.engine.InMemory.{rows_in};
 ghost use Rattle.script_engine.specs.engine.Stored.{EngineRepresents};
@@ -298,9 +299,44 @@ fn answer_over(alloc: Global, query: &Query, tables: &Tables) -> Result<Answer, 
     })
 }
 
-/// The answer of a query over the rows in memory and the store. What the references of a resolved
-/// query see always fits it, over a store whose rows are of its tables: where it does not, the
-/// database gave rows that the engine never wrote, and the refusal is 62. Nothing is changed.
+/// The answer of a query over the rows in memory and the store, and what its references saw. What the
+/// references of a resolved query see always fits it, over a store whose rows are of its tables:
+/// where it does not, the database gave rows that the engine never wrote, and the refusal is 62.
+/// Nothing is changed.
+pub fn answered<S: Alter>(
+    alloc: Global,
+    store: &mut VersionStore<S>,
+    tables: &[TableIndex],
+    query: &Query,
+) -> Result<(Answer, Tables), Refusal>
+    ensures right { IsUsable S.Store store.new.connection
+        → (history : History)
+        → EngineRepresents S.Store history (engine_of store.old (map rows_by_key tables.now))
+        → IfOk result (λ found.
+        IsSequencedAnswer (InAnswerOn history (plain_query query.now)) found.0) }
+    ensures seen { IsUsable S.Store store.new.connection
+        → (history : History)
+        → EngineRepresents S.Store history (engine_of store.old (map rows_by_key tables.now))
+        → IfOk result (λ found. AreSeen history (plain_query query.now) found.1) }
+    ensures columns { IfOk result (λ found. found.0.columns
+        ≡ map (λ (item : Item). item.name) (columns_of (plain_query query.now))) }
+    ensures read { IsOnlyRead S.Store store.old store.new }
+    ensures named { IfErr result IsStoreRefusal }
+{
+    let seen = match tables_of(alloc, store, tables, query) {
+        Ok(seen) => seen,
+        Err(refusal) => return Err(refusal),
+    };
+    if !fits(query, &seen) {
+        return Err(Refusal::Store);
+    }
+    match answer_over(alloc, query, &seen) {
+        Ok(answer) => Ok((answer, seen)),
+        Err(_) => Err(Refusal::Memory),
+    }
+}
+
+/// The answer alone.
 pub fn answer_of<S: Alter>(
     alloc: Global,
     store: &mut VersionStore<S>,
@@ -316,15 +352,8 @@ pub fn answer_of<S: Alter>(
     ensures read { IsOnlyRead S.Store store.old store.new }
     ensures named { IfErr result IsStoreRefusal }
 {
-    let seen = match tables_of(alloc, store, tables, query) {
-        Ok(seen) => seen,
-        Err(refusal) => return Err(refusal),
-    };
-    if !fits(query, &seen) {
-        return Err(Refusal::Store);
-    }
-    match answer_over(alloc, query, &seen) {
-        Ok(answer) => Ok(answer),
-        Err(_) => Err(Refusal::Memory),
+    match answered(alloc, store, tables, query) {
+        Ok((answer, _seen)) => Ok(answer),
+        Err(refusal) => Err(refusal),
     }
 }

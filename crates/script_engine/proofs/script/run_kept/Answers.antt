@@ -3,7 +3,7 @@ use Rattle.std.proofs.lemmas.Result.{IfOk-weaker}
 use Rattle.sql_statements.specs.Lexemes.{lexemes}
 use Rattle.sql_statements.specs.Lexis.{TokensOf}
 use Rattle.script_engine.proofs.ScriptFacts.{cut_of, none_of_script}
-use Rattle.script_engine.proofs.script.run_script.Goals as goal
+use Rattle.script_engine.proofs.script.run_kept.Goals as goal
 
 pub returns-clause-run : goal.returns-clause-run
 returns-clause-run g c = λ usable history stands.

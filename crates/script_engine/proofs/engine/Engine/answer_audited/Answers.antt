@@ -1,0 +1,65 @@
+use Rattle.std.proofs.Common.{◌≡◌, List, Ok, map, subst, sym}
+use Rattle.period_core.specs.Leasts.{NoneApplies}
+use Rattle.sql_statements.specs.Plain.{plain_query}
+use Rattle.sql_statements.specs.Trees.{Statement}
+use Rattle.sql_statements.specs.Trees as statement
+use Rattle.catalog_core.specs.Judged.{Holds}
+use Rattle.catalog_core.specs.query.Queries as resolved
+use Rattle.catalog_core.specs.query.Resolving.{ResolvesQuery, query_conditions}
+use Rattle.catalog_core.specs.declared.table.TableDef.{TableDef}
+use Rattle.catalog_core.specs.declared.table.catalog.Catalog.{Catalog}
+use Rattle.period_keys.specs.Current.{rows_by_key}
+use Rattle.period_keys.specs.Rows.{RowsByKey}
+use Rattle.period_keys.specs.TableRows.{TableRows}
+use Rattle.history_model.specs.Histories.{catalog_of}
+use Rattle.script_engine.specs.engine.Audits.{AuditedStepsTo}
+use Rattle.script_engine.specs.engine.EngineState.{EngineState, engine_of}
+use Rattle.script_engine.specs.declared.entry.Entry.{Entry}
+use Rattle.script_engine.specs.engine.Stored.{EngineRepresents, HasContents}
+use Rattle.script_engine.proofs.Answered.{answered_step, failed_answer, unanswered_step}
+use Rattle.script_engine.proofs.Audited.{answer_entry, refused_entry}
+use Rattle.script_engine.proofs.Loaded.{represents_still}
+use Rattle.script_engine.proofs.Steps.{tables_of}
+use Rattle.script_engine.proofs.engine.Engine.answer_audited.Goals as goal
+
+pub returns-in-Ok-answered-clause-step : goal.returns-in-Ok-answered-clause-step
+returns-in-Ok-answered-clause-step g c usable history kept =
+    let asked = plain_query c.args.query.now in
+    let s : Statement = statement.sequenced asked in
+    let query = resolved.plain_query c.in-Ok.query in
+    let answer = c.in-Ok-answered.answer in
+    let seen = c.in-Ok-answered.tables in
+    let tables : List RowsByKey = map rows_by_key c.self.inside.tables.items in
+    let old : EngineState g.row.S.Denot = engine_of c.self.inside.store tables in
+    let new : EngineState g.row.S.Denot = engine_of c.answered.new.store tables in
+    let was : EngineRepresents g.S.Store history old = subst (λ s. EngineRepresents g.S.Store history s) (sym c.self.view_is) kept in
+    let known = subst (λ (l : List TableRows). EngineRepresents g.S.Store history (engine_of c.self.inside.store (map rows_by_key l))) (sym c.as_slice.ensures.value) was in
+    let has : HasContents g.S.Store new was.contents = record {
+      stored = represents_still g.S.Store c.self.inside.store c.answered.new.store was.contents c.in-Ok-answered.ensures.read usable was.stored;
+      current = was.current;
+    } in
+    let found : ResolvesQuery old.catalog.tables s query = subst (λ (k : Catalog). ResolvesQuery k.tables s query) c.catalog.ensures c.in-Ok.ensures.resolved in
+    let right = c.in-Ok-answered.ensures.right usable history known in
+    answer_entry g.S.Store history s new query answer seen c.audit_of-audit.result
+    (subst (λ (defs : List TableDef). ResolvesQuery defs s query) (tables_of g.S.Store history old was) found)
+    right (c.in-Ok-answered.ensures.seen usable history known) c.audit_of-audit.ensures.verdict c.audit_of-audit.ensures.memory
+    (answered_step g.S.Store history old asked was new query answer
+    (subst (λ (k : Catalog). NoneApplies (Holds (query_conditions k.tables s))) c.catalog.ensures c.in-Ok.ensures.sound)
+    found has c.in-Ok-answered.ensures.columns right)
+
+pub returns-clause-step : goal.returns-clause-step
+returns-clause-step g c usable history kept =
+    let asked = plain_query c.args.query.now in
+    let s : Statement = statement.sequenced asked in
+    let tables : List RowsByKey = map rows_by_key c.self.inside.tables.items in
+    let old : EngineState g.row.S.Denot = engine_of c.self.inside.store tables in
+    let new : EngineState g.row.S.Denot = engine_of c.answered.new.store tables in
+    let was : EngineRepresents g.S.Store history old = subst (λ s. EngineRepresents g.S.Store history s) (sym c.self.view_is) kept in
+    let has : HasContents g.S.Store new was.contents = record {
+      stored = represents_still g.S.Store c.self.inside.store c.answered.new.store was.contents c.in-Err-answered.ensures.read usable was.stored;
+      current = was.current;
+    } in
+    subst (λ (entry : Entry). AuditedStepsTo g.S.Store history s entry new) (sym c.unaudited-in-Err-answered.ensures)
+    (refused_entry g.S.Store history s new c.in-Err-answered.refusal
+    (failed_answer g.S.Store history old asked was new c.in-Err-answered.refusal
+    (subst (λ (k : Catalog). NoneApplies (Holds (query_conditions k.tables s))) c.catalog.ensures c.in-Ok.ensures.sound) has c.in-Err-answered.ensures.named))

@@ -1,0 +1,21 @@
+use Rattle.std.proofs.Common.{◌≡◌, ◌∙◌, ap, subst, sym}
+use Rattle.sql_statements.specs.Plain.{plain, plain_form, plain_query}
+use Rattle.sql_statements.specs.Trees.{Statement}
+use Rattle.sql_statements.specs.Trees as statement
+use Rattle.catalog_core.specs.query.Resolving.{IsSequenced}
+use Rattle.script_engine.specs.engine.Audits.{AuditedStepsTo}
+use Rattle.script_engine.specs.declared.entry.Entry.{Entry}
+use Rattle.script_engine.proofs.Audited.{not_sequenced, other_entry}
+use Rattle.script_engine.proofs.engine.Engine.execute_audited.Goals as goal
+
+pub returns-in-Sequenced-clause-step : goal.returns-in-Sequenced-clause-step
+returns-in-Sequenced-clause-step g c usable history kept =
+    let said : statement.sequenced (plain_query c.in-Sequenced.query) ≡ plain c.args.statement.now = ap plain_form (sym c.in-Sequenced.is) ∙ c.form.ensures in
+    subst (λ (s : Statement). AuditedStepsTo g.S.Store history s c.answer_audited.result c.answer_audited.new.self) said (c.answer_audited.ensures.step usable history kept)
+
+pub returns-in_default-clause-step : goal.returns-in_default-clause-step
+returns-in_default-clause-step g c usable history kept =
+    let s : Statement = plain c.args.statement.now in
+    let other : IsSequenced s → ⊥ = subst (λ (t : Statement). IsSequenced t → ⊥) c.form.ensures (not_sequenced c.form.result.now c.in_default.not-Sequenced) in
+    subst (λ (entry : Entry). AuditedStepsTo g.S.Store history s entry c.execute.new.self) (sym c.unaudited.ensures)
+    (other_entry g.S.Store history s c.execute.new.self c.execute.result other (c.execute.ensures.step usable history kept))
