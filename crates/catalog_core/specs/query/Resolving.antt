@@ -51,9 +51,10 @@ abbrev pub list_of : {T : Type 0} → Conditions T → List (Condition T)
 list_of none = []
 list_of (more part parts) = part ∷ list_of parts
 
--- the members of a condition's outermost AND
+-- the members of a condition's outermost AND; an OR of one part is that part
 abbrev pub members : {T : Type 0} → Condition T → List (Condition T)
 members (all parts) = list_of parts
+members (any (more part none)) = members part
 members (any parts) = any parts ∷ []
 members (negated part) = negated part ∷ []
 members (test leaf) = test leaf ∷ []

@@ -1,7 +1,7 @@
 //! The parts of an accepted select, with positions in place of names. The only error is out of
 //! memory.
 
-ghost use Rattle.std.specs.Prelude.{◌≡◌, ◌++◌, ◌+◌, ◌<◌, ◌∷◌, [], IfOk, MatchOption, false, length};
+ghost use Rattle.std.specs.Prelude.{◌≡◌, ◌++◌, ◌+◌, ◌<◌, ◌∷◌, IfOk, false, length};
 ghost use Rattle.std.specs.Prelude.{map, true};
 ghost use Rattle.sql_statements.specs.Plain.{plain_condition};
 ghost use Rattle.catalog_core.specs.query.Faults.{lacks_one, lacks_some};
@@ -26,18 +26,23 @@ use period_core::{Items, Memory};
 use sql_statements::{Compare, SelectItem, TableReference, Tree};
 use std::alloc::Global;
 
-/// The first member of a condition's outermost AND, and the others: `None` where it has none, and so
-/// is its one member.
-fn outer_and(condition: &Tree<Compare>) -> Option<(&Tree<Compare>, &[Tree<Compare>])>
-    ensures { let whole = members (plain_condition condition.now) in MatchOption result
-        (whole ≡ plain_condition condition.now ∷ [])
-        (λ found. whole ≡ plain_condition found.0.now ∷ map plain_condition found.1.now) }
+/// The first member of a condition's outermost AND, and the others. The parser gives a chain of OR
+/// even where it has one part, so an OR of one part counts as that part.
+fn outer_and(condition: &Tree<Compare>) -> (&Tree<Compare>, &[Tree<Compare>])
+    ensures { members (plain_condition condition.now)
+        ≡ plain_condition result.0.now ∷ map plain_condition result.1.now }
 {
     match condition {
-        Tree::And(first, others) => Some((first, others.as_slice())),
-        Tree::Or(_, _) => None,
-        Tree::Not(_) => None,
-        Tree::Test(_) => None,
+        Tree::And(first, others) => (first, others.as_slice()),
+        Tree::Or(only, others) => {
+            if others.is_empty() {
+                outer_and(only)
+            } else {
+                (condition, &[])
+            }
+        }
+        Tree::Not(_) => (condition, &[]),
+        Tree::Test(_) => (condition, &[]),
     }
 }
 
@@ -52,10 +57,7 @@ pub fn push_members<P: Positions>(
         ≡ map conjunct_parts conjuncts.old.items
         ++ placed_members (P.place positions.now) (plain_condition condition.now)) }
 {
-    let Some((first, others)) = outer_and(condition) else {
-        conjuncts.push(number_condition(alloc, positions, condition)?)?;
-        return Ok(());
-    };
+    let (first, others) = outer_and(condition);
     conjuncts.push(number_condition(alloc, positions, first)?)?;
     for part in others {
         conjuncts.push(number_condition(alloc, positions, part)?)?;

@@ -6,7 +6,7 @@ use Rattle.period_core.specs.declared.refusal.Refusal.TheVariants.{AmbiguousColu
 use Rattle.period_core.specs.declared.value.Value.TheVariants.{Int, Text}
 use Rattle.period_core.specs.declared.window.Window.TheVariants as window
 use Rattle.sql_statements.specs.Trees as written
-use Rattle.sql_statements.specs.Trees.{Condition, JoinChain, Query, Steps, all, combined, conditions_of, last, simple, step, test}
+use Rattle.sql_statements.specs.Trees.{Condition, JoinChain, Query, Steps, all, any, combined, conditions_of, last, simple, step, test}
 use Rattle.sql_statements.specs.declared.statement.ColumnReference.{ColumnReference}
 use Rattle.sql_statements.specs.declared.statement.Compare.{Compare}
 use Rattle.sql_statements.specs.declared.statement.Comparison.TheVariants as comparison
@@ -159,12 +159,15 @@ record Positions : Type 0 where
   -- Z has the positions 0 and 1, X has 2 and 3, Y has 4 and 5; WHERE is cut at its AND
   conjuncts : written_conjuncts catalog (three (same (of X DNO) (of Y DNO)) (Some (all (conditions_of (same (of Z DNO) (of Y DNO) ∷ same (of X NAME) (of Z NAME) ∷ [])))))
       ≡ at 2 4 ∷ at 0 4 ∷ at 3 1 ∷ []
+  -- the parser writes the same WHERE as an OR of one AND
+  alone : written_conjuncts catalog (three (same (of X DNO) (of Y DNO)) (Some (any (conditions_of (all (conditions_of (same (of Z DNO) (of Y DNO) ∷ same (of X NAME) (of Z NAME) ∷ [])) ∷ [])))))
+      ≡ at 2 4 ∷ at 0 4 ∷ at 3 1 ∷ []
   items : map (written_item catalog (three (same (of X DNO) (of Y DNO)) None)) (map item (of Y NAME ∷ of Z NAME ∷ [])) ≡ (Some 5, NAME) ∷ (Some 1, NAME) ∷ []
   reference : written_reference catalog (known_as X) ≡ (Some 1, window.Now, Some (kind.Integer ∷ kind.Text ∷ []))
 
 positions : Positions
 unfolding number_of table_of_name is_value_column kind_of_column
-positions = record { conjuncts = refl; items = refl; reference = refl }
+positions = record { conjuncts = refl; alone = refl; items = refl; reference = refl }
 
 -- set operators apply from left to right: a EXCEPT b UNION c is the union of c with what EXCEPT leaves
 from_left : (a b c : written.Select) (x y z : Select) → ResolvesSelect catalog a x → ResolvesSelect catalog b y → ResolvesSelect catalog c z

@@ -167,7 +167,12 @@ module _ (catalog : List TableDef) (scope : Scope) where
 
   pub members_agree : (c : Condition Compare) → list_any unknown (tests_of c) ≡ false → list_any hidden (tests_of c) ≡ false → map (map_condition by_name) (members c) ≡ map (map_condition by_place) (members c)
   members_agree (all parts) h k = parts_agree parts h k
-  members_agree (any parts) h k = ap (λ (c : Placed). c ∷ []) (agree (any parts) h k)
+  members_agree (any none) h k = refl
+  members_agree (any (more part none)) h k =
+      let first = or_parts (list_any unknown (tests_of part)) (list_any unknown (tests_among none)) (sym (list_any-append unknown (tests_of part) (tests_among none)) ∙ h) in
+      let second = or_parts (list_any hidden (tests_of part)) (list_any hidden (tests_among none)) (sym (list_any-append hidden (tests_of part) (tests_among none)) ∙ k) in
+      members_agree part first.0 second.0
+  members_agree (any (more part (more next parts))) h k = ap (λ (c : Placed). c ∷ []) (agree (any (more part (more next parts))) h k)
   members_agree (negated part) h k = ap (λ (c : Placed). c ∷ []) (agree (negated part) h k)
   members_agree (test leaf) h k = ap (λ (c : Placed). c ∷ []) (agree (test leaf) h k)
 

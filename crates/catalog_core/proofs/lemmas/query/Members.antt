@@ -3,7 +3,7 @@ use Rattle.std.proofs.Common.{◌≡◌, ◌<◌, ◌≤◌, ◌+◌, ◌++◌, 
 use Rattle.std.proofs.lemmas.List.{map_push, take_more}
 use Rattle.std.specs.Global.{Box, Vec}
 use Rattle.sql_statements.specs.Plain.{plain_condition}
-use Rattle.sql_statements.specs.Trees.{Condition, conditions_of}
+use Rattle.sql_statements.specs.Trees.{Condition, any, conditions_of, more}
 use Rattle.sql_statements.specs.declared.tree.Tree as code
 use Rattle.catalog_core.proofs.lemmas.conditions.Truth.{and_view, not_view, or_view, test_view}
 use Rattle.catalog_core.proofs.lemmas.conditions.Numbers.{mapped}
@@ -22,9 +22,22 @@ module _ {T : Type 0} where
   and_members first others =
       ap members (and_view first others) ∙ ap (λ (cs : List (Condition T)). plain_condition first.value ∷ cs) (listed (map plain_condition others.items))
 
+  -- an OR of one part is that part
+  pub or_alone : (first : Box (code.Tree T)) (others : Vec (code.Tree T)) → others.items ≡ [] → members (plain_condition (code.Or first others)) ≡ members (plain_condition first.value)
+  or_alone first others alone =
+      ap members (or_view first others)
+      ∙ ap (λ (cs : List (code.Tree T)). members (any (more (plain_condition first.value) (conditions_of (map plain_condition cs))))) alone
+
   -- any other condition is its own
-  pub or_member : (first : Box (code.Tree T)) (others : Vec (code.Tree T)) → members (plain_condition (code.Or first others)) ≡ plain_condition (code.Or first others) ∷ []
-  or_member first others = ap members (or_view first others) ∙ ap (λ (c : Condition T). c ∷ []) (sym (or_view first others))
+  or_its_own : (first : Condition T) (parts : List (code.Tree T)) → ¬ (length parts ≡ 0)
+      → members (any (more first (conditions_of (map plain_condition parts)))) ≡ any (more first (conditions_of (map plain_condition parts))) ∷ []
+  or_its_own first [] more_than_one = absurd (more_than_one refl)
+  or_its_own first (part ∷ parts) more_than_one = refl
+
+  pub or_member : (first : Box (code.Tree T)) (others : Vec (code.Tree T)) → ¬ (length others.items ≡ 0) → members (plain_condition (code.Or first others)) ≡ plain_condition (code.Or first others) ∷ []
+  or_member first others more_than_one =
+      ap members (or_view first others) ∙ or_its_own (plain_condition first.value) others.items more_than_one
+      ∙ ap (λ (c : Condition T). c ∷ []) (sym (or_view first others))
 
   pub not_member : (part : Box (code.Tree T)) → members (plain_condition (code.Not part)) ≡ plain_condition (code.Not part) ∷ []
   not_member part = ap members (not_view part) ∙ ap (λ (c : Condition T). c ∷ []) (sym (not_view part))
