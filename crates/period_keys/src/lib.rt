@@ -42,7 +42,7 @@ mod tables;
 pub use changes::{add_rows, apply_change, keys_of, take_rows};
 pub use clashes::{index_of, index_of_current, index_of_versions, key_clash_after};
 pub use current_rows::CurrentRows;
-pub use faults::{child_fault, key_fault, parent_fault, rows_of};
+pub use faults::{child_fault, key_fault, parent_fault, rows_of, rows_of_current};
 pub use fixed_keys::fixed_key;
 pub use key_laws::{clashes_after_change, clashes_are_of_days, uncovered_are_of_days};
 pub use keyed_periods::KeyedPeriods;

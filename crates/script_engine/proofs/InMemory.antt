@@ -1,5 +1,5 @@
 -- The rows in memory after each step: they go on being the current versions of the store.
-use Rattle.std.proofs.Common.{◌≡◌, ◌++◌, ◌∷◌, ◌∙◌, ℕ, zero, suc, Bool, true, false, List, [], Option, Some, map, nat_eq, refl, set, sym, ap, ap₂, subst, arith}
+use Rattle.std.proofs.Common.{◌≡◌, ◌++◌, ◌∷◌, ◌∙◌, ℕ, zero, suc, Bool, true, false, List, [], Option, None, Some, map, nat_eq, refl, set, sym, ap, ap₂, subst, arith}
 use Rattle.std.specs.List.{filter, slice_get}
 use Rattle.std.specs.List.Sorted.{IsPermutation}
 use Rattle.std.specs.Option.{option_map_or}
@@ -28,6 +28,9 @@ its_key t = t.positions
 
 pub some_rows : (ts : List RowsByKey) (number : ℕ) (t : RowsByKey) → table_of ts number ≡ Some t → rows_in ts number ≡ t.rows
 some_rows ts number t there = ap (λ (o : Option RowsByKey). option_map_or its_rows o []) there
+
+pub no_rows : (ts : List RowsByKey) (number : ℕ) → table_of ts number ≡ None → rows_in ts number ≡ []
+no_rows ts number there = ap (λ (o : Option RowsByKey). option_map_or its_rows o []) there
 
 -- ---- a table more, without rows
 

@@ -30,7 +30,7 @@ use catalog_core::resolved::{Query, QueryReference, Tables};
 use catalog_core::{AnswerColumn, fits};
 use coalesce_core::{coalesce, witnesses};
 use period_core::{Answer, Items, Memory, PeriodRow, Refusal, Text, VersionRow, Window};
-use period_keys::TableIndex;
+use period_keys::{TableIndex, rows_of_current};
 use sequenced_ops::run_query;
 use sqlite_trees::store::Alter;
 use std::alloc::Global;
@@ -80,36 +80,15 @@ impl RowVisitor for SeenRows {
     }
 }
 
-/// Adds versions without their system time to rows.
-fn push_rows(
-    alloc: Global,
-    versions: &[VersionRow],
-    rows: &mut Vec<PeriodRow>,
-) -> Result<(), Memory>
-    ensures { OnOk result (rows.new.items ≡ rows.old.items ++ map row_of versions.now) }
-{
-    for version in versions {
-        rows.push(PeriodRow {
-            values: version.values.copy(alloc)?,
-            period: version.period,
-        })?;
-    }
-    Ok(())
-}
-
 /// The current rows of the table of a number, copied from memory.
 fn current_rows(alloc: Global, tables: &[TableIndex], number: u8) -> Result<Vec<PeriodRow>, Memory>
     ensures { IfOk result
         (λ rows. rows.items ≡ map row_of (rows_in (map rows_by_key tables.now) number)) }
 {
-    let mut rows = Vec::new(alloc);
-    let Some(current) = rows_of_number(tables, number) else {
-        return Ok(rows);
-    };
-    for group in current.groups() {
-        push_rows(alloc, group.as_slice(), &mut rows)?;
+    match rows_of_number(tables, number) {
+        Some(current) => rows_of_current(alloc, current),
+        None => Ok(Vec::new(alloc)),
     }
-    Ok(rows)
 }
 
 /// Whether a window sees no version, whatever its system time.
