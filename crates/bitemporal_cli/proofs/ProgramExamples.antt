@@ -1,6 +1,6 @@
 -- Worked rows: the lines of faults, the status of results, what is read, and what a command line chooses.
 use Rattle.std.specs.Prelude.{◌≡◌, ◌∷◌, [], ℕ, Err, None, Ok, Option, Result, Some, codes, false, pos, refl, true}
-use Rattle.std.proofs.Common.{inl, inr}
+use Rattle.std.proofs.Common.{List, inl, inr}
 use Rattle.std.proofs.lemmas.Option.{same_Some}
 use Rattle.std.specs.Fmt.{digits}
 use Rattle.std.specs.declared.io.ErrorKind.TheVariants.{InvalidData, OutOfMemory}

@@ -1,7 +1,8 @@
 //! A run of the program: a script from a reader, the report of its run, with audits or without, or
 //! of its check to a writer, and the exit status.
 
-ghost use Rattle.std.specs.Prelude.{◌≡◌, ◌≢◌, ◌≤◌, IfErr, IfOk};
+ghost use Rattle.std.specs.Prelude.{◌≡◌, ◌≢◌, ◌≤◌, IfErr, IfOk, is_err};
+ghost use Rattle.std.specs.List.{list_any};
 ghost use Rattle.std.specs.Io.KnownBytes.{Keeps};
 ghost use Rattle.script_engine.specs.script.AuditedRuns.{IsAuditedRunOf};
 ghost use Rattle.script_engine.specs.script.Check.{IsCheckOf};
@@ -145,10 +146,7 @@ fn run_results<R: Read>(
 }
 
 // The results of the script's statements, with the audits of their answers.
-fn audited_results<R: Read>(
-    alloc: Global,
-    input: &mut Tracked<R>,
-) -> Result<Vec<Entry>, RunFault>
+fn audited_results<R: Read>(alloc: Global, input: &mut Tracked<R>) -> Result<Vec<Entry>, RunFault>
     ensures run { IfOk result
         (λ entries. AreOfReader IsAuditedRunOf (R.remaining input.old.inner) entries.items) }
     ensures refused { IfErr result
@@ -208,15 +206,29 @@ fn has_failed(audit: &Option<Result<Verdict, Refusal>>) -> bool
     }
 }
 
+// Whether an audit of these did not agree or was refused.
+fn some_audit_failed(entries: &[Entry]) -> bool
+    ensures { result ≡ list_any (λ entry. fails_audit entry.audit) entries.now }
+{
+    entries.iter().any(|entry| has_failed(&entry.audit))
+}
+
+// Whether a statement of these was refused.
+fn some_is_refused(entries: &[Entry]) -> bool
+    ensures { result ≡ list_any (λ entry. is_err entry.result) entries.now }
+{
+    entries.iter().any(|entry| entry.result.is_err())
+}
+
 // 3 where an audit did not agree or was refused; else 1 where a statement was refused, else 0.
 fn audited_status(entries: &[Entry]) -> u8
     ensures { result ≡ audited_status entries.now }
 {
-    if entries.iter().any(|entry| has_failed(&entry.audit)) {
-        return 3;
+    if some_audit_failed(entries) {
+        3
+    } else if some_is_refused(entries) {
+        1
+    } else {
+        0
     }
-    if entries.iter().any(|entry| entry.result.is_err()) {
-        return 1;
-    }
-    0
 }
