@@ -43,7 +43,8 @@ class Tests:
             return
         self.failed += 1
         print(f'failed: {name}')
-        for part, text, other in zip(('status', 'output', 'standard error'), found, wanted):
+        parts = ('status', 'output', 'standard error', 'audits that agree')
+        for part, text, other in zip(parts, found, wanted):
             if text != other:
                 print(f'  {part}: {shortened(text)}\n  wanted: {shortened(other)}')
 
