@@ -2,7 +2,7 @@
 repository, as it is or with edits.
 
 It is `rt try` that builds it, with the checks of the address sanitizer. It keeps no executable, and
-each run of it takes seconds, so tests/laid_main.rs runs all scripts. A build takes some two minutes.
+takes seconds for each run, so tests/laid_main.rs runs all scripts. A build takes some two minutes.
 """
 import pathlib
 import re
@@ -41,14 +41,15 @@ def run(scripts, edits):
         cases.mkdir()
         lay(copy, edits)
         for start in range(0, len(scripts), AT_ONCE):
-            (cases / f'{start:05}').write_bytes(b''.join(
+            (cases / f'from{start:05}').write_bytes(b''.join(
                 str(file or '').encode() + b'\xff' + script.encode() + b'\xff'
                 for file, script in scripts[start:start + AT_ONCE]))
         tried = subprocess.run(
             ['rt', 'try', '--steps', '1', '--seconds', '900', '--cases', cases],
             cwd=copy / CRATE, stdin=subprocess.DEVNULL, capture_output=True, check=False)
-    *reports, _ = re.split(rb'^== (\d+)\n', re.sub(rb'^== \d{5}\n', b'', tried.stdout, flags=re.M),
-                           flags=re.M)
+    # The first lines of the parts are `rt try`'s.
+    printed = re.sub(rb'^== from\d+\n', b'', tried.stdout, flags=re.M)
+    *reports, _ = re.split(rb'^== (\d+)\n', printed, flags=re.M)
     if len(reports) != 2 * len(scripts):
         raise SystemExit(f'it did not run all: {tried.stderr.decode(errors="replace")}')
     return list(zip(map(int, reports[1::2]), reports[::2]))

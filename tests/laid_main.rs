@@ -3,9 +3,9 @@
 //!
 //! Standard input has a name and a script for each, with a byte 255 behind each, which is in no
 //! UTF-8. Without a name the script is run as by `bitemporal run --audit`, and else over a store in
-//! the file of that name. Each report is followed by a line `== STATUS`. The status is the
-//! program's, but over a file that of a script that is not run at all is the refusal's number: 60 of
-//! a store that is no good one.
+//! the file of that name, as by `run`. Each report is followed by a line `== STATUS`. The status is
+//! the program's, but over a file, where a script is not run at all, the refusal's number: 60 where
+//! the store is no good one.
 #![tactic(auto)]
 
 mod command;
