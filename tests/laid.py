@@ -13,7 +13,7 @@ import tempfile
 ROOT = pathlib.Path(__file__).resolve().parent.parent
 MAIN = ROOT / 'tests/laid_main.rs'
 CRATE = 'crates/bitemporal_cli'
-AT_ONCE = 80  # so many scripts: their reports have less than the 1 MiB that `rt try` takes
+AT_ONCE = 20  # so many scripts: `rt try` takes no more than 1 MiB of their reports
 
 
 def lay(copy, edits):
