@@ -1,15 +1,41 @@
-//! The queries. Each is run outside a transaction, and answers all its rows at once.
+//! The queries. Each is run outside a transaction. That of one table gives its rows one at a time,
+//! the others answer all their rows at once.
 
-ghost use Rattle.std.specs.Prelude.{◌≡◌, false, map, IfOk, IsPermutation, List};
+ghost use Rattle.std.specs.Prelude.{◌≡◌, [], false, map, IfOk, IsPermutation, List};
+ghost use Rattle.std.specs.Borrow.{sem, RestsIfErr};
+ghost use Rattle.sqlite.specs.contracts.connection.Connection.{the_row};
 ghost use Rattle.sqlite.specs.Held.{state};
 ghost use Rattle.sqlite.specs.State.{HasCleanDisk};
 ghost use Rattle.version_tables.specs.Represents.{AreOfTable, Records, Represents, Version};
 ghost use Rattle.version_tables.specs.Represents.{meta_shown, rowid_shown, shown, table_shown};
 ghost use Rattle.version_tables.specs.Represents.{version_shown};
 ghost use Rattle.version_tables.specs.Rows.{InOrder, by_rowid};
-ghost use Rattle.version_tables.specs.Steps.{OnlyReads, Tells};
+ghost use Rattle.version_tables.specs.Steps.{HasGivenRows, IsLeft, OnlyReads, Tells};
 
-use sqlite::{Alter, Connection, Error, Row, params};
+use sqlite::{Alter, Connection, Error, Row, Rows, params};
+
+/// The query of the versions of the table of a number, which gives one row at a time: by values,
+/// then period start, then system start. A row has the values' bytes, the two days and the two
+/// moments.
+pub fn begin_rows<S: Alter>(
+    connection: &mut Connection<S>,
+    table: u32,
+) -> Result<Rows<'_, S>, Error>
+    requires { connection.old.in_transaction ≡ false }
+    ensures* refused { sem 𝓛 (RestsIfErr (the_row S.row S.Store) connection.entry
+        (λ rows. rows.conn.ghost_name) result (IsLeft S.Store connection.old)) }
+    ensures same_reference { IfOk result
+        (λ rows. rows.conn.ghost_name ≡ connection.entry.ghost_name) }
+    ensures begun { IfOk result
+        (λ rows. HasGivenRows S.Store table connection.old rows.conn.now []) }
+    ensures mode { IfOk result (λ rows. rows.conn.now.in_transaction ≡ false) }
+{
+    let _settled = connection.is_autocommit();
+    connection.query(
+        "SELECT vals, s, e, ss, se FROM bt_version WHERE tab = ?1 ORDER BY vals, s, ss",
+        params![table],
+    )
+}
 
 /// The versions of the table of a number, by values, then period start, then system start. A row
 /// has the values' bytes, the two days and the two moments.
