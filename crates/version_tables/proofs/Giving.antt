@@ -1,5 +1,5 @@
 -- A query whose rows are given one at a time.
-use Rattle.std.proofs.Common.{◌≡◌, ◌⊎◌, ◌∙◌, ap, ℕ, pos, List, [], ◌∷◌, ◌++◌, map, Option, Some, None, Ok, Err, Result, OnErr, IfOk, inl, inr, refl, sym, subst, rules, arith, IsTrue, false}
+use Rattle.std.proofs.Common.{◌≡◌, ◌⊎◌, ◌∙◌, ap, ℕ, pos, List, [], ◌∷◌, ◌++◌, map, Option, Some, None, Ok, Err, Result, OnErr, OnOk, IfOk, IfErr, inl, inr, refl, sym, subst, rules, arith, IsTrue, false}
 use Rattle.sqlite.specs.Store.{Ghosts}
 use Rattle.sqlite.specs.Order.{Row}
 use Rattle.sqlite.specs.Tree.{Trees}
@@ -17,7 +17,8 @@ use Rattle.sqlite_resolve.specs.declared.compiled.Compiled.{Compiled}
 use Rattle.sqlite_resolve.specs.declared.error.CompileError.{CompileError}
 use Rattle.version_tables.specs.Texts.{select_text}
 use Rattle.version_tables.specs.Represents.{AreOfTable, Records, Represents, Version, shown}
-use Rattle.version_tables.specs.Steps.{HasGivenRows, IsLeft, Keeps}
+use Rattle.version_tables.specs.Giving.{AreAll, AreFirst, GivesNext, HasGivenAll, HasGivenRows, IsLeft}
+use Rattle.version_tables.specs.Steps.{Keeps}
 use Rattle.version_tables.specs.Tables.{store_schema}
 use Rattle.version_tables.proofs.Selects.{failed_keeps, select_reads, understood_none}
 use Rattle.version_tables.proofs.Shows.{reads}
@@ -36,78 +37,86 @@ ends_alone s m stands c is db params =
 as_it_was : {a b : State} → IsUnchanged a b → Keeps a b
 as_it_was same = record { was_open = λ _. same.0.was_open; now = λ _. same.0.now_is; committed = λ _. same.0.committed_is }
 
-module _ {S : Type 0} (g : Ghosts S) (table : ℕ) (old : Held S) where
+module _ {S : Type 0} (g : Ghosts S) (table : ℕ) (first : Held S) where
   abbrev params : Row
   params = Int (pos table) ∷ []
 
-  begins : (new : Held S) → HasBegun g select_text params old new → HasGiven g select_text params new [] × IsUnchanged (state g old) (state g new)
-  begins new (inl h) = h
-  begins new (inr h) = absurd (never_returns old.schema _ refl h.0)
+  abbrev IsSettled : Type 0
+  IsSettled = IsTrue (state g first).is_open → (state g first).now ≡ (state g first).committed
 
-  pub given_none : {X : Type 0} (of : X → Held S) (P : X → Trees → Type 0) (r : Result X Error) → IfOk r (λ x. HasCleanDisk (state g (of x)) → HasBegun g select_text params old (of x))
-      → IfOk r (λ x. Survives (state g old) (state g (of x)) (P x)) → IfOk r (λ x. HasGivenRows g table old (of x) [])
-  given_none of P (Err e) begun survives = tt
-  given_none of P (Ok x) begun survives = record {
-    clean = λ clean. let kept = survives.clean in omega arith;
-    rows = λ clean. (begins (of x) (begun clean)).0;
-    unchanged = λ clean. (begins (of x) (begun clean)).1;
+  -- ---- the start
+
+  begins : (now : Held S) → HasBegun g select_text params first now → HasGiven g select_text params now [] × IsUnchanged (state g first) (state g now)
+  begins now (inl h) = h
+  begins now (inr h) = absurd (never_returns first.schema _ refl h.0)
+
+  -- the rows so far are the first
+  are_first : (now : Held S) (given : List Row) → HasGiven g select_text params now given → IsUnchanged (state g first) (state g now) → AreFirst (state g first).now table given
+  are_first now given h same m stands =
+      let s = state g now in
+      let stands_now : Represents s.now m = subst (λ db. Represents db m) (sym same.0.now_is) stands in
+      let whole = begins_shown select_text params s s given (given_begin g select_text params now given h) (unchanged s same.0.is_open) (λ c db it _. ends_alone s m stands_now c it.is db _) in
+      (whole.0, reads s s table (given ++ whole.0) m stands_now whole.1)
+
+  goes_on : (now : Held S) (given : List Row) → IsSettled → now.in_transaction ≡ false → (HasCleanDisk (state g now) → HasCleanDisk (state g first))
+      → (HasCleanDisk (state g now) → HasGiven g select_text params now given × IsUnchanged (state g first) (state g now)) → HasGivenRows g table first now given
+  goes_on now given settled mode clean h = record {
+    rows = λ sure. let it = h sure in are_first now given it.0 it.1;
+    left = record { clean = clean; keeps = λ sure. as_it_was (h sure).1; mode = mode };
+    unchanged = λ sure. (h sure).1;
+    goes_on = λ sure. (h sure).0;
+    settled = settled;
   }
 
-  pub left : {X : Type 0} (new : Held S) → old.in_transaction ≡ false → (IsTrue (state g old).is_open → (state g old).now ≡ (state g old).committed) → (r : Result X Error) → OnErr r (IsRefused g select_text params old r new) → OnErr r (IsLeft g old new)
-  left new mode settled (Ok x) h = tt
-  left new mode settled (Err e) h = record {
+  pub given_none : {X : Type 0} (of : X → Held S) (P : X → Trees → Type 0) (r : Result X Error) → IsSettled → IfOk r (λ x. HasCleanDisk (state g (of x)) → HasBegun g select_text params first (of x))
+      → IfOk r (λ x. Survives (state g first) (state g (of x)) (P x)) → IfOk r (λ x. (of x).in_transaction ≡ false) → IfOk r (λ x. HasGivenRows g table first (of x) [])
+  given_none of P (Err e) settled begun survives mode = tt
+  given_none of P (Ok x) settled begun survives mode = goes_on (of x) [] settled mode (λ clean. let kept = survives.clean in omega arith) (λ clean. begins (of x) (begun clean))
+
+  pub left : {X : Type 0} (now : Held S) → first.in_transaction ≡ false → IsSettled → (r : Result X Error) → OnErr r (IsRefused g select_text params first r now) → OnErr r (IsLeft g first now)
+  left now mode settled (Ok x) h = tt
+  left now mode settled (Err e) h = record {
     clean = λ clean. let kept = h.survives.clean in omega arith;
-    keeps = λ clean. failed_keeps select_text select_reads params (state g old) (state g new) settled e (h.err clean);
+    keeps = λ clean. failed_keeps select_text select_reads params (state g first) (state g now) settled e (h.err clean);
     mode = h.mode mode;
   }
 
   -- ---- a row more, or the end
 
-  module _ (before new : Held S) (given : List Row) (was : HasGivenRows g table old before given) (survives : Survives (state g before) (state g new) (λ _. ⊥)) where
-    still_clean : HasCleanDisk (state g new) → HasCleanDisk (state g before)
+  module _ (before now : Held S) (given : List Row) (was : HasGivenRows g table first before given) (survives : Survives (state g before) (state g now) (λ _. ⊥)) (mode : before.in_transaction ≡ false → now.in_transaction ≡ false) where
+    still_clean : HasCleanDisk (state g now) → HasCleanDisk (state g before)
     still_clean clean = let kept = survives.clean in omega arith
 
-    pub given_more : (row : Row) (next : Option Row) → (HasCleanDisk (state g new) → Advances g before new next) → (HasCleanDisk (state g new) → IsUnchanged (state g before) (state g new)) → next ≡ Some row
-        → HasGivenRows g table old new (given ++ row ∷ [])
-    given_more row next ok same is = record {
-      clean = λ clean. was.clean (still_clean clean);
-      rows = λ clean. (rw is at (ok clean)) select_text params given (was.rows (still_clean clean));
-      unchanged = λ clean. unchanged_then (state g old) (state g before) (state g new) (was.unchanged (still_clean clean)) (same clean);
+    same_so_far : HasCleanDisk (state g now) → IsUnchanged (state g before) (state g now) → IsUnchanged (state g first) (state g now)
+    same_so_far clean same = unchanged_then (state g first) (state g before) (state g now) (was.unchanged (still_clean clean)) same
+
+    gives : (next : Option Row) → (HasCleanDisk (state g now) → Advances g before now next) → (HasCleanDisk (state g now) → IsUnchanged (state g before) (state g now)) → GivesNext g table first now given next
+    gives (Some row) ok same =
+        goes_on now (given ++ row ∷ []) was.settled (mode was.left.mode) (λ clean. was.left.clean (still_clean clean)) (λ clean. (ok clean select_text params given (was.goes_on (still_clean clean)), same_so_far clean (same clean)))
+    gives None ok same = record {
+      rows = λ clean m stands.
+          let so_far = was.unchanged (still_clean clean) in
+          reads (state g before) (state g now) table given m (subst (λ db. Represents db m) (sym so_far.0.now_is) stands) (ok clean select_text params given (was.goes_on (still_clean clean)));
+      left = record { clean = λ clean. was.left.clean (still_clean clean); keeps = λ clean. as_it_was (same_so_far clean (same clean)); mode = mode was.left.mode };
     }
 
-    pub given_clean : HasCleanDisk (state g new) → HasCleanDisk (state g old)
-    given_clean clean = was.clean (still_clean clean)
-
     -- what an error leaves
-    pub given_keeps : (IsTrue (state g old).is_open → (state g old).now ≡ (state g old).committed) → (e : Error) → Fails (state g before) (state g new) ⊥ e ⊎ IsUnchanged (state g before) (state g new) → HasCleanDisk (state g new) → Keeps (state g old) (state g new)
-    given_keeps settled e why clean = 
-        let so_far = was.unchanged (still_clean clean) in
-        elim why [
-          | inl failed ↦ (let undone = failed.3 in record {
-            was_open = λ on. so_far.0.was_open;
-            now = λ on. (undone.undone on).0 ∙ so_far.0.committed_is ∙ sym (settled so_far.0.was_open);
-            committed = λ on. (undone.undone on).1 ∙ so_far.0.committed_is;
-          })
-          | inr same ↦ as_it_was (unchanged_then (state g old) (state g before) (state g new) so_far same)
-        ]
+    keeps : (e : Error) → Fails (state g before) (state g now) ⊥ e ⊎ IsUnchanged (state g before) (state g now) → HasCleanDisk (state g now) → Keeps (state g first) (state g now)
+    keeps e (inl failed) clean =
+        let so_far = (was.unchanged (still_clean clean)).0 in
+        let undone = failed.3 in
+        record {
+          was_open = λ on. so_far.was_open;
+          now = λ on. (undone.undone on).0 ∙ so_far.committed_is ∙ sym (was.settled so_far.was_open);
+          committed = λ on. (undone.undone on).1 ∙ so_far.committed_is;
+        }
+    keeps e (inr same) clean = as_it_was (same_so_far clean same)
 
-    -- the rows so far are all
-    pub all_given : (next : Option Row) → (HasCleanDisk (state g new) → Advances g before new next) → next ≡ None → HasCleanDisk (state g new) → (m : Records) → Represents (state g old).now m
-        → (found : List Version) × (given ≡ map shown found) × AreOfTable m table found
-    all_given next ok is clean m stands =
-        let so_far = was.unchanged (still_clean clean) in
-        reads (state g before) (state g new) table given m (subst (λ db. Represents db m) (sym so_far.0.now_is) stands) ((rw is at (ok clean)) select_text params given (was.rows (still_clean clean)))
+    pub gives_next : {X : Type 0} (next : Option Row) (r : Result X Error) → (HasCleanDisk (state g now) → OnOk r (Advances g before now next)) → (HasCleanDisk (state g now) → OnOk r (IsUnchanged (state g before) (state g now)))
+        → OnOk r (GivesNext g table first now given next)
+    gives_next next (Ok x) ok same = gives next ok same
+    gives_next next (Err e) ok same = tt
 
-  pub given_unchanged : (now : Held S) (given : List Row) → HasGivenRows g table old now given → HasCleanDisk (state g now) → Keeps (state g old) (state g now)
-  given_unchanged now given was clean = as_it_was (was.unchanged clean)
-
-  -- the rows so far are the first
-  pub first_given : (now : Held S) (given : List Row) → HasGivenRows g table old now given → HasCleanDisk (state g now) → (m : Records) → Represents (state g old).now m
-      → (found : List Version) × (more : List Row) × (given ++ more ≡ map shown found) × AreOfTable m table found
-  first_given now given was clean m stands =
-      let s = state g now in
-      let same = was.unchanged clean in
-      let stands_now : Represents s.now m = subst (λ db. Represents db m) (sym same.0.now_is) stands in
-      let whole = begins_shown select_text params s s given (given_begin g select_text params now given (was.rows clean)) (unchanged s same.0.is_open) (λ c db it _. ends_alone s m stands_now c it.is db _) in
-      let read = reads s s table (given ++ whole.0) m stands_now whole.1 in
-      (read.0, whole.0, read.1, read.2)
+    pub left_so : {X : Type 0} (r : Result X Error) → (HasCleanDisk (state g now) → IfErr r (λ e. Fails (state g before) (state g now) ⊥ e ⊎ IsUnchanged (state g before) (state g now))) → OnErr r (IsLeft g first now)
+    left_so (Ok x) kept = tt
+    left_so (Err e) kept = record { clean = λ clean. was.left.clean (still_clean clean); keeps = λ clean. keeps e (kept clean) clean; mode = mode was.left.mode }
