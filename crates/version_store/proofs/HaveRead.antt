@@ -45,7 +45,7 @@ module _ {S : Type 0} (g : Ghosts S) (table : ℕ) (first : Held S) where
   pub some_read : (now : Held S) (done : List VersionRow) → HasRead now done → HasCleanDisk (state g now) → (c : Contents) → Has (state g first).now c → (more : List Row) × AreFirst c table done more
   some_read now done was clean c has =
       let shows = was.1.rows clean (written c) has.rows in
-      (shows.0, shows.1.0, subst (λ given. given ++ shows.0 ≡ map shown shows.1.0) was.2 shows.1.1, shows.1.2)
+      (shows.0, (shows.1.0, subst (λ given. given ++ shows.0 ≡ map shown shows.1.0) was.2 shows.1.1, shows.1.2))
 
   -- they are all
   pub all_read : (now : Held S) (given : List Row) (done : List VersionRow) → given ≡ as_shown done → HasGivenAll g table first now given → HasCleanDisk (state g now) → (c : Contents) → Has (state g first).now c

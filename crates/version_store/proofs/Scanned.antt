@@ -149,15 +149,15 @@ module _ {S M : Type 0} (g : Ghosts S) (next : M → VersionRow → M) (table : 
   )
 
   -- a refusal, where the query has given the rows so far
-  pub some_visits : {X : Type 0} (now : Held S) (old new : M) (refusal : Refusal) → HasVisited g next table window first now old new → HasCleanDisk (state g now) → (c : Contents) → Has (state g first).now c
-      → Visits next c table window old new (let r : Result X Refusal = Err refusal in r)
-  some_visits now old new refusal was clean c has =
+  pub some_visits : (now : Held S) (old mid new : M) (refusal : Refusal) → HasVisited g next table window first now old mid → new ≡ mid → HasCleanDisk (state g now) → (c : Contents) → Has (state g first).now c
+      → Visits next c table window old new (let r : Result (Unit {0}) Refusal = Err refusal in r)
+  some_visits now old mid new refusal was same clean c has =
       let shows = some_read g table first now was.0 was.1 clean c has in
-      visits next c table window old new (Err refusal) shows.1 shows.0 was.0 has.values was.1.3 shows.2 shows.3 was.2 tt
+      visits {X = Unit {0}} next c table window old new (Err refusal) shows.1.0 shows.0 was.0 has.values was.1.3 shows.1.1 shows.1.2 (same ∙ was.2) tt
 
   -- the end of the query
-  pub all_visits : {X : Type 0} (before now : Held S) (old new : M) (x : X) (was : HasVisited g next table window first before old new) (after : Option Row) → GivesNext g table first now was.1.0 after → after ≡ None
-      → HasCleanDisk (state g now) → (c : Contents) → Has (state g first).now c → Visits next c table window old new (let r : Result X Refusal = Ok x in r)
-  all_visits before now old new x was after gives is clean c has =
+  pub all_visits : (before now : Held S) (old new : M) (was : HasVisited g next table window first before old new) (after : Option Row) → GivesNext g table first now was.1.0 after → after ≡ None
+      → HasCleanDisk (state g now) → (c : Contents) → Has (state g first).now c → Visits next c table window old new (let r : Result (Unit {0}) Refusal = Ok (tt {0}) in r)
+  all_visits before now old new was after gives is clean c has =
       let shows = all_read g table first now was.1.0 was.0 was.1.2 (rw is at gives) clean c has in
-      visits next c table window old new (Ok x) shows.0 [] was.0 has.values was.1.3 (append-nil _ ∙ shows.1) shows.2 was.2 refl
+      visits {X = Unit {0}} next c table window old new (Ok (tt {0})) shows.0 [] was.0 has.values was.1.3 (append-nil _ ∙ shows.1) shows.2 was.2 refl
