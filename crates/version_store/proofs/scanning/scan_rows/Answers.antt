@@ -32,12 +32,6 @@ returns-in-Err-to_next_row-clause-clean g c =
     let left : IsLeft g.S.Store c.args.connection.now c.to_next_row.new.rows.conn.now = c.in-Err-to_next_row.ensures.left c.args.table c.args.connection.now was.0 was.1 in
     search rules
 
-pub returns-in-Err-to_next_row-clause-mode : goal.returns-in-Err-to_next_row-clause-mode
-returns-in-Err-to_next_row-clause-mode g c =
-    let was = c.rows.invariant.visited.1 in
-    let left : IsLeft g.S.Store c.args.connection.now c.to_next_row.new.rows.conn.now = c.in-Err-to_next_row.ensures.left c.args.table c.args.connection.now was.0 was.1 in
-    search rules
-
 -- the end of the query
 
 pub returns-in_default-get-clause-visited : goal.returns-in_default-get-clause-visited
@@ -59,15 +53,6 @@ returns-in_default-get-clause-same g c =
 
 pub returns-in_default-get-clause-clean : goal.returns-in_default-get-clause-clean
 returns-in_default-get-clause-clean g c =
-    let was = c.rows.invariant.visited.1 in
-    let now = c.to_next_row.new.rows in
-    let none : row_if now.has_row now.conn.now ≡ None = sym c.get.ensures ∙ ap option_copied c.in_default-get.is in
-    let all = rw none at (c.in_default.ensures.gives c.args.table c.args.connection.now was.0 was.1) in
-    let left : IsLeft g.S.Store c.args.connection.now now.conn.now = all.left in
-    search rules
-
-pub returns-in_default-get-clause-mode : goal.returns-in_default-get-clause-mode
-returns-in_default-get-clause-mode g c =
     let was = c.rows.invariant.visited.1 in
     let now = c.to_next_row.new.rows in
     let none : row_if now.has_row now.conn.now ≡ None = sym c.get.ensures ∙ ap option_copied c.in_default-get.is in
@@ -100,15 +85,6 @@ returns-in-Err-visit_row-clause-clean g c =
     let left : IsLeft g.S.Store c.args.connection.now now.conn.now = on.left in
     search rules
 
-pub returns-in-Err-visit_row-clause-mode : goal.returns-in-Err-visit_row-clause-mode
-returns-in-Err-visit_row-clause-mode g c =
-    let was = c.rows.invariant.visited.1 in
-    let now = c.to_next_row.new.rows in
-    let some : row_if now.has_row now.conn.now ≡ Some c.in-Some.row.now = sym c.get.ensures ∙ ap option_copied c.in-Some.is in
-    let on = rw some at (c.in_default.ensures.gives c.args.table c.args.connection.now was.0 was.1) in
-    let left : IsLeft g.S.Store c.args.connection.now now.conn.now = on.left in
-    search rules
-
 -- a row more
 
 pub rows-preserved : goal.rows-preserved
@@ -117,10 +93,9 @@ rows-preserved g c =
     let now = c.to_next_row.new.rows in
     let some : row_if now.has_row now.conn.now ≡ Some c.in-Some.row.now = sym c.get.ensures ∙ ap option_copied c.in-Some.is in
     let gives = c.in_default.ensures.gives c.args.table c.args.connection.now was.0 was.1 in
-    let on = rw some at gives in
     record {
       same_reference = search rules;
-      mode = on.left.mode;
+      mode = search rules;
       visited = one_visited g.S.Store g.V.RowVisitor.next c.args.table c.args.window c.args.connection.now c.rows.rows.conn.now now.conn.now _ _ _ c.rows.invariant.visited c.in-Some.row.now _ gives some c.in_default-visit_row.ensures.visited;
     }
 
