@@ -47,6 +47,10 @@ pub fn to_next_row<S: Alter>(rows: &mut Rows<'_, S>) -> Result<(), Error>
     ensures left { (table : ℕ) (first : Held S) (given : List Values)
         → HasGivenRows S.Store table first rows.old.conn.now given
         → OnErr result (IsLeft S.Store first rows.new.conn.now) }
+    ensures clean { HasCleanDisk (state S.Store rows.new.conn.now)
+        → HasCleanDisk (state S.Store rows.old.conn.now) }
+    ensures mode { rows.old.conn.now.in_transaction ≡ false
+        → rows.new.conn.now.in_transaction ≡ false }
 {
     rows.advance()
 }
