@@ -1,5 +1,5 @@
 -- What a scan hands over of the rows that the query shows.
-use Rattle.std.proofs.Common.{◌≡◌, ℕ, ◌+◌, ◌==◌, List, [], ◌∷◌, ◌++◌, map, filter, fold, take, drop, length, Bool, true, false, zero, suc, refl, sym, ap, subst, subst₂, ◌∙◌, arith, Result, OnOk}
+use Rattle.std.proofs.Common.{◌≡◌, ℕ, ◌+◌, ◌==◌, List, [], ◌∷◌, ◌++◌, map, filter, fold, take, drop, length, Bool, true, false, zero, suc, refl, sym, ap, subst, subst₂, ◌∙◌, append-nil, arith, Option, Some, None, Result, Ok, Err, OnOk}
 use Rattle.std.specs.Prelude.{IsSorted}
 use Rattle.std.specs.List.{All, AllByRecursion}
 use Rattle.std.specs.List.Sorted.{IsPermutation}
@@ -13,19 +13,25 @@ use Rattle.std.proofs.lemmas.List.MinMax.{ranks_by}
 use Rattle.std.proofs.lemmas.List.Sorted.{IsPermutation-refl, sorted_far}
 use Rattle.std.proofs.lemmas.List.Sums.{fold-append}
 use Rattle.sqlite_trees.proofs.ListLemmas.{pull_back, filter-map, IsPermutation-filter, all-permutation, all-filter, all-map}
+use Rattle.std.proofs.Math.Seq.{take-append_seam}
+use Rattle.sqlite.specs.Store.{Ghosts}
 use Rattle.sqlite.specs.Order.{Row}
+use Rattle.sqlite.specs.Held.{Held, state}
+use Rattle.sqlite.specs.State.{HasCleanDisk}
 use Rattle.period_core.specs.Encoding.{IsColumnValue}
 use Rattle.period_core.specs.OrderLaws.{values_cmp_total}
 use Rattle.period_core.specs.Windows.{window_sees}
 use Rattle.period_core.specs.declared.refusal.Refusal.{Refusal}
 use Rattle.period_core.specs.declared.version.VersionRow.{VersionRow}
 use Rattle.period_core.specs.declared.window.Window.{Window}
+use Rattle.version_tables.specs.Giving.{GivesNext}
 use Rattle.version_tables.specs.Represents.{AreOfTable, Version, shown}
 use Rattle.version_tables.specs.Represents as raw
 use Rattle.version_store.specs.Contents.{Contents, HaveColumnValues, TableVersion, of_table, version_cmp, version_in}
 use Rattle.version_store.specs.Scans.{AreFirstSeen, Visits, seen_of}
-use Rattle.version_store.specs.Written.{written, written_version}
+use Rattle.version_store.specs.Written.{Has, written, written_version}
 use Rattle.version_store.proofs.Found.{found_are, passes, same_versions, sorted_values}
+use Rattle.version_store.proofs.HaveRead.{HasRead, HaveValues, all_read, as_shown, one_read, some_read}
 use Rattle.version_store.proofs.Standing.{on_ok}
 
 -- ---- lists
@@ -119,14 +125,39 @@ none_yet c table window = record {
   behind = λ k d low. absurd (omega arith);
 }
 
-abbrev Reads : {M X : Type 0} → (M → VersionRow → M) → List Row → Window → M → M → Result X Refusal → Type 0
-Reads next items window old new result =
-    (done : List VersionRow) × (n : ℕ) × (take n items ≡ map (λ (v : VersionRow). shown (written_version (version_in 0 v))) done)
-    × AllByRecursion (λ (v : VersionRow). All IsColumnValue v.values) done
-    × (new ≡ fold next old (filter (λ (v : VersionRow). window_sees window v.from v.to) done)) × OnOk result (n ≡ length items)
+pub visits : {M X : Type 0} (next : M → VersionRow → M) (c : Contents) (table : ℕ) (window : Window) (old new : M) (result : Result X Refusal) (found : List Version) (more : List Row) (done : List VersionRow) → HaveColumnValues c.versions → HaveValues done
+    → as_shown done ++ more ≡ map shown found → AreOfTable (written c) table found → new ≡ fold next old (filter (λ (v : VersionRow). window_sees window v.from v.to) done) → OnOk result (more ≡ []) → Visits next c table window old new result
+visits next c table window old new result found more done held values is of meaning all =
+    let given = as_shown done in
+    let long = length-append given more in
+    let seen = first_seen c table window found (given ++ more) done (length given) held values is of (take-append_seam given more) in
+    (filter (λ (v : VersionRow). window_sees window v.from v.to) done, seen.0, seen.1, meaning, on_ok result (λ none. seen.2 (omega (arith, long, ap length none))) all)
 
-pub visits : {M X : Type 0} (next : M → VersionRow → M) (c : Contents) (table n : ℕ) (window : Window) (old new : M) (result : Result X Refusal) (found : List Version) (items : List Row) → n ≡ table → HaveColumnValues c.versions
-    → items ≡ map shown found → AreOfTable (written c) n found → Reads next items window old new result → Visits next c table window old new result
-visits next c table n window old new result found items same held is of read =
-    let seen = first_seen c table window found items read.0 read.1 held read.3 is (subst (λ t. AreOfTable (written c) t found) same of) read.2 in
-    (filter (λ (v : VersionRow). window_sees window v.from v.to) read.0, seen.0, seen.1, read.4, on_ok result seen.2 read.5)
+-- the query of the table has given rows, and the visitor has taken those that the window sees
+abbrev pub HasVisited : {S M : Type 0} → Ghosts S → (M → VersionRow → M) → ℕ → Window → Held S → Held S → M → M → Type 0
+HasVisited g next table window first now old new = (done : List VersionRow) × HasRead g table first now done × (new ≡ fold next old (filter (λ (v : VersionRow). window_sees window v.from v.to) done))
+
+module _ {S M : Type 0} (g : Ghosts S) (next : M → VersionRow → M) (table : ℕ) (window : Window) (first : Held S) where
+  -- one row more was given and taken
+  pub one_visited : (before now : Held S) (old mid new : M) (was : HasVisited g next table window first before old mid) (row : Row) (after : Option Row) → GivesNext g table first now was.1.0 after → after ≡ Some row
+      → (v : VersionRow) × (row ≡ shown (written_version (version_in 0 v))) × All IsColumnValue v.values × (new ≡ fold next mid (filter (λ (v : VersionRow). window_sees window v.from v.to) (v ∷ [])))
+      → HasVisited g next table window first now old new
+  one_visited before now old mid new was row after gives is taken = (
+    was.0 ++ taken.0 ∷ [],
+    one_read g table first now was.1.0 was.0 was.1.2 was.1.3 row after gives is taken.0 taken.1 taken.2,
+    one_more next _ old mid new was.0 taken.0 was.2 taken.3,
+  )
+
+  -- a refusal, where the query has given the rows so far
+  pub some_visits : (now : Held S) (old mid new : M) (refusal : Refusal) → HasVisited g next table window first now old mid → new ≡ mid → HasCleanDisk (state g now) → (c : Contents) → Has (state g first).now c
+      → Visits next c table window old new (let r : Result (Unit {0}) Refusal = Err refusal in r)
+  some_visits now old mid new refusal was same clean c has =
+      let shows = some_read g table first now was.0 was.1 clean c has in
+      visits {X = Unit {0}} next c table window old new (Err refusal) shows.1.0 shows.0 was.0 has.values was.1.3 shows.1.1 shows.1.2 (same ∙ was.2) tt
+
+  -- the end of the query
+  pub all_visits : (before now : Held S) (old new : M) (was : HasVisited g next table window first before old new) (after : Option Row) → GivesNext g table first now was.1.0 after → after ≡ None
+      → HasCleanDisk (state g now) → (c : Contents) → Has (state g first).now c → Visits next c table window old new (let r : Result (Unit {0}) Refusal = Ok (tt {0}) in r)
+  all_visits before now old new was after gives is clean c has =
+      let shows = all_read g table first now was.1.0 was.0 was.1.2 (rw is at gives) clean c has in
+      visits {X = Unit {0}} next c table window old new (Ok (tt {0})) shows.0 [] was.0 has.values was.1.3 (append-nil _ ∙ shows.1) shows.2 was.2 refl

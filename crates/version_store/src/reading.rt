@@ -17,7 +17,7 @@ use period_core::{Day, DecodeFault, Moment, Period, Refusal, Values, VersionRow,
 use sqlite::{Connection, Row};
 use sqlite_trees::store::Alter;
 use std::alloc::Global;
-use version_tables::{bytes_at, number_at, rows_of};
+use version_tables::{bytes_at, number_at, rows_of, to_next_row};
 
 /// The day at a place of a row.
 fn day_at(row: &Row, at: usize) -> Option<Day>
@@ -79,21 +79,6 @@ pub(crate) fn read_version(alloc: Global, row: &Row) -> Result<VersionRow, Refus
     }
 }
 
-/// The version rows that the rows of the query show.
-fn read_versions(alloc: Global, rows: &[Row]) -> Result<Vec<VersionRow>, Refusal>
-    ensures shown { IfOk result (λ versions.
-        rows.now ≡ map (λ v. shown (written_version (version_in 0 v))) versions.items) }
-    ensures values { IfOk result (λ versions.
-        AllByRecursion (λ v. All IsColumnValue v.values) versions.items) }
-    ensures named { IfErr result IsStoreRefusal }
-{
-    let mut versions = Vec::new(alloc);
-    for row in rows {
-        versions.push(read_version(alloc, row)?)?;
-    }
-    Ok(versions)
-}
-
 /// The version rows of the table of a number, in order.
 pub(crate) fn table_rows<S: Alter>(
     alloc: Global,
@@ -109,8 +94,19 @@ pub(crate) fn table_rows<S: Alter>(
     ensures mode { connection.new.in_transaction ≡ false }
     ensures named { IfErr result IsStoreRefusal }
 {
-    match rows_of(connection, u32::from(table)) {
-        Ok(rows) => read_versions(alloc, rows.as_slice()),
-        Err(error) => Err(refusal_of(&error)),
+    let mut rows = match rows_of(connection, u32::from(table)) {
+        Ok(rows) => rows,
+        Err(error) => return Err(refusal_of(&error)),
+    };
+    let mut versions = Vec::new(alloc);
+    'rows: for _ in 0..u64::MAX {
+        if let Err(error) = to_next_row(&mut rows) {
+            return Err(refusal_of(&error));
+        }
+        let Some(row) = rows.get() else {
+            return Ok(versions);
+        };
+        versions.push(read_version(alloc, row)?)?;
     }
+    Err(Refusal::Memory)
 }

@@ -1,4 +1,4 @@
-//! Version rows handed over to a visitor, one at a time.
+//! Version rows handed over to a visitor, one at a time, as they are read.
 
 ghost use Rattle.std.specs.Prelude.{◌≡◌, ◌⊎◌, ℕ, List, false, filter, fold, length, map, take};
 ghost use Rattle.std.specs.Prelude.{◌∷◌, [], IfErr, OnErr, OnOk};
@@ -22,7 +22,7 @@ use period_core::{Refusal, VersionRow, Window};
 use sqlite::{Connection, Row};
 use sqlite_trees::store::Alter;
 use std::alloc::Global;
-use version_tables::rows_of;
+use version_tables::{rows_of, to_next_row};
 
 /// Hands the version row over to the visitor, if the window sees it.
 fn visit_seen<V: RowVisitor>(
@@ -41,34 +41,25 @@ fn visit_seen<V: RowVisitor>(
     Ok(())
 }
 
-/// Hands the version rows that the window sees over to the visitor, as the rows of the query show
-/// them.
-fn visit_rows<V: RowVisitor>(
+/// Hands the version row that a row of the query shows over to the visitor, if the window sees it.
+fn visit_row<V: RowVisitor>(
     alloc: Global,
-    rows: &[Row],
+    row: &Row,
     window: &Window,
     visitor: &mut V,
 ) -> Result<(), Refusal>
-    ensures visited { (versions : List AnyRow) × (n : ℕ)
-        × (take n rows.now
-        ≡ map (λ (v : AnyRow). shown (written_version (version_in 0 v))) versions)
-        × AllByRecursion (λ (v : AnyRow). All IsColumnValue v.values) versions
+    ensures visited { OnOk result ((version : AnyRow)
+        × (row.now ≡ shown (written_version (version_in 0 version)))
+        × All IsColumnValue version.values
         × (V.meaning visitor.new ≡ fold V.next (V.meaning visitor.old)
-        (filter (λ (v : AnyRow). window_sees window.now v.from v.to) versions))
-        × OnOk result (n ≡ length rows.now) }
+        (filter (λ (v : AnyRow). window_sees window.now v.from v.to) (version ∷ [])))) }
+    ensures refused { OnErr result (V.meaning visitor.new ≡ V.meaning visitor.old) }
     ensures named { IfErr result (λ refusal. IsStoreRefusal refusal ⊎ V.may_refuse refusal) }
 {
-    for row in rows {
-        let version = match read_version(alloc, row) {
-            Ok(version) => version,
-            Err(refusal) => return Err(refusal),
-        };
-        match visit_seen(version, window, visitor) {
-            Ok(()) => {}
-            Err(refusal) => return Err(refusal),
-        }
+    match read_version(alloc, row) {
+        Ok(version) => visit_seen(version, window, visitor),
+        Err(refusal) => Err(refusal),
     }
-    Ok(())
 }
 
 /// Hands the version rows of the table of a number that the window sees over to the visitor, in
@@ -91,8 +82,20 @@ pub(crate) fn scan_rows<S: Alter, V: RowVisitor>(
     ensures mode { connection.new.in_transaction ≡ false }
     ensures named { IfErr result (λ refusal. IsStoreRefusal refusal ⊎ V.may_refuse refusal) }
 {
-    match rows_of(connection, u32::from(table)) {
-        Ok(rows) => visit_rows(alloc, rows.as_slice(), &window, visitor),
-        Err(error) => Err(refusal_of(&error)),
+    let mut rows = match rows_of(connection, u32::from(table)) {
+        Ok(rows) => rows,
+        Err(error) => return Err(refusal_of(&error)),
+    };
+    'rows: for _ in 0..u64::MAX {
+        if let Err(error) = to_next_row(&mut rows) {
+            return Err(refusal_of(&error));
+        }
+        let Some(row) = rows.get() else {
+            return Ok(());
+        };
+        if let Err(refusal) = visit_row(alloc, row, &window, visitor) {
+            return Err(refusal);
+        }
     }
+    Err(Refusal::Memory)
 }

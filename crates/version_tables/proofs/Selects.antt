@@ -79,7 +79,7 @@ selected (Ok k) c h = elim (cases_Bool (is_select k.command)) [
   | inr not_so ↦ absurd (let e = rw not_so at h in cc)
 ]
 
-understood_none : (schema : Schema) (sql : List ℕ) → IsQueryText sql → (c : Compiled) → understood schema sql ≡ Ok c → c.returning ≡ None
+pub understood_none : (schema : Schema) (sql : List ℕ) → IsQueryText sql → (c : Compiled) → understood schema sql ≡ Ok c → c.returning ≡ None
 unfolding understood
 understood_none schema sql reads c is = elim (cases_Bool (reads_listing schema sql)) [
   | inl so ↦ compiled_none listing_schema sql reads c (selected (compiled listing_schema sql) c (rw so at is))
@@ -106,6 +106,9 @@ module _ (sql : List ℕ) (reads : IsQueryText sql) (params : Row) (old new : St
     now = λ on. (undone.undone on).0 ∙ sym (settled (undone.was_open on));
     committed = λ on. (undone.undone on).1;
   }
+
+  pub failed_keeps : (IsTrue old.is_open → old.now ≡ old.committed) → (e : Error) → FailsToQuery sql params old new e → Keeps old new
+  failed_keeps settled e err = keeps_by settled (fails_by e err)
 
   pub query_unchanged : (r : Result (Vec Row Global) Error) → IfOk r (λ rows. Shown sql params old new rows.items) → OnOk r (IsUnchanged old new)
   query_unchanged (Ok rows) ok = unchanged_by rows.items ok

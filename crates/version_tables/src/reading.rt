@@ -1,32 +1,58 @@
-//! The queries. Each is run outside a transaction, and answers all its rows at once.
+//! The queries. Each is run outside a transaction. That of one table gives its rows one at a time,
+//! the others answer all their rows at once.
 
-ghost use Rattle.std.specs.Prelude.{◌≡◌, false, map, IfOk, IsPermutation, List};
-ghost use Rattle.sqlite.specs.Held.{state};
+ghost use Rattle.std.specs.Prelude.{◌≡◌, ℕ, List, [], false, map, IfOk, OnErr, OnOk};
+ghost use Rattle.std.specs.Prelude.{IsPermutation};
+ghost use Rattle.std.specs.Borrow.{sem, RestsIfErr};
+ghost use Rattle.sqlite.specs.contracts.connection.Connection.{the_row};
+ghost use Rattle.sqlite.specs.Given.{row_if};
+ghost use Rattle.sqlite.specs.Held.{Held, state};
+ghost use Rattle.sqlite.specs.Order.{Row as Values};
 ghost use Rattle.sqlite.specs.State.{HasCleanDisk};
-ghost use Rattle.version_tables.specs.Represents.{AreOfTable, Records, Represents, Version};
-ghost use Rattle.version_tables.specs.Represents.{meta_shown, rowid_shown, shown, table_shown};
+ghost use Rattle.version_tables.specs.Giving.{GivesNext, HasGivenRows, IsLeft};
+ghost use Rattle.version_tables.specs.Represents.{meta_shown, rowid_shown, table_shown};
 ghost use Rattle.version_tables.specs.Represents.{version_shown};
 ghost use Rattle.version_tables.specs.Rows.{InOrder, by_rowid};
 ghost use Rattle.version_tables.specs.Steps.{OnlyReads, Tells};
 
-use sqlite::{Alter, Connection, Error, Row, params};
+use sqlite::{Alter, Connection, Error, Row, Rows, params};
 
-/// The versions of the table of a number, by values, then period start, then system start. A row
-/// has the values' bytes, the two days and the two moments.
-pub fn rows_of<S: Alter>(connection: &mut Connection<S>, table: u32) -> Result<Vec<Row>, Error>
+/// The query of the versions of the table of a number, which gives one row at a time: by values,
+/// then period start, then system start. A row has the values' bytes, the two days and the two
+/// moments.
+pub fn rows_of<S: Alter>(connection: &mut Connection<S>, table: u32) -> Result<Rows<'_, S>, Error>
     requires { connection.old.in_transaction ≡ false }
-    ensures shows { HasCleanDisk (state S.Store connection.new)
-        → (records : Records) → Represents (state S.Store connection.old).now records
-        → IfOk result (λ rows. (found : List Version)
-        × (rows.items ≡ map shown found) × AreOfTable records table found) }
-    ensures reads { OnlyReads S.Store connection.old connection.new result }
-    ensures mode { connection.new.in_transaction ≡ false }
+    ensures* refused { sem 𝓛 (RestsIfErr (the_row S.row S.Store) connection.entry
+        (λ rows. rows.conn.ghost_name) result (IsLeft S.Store connection.old)) }
+    ensures same_reference { IfOk result
+        (λ rows. rows.conn.ghost_name ≡ connection.entry.ghost_name) }
+    ensures begun { IfOk result
+        (λ rows. HasGivenRows S.Store table connection.old rows.conn.now []) }
+    ensures mode { IfOk result (λ rows. rows.conn.now.in_transaction ≡ false) }
 {
     let _settled = connection.is_autocommit();
-    connection.query_all(
+    connection.query(
         "SELECT vals, s, e, ss, se FROM bt_version WHERE tab = ?1 ORDER BY vals, s, ss",
         params![table],
     )
+}
+
+/// Moves to the next row of that query, or past the last. An error ends the query.
+pub fn to_next_row<S: Alter>(rows: &mut Rows<'_, S>) -> Result<(), Error>
+    ensures same_reference { rows.new.conn.ghost_name ≡ rows.old.conn.ghost_name }
+    ensures gives { (table : ℕ) (first : Held S) (given : List Values)
+        → HasGivenRows S.Store table first rows.old.conn.now given
+        → OnOk result (GivesNext S.Store table first rows.new.conn.now given
+        (row_if rows.new.has_row rows.new.conn.now)) }
+    ensures left { (table : ℕ) (first : Held S) (given : List Values)
+        → HasGivenRows S.Store table first rows.old.conn.now given
+        → OnErr result (IsLeft S.Store first rows.new.conn.now) }
+    ensures clean { HasCleanDisk (state S.Store rows.new.conn.now)
+        → HasCleanDisk (state S.Store rows.old.conn.now) }
+    ensures mode { rows.old.conn.now.in_transaction ≡ false
+        → rows.new.conn.now.in_transaction ≡ false }
+{
+    rows.advance()
 }
 
 /// The rows of bt_meta: each has the number, the form and the clock.

@@ -1,23 +1,22 @@
-use Rattle.std.proofs.Common.{rules, pos, [], ◌∷◌}
+use Rattle.std.proofs.Common.{◌≡◌, IfOk, false, IsTrue, rules, pos, [], ◌∷◌, refl}
+use Rattle.sqlite.specs.declared.connection.Connection.{Connection}
 use Rattle.sqlite.specs.Held.{state}
 use Rattle.sqlite.specs.declared.types.Value.TheVariants.{Int}
 use Rattle.version_tables.specs.Texts.{select_text}
-use Rattle.version_tables.proofs.Shows.{reads_if}
-use Rattle.version_tables.proofs.Selects.{select_reads, query_unchanged, query_keeps}
+use Rattle.version_tables.proofs.Giving.{given_none, left}
 use Rattle.version_tables.proofs.reading.rows_of.Goals as goal
 
-pub returns-clause-shows : goal.returns-clause-shows
-returns-clause-shows g c clean m was =
-    reads_if (state g.S.Store c.args.connection.now) (state g.S.Store c.query_all.new.self) c.args.table c.query_all.result m was (rw c.params-to_sql.ensures at (c.query_all.ensures.ok clean))
-
-pub returns-clause-reads : goal.returns-clause-reads
-returns-clause-reads g c =
-    let old = state g.S.Store c.args.connection.now in
-    let new = state g.S.Store c.query_all.new.self in
-    let params = Int (pos c.args.table) ∷ [] in
-    record {
-      clean = search rules;
-      unchanged = λ clean. query_unchanged select_text select_reads params old new c.query_all.result (rw c.params-to_sql.ensures at (c.query_all.ensures.ok clean));
-      keeps = λ clean.
-          query_keeps select_text select_reads params old new (search rules) c.query_all.result (rw c.params-to_sql.ensures at (c.query_all.ensures.ok clean)) (rw c.params-to_sql.ensures at (c.query_all.ensures.err clean));
-    }
+pub returns : goal.returns
+returns g c =
+    let old = c.args.connection.now in
+    let after = c.query.follows.lender-at-none in
+    let settled : IsTrue (state g.S.Store old).is_open → (state g.S.Store old).now ≡ (state g.S.Store old).committed = search rules in
+    let mode : IfOk c.query.result (λ rows. rows.conn.now.in_transaction ≡ false) = search rules in (
+      (refl, c.query.follows.holds, left g.S.Store c.args.table old after c.requires settled c.query.result (rw c.params-to_sql.ensures at c.query.follows.holds-at-none)),
+      record {
+        refused = tt;
+        same_reference = c.query.ensures.same_reference;
+        begun = given_none g.S.Store c.args.table old (λ rows. rows.conn.now) _ c.query.result settled (rw c.params-to_sql.ensures at c.query.ensures.begun) c.query.ensures.survives mode;
+        mode = mode;
+      },
+    )

@@ -1,0 +1,55 @@
+-- Version rows read from a query whose rows are given one at a time.
+use Rattle.std.proofs.Common.{◌≡◌, ℕ, List, [], ◌∷◌, ◌++◌, map, Option, Some, None, refl, sym, ap₂, subst, ◌∙◌}
+use Rattle.std.specs.List.{All, AllByRecursion}
+use Rattle.std.proofs.lemmas.List.{map-append}
+use Rattle.sqlite_trees.proofs.ListLemmas.{all-append}
+use Rattle.sqlite.specs.Store.{Ghosts}
+use Rattle.sqlite.specs.Order.{Row}
+use Rattle.sqlite.specs.Held.{Held, state}
+use Rattle.sqlite.specs.State.{HasCleanDisk}
+use Rattle.period_core.specs.Encoding.{IsColumnValue}
+use Rattle.period_core.specs.declared.version.VersionRow.{VersionRow}
+use Rattle.version_tables.specs.Giving.{GivesNext, HasGivenAll, HasGivenRows}
+use Rattle.version_tables.specs.Represents.{AreOfTable, Version, shown}
+use Rattle.version_store.specs.Contents.{Contents, version_in}
+use Rattle.version_store.specs.Written.{Has, written, written_version}
+
+-- the rows of the query that show the version rows
+abbrev pub as_shown : List VersionRow → List Row
+as_shown = map (λ (v : VersionRow). shown (written_version (version_in 0 v)))
+
+abbrev pub HaveValues : List VersionRow → Type 0
+HaveValues = AllByRecursion (λ (v : VersionRow). All IsColumnValue v.values)
+
+-- the version rows are the first of the table
+abbrev AreFirst : Contents → ℕ → List VersionRow → List Row → Type 0
+AreFirst c table done more = (found : List Version) × (as_shown done ++ more ≡ map shown found) × AreOfTable (written c) table found
+
+module _ {S : Type 0} (g : Ghosts S) (table : ℕ) (first : Held S) where
+  -- the query of the table has given the rows that show these version rows
+  abbrev pub HasRead : Held S → List VersionRow → Type 0
+  HasRead now done = (given : List Row) × HasGivenRows g table first now given × (given ≡ as_shown done) × HaveValues done
+
+  pub none_read : (now : Held S) (n : ℕ) → n ≡ table → HasGivenRows g n first now [] → HasRead now []
+  none_read now n same begun = ([], subst (λ t. HasGivenRows g t first now []) same begun, refl, tt)
+
+  pub one_read : (now : Held S) (given : List Row) (done : List VersionRow) → given ≡ as_shown done → HaveValues done → (row : Row) (next : Option Row) → GivesNext g table first now given next → next ≡ Some row
+      → (v : VersionRow) → row ≡ shown (written_version (version_in 0 v)) → All IsColumnValue v.values → HasRead now (done ++ v ∷ [])
+  one_read now given done read held row next gives is v shows values = (
+    given ++ row ∷ [],
+    rw is at gives,
+    ap₂ (λ a b. a ++ b ∷ []) read shows ∙ sym (map-append _ done (v ∷ [])),
+    all-append (λ (w : VersionRow). All IsColumnValue w.values) done (v ∷ []) held (values, tt),
+  )
+
+  pub some_read : (now : Held S) (done : List VersionRow) → HasRead now done → HasCleanDisk (state g now) → (c : Contents) → Has (state g first).now c → (more : List Row) × AreFirst c table done more
+  some_read now done was clean c has =
+      let shows = was.1.rows clean (written c) has.rows in
+      (shows.0, (shows.1.0, subst (λ given. given ++ shows.0 ≡ map shown shows.1.0) was.2 shows.1.1, shows.1.2))
+
+  -- they are all
+  pub all_read : (now : Held S) (given : List Row) (done : List VersionRow) → given ≡ as_shown done → HasGivenAll g table first now given → HasCleanDisk (state g now) → (c : Contents) → Has (state g first).now c
+      → (found : List Version) × (as_shown done ≡ map shown found) × AreOfTable (written c) table found
+  all_read now given done read all clean c has =
+      let shows = all.rows clean (written c) has.rows in
+      (shows.0, sym read ∙ shows.1, shows.2)
