@@ -1,0 +1,10 @@
+//! Rows of a table or entries of an index, in order, in a balanced tree whose parts are shared between
+//! its versions: an edit makes new what lies on the way to one row, some twice the binary logarithm of
+//! their number, and every other version stays as it is.
+#![tactic(auto)]
+
+pub mod cursor;
+pub mod rows;
+
+pub use cursor::RowCursor;
+pub use rows::OrderedRows;
