@@ -1,1 +1,3 @@
 pub mod Cursors
+pub mod ForkDepths
+pub mod Forks

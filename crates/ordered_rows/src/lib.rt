@@ -5,6 +5,7 @@
 
 pub mod cursor;
 pub mod rows;
+mod tree;
 
 pub use cursor::RowCursor;
 pub use rows::OrderedRows;
