@@ -1,3 +1,5 @@
 pub mod Cursors
-pub mod ForkDepths
 pub mod Forks
+pub mod ForkDepths
+pub mod Places
+pub mod Edits

@@ -4,6 +4,7 @@
 #![tactic(auto)]
 
 pub mod cursor;
+mod place;
 pub mod rows;
 mod tree;
 

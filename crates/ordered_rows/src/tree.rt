@@ -1,4 +1,4 @@
-//! A balanced tree of rows, which contracts see as their list.
+//! A balanced tree of rows, which contracts see as the list of these rows.
 
 ghost use Rattle.std.specs.Prelude.{◌≡◌, [], ◌∷◌, ◌++◌, IfOk};
 
@@ -7,6 +7,10 @@ use std::alloc::{AllocError, Global};
 use std::marker::Model;
 use std::rc::Rc;
 
+mod balance;
+mod edits;
+
+/// Trees share their forks, so that another version of a tree takes no copy of it.
 #[cycle(tree)]
 #[derive(Drop)]
 pub(crate) struct Tree {
@@ -20,6 +24,7 @@ pub(crate) enum Link {
     Fork(Rc<Fork>),
 }
 
+/// A row, and the rows on either side of it. The height is one more than that of the higher side.
 #[cycle(tree)]
 #[derive(Drop)]
 pub(crate) struct Fork {
@@ -57,6 +62,7 @@ impl Tree {
         Tree { root: Link::Leaf }
     }
 
+    /// The same tree: no row is copied.
     pub(crate) fn share(&self) -> Result<Tree, AllocError>
         ensures { IfOk result (λ tree. tree ≡ self.now) }
     {
@@ -78,6 +84,7 @@ impl Tree {
         }
     }
 
+    /// A row between two trees, whose heights differ by one at most.
     fn joined(
         alloc: Global,
         left: Tree,
