@@ -89,8 +89,14 @@ module _ (side : Row → Ordering) where
     pub new_lower : (replaces : Bool) (new : Row) → side r ≡ Greater → with_new side replaces new xs ++ r ∷ ys ≡ with_new side replaces new rows
     new_lower replaces new here = rw is (sym (with_new_below replaces new xs r ys here))
 
-    pub new_here : (replaces : Bool) (new : Row) → side r ≡ Equal → xs ++ cond replaces new r ∷ ys ≡ with_new side replaces new rows
+    new_here : (replaces : Bool) (new : Row) → side r ≡ Equal → xs ++ cond replaces new r ∷ ys ≡ with_new side replaces new rows
     new_here replaces new here = rw is (sym (with_new_at replaces new xs r ys (all_below xs r ys up (ap is_gt here)) here))
+
+    pub new_replaces : (replaces : Bool) (new : Row) → replaces ≡ true → side r ≡ Equal → xs ++ new ∷ ys ≡ with_new side replaces new rows
+    new_replaces replaces new is_so here = ap (λ b. xs ++ cond b new r ∷ ys) (sym is_so) ∙ new_here replaces new here
+
+    pub old_stays : (replaces : Bool) (new : Row) → replaces ≡ false → side r ≡ Equal → rows ≡ with_new side replaces new rows
+    old_stays replaces new is_not here = is ∙ ap (λ b. xs ++ cond b new r ∷ ys) (sym is_not) ∙ new_here replaces new here
 
     none_lower : is_gt (side r) ≡ false → AllByRecursion (λ x. is_eq (side x) ≡ false) xs
     none_lower low = all_weaker Below (λ x. is_eq (side x) ≡ false) (λ x h. ap is_eq h) xs (all_below xs r ys up low)

@@ -3,3 +3,5 @@ pub mod Forks
 pub mod ForkDepths
 pub mod Places
 pub mod Edits
+pub mod Steps
+pub mod Seeks
