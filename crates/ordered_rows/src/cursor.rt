@@ -1,11 +1,10 @@
 //! A place between two rows, and a direction.
 
 ghost use Rattle.std.specs.Prelude.{◌≡◌, IfOk};
-ghost use Rattle.ordered_rows.specs.Cursors.{Gives};
 
-use crate::tree::Fork;
-use crate::tree::walks;
+use crate::tree::{Fork, Tree};
 use sqlite_trees::store::Direction;
+use sqlite_value::keys::Order;
 use sqlite_value::row::Row;
 use std::alloc::{AllocError, Global};
 use std::marker::Model;
@@ -35,11 +34,12 @@ impl Model for RowCursor {
 }
 
 impl RowCursor {
+    ghost use Rattle.ordered_rows.specs.Cursors.{Gives};
     ghost use Rattle.ordered_rows.specs.Seeks.{IsSeekable};
     ghost use Rattle.sqlite_trees.specs.Tree.{sought};
 
     /// The rows of a tree from the key on.
-    pub(crate) fn seek(
+    pub(crate) fn at(
         alloc: Global,
         tree: &Tree,
         order: Order,
@@ -51,10 +51,15 @@ impl RowCursor {
     {
         let mut forks = Vec::new(alloc);
         match direction {
-            Direction::Forward => tree.push_from(&mut forks, order, key)?,
-            Direction::Backward => tree.push_up_to(&mut forks, order, key)?,
+            Direction::Forward => {
+                tree.push_from(&mut forks, order, key)?;
+                Ok(RowCursor { direction, forks })
+            }
+            Direction::Backward => {
+                tree.push_up_to(&mut forks, order, key)?;
+                Ok(RowCursor { direction, forks })
+            }
         }
-        Ok(RowCursor { direction, forks })
     }
 
     /// Writes the next row over `row` and moves past it, or answers false where none is left.
@@ -64,8 +69,10 @@ impl RowCursor {
         let Some(fork) = self.forks.pop() else {
             return Ok(false);
         };
+        let fork = fork.as_ref();
         row.copy_from(fork.row())?;
-        fork.push_far(&mut self.forks, self.direction)?;
+        let direction = self.direction;
+        fork.far(direction).push_all(&mut self.forks, direction)?;
         Ok(true)
     }
 }

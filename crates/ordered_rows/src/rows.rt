@@ -6,17 +6,21 @@ ghost use Rattle.sqlite_trees.specs.Tree.{rowid, sought, without_rowid};
 ghost use Rattle.sqlite_trees.specs.View.{Finds, IsShaped, is_int};
 
 use crate::cursor::RowCursor;
+use crate::place::Place;
+use crate::tree::Tree;
 use sqlite_trees::store::{Direction, Shape};
 use sqlite_value::keys::Order;
 use sqlite_value::row::Row;
+use sqlite_value::value::ValueRef;
 use std::alloc::{AllocError, Global};
 use std::marker::Model;
+use std::rc::Rc;
 
 /// Rows in order, which contracts see as their list.
 #[derive(Drop)]
 pub struct OrderedRows {
     alloc: Global,
-    rows: Vec<Row>,
+    tree: Tree,
 }
 
 impl Model for OrderedRows {
@@ -29,7 +33,7 @@ impl Model for OrderedRows {
 
     ghost coded = { coded_list the_row.coded };
 
-    ghost view = { λ r. r.rows.items };
+    ghost view = { λ r. r.tree };
 }
 
 impl OrderedRows {
@@ -38,7 +42,7 @@ impl OrderedRows {
     {
         OrderedRows {
             alloc,
-            rows: Vec::new(alloc),
+            tree: Tree::empty(),
         }
     }
 
@@ -46,7 +50,11 @@ impl OrderedRows {
     pub fn share(&self) -> Result<OrderedRows, AllocError>
         ensures { IfOk result (λ rows. rows ≡ self.now) }
     {
-        Err(AllocError)
+        let tree = self.tree.share()?;
+        Ok(OrderedRows {
+            alloc: self.alloc,
+            tree,
+        })
     }
 
     /// Writes the row that has the rowid over `row`, or answers false.
@@ -54,7 +62,7 @@ impl OrderedRows {
         requires { IsShaped Shape.Table self.now }
         ensures { IfOk result (Finds self.now id row.new) }
     {
-        Err(AllocError)
+        self.tree.find(Place::Rowid(ValueRef::Int(id)), row)
     }
 
     /// Inserts the row, or replaces the one that has its rowid.
@@ -64,7 +72,10 @@ impl OrderedRows {
         ensures ok { OnOk result (self.new ≡ put_row row.now self.old) }
         ensures err { OnErr result (self.new ≡ self.old) }
     {
-        Err(AllocError)
+        let new = Rc::new(self.alloc, row.copy(self.alloc)?)?;
+        let place = Place::Rowid(row.get(0));
+        self.tree = self.tree.with_new(self.alloc, place, &new, true)?;
+        Ok(())
     }
 
     pub fn delete(&mut self, id: i64) -> Result<(), AllocError>
@@ -72,7 +83,9 @@ impl OrderedRows {
         ensures ok { OnOk result (self.new ≡ without_rowid id self.old) }
         ensures err { OnErr result (self.new ≡ self.old) }
     {
-        Err(AllocError)
+        let place = Place::Rowid(ValueRef::Int(id));
+        self.tree = self.tree.without(self.alloc, place)?;
+        Ok(())
     }
 
     /// Inserts the entry, unless an equal one is there.
@@ -81,7 +94,10 @@ impl OrderedRows {
         ensures ok { OnOk result (self.new ≡ insert_entry order entry.now self.old) }
         ensures err { OnErr result (self.new ≡ self.old) }
     {
-        Err(AllocError)
+        let new = Rc::new(self.alloc, entry.copy(self.alloc)?)?;
+        let place = Place::Entry(order, entry);
+        self.tree = self.tree.with_new(self.alloc, place, &new, false)?;
+        Ok(())
     }
 
     pub fn remove(&mut self, order: Order, entry: &Row) -> Result<(), AllocError>
@@ -89,7 +105,9 @@ impl OrderedRows {
         ensures ok { OnOk result (self.new ≡ remove_entry order entry.now self.old) }
         ensures err { OnErr result (self.new ≡ self.old) }
     {
-        Err(AllocError)
+        let place = Place::Entry(order, entry);
+        self.tree = self.tree.without(self.alloc, place)?;
+        Ok(())
     }
 
     /// A cursor at the first row that is not below the key, or at the last that is not above it.
@@ -103,6 +121,10 @@ impl OrderedRows {
         ensures { IfOk result (λ cursor. cursor
             ≡ sought (order_of shape) direction key.now self.now) }
     {
-        Err(AllocError)
+        let order = match shape {
+            Shape::Index(order) | Shape::FrozenIndex(order) => order,
+            _ => Order::PLAIN,
+        };
+        RowCursor::at(self.alloc, &self.tree, order, key, direction)
     }
 }
