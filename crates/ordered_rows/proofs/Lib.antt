@@ -1,2 +1,4 @@
 pub mod Cuts
 pub mod Forked
+pub mod Orders
+pub mod Walks
