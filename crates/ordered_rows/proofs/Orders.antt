@@ -1,9 +1,10 @@
 -- Tables and indexes are in the orders that edits and seeks go by, and what their edits are.
-use Rattle.std.proofs.Common.{◌≡◌, true, false, List, [], ◌∷◌, refl, sym, ap, ◌∙◌, Ordering, Less, Equal, Greater, is_lt, true≢false}
-use Rattle.std.specs.Ordering.{match_ordering}
+use Rattle.std.proofs.Common.{◌≡◌, true, false, List, [], ◌∷◌, refl, sym, ap, ◌∙◌, Ordering, Less, Equal, Greater, is_lt, true≢false, Bor}
 use Rattle.std.specs.Cmp.{IsTotalOrder}
-use Rattle.std.specs.Ordering.{ordering_reverse}
+use Rattle.std.specs.Ordering.{match_ordering, ordering_reverse}
 use Rattle.sqlite_value.specs.declared.value.Value.{Value}
+use Rattle.sqlite_value.specs.declared.value.ValueRef.{ValueRef}
+use Rattle.sqlite_value.specs.Value.{owned}
 use Rattle.sqlite_value.specs.declared.keys.Order.{Order}
 use Rattle.sqlite_value.specs.Order.{Row, value_cmp}
 use Rattle.sqlite_value.specs.Keys.{entry_cmp}
@@ -14,6 +15,8 @@ use Rattle.sqlite_trees.specs.Tree.{IsIndex, IsTable, insert_entry, order_of, pu
 use Rattle.sqlite_trees.specs.View.{IsShaped}
 use Rattle.sqlite_trees.proofs.ListLemmas.{ascending_weaker}
 use Rattle.sqlite_trees.proofs.TreeLemmas.{AtMost, above, prefix_cmp_follows, sorted_shape}
+use Rattle.ordered_rows.specs.declared.place.Place.TheVariants.{Entry, Rowid}
+use Rattle.ordered_rows.specs.Places.{side}
 use Rattle.ordered_rows.specs.Edits.{IsCut, with_new}
 use Rattle.ordered_rows.specs.Seeks.{IsSeekable}
 
@@ -42,3 +45,11 @@ put_row-with_new new (r ∷ rows) = ap (λ l. match_ordering (value_cmp (rowid r
 pub insert_entry-with_new : (o : Order) (new : Row) (rows : List Row) → insert_entry o new rows ≡ with_new (λ r. entry_cmp o r new) false new rows
 insert_entry-with_new o new [] = refl
 insert_entry-with_new o new (r ∷ rows) = ap (λ l. match_ordering (entry_cmp o r new) (r ∷ l) (r ∷ rows) (new ∷ r ∷ rows)) (insert_entry-with_new o new rows)
+
+pub row_put : {made tree rows : List Row} {new row : Row} (id : ValueRef) → made ≡ with_new (side (Rowid id)) true new tree → tree ≡ rows → new ≡ row → owned id ≡ rowid row → made ≡ put_row row rows
+row_put {made} {tree} {rows} {new} {row} id is same_tree same_row same_id =
+    is ∙ (λ i. with_new (λ r. value_cmp (rowid r) (same_id i)) true (same_row i) (same_tree i)) ∙ sym (put_row-with_new row rows)
+
+pub entry_inserted : {made tree rows : List Row} {new : Row} (o : Order) (entry : Bor Row) → made ≡ with_new (side (Entry o entry)) false new tree → tree ≡ rows → new ≡ entry.now → made ≡ insert_entry o entry.now rows
+entry_inserted {made} {tree} {rows} {new} o entry is same_tree same_row =
+    is ∙ (λ i. with_new (λ r. entry_cmp o r entry.now) false (same_row i) (same_tree i)) ∙ sym (insert_entry-with_new o entry.now rows)
