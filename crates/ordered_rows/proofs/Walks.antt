@@ -26,6 +26,12 @@ unfolding step
 left-push d [] shared = sym (append-nil _)
 left-push d (g ∷ forks) shared = ap (λ l. l ++ step d g.value) (left-push d forks shared) ∙ append_assoc (step d shared.value) (left_to_give d forks) (step d g.value)
 
+-- the last fork is taken
+pub taken : (d : Direction) (f : Fork) (shared : Rc Fork Global) (forks : List (Rc Fork Global)) → shared.value ≡ f
+    → left_to_give d (forks ++ shared ∷ []) ≡ f.row.value ∷ (given d (far d f) ++ left_to_give d forks)
+unfolding step
+taken d f shared forks same = left-push d forks shared ∙ ap (λ g. step d g ++ left_to_give d forks) same
+
 -- the fork is kept, under what its near side gives
 kept : (d : Direction) (l : List Row) (f : Fork) (shared : Rc Fork Global) (forks : List (Rc Fork Global)) → shared.value ≡ f
     → l ++ left_to_give d (forks ++ shared ∷ []) ≡ (l ++ step d f) ++ left_to_give d forks
