@@ -121,10 +121,16 @@ impl OrderedRows {
         ensures { IfOk result (λ cursor. cursor
             ≡ sought (order_of shape) direction key.now self.now) }
     {
-        let order = match shape {
-            Shape::Index(order) | Shape::FrozenIndex(order) => order,
-            _ => Order::PLAIN,
-        };
-        RowCursor::at(self.alloc, &self.tree, order, key, direction)
+        RowCursor::at(self.alloc, &self.tree, key_order(shape), key, direction)
+    }
+}
+
+/// The order of an index's entries, and the plain one for a table's rows.
+fn key_order(shape: Shape) -> Order
+    ensures { result ≡ order_of shape }
+{
+    match shape {
+        Shape::Index(order) | Shape::FrozenIndex(order) => order,
+        Shape::Absent | Shape::Table | Shape::Pageless | Shape::FrozenTable => Order::PLAIN,
     }
 }
