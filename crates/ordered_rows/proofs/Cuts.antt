@@ -1,5 +1,5 @@
 -- Rows in order around one of them, and what an edit or a look-up does on either side of it.
-use Rattle.std.proofs.Common.{◌≡◌, Bool, true, false, not, cond, List, [], ◌∷◌, ◌++◌, filter, refl, sym, ap, ◌∙◌, subst, Ordering, Less, Equal, Greater, is_lt, is_gt, is_eq, true≢false}
+use Rattle.std.proofs.Common.{◌≡◌, Bool, true, false, not, cond, List, [], ◌∷◌, ◌++◌, refl, sym, ap, ◌∙◌, subst, Ordering, Less, Equal, Greater, is_lt, is_gt, is_eq, true≢false}
 use Rattle.std.specs.List.{AllByRecursion}
 use Rattle.std.specs.Ordering.{match_ordering}
 use Rattle.std.proofs.lemmas.List.{append-nil}
@@ -66,7 +66,7 @@ module _ (side : Row → Ordering) where
   with_new_below replaces new [] r ys here = rw here
   with_new_below replaces new (x ∷ xs) r ys here =
       elim (side x) as (λ o. match_ordering o (x ∷ with_new side replaces new (xs ++ r ∷ ys)) (cond replaces new x ∷ (xs ++ r ∷ ys)) (new ∷ x ∷ (xs ++ r ∷ ys))
-        ≡ match_ordering o (x ∷ with_new side replaces new xs) (cond replaces new x ∷ xs) (new ∷ x ∷ xs) ++ r ∷ ys)
+      ≡ match_ordering o (x ∷ with_new side replaces new xs) (cond replaces new x ∷ xs) (new ∷ x ∷ xs) ++ r ∷ ys)
       [ Less ↦ ap (λ l. x ∷ l) (with_new_below replaces new xs r ys here) | Equal ↦ refl | Greater ↦ refl ]
 
   others : (zs : List Row) → AllByRecursion (λ x. is_eq (side x) ≡ false) zs → without side zs ≡ zs

@@ -1,5 +1,5 @@
 -- What a cursor gives, and what it keeps for that.
-use Rattle.std.specs.Prelude.{◌≡◌, Bool, true, false, List, [], ◌∷◌, ◌++◌, reverse}
+use Rattle.std.specs.Prelude.{◌≡◌, Bool, true, false, List, [], ◌∷◌}
 use Rattle.sqlite_value.specs.Order.{Row}
 
 -- the first of the rows that were left, or none was left

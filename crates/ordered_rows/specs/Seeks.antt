@@ -1,5 +1,5 @@
 -- The order that a seek goes by.
-use Rattle.std.specs.Prelude.{◌≡◌, List, IsTrue}
+use Rattle.std.specs.Prelude.{List, IsTrue}
 use Rattle.std.specs.Ordering.{is_lt, is_gt}
 use Rattle.sqlite_value.specs.declared.keys.Order.{Order}
 use Rattle.sqlite_value.specs.Order.{Row}

@@ -86,12 +86,7 @@ impl Tree {
     }
 
     /// A row between two trees, whose heights differ by one at most.
-    fn joined(
-        alloc: Global,
-        left: Tree,
-        row: Rc<Row>,
-        right: Tree,
-    ) -> Result<Tree, AllocError>
+    fn joined(alloc: Global, left: Tree, row: Rc<Row>, right: Tree) -> Result<Tree, AllocError>
         ensures { IfOk result (λ tree. tree ≡ left ++ row.value ∷ right) }
     {
         let height = left.height().max(right.height()).saturating_add(1);

@@ -59,12 +59,7 @@ impl Tree {
     }
 
     /// The same where the right tree is higher by two.
-    fn turned_left(
-        alloc: Global,
-        left: Tree,
-        row: Rc<Row>,
-        right: Tree,
-    ) -> Result<Tree, AllocError>
+    fn turned_left(alloc: Global, left: Tree, row: Rc<Row>, right: Tree) -> Result<Tree, AllocError>
         ensures { IfOk result (λ tree. tree ≡ left ++ row.value ∷ right) }
     {
         let Link::Fork(outer) = &right.root else {

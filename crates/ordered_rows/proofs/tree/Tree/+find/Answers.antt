@@ -1,4 +1,4 @@
-use Rattle.std.proofs.Common.{◌≡◌, Less, Equal, Greater, true, rules}
+use Rattle.std.proofs.Common.{◌≡◌, Less, Equal, Greater, rules}
 use Rattle.std.proofs.lemmas.Result.{IfOk-weaker}
 use Rattle.ordered_rows.specs.Places.{side}
 use Rattle.ordered_rows.proofs.Cuts.{at_here, at_lower, at_upper, cut_lower, cut_upper}
