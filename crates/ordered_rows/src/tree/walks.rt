@@ -78,8 +78,8 @@ impl Tree {
         here.left.push_from(forks, order, key)
     }
 
-    /// The rows up to the last that is not above the key are to come, from the last on, before those
-    /// that were.
+    /// The rows up to the last that is not above the key are to come, from the last on, before
+    /// those that were.
     pub(crate) fn push_up_to(
         &self,
         forks: &mut Vec<Rc<Fork>>,
