@@ -1,0 +1,2 @@
+//! A store in memory.
+#![tactic(auto)]

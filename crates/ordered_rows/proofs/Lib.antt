@@ -1,0 +1,5 @@
+pub mod Cuts
+mod Examples
+pub mod Forked
+pub mod Orders
+pub mod Walks

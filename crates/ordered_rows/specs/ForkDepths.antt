@@ -1,0 +1,12 @@
+-- Each side of a fork has fewer rows than the fork.
+use Rattle.std.specs.Prelude.{◌≤◌, max, ◌∷◌, length}
+use Rattle.std.proofs.Common.{arith, length-append}
+use Rattle.ordered_rows.specs.declared.tree.Link.{Link}
+use Rattle.ordered_rows.specs.declared.tree.Link.TheVariants.{Leaf, Fork}
+use Rattle.ordered_rows.specs.declared.tree.Tree.TheDeep.{deep-Link}
+use Rattle.ordered_rows.specs.Forks.{rows_of}
+
+pub depth_le_length : (l : Link) → max (deep-Link l) 0 ≤ length (rows_of l)
+depth_le_length Leaf = omega arith
+depth_le_length (Fork f) =
+    omega (arith, length-append f.value.left (f.value.row.value ∷ f.value.right))

@@ -1,0 +1,7 @@
+pub mod Cursors
+pub mod Forks
+pub mod ForkDepths
+pub mod Places
+pub mod Edits
+pub mod Steps
+pub mod Seeks

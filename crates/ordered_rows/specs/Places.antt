@@ -1,0 +1,13 @@
+-- The place of a rowid or of an entry among the rows.
+use Rattle.std.specs.declared.cmp.Ordering.{Ordering}
+use Rattle.sqlite_value.specs.Value.{owned}
+use Rattle.sqlite_value.specs.Order.{Row, value_cmp}
+use Rattle.sqlite_value.specs.Keys.{entry_cmp}
+use Rattle.sqlite_trees.specs.Tree.{rowid}
+use Rattle.ordered_rows.specs.declared.place.Place.{Place}
+use Rattle.ordered_rows.specs.declared.place.Place.TheVariants.{Rowid, Entry}
+
+-- how a row compares with the place
+abbrev pub side : Place → Row → Ordering
+side (Rowid id) r = value_cmp (rowid r) (owned id)
+side (Entry o e) r = entry_cmp o r e.now

@@ -1,0 +1,13 @@
+-- The order that a seek goes by.
+use Rattle.std.specs.Prelude.{List, IsTrue}
+use Rattle.std.specs.Ordering.{is_lt, is_gt}
+use Rattle.sqlite_value.specs.declared.keys.Order.{Order}
+use Rattle.sqlite_value.specs.Order.{Row}
+use Rattle.sqlite_value.specs.Keys.{prefix_cmp}
+use Rattle.sqlite_trees.specs.Tree.{IsAscending}
+
+-- what is before a row below the key is below it too, and what is after one above it is above it
+abbrev pub IsSeekable : Order → Row → List Row → Type 0
+IsSeekable o key = IsAscending (λ a b.
+    (IsTrue (is_lt (prefix_cmp o b key)) → IsTrue (is_lt (prefix_cmp o a key)))
+    × (IsTrue (is_gt (prefix_cmp o a key)) → IsTrue (is_gt (prefix_cmp o b key))))

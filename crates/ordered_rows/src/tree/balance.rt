@@ -1,0 +1,85 @@
+//! Rotations, which keep a tree low and its rows as they are. No contract speaks of heights: a tree
+//! out of balance would be slow, and not wrong.
+
+ghost use Rattle.std.specs.Prelude.{◌≡◌, ◌∷◌, ◌++◌, IfOk};
+
+use super::{Link, Tree};
+use sqlite_value::row::Row;
+use std::alloc::{AllocError, Global};
+use std::rc::Rc;
+
+impl Tree {
+    /// A row between two balanced trees, whose heights differ by two at most.
+    pub(super) fn balanced(
+        alloc: Global,
+        left: Tree,
+        row: Rc<Row>,
+        right: Tree,
+    ) -> Result<Tree, AllocError>
+        ensures { IfOk result (λ tree. tree ≡ left ++ row.value ∷ right) }
+    {
+        let (left_height, right_height) = (left.height(), right.height());
+        if left_height > right_height.saturating_add(1) {
+            Tree::turned_right(alloc, left, row, right)
+        } else if right_height > left_height.saturating_add(1) {
+            Tree::turned_left(alloc, left, row, right)
+        } else {
+            Tree::joined(alloc, left, row, right)
+        }
+    }
+
+    /// The same where the left tree is higher by two.
+    fn turned_right(
+        alloc: Global,
+        left: Tree,
+        row: Rc<Row>,
+        right: Tree,
+    ) -> Result<Tree, AllocError>
+        ensures { IfOk result (λ tree. tree ≡ left ++ row.value ∷ right) }
+    {
+        let Link::Fork(outer) = &left.root else {
+            return Tree::joined(alloc, left, row, right);
+        };
+        let outer = outer.as_ref();
+        let inner = match &outer.right.root {
+            Link::Fork(inner) if outer.right.height() > outer.left.height() => inner.as_ref(),
+            _ => {
+                let far = Tree::joined(alloc, outer.right.share()?, row, right)?;
+                return Tree::joined(alloc, outer.left.share()?, outer.row.clone()?, far);
+            }
+        };
+        let near = Tree::joined(
+            alloc,
+            outer.left.share()?,
+            outer.row.clone()?,
+            inner.left.share()?,
+        )?;
+        let far = Tree::joined(alloc, inner.right.share()?, row, right)?;
+        Tree::joined(alloc, near, inner.row.clone()?, far)
+    }
+
+    /// The same where the right tree is higher by two.
+    fn turned_left(alloc: Global, left: Tree, row: Rc<Row>, right: Tree) -> Result<Tree, AllocError>
+        ensures { IfOk result (λ tree. tree ≡ left ++ row.value ∷ right) }
+    {
+        let Link::Fork(outer) = &right.root else {
+            return Tree::joined(alloc, left, row, right);
+        };
+        let outer = outer.as_ref();
+        let inner = match &outer.left.root {
+            Link::Fork(inner) if outer.left.height() > outer.right.height() => inner.as_ref(),
+            _ => {
+                let near = Tree::joined(alloc, left, row, outer.left.share()?)?;
+                return Tree::joined(alloc, near, outer.row.clone()?, outer.right.share()?);
+            }
+        };
+        let near = Tree::joined(alloc, left, row, inner.left.share()?)?;
+        let far = Tree::joined(
+            alloc,
+            inner.right.share()?,
+            outer.row.clone()?,
+            outer.right.share()?,
+        )?;
+        Tree::joined(alloc, near, inner.row.clone()?, far)
+    }
+}
