@@ -1,8 +1,9 @@
 -- An edit that fits a shape keeps it.
-use Rattle.std.proofs.Common.{◌≡◌, Err, List, Ok, OnErr, OnOk, Result}
+use Rattle.std.proofs.Common.{◌≡◌, ◌≢◌, Err, List, Ok, OnErr, OnOk, Result}
 use Rattle.std.proofs.Math.Logic.{∥∥₁_elim}
 use Rattle.sqlite_value.specs.Order.{Row}
 use Rattle.sqlite_trees.specs.declared.store.Shape.{Shape}
+use Rattle.sqlite_trees.specs.declared.store.Shape.TheVariants.{Absent, Index, Table}
 use Rattle.sqlite_trees.specs.Props.{IsShaped-prop}
 use Rattle.sqlite_trees.specs.View.{IsShaped}
 use Rattle.sqlite_trees.proofs.TreeLemmas.{IsIndex-insert_entry, IsShaped-filter, IsShaped-put_row}
@@ -26,3 +27,9 @@ pub done_or_not : {X E : Type 0} (r : Result X E) (shape : Shape) (old new after
     → ∥ IsShaped shape old ∥₁ → ∥ IsShaped shape after ∥₁ → ∥ IsShaped shape new ∥₁
 done_or_not (Ok x) shape old new after ok err was is = rw ok is
 done_or_not (Err e) shape old new after ok err was is = rw err was
+
+pub fits_present : (edit : Edit) (shape : Shape) → Fits edit shape → shape ≢ Absent
+fits_present (Put row) shape fits none = let is = fits.0 in cc
+fits_present (Delete id) shape fits none = cc
+fits_present (Insert order entry) shape fits none = cc
+fits_present (Remove order entry) shape fits none = cc
