@@ -1,2 +1,3 @@
 pub mod Shaped
 pub mod Seen
+pub mod Views

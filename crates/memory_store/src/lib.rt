@@ -13,3 +13,4 @@ mod edit;
 pub mod store;
 mod tree;
 
+pub use store::MemoryStore;
