@@ -1,7 +1,8 @@
 -- How a change of the list of trees is seen.
-use Rattle.std.proofs.Common.{◌≡◌, ◌≢◌, ◌<◌, ◌^◌, ◌∙◌, [], ◌∷◌, ◌++◌, Bool, List, ap, arith, cond, eq-eqb, eqb, false, get_or, inl, inr, length, map, ne_eqb, refl, set, suc, sym, true, zero, ℕ}
+use Rattle.std.proofs.Common.{◌+◌, ◌≡◌, ◌≢◌, ◌<◌, ◌^◌, ◌∙◌, [], ◌∷◌, ◌++◌, Bool, List, ap, arith, cond, eq-eqb, eqb, false, fold, get_or, inl, inr, length, map, ne_eqb, refl, set, suc, sym, take, true, zero, ℕ}
 use Rattle.std.proofs.lemmas.Bool.{cases_eq}
-use Rattle.std.proofs.lemmas.List.{get_or-map, length-map, map-append, map-set, set-get_or}
+use Rattle.std.proofs.lemmas.List.{get_or-map, length-map, map-append, map-set, set-get_or, take_more}
+use Rattle.std.proofs.lemmas.List.Sums.{fold_push}
 use mathlib.Core.Path.{fun_ext}
 use Rattle.sqlite_value.specs.Order.{Row}
 use Rattle.sqlite_trees.specs.declared.schema.Object.{Object}
@@ -9,10 +10,10 @@ use Rattle.sqlite_trees.specs.declared.store.Shape.{Shape}
 use Rattle.sqlite_trees.specs.declared.store.Shape.TheVariants.{Absent, Table}
 use Rattle.sqlite_trees.specs.Listing.{Heading, no_heading, objects_from, objects_from-push, objects_from-set, reals_in, reals_unless_absent, shape_in}
 use Rattle.sqlite_trees.specs.Memory.{snapshot_of}
-use Rattle.sqlite_trees.specs.Objects.{catalog_tree, description, object_row, set_at, version_rows, version_tree, with_version}
+use Rattle.sqlite_trees.specs.Objects.{MayRelist, catalog_tree, description, object_row, set_at, version_rows, version_tree, with_version}
 use Rattle.sqlite_trees.specs.Tree.{Trees, put_row, with_tree}
-use Rattle.sqlite_trees.specs.View.{Snapshot}
-use Rattle.sqlite_trees.proofs.StoreLemmas.{get_or-set_cases, named, present_reals, unnumbered}
+use Rattle.sqlite_trees.specs.View.{Snapshot, View}
+use Rattle.sqlite_trees.proofs.StoreLemmas.{get_or-set_cases, named, present_reals, unnumbered, version_twice}
 use Rattle.memory_store.specs.declared.tree.Tree.{Tree}
 use Rattle.memory_store.specs.declared.content.Content.{Content}
 use Rattle.memory_store.specs.Content.{HasPlaced, heading, rows_of, seen, seen_in, with_edit, with_listed, with_object}
@@ -172,3 +173,25 @@ seen_placed old new t it low placed empty shape reals kind bits edit listed =
     (λ i. seen_in (placed.is i) (placed.version i))
     ∙ seen_object placed.room old.version t it low placed.within empty edit listed
     ∙ (λ i. with_object (placed.same i) t (kind i) (bits i) edit)
+
+-- the version was set
+pub seen_version : (trees : List Tree) (old new : ℕ) → seen_in trees new ≡ with_edit (seen_in trees old) version_tree (λ _. version_rows new)
+seen_version trees old new = λ i. record (seen_in trees old) { trees = version_twice (with_tree (rows_of trees) catalog_tree (objects_from 0 (map heading trees))) old new i }
+
+-- one more object was listed
+pub listed_more : (s : Snapshot) (done : List (ℕ × Object)) (change : ℕ × Object) → with_listed (with_listed s done) (change ∷ []) ≡ with_listed s (done ++ change ∷ [])
+listed_more s done change =
+    let put = λ (objects : List Row) (x : ℕ × Object). put_row (object_row x.0 x.1) objects in
+    let mark = λ (bits : ℕ → ℕ) (x : ℕ × Object). set_at bits x.0 x.1.reals in
+    let rows = fold put (s.trees catalog_tree) done in
+    let twice : with_tree (with_tree s.trees catalog_tree rows) catalog_tree (put rows change) ≡ with_tree s.trees catalog_tree (put rows change) =
+        fun_ext (λ k. elim (cases_eq k catalog_tree) [ inl same ↦ rw same | inr other ↦ rw (ne_eqb k catalog_tree other) ]) in
+    let trees = twice ∙ ap (with_tree s.trees catalog_tree) (sym (fold_push put (s.trees catalog_tree) done change)) in
+    λ i. record s { trees = trees i; reals = sym (fold_push mark s.reals done change) i }
+
+pub listed_next : (s was now : Snapshot) (all : List (ℕ × Object)) (at : ℕ) (d : ℕ × Object) → at < length all → was ≡ with_listed s (take at all) → now ≡ with_listed was (get_or all at d ∷ []) → now ≡ with_listed s (take (at + 1) all)
+listed_next s was now all at d within before is =
+    is ∙ ap (λ v. with_listed v (get_or all at d ∷ [])) before ∙ listed_more s (take at all) (get_or all at d) ∙ ap (with_listed s) (sym (take_more all at d within))
+
+pub still_shaped : (v : View) (shape : ℕ → Shape) (change : ℕ × Object) → shape ≡ v.shape → MayRelist v change → shape change.0 ≡ change.1.shape
+still_shaped v shape change same may = ap (λ (f : ℕ → Shape). f change.0) same ∙ may.shaped
