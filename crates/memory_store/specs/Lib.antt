@@ -1,3 +1,4 @@
 pub mod Edit
 pub mod Content
 pub mod Memory
+pub mod Connected

@@ -10,7 +10,9 @@
 
 mod content;
 mod edit;
+pub mod opening;
 pub mod store;
 mod tree;
 
+pub use opening::open_in_memory;
 pub use store::MemoryStore;
