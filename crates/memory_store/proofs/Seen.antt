@@ -88,13 +88,13 @@ module _ (trees : List Tree) (version t : ℕ) (it : Tree) (low : t < 2 ^ 32) (w
   seen_set edit listed =
       let objects : objects_from 0 (map heading (set trees t it)) ≡ edit (objects_from 0 (map heading trees)) = ap (objects_from 0) (map-set heading trees t it) ∙ listed in
       let rows = over (rows_of trees) (rows_of (set trees t it)) t it.rows (objects_from 0 (map heading (set trees t it))) (version_rows version) low rows_each
-          ∙ listed_last (rows_of trees) t it.rows (objects_from 0 (map heading trees)) _ (version_rows version) low in
+      ∙ listed_last (rows_of trees) t it.rows (objects_from 0 (map heading trees)) _ (version_rows version) low in
       let kinds = over (shape_in (map heading trees)) (shape_in (map heading (set trees t it))) t it.shape Table Table low
-          (λ k. ap (λ (h : Heading). h.0) (heading_each k) ∙ cond_under (λ (h : Heading). h.0) (eqb k t) _ _) in
+      (λ k. ap (λ (h : Heading). h.0) (heading_each k) ∙ cond_under (λ (h : Heading). h.0) (eqb k t) _ _) in
       let bits = over (reals_in (map heading trees)) (reals_in (map heading (set trees t it))) t (reals_unless_absent it.shape it.reals) 0 0 low
-          (λ k. ap (λ (h : Heading). reals_unless_absent h.0 h.1) (heading_each k) ∙ cond_under (λ (h : Heading). reals_unless_absent h.0 h.1) (eqb k t) _ _) in
+      (λ k. ap (λ (h : Heading). reals_unless_absent h.0 h.1) (heading_each k) ∙ cond_under (λ (h : Heading). reals_unless_absent h.0 h.1) (eqb k t) _ _) in
       let all : (seen_in (set trees t it) version).trees ≡ with_tree (with_tree before.trees t it.rows) catalog_tree (edit (before.trees catalog_tree)) =
-          rows ∙ ap (λ l. with_tree (with_tree before.trees t it.rows) catalog_tree l) objects in
+      rows ∙ ap (λ l. with_tree (with_tree before.trees t it.rows) catalog_tree l) objects in
       λ i. record { trees = all i; shape = kinds i; reals = bits i }
 
   pub seen_object : it.rows ≡ [] → (edit : List Row → List Row) → objects_from 0 (set (map heading trees) t (heading it)) ≡ edit (objects_from 0 (map heading trees))
@@ -113,9 +113,9 @@ module _ (trees : List Tree) (version t : ℕ) (it : Tree) (low : t < 2 ^ 32) (w
       let headings : map heading (set trees t it) ≡ map heading trees = map-set heading trees t it ∙ ap (set (map heading trees) t) same ∙ set-get_or (map heading trees) t no_heading in
       let made : it.rows ≡ edit (before.trees t) = rows ∙ ap edit (sym (rows_at trees version t low)) in
       let all : (seen_in (set trees t it) version).trees ≡ with_tree before.trees t (edit (before.trees t)) =
-          ap (λ hs. with_version (with_tree (rows_of (set trees t it)) catalog_tree (objects_from 0 hs)) version) headings
-          ∙ over (rows_of trees) (rows_of (set trees t it)) t it.rows (objects_from 0 (map heading trees)) (version_rows version) low rows_each
-          ∙ ap (with_tree before.trees t) made in
+      ap (λ hs. with_version (with_tree (rows_of (set trees t it)) catalog_tree (objects_from 0 hs)) version) headings
+      ∙ over (rows_of trees) (rows_of (set trees t it)) t it.rows (objects_from 0 (map heading trees)) (version_rows version) low rows_each
+      ∙ ap (with_tree before.trees t) made in
       λ i. record {
         trees = all i;
         shape = set_at (set_at (shape_in (headings i)) catalog_tree Table) version_tree Table;
@@ -133,7 +133,7 @@ module _ (trees : List Tree) (version t : ℕ) (it : Tree) (low : t < 2 ^ 32) (w
       let kind : it.shape ≡ o.shape = ap (λ (h : Heading). h.0) is in
       let bits : it.reals ≡ o.reals = ap (λ (h : Heading). h.1) is in
       let listed : objects_from 0 (set (map heading trees) t (heading it)) ≡ put_row (object_row t o) (objects_from 0 (map heading trees)) =
-          rw is (objects_from-set (map heading trees) 0 t t (o.shape, o.reals, description o) (omega arith) (rw length-map within) there) in
+      rw is (objects_from-set (map heading trees) 0 t t (o.shape, o.reals, description o) (omega arith) (rw length-map within) there) in
       let real : reals_unless_absent it.shape it.reals ≡ o.reals = rw (kind, bits) (present_reals o.shape o.reals there) in
       let objects = put_row (object_row t o) (objects_from 0 (map heading trees)) in
       let kept = set_same before.trees t it.rows (rows ∙ sym (rows_at trees version t low)) in
@@ -185,7 +185,7 @@ listed_more s done change =
     let mark = λ (bits : ℕ → ℕ) (x : ℕ × Object). set_at bits x.0 x.1.reals in
     let rows = fold put (s.trees catalog_tree) done in
     let twice : with_tree (with_tree s.trees catalog_tree rows) catalog_tree (put rows change) ≡ with_tree s.trees catalog_tree (put rows change) =
-        fun_ext (λ k. elim (cases_eq k catalog_tree) [ inl same ↦ rw same | inr other ↦ rw (ne_eqb k catalog_tree other) ]) in
+    fun_ext (λ k. elim (cases_eq k catalog_tree) [ inl same ↦ rw same | inr other ↦ rw (ne_eqb k catalog_tree other) ]) in
     let trees = twice ∙ ap (with_tree s.trees catalog_tree) (sym (fold_push put (s.trees catalog_tree) done change)) in
     λ i. record s { trees = trees i; reals = sym (fold_push mark s.reals done change) i }
 

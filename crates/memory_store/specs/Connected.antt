@@ -20,5 +20,6 @@ over_memory = record {
 }
 
 -- Each connection to a store in memory has a clean disk, and is open.
-pub memory_is_usable : (c : Held MemoryStore) → HasCleanDisk (state over_memory c) × IsTrue (state over_memory c).is_open
+pub memory_is_usable : (c : Held MemoryStore)
+    → HasCleanDisk (state over_memory c) × IsTrue (state over_memory c).is_open
 memory_is_usable c = (no_doubt true refl, refl)

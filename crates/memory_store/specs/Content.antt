@@ -1,5 +1,5 @@
 -- What a content shows: its trees and its version.
-use Rattle.std.specs.Prelude.{◌≡◌, [], ◌<◌, ◌^◌, List, fold, length, map, slice_index_or, slice_set, ℕ}
+use Rattle.std.specs.Prelude.{◌≡◌, [], ◌<◌, List, fold, length, map, slice_index_or, slice_set, ℕ}
 use Rattle.sqlite_value.specs.Order.{Row}
 use Rattle.sqlite_trees.specs.declared.schema.Object.{Object}
 use Rattle.sqlite_trees.specs.declared.store.Shape.{Shape}

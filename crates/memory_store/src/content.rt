@@ -1,7 +1,7 @@
 //! The trees and the version at one moment.
 
-ghost use Rattle.std.specs.Prelude.{◌+◌, ◌-◌, ◌<◌, ◌≡◌, ◌≢◌, ◌≤◌, ◌⊎◌, ◌^◌, [], ◌∷◌, IfOk, OnErr, OnOk};
-ghost use Rattle.std.specs.Prelude.{length, map, pos, take, ℕ};
+ghost use Rattle.std.specs.Prelude.{◌+◌, ◌-◌, ◌<◌, ◌≡◌, ◌≢◌, ◌≤◌, ◌⊎◌, ◌^◌, [], ◌∷◌};
+ghost use Rattle.std.specs.Prelude.{IfOk, OnErr, OnOk, length, map, pos, take, ℕ};
 ghost use Rattle.sqlite_trees.specs.Objects.{catalog_tree, object_row};
 ghost use Rattle.sqlite_trees.specs.Tree.{IsIndexShape, order_of, put_row, sought, without_rowid};
 ghost use Rattle.sqlite_trees.specs.View.{Finds};

@@ -3,7 +3,7 @@
 ghost use Rattle.std.specs.Prelude.{◌==◌, ◌≡◌, [], IfOk, OnErr, OnOk, if◌then◌else◌, refl};
 ghost use Rattle.std.specs.Prelude.{slice_index_or, ℕ};
 ghost use Rattle.std.proofs.Common.{true≢false};
-ghost use Rattle.sqlite_trees.specs.Objects.{catalog_tree, version_rows, version_tree};
+ghost use Rattle.sqlite_trees.specs.Objects.{catalog_tree};
 
 use crate::content::Content;
 use crate::edit::Edit;
@@ -15,19 +15,19 @@ use sqlite_trees::typed::is_typed;
 use sqlite_value::row::Row;
 use std::alloc::{AllocError, Global};
 
-/// A store in memory, never broken and never shut.
+/// A store in memory, never broken and never shut. Contracts see `memory_view` of it.
 #[derive(Drop)]
 pub struct MemoryStore {
     alloc: Global,
     committed: Content,
     /// What the transaction sees, once it has written.
     pending: Option<Content>,
+    /// What each savepoint goes back to, the newest last.
     marks: Vec<Content>,
     cursors: Vec<Option<RowCursor>>,
 }
 
 impl MemoryStore {
-    ghost use Rattle.sqlite_trees.specs.Tree.{no_trees, with_tree};
     ghost use Rattle.sqlite_trees.specs.View.{SetsTree};
     ghost use Rattle.memory_store.specs.Content.{seen};
     ghost use Rattle.memory_store.specs.Edit.{Fits, edited};
@@ -60,7 +60,8 @@ impl MemoryStore {
         }
     }
 
-    // What the transaction sees, to be changed and put back.
+    // What the transaction sees, to be changed and put back: the store is whole again once it is
+    // in `pending`, changed or not.
     fn take(&mut self) -> Result<Content, AllocError>
         ensures ok { IfOk result (λ content. seen content ≡ seen (current self.old)) }
         ensures err { OnErr result (self.new.pending ≡ self.old.pending) }
@@ -106,7 +107,8 @@ impl MemoryStore {
 }
 
 impl Store for MemoryStore {
-    ghost use Rattle.memory_store.specs.Memory.{memory_is_ordered, memory_is_unaltered, memory_view};
+    ghost use Rattle.memory_store.specs.Laws.{memory_is_ordered, memory_is_unaltered};
+    ghost use Rattle.memory_store.specs.Memory.{memory_view};
 
     ghost view = { memory_view };
 
@@ -232,7 +234,7 @@ impl Store for MemoryStore {
 }
 
 impl Alter for MemoryStore {
-    ghost use Rattle.memory_store.specs.Memory.{memory_is_listed};
+    ghost use Rattle.memory_store.specs.Laws.{memory_is_listed};
 
     ghost listed = { λ s _. memory_is_listed s };
 

@@ -16,6 +16,6 @@ returns-clause-ok c =
     let is = c.in_ok-new.ensures.heading in
     let reals : reals_unless_absent it.shape it.reals ≡ o.reals = ap (λ h. reals_unless_absent h.0 h.1) is ∙ present_reals o.shape o.reals c.requires in
     on_ok_weaker c.place.result (λ placed. seen_placed c.args.self.now c.place.new.self c.args.tree it (omega arith) placed c.in_ok-new.ensures.rows o.shape o.reals (ap (λ h. h.0) is) reals
-        (put_row (object_row c.args.tree o))
-        (rw is (objects_from-set (map heading placed.room) 0 c.args.tree c.args.tree (o.shape, o.reals, description o) (omega arith) (rw length-map placed.within) c.requires)))
+    (put_row (object_row c.args.tree o))
+    (rw is (objects_from-set (map heading placed.room) 0 c.args.tree c.args.tree (o.shape, o.reals, description o) (omega arith) (rw length-map placed.within) c.requires)))
     c.place.ensures.ok

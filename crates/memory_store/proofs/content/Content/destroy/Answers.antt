@@ -11,6 +11,6 @@ pub returns-clause-ok : goal.returns-clause-ok
 returns-clause-ok c =
     let is = c.in_ok-new.ensures.heading in
     on_ok_weaker c.place.result (λ placed. seen_placed c.args.self.now c.place.new.self c.args.tree c.in_ok-new.new (omega arith) placed c.in_ok-new.ensures.rows Absent 0
-        (ap (λ h. h.0) is) (ap (λ h. reals_unless_absent h.0 h.1) is) (without_rowid (pos (c.args.tree + 1)))
-        (rw is (objects_from-unset (map heading placed.room) 0 c.args.tree c.args.tree (omega arith))))
+    (ap (λ h. h.0) is) (ap (λ h. reals_unless_absent h.0 h.1) is) (without_rowid (pos (c.args.tree + 1)))
+    (rw is (objects_from-unset (map heading placed.room) 0 c.args.tree c.args.tree (omega arith))))
     c.place.ensures.ok

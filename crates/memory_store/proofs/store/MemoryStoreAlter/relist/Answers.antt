@@ -19,7 +19,7 @@ relist-requires-clause-present c = (all-get_or _ c.args.changes.now c.loop-tree.
 pub loop-tree-preserved : goal.loop-tree-preserved
 loop-tree-preserved c =
     listed_next (seen (current c.args.self.now)) (seen c.loop-tree.content) (seen c.relist.new.self) c.args.changes.now c.loop-tree.tree-index _ c.loop-tree-test.true
-        c.loop-tree.invariant c.in_ok-relist.ensures
+    c.loop-tree.invariant c.in_ok-relist.ensures
 
 pub returns-clause-ok : goal.returns-clause-ok
 returns-clause-ok c _ =
