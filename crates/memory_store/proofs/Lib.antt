@@ -1,0 +1,4 @@
+pub mod Shaped
+pub mod Seen
+pub mod Views
+pub mod Opened

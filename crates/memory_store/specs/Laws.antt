@@ -1,0 +1,59 @@
+-- The laws of a store in memory: its trees are in order, and listed as they are.
+use Rattle.std.specs.Prelude.{◌==◌, ◌≡◌, List, [], ◌∷◌, false, if◌then◌else◌, map, suc, true, zero}
+use Rattle.std.proofs.Common.{refl, subst}
+use Rattle.std.proofs.Math.Logic.{∥∥₁_elim}
+use Rattle.sqlite_trees.specs.declared.store.Shape.TheVariants.{Table}
+use Rattle.sqlite_trees.specs.Listing.{listed_once, objects_are_listed, objects_are_ordered}
+use Rattle.sqlite_trees.specs.Listing.{objects_from, shape_in}
+use Rattle.sqlite_trees.specs.Objects.{IsListed, catalog_tree, version_rows, version_tree}
+use Rattle.sqlite_trees.specs.Props.{IsShaped-prop}
+use Rattle.sqlite_trees.specs.View.{IsOrdered, IsShaped}
+use Rattle.memory_store.specs.declared.content.Content.{Content}
+use Rattle.memory_store.specs.declared.store.MemoryStore.{MemoryStore}
+use Rattle.memory_store.specs.declared.tree.Tree.{Tree}
+use Rattle.memory_store.specs.Content.{heading, rows_of, seen}
+use Rattle.memory_store.specs.Memory.{current, memory_view}
+
+rows_are_ordered : (trees : List Tree) → IsOrdered (shape_in (map heading trees)) (rows_of trees)
+rows_are_ordered [] t = refl
+rows_are_ordered (x ∷ trees) zero = ∥∥₁_elim x.ordered (IsShaped-prop x.shape x.rows) (λ h. h)
+rows_are_ordered (x ∷ trees) (suc t) = rows_are_ordered trees t
+
+-- so are the list of objects and the version, which are trees too
+content_is_ordered : (c : Content) → IsOrdered (seen c).shape (seen c).trees
+content_is_ordered c t =
+    let hs = map heading c.trees.items in
+    let rows = rows_of c.trees.items t in
+    let objects = objects_from 0 hs in
+    let below : IsShaped
+    (if t == catalog_tree then Table else shape_in hs t)
+    (if t == catalog_tree then objects else rows) =
+    elim (t == catalog_tree) as (λ b. IsShaped
+    (if b then Table else shape_in hs t)
+    (if b then objects else rows))
+    [ true ↦ objects_are_ordered hs 0 | false ↦ rows_are_ordered c.trees.items t ] in
+    elim (t == version_tree) as (λ b. IsShaped
+    (if b then Table else (if t == catalog_tree then Table else shape_in hs t))
+    (if b then version_rows c.version else (if t == catalog_tree then objects else rows)))
+    [ true ↦ ((tt, tt), (refl, tt)) | false ↦ below ]
+
+content_is_listed : (c : Content)
+    → IsListed ((seen c).trees catalog_tree) (seen c).shape (seen c).reals
+content_is_listed c = objects_are_listed (map heading c.trees.items)
+
+pub memory_is_ordered : (s : MemoryStore) → IsOrdered (memory_view s).shape (memory_view s).trees
+memory_is_ordered s = content_is_ordered (current s)
+
+pub memory_is_listed : (s : MemoryStore)
+    → IsListed ((memory_view s).trees catalog_tree) (memory_view s).shape (memory_view s).reals
+memory_is_listed s = content_is_listed (current s)
+
+-- one list gives the shapes and the REAL columns
+pub memory_is_unaltered : (s : MemoryStore)
+    → (memory_view s).trees catalog_tree ≡ (memory_view s).committed catalog_tree
+    → ((memory_view s).shape ≡ (memory_view s).committed_shape)
+    × ((memory_view s).reals ≡ (memory_view s).committed_reals)
+memory_is_unaltered s same =
+    let now = subst (λ objects. IsListed objects (memory_view s).shape (memory_view s).reals)
+    same (memory_is_listed s) in
+    listed_once _ _ _ _ _ now (content_is_listed s.committed)

@@ -1,0 +1,5 @@
+pub mod Edit
+pub mod Content
+pub mod Memory
+pub mod Laws
+pub mod Connected
