@@ -1,5 +1,5 @@
 -- What a cursor has still to give, as it keeps one fork more or leaves one out.
-use Rattle.std.proofs.Common.{◌≡◌, ◌<◌, true, false, cond, List, [], ◌∷◌, ◌++◌, length, reverse, refl, sym, ap, ◌∙◌, append_assoc, arith, length-append, true≢false, is_lt, is_gt}
+use Rattle.std.proofs.Common.{◌≡◌, true, false, cond, List, [], ◌∷◌, ◌++◌, reverse, refl, sym, ap, ◌∙◌, append_assoc, true≢false, is_lt, is_gt}
 use Rattle.std.specs.declared.alloc.Global.{Global}
 use Rattle.std.specs.declared.rc.Rc.{Rc}
 use Rattle.std.specs.List.{AllByRecursion}
@@ -41,10 +41,6 @@ reverse_around : (xs : List Row) (r : Row) (ys : List Row) → reverse (xs ++ r 
 reverse_around xs r ys = reverse-append xs (r ∷ ys) ∙ ap (λ l. l ++ reverse xs) (reverse-append (r ∷ []) ys) ∙ append_assoc (reverse ys) (r ∷ []) (reverse xs)
 
 module _ (f : Fork) (rows : List Row) (is : rows ≡ f.left ++ f.row.value ∷ f.right) where
-  pub near_shorter : (d : Direction) → length (near d f) < length rows
-  near_shorter Forward = rw is (omega (arith, length-append f.left (f.row.value ∷ f.right)))
-  near_shorter Backward = rw is (omega (arith, length-append f.left (f.row.value ∷ f.right)))
-
   around_row : (d : Direction) → given d (near d f) ++ step d f ≡ given d rows
   unfolding step
   around_row Forward = sym is

@@ -1,4 +1,4 @@
--- What a cursor gives, and what it keeps for that.
+-- What a cursor gives.
 use Rattle.std.specs.Prelude.{◌≡◌, Bool, true, false, List, [], ◌∷◌}
 use Rattle.sqlite_value.specs.Order.{Row}
 

@@ -9,7 +9,7 @@ use sqlite_value::value::ValueRef;
 use std::cmp::Ordering;
 
 /// A rowid of a table, or an entry of an index and its order.
-#[derive(Clone, Copy, Debug)]
+#[derive(Clone, Copy)]
 pub(crate) enum Place<'a> {
     Rowid(ValueRef<'a>),
     Entry(Order, &'a Row),

@@ -37,6 +37,7 @@ impl Model for OrderedRows {
 }
 
 impl OrderedRows {
+    /// No rows.
     pub fn new(alloc: Global) -> OrderedRows
         ensures { result ≡ [] }
     {
@@ -78,6 +79,7 @@ impl OrderedRows {
         Ok(())
     }
 
+    /// Removes the row that has the rowid, if there is one.
     pub fn delete(&mut self, id: i64) -> Result<(), AllocError>
         requires { IsShaped Shape.Table self.old }
         ensures ok { OnOk result (self.new ≡ without_rowid id self.old) }
@@ -100,6 +102,7 @@ impl OrderedRows {
         Ok(())
     }
 
+    /// Removes the entry that equals this one, if there is one.
     pub fn remove(&mut self, order: Order, entry: &Row) -> Result<(), AllocError>
         requires { IsIndex order self.old }
         ensures ok { OnOk result (self.new ≡ remove_entry order entry.now self.old) }
