@@ -1,7 +1,7 @@
 //! Version rows as they are read from the database.
 
-ghost use Rattle.std.specs.Prelude.{◌≡◌, false, map, IfErr, IfOk, IfSome};
-ghost use Rattle.std.specs.List.{All, AllByRecursion};
+ghost use Rattle.std.specs.Prelude.{◌≡◌, false, IfErr, IfOk, IfSome};
+ghost use Rattle.std.specs.List.{All};
 ghost use Rattle.period_core.specs.Encoding.{IsColumnValue};
 ghost use Rattle.sqlite.specs.Held.{state};
 ghost use Rattle.sqlite.specs.State.{HasCleanDisk};

@@ -1,8 +1,7 @@
 //! Version rows handed over to a visitor, one at a time, as they are read.
 
-ghost use Rattle.std.specs.Prelude.{◌≡◌, ◌⊎◌, ℕ, List, false, filter, fold, length, map, take};
-ghost use Rattle.std.specs.Prelude.{◌∷◌, [], IfErr, OnErr, OnOk};
-ghost use Rattle.std.specs.List.{All, AllByRecursion};
+ghost use Rattle.std.specs.Prelude.{◌≡◌, ◌⊎◌, ◌∷◌, [], false, filter, fold, IfErr, OnErr, OnOk};
+ghost use Rattle.std.specs.List.{All};
 ghost use Rattle.period_core.specs.Encoding.{IsColumnValue};
 ghost use Rattle.period_core.specs.Windows.{window_sees};
 ghost use Rattle.period_core.specs.declared.version.VersionRow.{VersionRow as AnyRow};

@@ -1,5 +1,5 @@
 -- A query whose rows are given one at a time.
-use Rattle.std.proofs.Common.{◌≡◌, ◌⊎◌, ◌∙◌, ap, ℕ, pos, List, [], ◌∷◌, ◌++◌, map, Option, Some, None, Ok, Err, Result, OnErr, OnOk, IfOk, IfErr, inl, inr, refl, sym, subst, rules, arith, IsTrue, false}
+use Rattle.std.proofs.Common.{◌≡◌, ◌⊎◌, ◌∙◌, ap, ℕ, pos, List, [], ◌∷◌, ◌++◌, Option, Some, None, Ok, Err, Result, OnErr, OnOk, IfOk, IfErr, inl, inr, refl, sym, subst, arith, IsTrue, false}
 use Rattle.sqlite.specs.Store.{Ghosts}
 use Rattle.sqlite.specs.Order.{Row}
 use Rattle.sqlite.specs.Tree.{Trees}
@@ -16,8 +16,8 @@ use Rattle.sqlite.proofs.StateLemmas.{unchanged}
 use Rattle.sqlite_resolve.specs.declared.compiled.Compiled.{Compiled}
 use Rattle.sqlite_resolve.specs.declared.error.CompileError.{CompileError}
 use Rattle.version_tables.specs.Texts.{select_text}
-use Rattle.version_tables.specs.Represents.{AreOfTable, Records, Represents, Version, shown}
-use Rattle.version_tables.specs.Giving.{AreAll, AreFirst, GivesNext, HasGivenAll, HasGivenRows, IsLeft}
+use Rattle.version_tables.specs.Represents.{Records, Represents}
+use Rattle.version_tables.specs.Giving.{AreFirst, GivesNext, HasGivenRows, IsLeft}
 use Rattle.version_tables.specs.Steps.{Keeps}
 use Rattle.version_tables.specs.Tables.{store_schema}
 use Rattle.version_tables.proofs.Selects.{failed_keeps, select_reads, understood_none}

@@ -1,4 +1,4 @@
-use Rattle.std.proofs.Common.{◌≡◌, refl, sym, ap, ◌∙◌, rules, None, Some, option_copied}
+use Rattle.std.proofs.Common.{◌≡◌, sym, ap, ◌∙◌, rules, None, Some, option_copied}
 use Rattle.sqlite.specs.Given.{row_if}
 use Rattle.sqlite.specs.Held.{state}
 use Rattle.sqlite.specs.State.{HasCleanDisk}

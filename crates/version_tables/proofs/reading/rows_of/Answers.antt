@@ -1,8 +1,5 @@
-use Rattle.std.proofs.Common.{◌≡◌, IfOk, false, IsTrue, rules, pos, [], ◌∷◌, refl}
-use Rattle.sqlite.specs.declared.connection.Connection.{Connection}
+use Rattle.std.proofs.Common.{◌≡◌, IfOk, false, IsTrue, rules, refl}
 use Rattle.sqlite.specs.Held.{state}
-use Rattle.sqlite.specs.declared.types.Value.TheVariants.{Int}
-use Rattle.version_tables.specs.Texts.{select_text}
 use Rattle.version_tables.proofs.Giving.{given_none, left}
 use Rattle.version_tables.proofs.reading.rows_of.Goals as goal
 
