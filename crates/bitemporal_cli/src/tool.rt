@@ -15,12 +15,12 @@ use crate::command::Mode;
 use crate::fault::{RunFault, end_in};
 use crate::reading::read_script;
 use crate::tracked::Tracked;
+use memory_store::open_in_memory;
 use period_core::Refusal;
 use script_engine::{
     Entry, Outcome, Verdict, check_script, run_audited, run_script, write_audited, write_check,
     write_report,
 };
-use sqlite::Connection;
 use std::alloc::Global;
 use std::io::{Read, Write};
 
@@ -136,7 +136,7 @@ fn run_results<R: Read>(
         (R.remaining input.old.inner) (R.remaining input.new.inner) }
 {
     let script = read_script(alloc, input)?;
-    let Ok(connection) = Connection::open_in_memory(alloc) else {
+    let Ok(connection) = open_in_memory(alloc) else {
         return Err(RunFault::Memory);
     };
     match run_script(alloc, connection, script.as_slice()) {
@@ -155,7 +155,7 @@ fn audited_results<R: Read>(alloc: Global, input: &mut Tracked<R>) -> Result<Vec
         (R.remaining input.old.inner) (R.remaining input.new.inner) }
 {
     let script = read_script(alloc, input)?;
-    let Ok(connection) = Connection::open_in_memory(alloc) else {
+    let Ok(connection) = open_in_memory(alloc) else {
         return Err(RunFault::Memory);
     };
     match run_audited(alloc, connection, script.as_slice()) {
