@@ -10,7 +10,7 @@ use Rattle.std.proofs.Math.ListN.{get_or-map}
 use Rattle.std.proofs.lemmas.List.{length-map}
 use Rattle.sqlite_trees.proofs.ListLemmas.{pull_back, filter-map, all-permutation, all-filter, all-get_or, all-map}
 use Rattle.sqlite.specs.Order.{Row}
-use Rattle.period_core.specs.Encoding.{IsColumnValue}
+use Rattle.period_core.specs.Encoding.{IsColumnValue, encoded}
 use Rattle.period_core.proofs.EncodingOrder.{keeps_order, reads_back}
 use Rattle.period_core.specs.declared.version.VersionRow.{VersionRow}
 use Rattle.version_tables.specs.Represents.{AreOfTable, Records, Version, shown, version}
@@ -73,6 +73,17 @@ same_versions (x ∷ xs) (y ∷ ys) hx hy e =
     let one = same_version x y hx.0 hy.0 parts.0 in
     let more = same_versions xs ys hx.1 hy.1 parts.1 in
     cc
+
+-- a row shows one version of a table
+pub same_row : (v : TableVersion) (read : VersionRow) → All IsColumnValue v.values → All IsColumnValue read.values → shown (written_version v) ≡ shown (written_version (version_in 0 read)) → version_in v.table read ≡ v
+same_row v read hv hr e =
+    let bytes : encoded read.values ≡ encoded v.values = cc in
+    let values = reads_back read.values v.values hr hv bytes in
+    let s : read.period.start ≡ v.start = cc in
+    let d : read.period.end ≡ v.end = cc in
+    let f : read.from ≡ v.from = cc in
+    let z : read.to ≡ v.to = cc in
+    rw (values, s, d, f, z) refl
 
 -- lists whose bytes are the same up to order are the same up to order
 pub same_order : (xs ys : List TableVersion) → HaveColumnValues xs → HaveColumnValues ys → IsPermutation (map written_version xs) (map written_version ys) → IsPermutation xs ys

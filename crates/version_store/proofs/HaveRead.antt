@@ -21,10 +21,6 @@ as_shown = map (λ (v : VersionRow). shown (written_version (version_in 0 v)))
 abbrev pub HaveValues : List VersionRow → Type 0
 HaveValues = AllByRecursion (λ (v : VersionRow). All IsColumnValue v.values)
 
--- the version rows are the first of the table
-abbrev AreFirst : Contents → ℕ → List VersionRow → List Row → Type 0
-AreFirst c table done more = (found : List Version) × (as_shown done ++ more ≡ map shown found) × AreOfTable (written c) table found
-
 module _ {S : Type 0} (g : Ghosts S) (table : ℕ) (first : Held S) where
   -- the query of the table has given the rows that show these version rows
   abbrev pub HasRead : Held S → List VersionRow → Type 0
@@ -41,11 +37,6 @@ module _ {S : Type 0} (g : Ghosts S) (table : ℕ) (first : Held S) where
     ap₂ (λ a b. a ++ b ∷ []) read shows ∙ sym (map-append _ done (v ∷ [])),
     all-append (λ (w : VersionRow). All IsColumnValue w.values) done (v ∷ []) held (values, tt),
   )
-
-  pub some_read : (now : Held S) (done : List VersionRow) → HasRead now done → HasCleanDisk (state g now) → (c : Contents) → Has (state g first).now c → (more : List Row) × AreFirst c table done more
-  some_read now done was clean c has =
-      let shows = was.1.rows clean (written c) has.rows in
-      (shows.0, (shows.1.0, subst (λ given. given ++ shows.0 ≡ map shown shows.1.0) was.2 shows.1.1, shows.1.2))
 
   -- they are all
   pub all_read : (now : Held S) (given : List Row) (done : List VersionRow) → given ≡ as_shown done → HasGivenAll g table first now given → HasCleanDisk (state g now) → (c : Contents) → Has (state g first).now c

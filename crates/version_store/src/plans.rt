@@ -1,6 +1,6 @@
 //! What a plan makes of a table, step by step inside a transaction. A row that ended as it began is
-//! to leave: where a row is added at its place it becomes that row, and only the others are removed,
-//! since a removal reads the whole table where the database is in memory.
+//! to leave: where a row is added at its place it becomes that row, which saves a removal and an
+//! insertion, and only the others are removed.
 
 ghost use Rattle.std.specs.Prelude.{◌≡◌, ◌∷◌, [], IfErr, OnOk};
 ghost use Rattle.version_tables.specs.Represents.{added, removed};

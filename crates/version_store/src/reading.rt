@@ -31,7 +31,7 @@ fn day_at(row: &Row, at: usize) -> Option<Day>
 }
 
 /// The moment at a place of a row.
-fn moment_at(row: &Row, at: usize) -> Option<Moment>
+pub(crate) fn moment_at(row: &Row, at: usize) -> Option<Moment>
     ensures { IfSome result (λ moment. IsNumberAt row.now at moment) }
 {
     Moment::new(number_at(row, at)?)
@@ -99,6 +99,7 @@ pub(crate) fn table_rows<S: Alter>(
         Err(error) => return Err(refusal_of(&error)),
     };
     let mut versions = Vec::new(alloc);
+    // The query ends the loop. Its bound shows that it ends in any case.
     'rows: for _ in 0..u64::MAX {
         if let Err(error) = to_next_row(&mut rows) {
             return Err(refusal_of(&error));

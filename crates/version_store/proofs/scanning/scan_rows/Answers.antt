@@ -22,13 +22,13 @@ returns-in-Err-to_next_row-clause-visited g c clean d has =
 
 pub returns-in-Err-to_next_row-clause-same : goal.returns-in-Err-to_next_row-clause-same
 returns-in-Err-to_next_row-clause-same g c =
-    let was = c.rows.invariant.visited.1 in
+    let was = c.rows.invariant.visited in
     let left : IsLeft g.S.Store c.args.connection.now c.to_next_row.new.rows.conn.now = c.in-Err-to_next_row.ensures.left c.args.table c.args.connection.now was.0 was.1 in
     search rules
 
 pub returns-in-Err-to_next_row-clause-clean : goal.returns-in-Err-to_next_row-clause-clean
 returns-in-Err-to_next_row-clause-clean g c =
-    let was = c.rows.invariant.visited.1 in
+    let was = c.rows.invariant.visited in
     let left : IsLeft g.S.Store c.args.connection.now c.to_next_row.new.rows.conn.now = c.in-Err-to_next_row.ensures.left c.args.table c.args.connection.now was.0 was.1 in
     search rules
 
@@ -36,7 +36,7 @@ returns-in-Err-to_next_row-clause-clean g c =
 
 pub returns-in_default-get-clause-visited : goal.returns-in_default-get-clause-visited
 returns-in_default-get-clause-visited g c clean d has =
-    let was = c.rows.invariant.visited.1 in
+    let was = c.rows.invariant.visited in
     let now = c.to_next_row.new.rows in
     let none : row_if now.has_row now.conn.now ≡ None = sym c.get.ensures ∙ ap option_copied c.in_default-get.is in
     let sure : HasCleanDisk (state g.S.Store now.conn.now) = search rules in
@@ -44,7 +44,7 @@ returns-in_default-get-clause-visited g c clean d has =
 
 pub returns-in_default-get-clause-same : goal.returns-in_default-get-clause-same
 returns-in_default-get-clause-same g c =
-    let was = c.rows.invariant.visited.1 in
+    let was = c.rows.invariant.visited in
     let now = c.to_next_row.new.rows in
     let none : row_if now.has_row now.conn.now ≡ None = sym c.get.ensures ∙ ap option_copied c.in_default-get.is in
     let all = rw none at (c.in_default.ensures.gives c.args.table c.args.connection.now was.0 was.1) in
@@ -53,7 +53,7 @@ returns-in_default-get-clause-same g c =
 
 pub returns-in_default-get-clause-clean : goal.returns-in_default-get-clause-clean
 returns-in_default-get-clause-clean g c =
-    let was = c.rows.invariant.visited.1 in
+    let was = c.rows.invariant.visited in
     let now = c.to_next_row.new.rows in
     let none : row_if now.has_row now.conn.now ≡ None = sym c.get.ensures ∙ ap option_copied c.in_default-get.is in
     let all = rw none at (c.in_default.ensures.gives c.args.table c.args.connection.now was.0 was.1) in
@@ -69,7 +69,7 @@ returns-in-Err-visit_row-clause-visited g c clean d has =
 
 pub returns-in-Err-visit_row-clause-same : goal.returns-in-Err-visit_row-clause-same
 returns-in-Err-visit_row-clause-same g c =
-    let was = c.rows.invariant.visited.1 in
+    let was = c.rows.invariant.visited in
     let now = c.to_next_row.new.rows in
     let some : row_if now.has_row now.conn.now ≡ Some c.in-Some.row.now = sym c.get.ensures ∙ ap option_copied c.in-Some.is in
     let on = rw some at (c.in_default.ensures.gives c.args.table c.args.connection.now was.0 was.1) in
@@ -78,7 +78,7 @@ returns-in-Err-visit_row-clause-same g c =
 
 pub returns-in-Err-visit_row-clause-clean : goal.returns-in-Err-visit_row-clause-clean
 returns-in-Err-visit_row-clause-clean g c =
-    let was = c.rows.invariant.visited.1 in
+    let was = c.rows.invariant.visited in
     let now = c.to_next_row.new.rows in
     let some : row_if now.has_row now.conn.now ≡ Some c.in-Some.row.now = sym c.get.ensures ∙ ap option_copied c.in-Some.is in
     let on = rw some at (c.in_default.ensures.gives c.args.table c.args.connection.now was.0 was.1) in
@@ -89,7 +89,7 @@ returns-in-Err-visit_row-clause-clean g c =
 
 pub rows-preserved : goal.rows-preserved
 rows-preserved g c =
-    let was = c.rows.invariant.visited.1 in
+    let was = c.rows.invariant.visited in
     let now = c.to_next_row.new.rows in
     let some : row_if now.has_row now.conn.now ≡ Some c.in-Some.row.now = sym c.get.ensures ∙ ap option_copied c.in-Some.is in
     let gives = c.in_default.ensures.gives c.args.table c.args.connection.now was.0 was.1 in
