@@ -59,7 +59,7 @@ not-found : IsAt side_of_five (two ∷ nine ∷ []) two false
 not-found = refl
 
 -- a fork shows the rows on its left, its row and those on its right
-rows-fork : (shared : Rc Fork Global) → shared.value.left ≡ two ∷ [] → shared.value.row.value ≡ five → shared.value.right ≡ nine ∷ []
+rows-fork : (shared : Rc Fork Global) → shared.value.left ≡ two ∷ [] → shared.value.row ≡ five → shared.value.right ≡ nine ∷ []
     → rows_of (link.Fork shared) ≡ two ∷ five ∷ nine ∷ []
 rows-fork shared left row right = rw (left, row, right)
 
@@ -67,10 +67,10 @@ given-backward : given Backward (two ∷ five ∷ nine ∷ []) ≡ nine ∷ five
 given-backward = refl
 
 -- a cursor with one fork gives its row, and then its right side or, backward, its left
-left-forward : (shared : Rc Fork Global) → left_to_give Forward (shared ∷ []) ≡ shared.value.row.value ∷ shared.value.right
+left-forward : (shared : Rc Fork Global) → left_to_give Forward (shared ∷ []) ≡ shared.value.row ∷ shared.value.right
 left-forward shared = refl
 
-left-backward : (shared : Rc Fork Global) → left_to_give Backward (shared ∷ []) ≡ shared.value.row.value ∷ reverse shared.value.left
+left-backward : (shared : Rc Fork Global) → left_to_give Backward (shared ∷ []) ≡ shared.value.row ∷ reverse shared.value.left
 left-backward shared = refl
 
 gives-first : Gives (two ∷ five ∷ []) (five ∷ []) two true
