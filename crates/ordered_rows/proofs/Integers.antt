@@ -1,5 +1,5 @@
 -- The value that is an integer.
-use Rattle.std.proofs.Common.{◌≡◌, ℤ, Option, Some, None, sym, ap}
+use Rattle.std.proofs.Common.{◌≡◌, ℤ, Some}
 use Rattle.sqlite_value.specs.declared.value.Value.{Value}
 use Rattle.sqlite_value.specs.declared.value.Value.TheVariants.{Null, Int, Real, Text, Blob}
 use Rattle.ordered_rows.specs.Integers.{integer_of}

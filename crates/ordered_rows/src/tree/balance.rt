@@ -58,7 +58,12 @@ impl Tree {
     }
 
     /// The same where the right tree is higher by two.
-    fn turned_left(alloc: Global, left: Tree, row: SharedRow, right: Tree) -> Result<Tree, AllocError>
+    fn turned_left(
+        alloc: Global,
+        left: Tree,
+        row: SharedRow,
+        right: Tree,
+    ) -> Result<Tree, AllocError>
         ensures { IfOk result (λ tree. tree ≡ left ++ row ∷ right) }
     {
         let Link::Fork(outer) = &right.root else {

@@ -25,7 +25,7 @@ impl Tree {
             Ordering::Less => fork.right.find(place, row),
             Ordering::Greater => fork.left.find(place, row),
             Ordering::Equal => {
-                row.copy_from(fork.row.row())?;
+                row.copy_from(fork.row())?;
                 Ok(true)
             }
         }

@@ -1,4 +1,4 @@
-use Rattle.std.proofs.Common.{◌≡◌, ◌∙◌, sym, rules, to_z-of_z, SFits, w64, ap}
+use Rattle.std.proofs.Common.{◌∙◌, sym, rules, to_z-of_z, SFits, w64, ap}
 use Rattle.sqlite_value.specs.Value.{owned}
 use Rattle.ordered_rows.proofs.Orders.{row_put, table_cut}
 use Rattle.ordered_rows.proofs.rows.OrderedRows.put.Goals as goal

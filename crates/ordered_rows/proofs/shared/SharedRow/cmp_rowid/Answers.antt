@@ -1,4 +1,4 @@
-use Rattle.std.proofs.Common.{◌≡◌, sym, ◌∙◌, ap, rules, to_z-of_z, SFits, w64, int_cmp}
+use Rattle.std.proofs.Common.{◌≡◌, sym, ◌∙◌, rules, to_z-of_z, SFits, w64}
 use Rattle.sqlite_value.specs.declared.value.Value.TheVariants.{Int}
 use Rattle.sqlite_value.proofs.OrderLemmas.{value_cmp-Int}
 use Rattle.sqlite_trees.specs.Tree.{rowid}
