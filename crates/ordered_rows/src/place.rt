@@ -18,6 +18,7 @@ impl Place<'_> {
     ghost use Rattle.ordered_rows.specs.Places.{side};
 
     /// Whether a row is below the place, at it or above it.
+    #[inline(always)]
     pub(crate) fn side(self, row: &SharedRow) -> Ordering
         ensures { result ≡ side self.entry row.now }
     {

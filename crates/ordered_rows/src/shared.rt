@@ -67,6 +67,7 @@ impl SharedRow {
     }
 
     /// Whether the row is below a rowid, at it or above it.
+    #[inline(always)]
     pub(crate) fn cmp_rowid(&self, id: i64) -> Ordering
         ensures { result ≡ value_cmp (rowid self.now) (Int id) }
     {
