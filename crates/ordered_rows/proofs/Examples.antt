@@ -1,12 +1,14 @@
 -- Worked rows: the rows 2, 5 and 9 under the edits at 5, and what a cursor gives of them.
-use Rattle.std.proofs.Common.{◌≡◌, true, false, [], ◌∷◌, ℤ, pos, reverse, refl, Ordering, int_cmp, true≢false}
+use Rattle.std.proofs.Common.{◌≡◌, true, false, [], ◌∷◌, ℤ, pos, Some, None, reverse, refl, Ordering, int_cmp, true≢false}
 use Rattle.std.specs.declared.alloc.Global.{Global}
 use Rattle.std.specs.declared.rc.Rc.{Rc}
 use Rattle.sqlite_value.specs.declared.value.Value.TheVariants.{Int}
 use Rattle.sqlite_value.specs.Order.{Row}
+use Rattle.sqlite_trees.specs.Tree.{rowid}
 use Rattle.sqlite_trees.specs.declared.store.Direction.TheVariants.{Forward, Backward}
 use Rattle.ordered_rows.specs.declared.tree.Fork.{Fork}
 use Rattle.ordered_rows.specs.declared.tree.Link.TheVariants as link
+use Rattle.ordered_rows.specs.Integers.{integer_of}
 use Rattle.ordered_rows.specs.Forks.{rows_of}
 use Rattle.ordered_rows.specs.Edits.{IsAt, IsCut, with_new, without}
 use Rattle.ordered_rows.specs.Steps.{given, left_to_give}
@@ -59,18 +61,25 @@ not-found : IsAt side_of_five (two ∷ nine ∷ []) two false
 not-found = refl
 
 -- a fork shows the rows on its left, its row and those on its right
-rows-fork : (shared : Rc Fork Global) → shared.value.left ≡ two ∷ [] → shared.value.row.value ≡ five → shared.value.right ≡ nine ∷ []
+rows-fork : (shared : Rc Fork Global) → shared.value.left ≡ two ∷ [] → shared.value.row ≡ five → shared.value.right ≡ nine ∷ []
     → rows_of (link.Fork shared) ≡ two ∷ five ∷ nine ∷ []
 rows-fork shared left row right = rw (left, row, right)
 
 given-backward : given Backward (two ∷ five ∷ nine ∷ []) ≡ nine ∷ five ∷ two ∷ []
 given-backward = refl
 
+-- the integer that is kept beside a row that begins with one
+integer-first : integer_of (rowid other_five) ≡ Some (pos 5)
+integer-first = refl
+
+integer-none : integer_of (rowid []) ≡ None
+integer-none = refl
+
 -- a cursor with one fork gives its row, and then its right side or, backward, its left
-left-forward : (shared : Rc Fork Global) → left_to_give Forward (shared ∷ []) ≡ shared.value.row.value ∷ shared.value.right
+left-forward : (shared : Rc Fork Global) → left_to_give Forward (shared ∷ []) ≡ shared.value.row ∷ shared.value.right
 left-forward shared = refl
 
-left-backward : (shared : Rc Fork Global) → left_to_give Backward (shared ∷ []) ≡ shared.value.row.value ∷ reverse shared.value.left
+left-backward : (shared : Rc Fork Global) → left_to_give Backward (shared ∷ []) ≡ shared.value.row ∷ reverse shared.value.left
 left-backward shared = refl
 
 gives-first : Gives (two ∷ five ∷ []) (five ∷ []) two true

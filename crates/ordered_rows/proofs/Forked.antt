@@ -9,8 +9,8 @@ use Rattle.ordered_rows.specs.declared.tree.Link.TheVariants as link
 use Rattle.ordered_rows.specs.Forks.{rows_of}
 
 pub forked : {l : Link} {rows : List Row} {shared : Rc Fork Global} {f : Fork} → rows_of l ≡ rows → l ≡ link.Fork shared → f ≡ shared.value
-    → rows ≡ f.left ++ f.row.value ∷ f.right
-forked view_is is same = sym view_is ∙ ap rows_of is ∙ ap (λ (f : Fork). f.left ++ f.row.value ∷ f.right) (sym same)
+    → rows ≡ f.left ++ f.row ∷ f.right
+forked view_is is same = sym view_is ∙ ap rows_of is ∙ ap (λ (f : Fork). f.left ++ f.row ∷ f.right) (sym same)
 
 -- either side has fewer rows
 pub shorter : {rows : List Row} (xs : List Row) (r : Row) (ys : List Row) → rows ≡ xs ++ r ∷ ys → (length xs < length rows) × (length ys < length rows)

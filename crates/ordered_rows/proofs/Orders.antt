@@ -1,10 +1,9 @@
 -- Tables and indexes are in the orders that edits and seeks go by, and what their edits are.
-use Rattle.std.proofs.Common.{◌≡◌, true, false, List, [], ◌∷◌, refl, sym, ap, ◌∙◌, Ordering, Less, Equal, Greater, is_lt, true≢false, Bor}
+use Rattle.std.proofs.Common.{◌≡◌, true, false, ℤ, List, [], ◌∷◌, refl, sym, ap, ◌∙◌, Ordering, Less, Equal, Greater, is_lt, true≢false, Bor}
 use Rattle.std.specs.Cmp.{IsTotalOrder}
 use Rattle.std.specs.Ordering.{match_ordering, ordering_reverse}
 use Rattle.sqlite_value.specs.declared.value.Value.{Value}
-use Rattle.sqlite_value.specs.declared.value.ValueRef.{ValueRef}
-use Rattle.sqlite_value.specs.Value.{owned}
+use Rattle.sqlite_value.specs.declared.value.Value.TheVariants.{Int}
 use Rattle.sqlite_value.specs.declared.keys.Order.{Order}
 use Rattle.sqlite_value.specs.Order.{Row, value_cmp}
 use Rattle.sqlite_value.specs.Keys.{entry_cmp}
@@ -46,7 +45,7 @@ pub insert_entry-with_new : (o : Order) (new : Row) (rows : List Row) → insert
 insert_entry-with_new o new [] = refl
 insert_entry-with_new o new (r ∷ rows) = ap (λ l. match_ordering (entry_cmp o r new) (r ∷ l) (r ∷ rows) (new ∷ r ∷ rows)) (insert_entry-with_new o new rows)
 
-pub row_put : {made tree rows : List Row} {new row : Row} (id : ValueRef) → made ≡ with_new (side (Rowid id)) true new tree → tree ≡ rows → new ≡ row → owned id ≡ rowid row → made ≡ put_row row rows
+pub row_put : {made tree rows : List Row} {new row : Row} (id : ℤ) → made ≡ with_new (side (Rowid id)) true new tree → tree ≡ rows → new ≡ row → Int id ≡ rowid row → made ≡ put_row row rows
 row_put {made} {tree} {rows} {new} {row} id is same_tree same_row same_id =
     is ∙ (λ i. with_new (λ r. value_cmp (rowid r) (same_id i)) true (same_row i) (same_tree i)) ∙ sym (put_row-with_new row rows)
 

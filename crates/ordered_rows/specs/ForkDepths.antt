@@ -9,4 +9,4 @@ use Rattle.ordered_rows.specs.Forks.{rows_of}
 pub depth_le_length : (l : Link) → max (deep-Link l) 0 ≤ length (rows_of l)
 depth_le_length Leaf = omega arith
 depth_le_length (Fork f) =
-    omega (arith, length-append f.value.left (f.value.row.value ∷ f.value.right))
+    omega (arith, length-append f.value.left (f.value.row ∷ f.value.right))

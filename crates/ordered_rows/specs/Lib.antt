@@ -1,4 +1,5 @@
 pub mod Cursors
+pub mod Integers
 pub mod Forks
 pub mod ForkDepths
 pub mod Places

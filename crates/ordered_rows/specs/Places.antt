@@ -1,6 +1,6 @@
 -- The place of a rowid or of an entry among the rows.
 use Rattle.std.specs.declared.cmp.Ordering.{Ordering}
-use Rattle.sqlite_value.specs.Value.{owned}
+use Rattle.sqlite_value.specs.declared.value.Value.TheVariants.{Int}
 use Rattle.sqlite_value.specs.Order.{Row, value_cmp}
 use Rattle.sqlite_value.specs.Keys.{entry_cmp}
 use Rattle.sqlite_trees.specs.Tree.{rowid}
@@ -9,5 +9,5 @@ use Rattle.ordered_rows.specs.declared.place.Place.TheVariants.{Rowid, Entry}
 
 -- how a row compares with the place
 abbrev pub side : Place → Row → Ordering
-side (Rowid id) r = value_cmp (rowid r) (owned id)
+side (Rowid id) r = value_cmp (rowid r) (Int id)
 side (Entry o e) r = entry_cmp o r e.now

@@ -25,4 +25,4 @@ far Backward f = f.left
 -- for each fork, the last first, its row and then its far side
 abbrev pub left_to_give : Direction → List (Rc Fork Global) → List Row
 left_to_give d [] = []
-left_to_give d (f ∷ forks) = left_to_give d forks ++ f.value.row.value ∷ given d (far d f.value)
+left_to_give d (f ∷ forks) = left_to_give d forks ++ f.value.row ∷ given d (far d f.value)

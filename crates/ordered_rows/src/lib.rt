@@ -6,6 +6,7 @@
 pub mod cursor;
 mod place;
 pub mod rows;
+mod shared;
 mod tree;
 
 pub use cursor::RowCursor;

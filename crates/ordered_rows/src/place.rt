@@ -2,16 +2,15 @@
 
 ghost use Rattle.std.specs.Prelude.{◌≡◌};
 
+use crate::shared::SharedRow;
 use sqlite_value::keys::Order;
-use sqlite_value::order::compare;
 use sqlite_value::row::Row;
-use sqlite_value::value::ValueRef;
 use std::cmp::Ordering;
 
 /// A rowid of a table, or an entry of an index and its order.
 #[derive(Clone, Copy)]
 pub(crate) enum Place<'a> {
-    Rowid(ValueRef<'a>),
+    Rowid(i64),
     Entry(Order, &'a Row),
 }
 
@@ -19,12 +18,13 @@ impl Place<'_> {
     ghost use Rattle.ordered_rows.specs.Places.{side};
 
     /// Whether a row is below the place, at it or above it.
-    pub(crate) fn side(self, row: &Row) -> Ordering
+    #[inline(always)]
+    pub(crate) fn side(self, row: &SharedRow) -> Ordering
         ensures { result ≡ side self.entry row.now }
     {
         match self {
-            Place::Rowid(id) => compare(row.get(0), id),
-            Place::Entry(order, entry) => row.cmp_entry(order, entry),
+            Place::Rowid(id) => row.cmp_rowid(id),
+            Place::Entry(order, entry) => row.row().cmp_entry(order, entry),
         }
     }
 }

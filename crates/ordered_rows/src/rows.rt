@@ -7,6 +7,7 @@ ghost use Rattle.sqlite_trees.specs.View.{Finds, IsShaped, is_int};
 
 use crate::cursor::RowCursor;
 use crate::place::Place;
+use crate::shared::SharedRow;
 use crate::tree::Tree;
 use sqlite_trees::store::{Direction, Shape};
 use sqlite_value::keys::Order;
@@ -14,7 +15,6 @@ use sqlite_value::row::Row;
 use sqlite_value::value::ValueRef;
 use std::alloc::{AllocError, Global};
 use std::marker::Model;
-use std::rc::Rc;
 
 /// Rows in order, which contracts see as their list.
 #[derive(Drop)]
@@ -63,7 +63,7 @@ impl OrderedRows {
         requires { IsShaped Shape.Table self.now }
         ensures { IfOk result (Finds self.now id row.new) }
     {
-        self.tree.find(Place::Rowid(ValueRef::Int(id)), row)
+        self.tree.find(Place::Rowid(id), row)
     }
 
     /// Inserts the row, or replaces the one that has its rowid.
@@ -73,8 +73,11 @@ impl OrderedRows {
         ensures ok { OnOk result (self.new ≡ put_row row.now self.old) }
         ensures err { OnErr result (self.new ≡ self.old) }
     {
-        let new = Rc::new(self.alloc, row.copy(self.alloc)?)?;
-        let place = Place::Rowid(row.get(0));
+        let ValueRef::Int(id) = row.get(0) else {
+            unreachable!()
+        };
+        let place = Place::Rowid(id);
+        let new = SharedRow::new(self.alloc, row)?;
         self.tree = self.tree.with_new(self.alloc, place, &new, true)?;
         Ok(())
     }
@@ -85,7 +88,7 @@ impl OrderedRows {
         ensures ok { OnOk result (self.new ≡ without_rowid id self.old) }
         ensures err { OnErr result (self.new ≡ self.old) }
     {
-        let place = Place::Rowid(ValueRef::Int(id));
+        let place = Place::Rowid(id);
         self.tree = self.tree.without(self.alloc, place)?;
         Ok(())
     }
@@ -96,7 +99,7 @@ impl OrderedRows {
         ensures ok { OnOk result (self.new ≡ insert_entry order entry.now self.old) }
         ensures err { OnErr result (self.new ≡ self.old) }
     {
-        let new = Rc::new(self.alloc, entry.copy(self.alloc)?)?;
+        let new = SharedRow::new(self.alloc, entry)?;
         let place = Place::Entry(order, entry);
         self.tree = self.tree.with_new(self.alloc, place, &new, false)?;
         Ok(())

@@ -2,7 +2,7 @@
 
 ghost use Rattle.std.specs.Prelude.{◌≡◌, [], ◌∷◌, ◌++◌, IfOk};
 
-use sqlite_value::row::Row;
+use crate::shared::SharedRow;
 use std::alloc::{AllocError, Global};
 use std::marker::Model;
 use std::rc::Rc;
@@ -30,7 +30,7 @@ pub(crate) enum Link {
 #[derive(Drop)]
 pub(crate) struct Fork {
     left: Tree,
-    row: Rc<Row>,
+    row: SharedRow,
     height: u8,
     right: Tree,
 }
@@ -86,8 +86,8 @@ impl Tree {
     }
 
     /// A row between two trees, whose heights differ by one at most.
-    fn joined(alloc: Global, left: Tree, row: Rc<Row>, right: Tree) -> Result<Tree, AllocError>
-        ensures { IfOk result (λ tree. tree ≡ left ++ row.value ∷ right) }
+    fn joined(alloc: Global, left: Tree, row: SharedRow, right: Tree) -> Result<Tree, AllocError>
+        ensures { IfOk result (λ tree. tree ≡ left ++ row ∷ right) }
     {
         let height = left.height().max(right.height()).saturating_add(1);
         let fork = Rc::new(

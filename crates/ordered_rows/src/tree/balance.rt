@@ -4,19 +4,18 @@
 ghost use Rattle.std.specs.Prelude.{◌≡◌, ◌∷◌, ◌++◌, IfOk};
 
 use super::{Link, Tree};
-use sqlite_value::row::Row;
+use crate::shared::SharedRow;
 use std::alloc::{AllocError, Global};
-use std::rc::Rc;
 
 impl Tree {
     /// A row between two balanced trees, whose heights differ by two at most.
     pub(super) fn balanced(
         alloc: Global,
         left: Tree,
-        row: Rc<Row>,
+        row: SharedRow,
         right: Tree,
     ) -> Result<Tree, AllocError>
-        ensures { IfOk result (λ tree. tree ≡ left ++ row.value ∷ right) }
+        ensures { IfOk result (λ tree. tree ≡ left ++ row ∷ right) }
     {
         let (left_height, right_height) = (left.height(), right.height());
         if left_height > right_height.saturating_add(1) {
@@ -32,10 +31,10 @@ impl Tree {
     fn turned_right(
         alloc: Global,
         left: Tree,
-        row: Rc<Row>,
+        row: SharedRow,
         right: Tree,
     ) -> Result<Tree, AllocError>
-        ensures { IfOk result (λ tree. tree ≡ left ++ row.value ∷ right) }
+        ensures { IfOk result (λ tree. tree ≡ left ++ row ∷ right) }
     {
         let Link::Fork(outer) = &left.root else {
             return Tree::joined(alloc, left, row, right);
@@ -45,22 +44,27 @@ impl Tree {
             Link::Fork(inner) if outer.right.height() > outer.left.height() => inner.as_ref(),
             _ => {
                 let far = Tree::joined(alloc, outer.right.share()?, row, right)?;
-                return Tree::joined(alloc, outer.left.share()?, outer.row.clone()?, far);
+                return Tree::joined(alloc, outer.left.share()?, outer.row.share()?, far);
             }
         };
         let near = Tree::joined(
             alloc,
             outer.left.share()?,
-            outer.row.clone()?,
+            outer.row.share()?,
             inner.left.share()?,
         )?;
         let far = Tree::joined(alloc, inner.right.share()?, row, right)?;
-        Tree::joined(alloc, near, inner.row.clone()?, far)
+        Tree::joined(alloc, near, inner.row.share()?, far)
     }
 
     /// The same where the right tree is higher by two.
-    fn turned_left(alloc: Global, left: Tree, row: Rc<Row>, right: Tree) -> Result<Tree, AllocError>
-        ensures { IfOk result (λ tree. tree ≡ left ++ row.value ∷ right) }
+    fn turned_left(
+        alloc: Global,
+        left: Tree,
+        row: SharedRow,
+        right: Tree,
+    ) -> Result<Tree, AllocError>
+        ensures { IfOk result (λ tree. tree ≡ left ++ row ∷ right) }
     {
         let Link::Fork(outer) = &right.root else {
             return Tree::joined(alloc, left, row, right);
@@ -70,16 +74,16 @@ impl Tree {
             Link::Fork(inner) if outer.left.height() > outer.right.height() => inner.as_ref(),
             _ => {
                 let near = Tree::joined(alloc, left, row, outer.left.share()?)?;
-                return Tree::joined(alloc, near, outer.row.clone()?, outer.right.share()?);
+                return Tree::joined(alloc, near, outer.row.share()?, outer.right.share()?);
             }
         };
         let near = Tree::joined(alloc, left, row, inner.left.share()?)?;
         let far = Tree::joined(
             alloc,
             inner.right.share()?,
-            outer.row.clone()?,
+            outer.row.share()?,
             outer.right.share()?,
         )?;
-        Tree::joined(alloc, near, inner.row.clone()?, far)
+        Tree::joined(alloc, near, inner.row.share()?, far)
     }
 }

@@ -6,10 +6,10 @@ ghost use Rattle.ordered_rows.specs.Edits.{IsAt, IsCut, with_new, without};
 
 use super::{Link, Tree};
 use crate::place::Place;
+use crate::shared::SharedRow;
 use sqlite_value::row::Row;
 use std::alloc::{AllocError, Global};
 use std::cmp::Ordering;
-use std::rc::Rc;
 
 impl Tree {
     /// Writes the row at the place over `row`, or answers false.
@@ -21,11 +21,11 @@ impl Tree {
             return Ok(false);
         };
         let fork = fork.as_ref();
-        match place.side(fork.row.as_ref()) {
+        match place.side(&fork.row) {
             Ordering::Less => fork.right.find(place, row),
             Ordering::Greater => fork.left.find(place, row),
             Ordering::Equal => {
-                row.copy_from(fork.row.as_ref())?;
+                row.copy_from(fork.row())?;
                 Ok(true)
             }
         }
@@ -36,28 +36,28 @@ impl Tree {
         &self,
         alloc: Global,
         place: Place<'_>,
-        new: &Rc<Row>,
+        new: &SharedRow,
         replaces: bool,
     ) -> Result<Tree, AllocError>
         requires { IsCut (side place) self.now }
         ensures { IfOk result (λ tree. tree
-            ≡ with_new (side place.entry) replaces new.now.value self.now) }
+            ≡ with_new (side place.entry) replaces new.now self.now) }
     {
         let Link::Fork(fork) = &self.root else {
-            return Tree::joined(alloc, Tree::empty(), new.clone()?, Tree::empty());
+            return Tree::joined(alloc, Tree::empty(), new.share()?, Tree::empty());
         };
         let fork = fork.as_ref();
-        match place.side(fork.row.as_ref()) {
+        match place.side(&fork.row) {
             Ordering::Less => {
                 let right = fork.right.with_new(alloc, place, new, replaces)?;
-                Tree::balanced(alloc, fork.left.share()?, fork.row.clone()?, right)
+                Tree::balanced(alloc, fork.left.share()?, fork.row.share()?, right)
             }
             Ordering::Greater => {
                 let left = fork.left.with_new(alloc, place, new, replaces)?;
-                Tree::balanced(alloc, left, fork.row.clone()?, fork.right.share()?)
+                Tree::balanced(alloc, left, fork.row.share()?, fork.right.share()?)
             }
             Ordering::Equal if replaces => {
-                Tree::joined(alloc, fork.left.share()?, new.clone()?, fork.right.share()?)
+                Tree::joined(alloc, fork.left.share()?, new.share()?, fork.right.share()?)
             }
             Ordering::Equal => self.share(),
         }
@@ -72,14 +72,14 @@ impl Tree {
             return Ok(Tree::empty());
         };
         let fork = fork.as_ref();
-        match place.side(fork.row.as_ref()) {
+        match place.side(&fork.row) {
             Ordering::Less => {
                 let right = fork.right.without(alloc, place)?;
-                Tree::balanced(alloc, fork.left.share()?, fork.row.clone()?, right)
+                Tree::balanced(alloc, fork.left.share()?, fork.row.share()?, right)
             }
             Ordering::Greater => {
                 let left = fork.left.without(alloc, place)?;
-                Tree::balanced(alloc, left, fork.row.clone()?, fork.right.share()?)
+                Tree::balanced(alloc, left, fork.row.share()?, fork.right.share()?)
             }
             Ordering::Equal => Tree::merged(alloc, &fork.left, &fork.right),
         }
@@ -96,18 +96,18 @@ impl Tree {
     }
 
     /// The first row, and the tree of the others.
-    fn split_first(&self, alloc: Global) -> Result<Option<(Rc<Row>, Tree)>, AllocError>
+    fn split_first(&self, alloc: Global) -> Result<Option<(SharedRow, Tree)>, AllocError>
         ensures { IfOk result (λ parts. MatchOption parts
-            (self.now ≡ []) (λ p. self.now ≡ p.0.value ∷ p.1)) }
+            (self.now ≡ []) (λ p. self.now ≡ p.0 ∷ p.1)) }
     {
         let Link::Fork(fork) = &self.root else {
             return Ok(None);
         };
         let fork = fork.as_ref();
         match fork.left.split_first(alloc)? {
-            None => Ok(Some((fork.row.clone()?, fork.right.share()?))),
+            None => Ok(Some((fork.row.share()?, fork.right.share()?))),
             Some((first, left)) => {
-                let others = Tree::balanced(alloc, left, fork.row.clone()?, fork.right.share()?)?;
+                let others = Tree::balanced(alloc, left, fork.row.share()?, fork.right.share()?)?;
                 Ok(Some((first, others)))
             }
         }

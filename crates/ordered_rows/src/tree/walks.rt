@@ -15,9 +15,9 @@ use std::rc::Rc;
 
 impl Fork {
     pub(crate) fn row(&self) -> &Row
-        ensures { result.now ≡ self.now.row.value }
+        ensures { result.now ≡ self.now.row }
     {
-        self.row.as_ref()
+        self.row.row()
     }
 
     fn near(&self, direction: Direction) -> &Tree

@@ -20,17 +20,17 @@ find-requires-in-Greater t c =
 pub returns-in-Less : goal.returns-in-Less
 returns-in-Less t c =
     let is = forked c.self.view_is c.in-Fork.is c.as_ref-fork.ensures in
-    let here : side c.args.place c.as_ref-fork.result.now.row.value ≡ Less = cc in
+    let here : side c.args.place c.as_ref-fork.result.now.row ≡ Less = cc in
     IfOk-weaker _ _ _ (λ found. at_upper (side c.args.place) _ _ _ _ is c.requires _ found here) c.find.ensures
 
 pub returns-in-Greater : goal.returns-in-Greater
 returns-in-Greater t c =
     let is = forked c.self.view_is c.in-Fork.is c.as_ref-fork.ensures in
-    let here : side c.args.place c.as_ref-fork.result.now.row.value ≡ Greater = cc in
+    let here : side c.args.place c.as_ref-fork.result.now.row ≡ Greater = cc in
     IfOk-weaker _ _ _ (λ found. at_lower (side c.args.place) _ _ _ _ is c.requires _ found here) c.find-in-Greater.ensures
 
 pub returns-in_ok-copy_from-in-Equal : goal.returns-in_ok-copy_from-in-Equal
 returns-in_ok-copy_from-in-Equal t c =
     let is = forked c.self.view_is c.in-Fork.is c.as_ref-fork.ensures in
-    let here : side c.args.place c.as_ref-fork.result.now.row.value ≡ Equal = cc in
+    let here : side c.args.place c.as_ref-fork.result.now.row ≡ Equal = cc in
     at_here (side c.args.place) _ _ _ _ is c.requires _ here (cc (c.in_ok-copy_from-in-Equal.ensures.ok))
