@@ -32,7 +32,7 @@ impl Content {
     pub(crate) fn share(&self, alloc: Global) -> Result<Content, AllocError>
         ensures { IfOk result (λ content. seen content ≡ seen self.now) }
     {
-        let mut trees = Vec::new(alloc);
+        let mut trees = Vec::with_capacity(alloc, self.trees.len())?;
         for tree in &self.trees {
             trees.push(tree.share()?)?;
         }

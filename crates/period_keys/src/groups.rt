@@ -32,8 +32,7 @@ pub fn add_to(
         group.add(row)?;
         return Ok(());
     }
-    let mut group = KeyRows::new(alloc);
-    group.add(row)?;
+    let group = KeyRows::one(alloc, row)?;
     groups.insert(key.copy(alloc)?, group)?;
     Ok(())
 }

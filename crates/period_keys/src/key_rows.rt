@@ -1,6 +1,6 @@
 //! The version rows of one key, in the order of their periods' starts.
 
-ghost use Rattle.std.specs.Prelude.{◌≡◌, ◌↔◌, ◌<◌, ◌++◌, ◌∷◌, [], Contains, IsPermutation};
+ghost use Rattle.std.specs.Prelude.{◌≡◌, ◌↔◌, ◌<◌, ◌++◌, ◌∷◌, [], Contains, IfOk, IsPermutation};
 ghost use Rattle.std.specs.Prelude.{IsTrue, MatchOption, OnErr, OnOk, length, map, slice_index_or};
 ghost use Rattle.std.specs.Bool.{OnFalse, OnTrue};
 ghost use Rattle.period_core.specs.declared.version.VersionRow.{VersionRow as Version};
@@ -21,14 +21,15 @@ pub struct KeyRows {
 }
 
 impl KeyRows {
-    /// No rows.
-    pub fn new(alloc: Global) -> KeyRows
-        ensures { result.rows.items ≡ [] }
+    /// One row, with no room for more: most keys have one.
+    pub fn one(alloc: Global, row: VersionRow) -> Result<KeyRows, Memory>
+        ensures { IfOk result (λ group. group.rows.items ≡ row ∷ []) }
     {
-        KeyRows {
-            rows: Vec::new(alloc),
-            periods: Vec::new(alloc),
-        }
+        let mut rows = Vec::with_capacity(alloc, 1)?;
+        let mut periods = Vec::with_capacity(alloc, 1)?;
+        periods.push(row.period)?;
+        rows.push(row)?;
+        Ok(KeyRows { rows, periods })
     }
 
     /// The rows.

@@ -2,7 +2,7 @@ use Rattle.std.proofs.Common.{◌≡◌, ◌++◌, ◌∷◌, [], ◌∙◌, ℕ
 use Rattle.std.specs.Prelude.{◌⊎◌, Contains, IsPermutation, Result, Ok, Err, OnErr}
 use Rattle.std.specs.List.{AllByRecursion}
 use Rattle.std.specs.BTreeMap.{insert_entry, is_at}
-use Rattle.std.proofs.lemmas.List.Sorted.{IsPermutation-append_comm, IsPermutation-append_left, IsPermutation-trans, Contains-permutation}
+use Rattle.std.proofs.lemmas.List.Sorted.{IsPermutation-append_comm, IsPermutation-append_left, IsPermutation-refl, IsPermutation-trans, Contains-permutation}
 use Rattle.std.proofs.lemmas.List.Elements.{Contains-append_cases}
 use Rattle.period_core.specs.Order.{values_cmp}
 use Rattle.period_core.specs.declared.value.Value.{Value}
@@ -59,13 +59,13 @@ pub returns-clause-ok : goal.returns-clause-ok
 returns-clause-ok c =
     let key : List Value = c.args.key.now in
     let row : VersionRow = c.args.row in
-    let w : KeyRows = c.add-2.new.self in
+    let w : KeyRows = c.in_ok-group.group in
     let m : Groups = c.args.groups.now in
     let same : c.get_mut.follows.lender-at-none ≡ m = c.get_mut.follows.holds-at-none in
     let put : c.insert.new.self.entries ≡ insert_entry values_cmp m.entries key w =
     subst (λ (g : Groups). c.insert.new.self.entries ≡ insert_entry values_cmp g.entries key w) same
     (subst (λ (k : List Value). c.insert.new.self.entries ≡ insert_entry values_cmp c.get_mut.follows.lender-at-none.entries k w) c.in_ok-copy.ensures c.in_ok-insert.ensures.entries) in
-    let one : IsPermutation (rows_in w) (row ∷ []) = subst (λ (xs : List VersionRow). IsPermutation (rows_in w) (xs ++ row ∷ [])) c.new-group.ensures c.in_ok-add-2.ensures.ok in
+    let one : IsPermutation (rows_in w) (row ∷ []) = subst (IsPermutation (rows_in w)) c.in_ok-group.ensures (IsPermutation-refl (rows_in w)) in
     subst (λ (es : Entries). IsPermutation (rows_of_groups es) (row ∷ rows_of_groups m.entries)) (sym put)
     (IsPermutation-trans (rows_of_groups (insert_entry values_cmp m.entries key w)) (rows_in w ++ rows_of_groups m.entries) (row ∷ rows_of_groups m.entries)
     (inserted_group m.entries key w (sym c.in_default.ensures.value)) (IsPermutation-append_left (rows_of_groups m.entries) (rows_in w) (row ∷ []) one))
@@ -74,13 +74,13 @@ pub returns-clause-grouped : goal.returns-clause-grouped
 returns-clause-grouped c = λ positions own grouped.
     let key : List Value = c.args.key.now in
     let row : VersionRow = c.args.row in
-    let w : KeyRows = c.add-2.new.self in
+    let w : KeyRows = c.in_ok-group.group in
     let m : Groups = c.args.groups.now in
     let same : c.get_mut.follows.lender-at-none ≡ m = c.get_mut.follows.holds-at-none in
     let put : c.insert.new.self.entries ≡ insert_entry values_cmp m.entries key w =
     subst (λ (g : Groups). c.insert.new.self.entries ≡ insert_entry values_cmp g.entries key w) same
     (subst (λ (k : List Value). c.insert.new.self.entries ≡ insert_entry values_cmp c.get_mut.follows.lender-at-none.entries k w) c.in_ok-copy.ensures c.in_ok-insert.ensures.entries) in
-    let one : IsPermutation (rows_in w) (row ∷ []) = subst (λ (xs : List VersionRow). IsPermutation (rows_in w) (xs ++ row ∷ [])) c.new-group.ensures c.in_ok-add-2.ensures.ok in
+    let one : IsPermutation (rows_in w) (row ∷ []) = subst (IsPermutation (rows_in w)) c.in_ok-group.ensures (IsPermutation-refl (rows_in w)) in
     record {
       ordered = c.in_ok-insert.ensures.ordered;
       keyed = subst (AllByRecursion (HaveKey positions)) (sym put)
