@@ -1,7 +1,7 @@
 -- An answer over the rows that a query's references see is one in the history.
 use Rattle.std.proofs.Common.{◌≡◌, ◌↔◌, ◌&&◌, ◌==◌, ◌+◌, ◌++◌, ◌∷◌, ◌∙◌, ℕ, ℤ, true, List, [], append_assoc, eqb-true, length, map, refl, sym, ap, subst, inl, inr, arith, length-append}
 use Rattle.std.specs.Prelude.{slice_index_or}
-use Rattle.std.specs.List.{AllZip, Contains}
+use Rattle.std.specs.List.{Contains}
 use Rattle.std.proofs.lemmas.Bool.{and_parts}
 use Rattle.std.specs.List.{list_all}
 use Rattle.period_core.specs.declared.answer.Answer.{Answer}
@@ -9,7 +9,7 @@ use Rattle.period_core.specs.declared.answer.Witness.{Witness}
 use Rattle.period_core.specs.declared.row.PeriodRow.{PeriodRow}
 use Rattle.period_core.specs.declared.value.Value.{Value}
 use Rattle.temporal_model.specs.Answer.{IsCertified, IsInAnswerOrder, IsShortest}
-use Rattle.temporal_model.specs.Snapshot.{Equivalent, InSnapshot}
+use Rattle.temporal_model.specs.Snapshot.{Equivalent}
 use Rattle.temporal_model.specs.Witness.{IsWitness, WitnessEachRow, witness_of}
 use Rattle.temporal_model.proofs.Members.{Contains-cons_cases, Contains-nil}
 use Rattle.temporal_model.proofs.Witnesses.{witnessed_by_sets}

@@ -1,6 +1,6 @@
 -- A sequenced answer gets no verdict but that it agrees.
-use Rattle.std.proofs.Common.{◌≡◌, ◌↔◌, ◌+◌, ◌<◌, ◌∷◌, ℕ, ℤ, suc, zero, List, [], Option, Some, None, Ok, length, map, take, get_or, refl, sym, ◌∙◌, ap, subst, inl, inr, arith}
-use Rattle.std.specs.List.{Contains, slice_get}
+use Rattle.std.proofs.Common.{◌≡◌, ◌↔◌, ◌<◌, ◌∷◌, ℕ, ℤ, suc, zero, List, [], Some, None, length, get_or, sym, ◌∙◌, ap, subst, inl, inr, arith}
+use Rattle.std.specs.List.{slice_get}
 use Rattle.std.proofs.lemmas.List.{get_or-take, length-take-le}
 use Rattle.std.proofs.lemmas.Option.{get_or_from_slice_get, same_Some, slice_get_within}
 use Rattle.std.proofs.lemmas.Slice.Zip.{AllZip-long}
@@ -10,17 +10,15 @@ use Rattle.period_core.specs.declared.row.PeriodRow.{PeriodRow}
 use Rattle.period_core.specs.declared.value.Value.{Value}
 use Rattle.temporal_model.specs.Answer.{IsCertified, SameBeginning}
 use Rattle.temporal_model.specs.Witness.{IsWitness, WitnessEachRow, witness_of}
-use Rattle.catalog_core.specs.query.Queries.{Query}
-use Rattle.history_model.specs.Histories.{History}
 use Rattle.history_model.specs.OrdinaryQuery.{HistorySights, InAnswerOn, InAnswerOver, TableSights}
 use Rattle.history_model.proofs.Sights.{query_seen}
 use Rattle.snapshot_audit.specs.ChangeDays.{seen_lists}
-use Rattle.snapshot_audit.specs.Faults.{BeginsIn, IsFirstFault, IsSound, IsUnsoundAt}
-use Rattle.snapshot_audit.specs.Verdicts.{IsFirstDifference, IsVerdict}
+use Rattle.snapshot_audit.specs.Faults.{IsFirstFault, IsSound}
+use Rattle.snapshot_audit.specs.Verdicts.{IsVerdict}
 use Rattle.snapshot_audit.specs.declared.verdict.Verdict.{Verdict}
 use Rattle.snapshot_audit.specs.declared.verdict.Verdict.TheVariants.{Agrees, BadWitness, Differs}
 use Rattle.script_engine.specs.Headline.{IsSequencedAnswer}
-use Rattle.script_engine.specs.engine.Audits.{AreSeen, AuditsAgree, IsAgreement}
+use Rattle.script_engine.specs.engine.Audits.{AuditsAgree, IsAgreement}
 use Rattle.script_engine.proofs.AnswerLaws.{certified}
 
 -- each row has its witness in its place

@@ -1,5 +1,5 @@
 -- The entries of statements: an answer with its audit, and what is no answer without one.
-use Rattle.std.proofs.Common.{◌≡◌, List, None, Option, Some, Result, Ok, Err, refl}
+use Rattle.std.proofs.Common.{◌≡◌, List, None, Some, Result, Ok, Err, refl}
 use Rattle.std.specs.Prelude.{IfErr, IfOk}
 use Rattle.period_core.specs.declared.answer.Answer.{Answer}
 use Rattle.period_core.specs.declared.refusal.Refusal.{Refusal}

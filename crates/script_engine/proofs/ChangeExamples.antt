@@ -1,6 +1,6 @@
 -- Worked rows: UPDATE over a portion, DELETE and stored queries, each as a step of the history.
 use Rattle.std.proofs.Common.{◌≡◌, ◌≤◌, ◌∷◌, ◌++◌, ◌+◌, ◌∙◌, ◌&&◌, [], ℕ, ℤ, pos, Bool, true, false, cond, List, Option, None, Some, Ok, codes, refl, sym, ap, ap₂, subst, length, map, arith}
-use Rattle.std.specs.Prelude.{IsSorted, int_lt}
+use Rattle.std.specs.Prelude.{IsSorted}
 use Rattle.std.proofs.lemmas.List.Sorted.{IsPermutation-refl, IsPermutation-trans, length_permutation}
 use Rattle.std.specs.List.Sorted.{IsPermutation}
 use Rattle.std.specs.Str.{chars}
@@ -9,7 +9,6 @@ use Rattle.period_core.proofs.Periods.{period_over}
 use Rattle.period_core.specs.Leasts.{NoneApplies}
 use Rattle.period_core.specs.Moments.{first_moment, forever}
 use Rattle.period_core.specs.declared.period.Period.{Period}
-use Rattle.period_core.specs.declared.value.Value.{Value}
 use Rattle.temporal_model.specs.Snapshot.{covers_day}
 use Rattle.period_core.specs.declared.value.Value.TheVariants.{Int}
 use Rattle.period_core.specs.declared.version.VersionRow.{VersionRow}

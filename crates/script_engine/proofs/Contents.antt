@@ -7,7 +7,7 @@ use Rattle.std.proofs.lemmas.Int.{ints}
 use Rattle.std.proofs.lemmas.List.{map-append}
 use Rattle.std.proofs.lemmas.List.Concat.{flat_map-append}
 use Rattle.std.proofs.lemmas.List.Elements.{filter-append}
-use Rattle.std.proofs.lemmas.List.Sorted.{IsPermutation-append_left, IsPermutation-filter_both, IsPermutation-map, IsPermutation-refl, IsPermutation-trans}
+use Rattle.std.proofs.lemmas.List.Sorted.{IsPermutation-append_left, IsPermutation-filter_both, IsPermutation-map, IsPermutation-trans}
 use Rattle.sqlite_trees.proofs.ListLemmas.{IsPermutation-flat_map, IsPermutation-same, all-map, all_of, all_weaker, ascending-filter, filter_all, map-map}
 use Rattle.period_core.specs.Moments.{first_moment, forever}
 use Rattle.period_core.specs.declared.row.PeriodRow.{PeriodRow}
@@ -16,14 +16,14 @@ use Rattle.catalog_core.specs.declared.change.Action.{Action}
 use Rattle.catalog_core.specs.declared.change.Change.{Change}
 use Rattle.catalog_core.specs.declared.change.Plan.{Plan}
 use Rattle.catalog_core.specs.declared.table.TableDef.{TableDef}
-use Rattle.version_tables.specs.Good.{AreMoments, IsClock}
+use Rattle.version_tables.specs.Good.{AreMoments}
 use Rattle.version_store.specs.Changed.{is_ended, left_of, planned, with_clock, with_table}
 use Rattle.version_store.specs.Contents.{Contents, TableVersion, added_in, of_table, same_version, version_in}
 use Rattle.version_store.specs.DistinctKeys.{HaveDistinctKeys}
 use Rattle.version_store.specs.GoodStore.{AreLawful}
 use Rattle.version_store.proofs.Spared.{other_tables}
 use Rattle.history_model.specs.Effects.{effect}
-use Rattle.history_model.specs.Histories.{Advanced, Asked, Changed, Created, Event, History, catalog_of, changed_until, clock_of, created_by, last_state, with_event}
+use Rattle.history_model.specs.Histories.{Advanced, Asked, Changed, Created, Event, History, catalog_of, changed_until, created_by, last_state, with_event}
 use Rattle.history_model.specs.Left.{Makes, begun_at, closed_at, versions_of}
 use Rattle.history_model.specs.Portions.{plain_row}
 use Rattle.history_model.specs.Versions.{PlainVersion, current, last_moment, plain_version}

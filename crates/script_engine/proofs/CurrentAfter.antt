@@ -1,6 +1,6 @@
 -- The current versions of a table after a plan: those that it does not end, and those that it adds.
 use Rattle.std.proofs.Common.{◌≡◌, ◌<ℤ◌, ◌++◌, ◌∷◌, ◌∙◌, ℤ, Bool, true, false, cond, List, [], map, refl, sym, ap, ap₂, subst, arith}
-use Rattle.std.specs.List.{AllByRecursion, filter, flat_map}
+use Rattle.std.specs.List.{AllByRecursion, flat_map}
 use Rattle.std.specs.List.Sorted.{IsPermutation}
 use Rattle.std.specs.Ordering.{int_eq}
 use Rattle.std.proofs.lemmas.Int.{ints}

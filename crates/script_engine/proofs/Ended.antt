@@ -1,5 +1,5 @@
 -- What a plan leaves of the versions of a store.
-use Rattle.std.proofs.Common.{◌≡◌, ◌∷◌, ◌++◌, ◌∙◌, ◌==◌, ◌≤ℤ◌, ◌<ℤ◌, ◌⊎◌, ℕ, ℤ, Bool, true, false, cond, List, [], map, refl, sym, ap, ap₂, subst, inl, inr, arith}
+use Rattle.std.proofs.Common.{◌≡◌, ◌∷◌, ◌++◌, ◌∙◌, ◌==◌, ◌≤ℤ◌, ◌<ℤ◌, ℕ, ℤ, Bool, true, false, cond, List, [], map, refl, sym, ap, ap₂, inl, inr, arith}
 use Rattle.std.specs.List.{All, AllByRecursion, filter, flat_map}
 use Rattle.std.specs.Ordering.{int_cmp, int_eq, is_eq}
 use Rattle.std.proofs.lemmas.Int.{by_lt_z, ints}

@@ -11,16 +11,15 @@ use Rattle.catalog_core.specs.create.Lawful.{IsLawful}
 use Rattle.catalog_core.specs.table.TableWords.{table_of}
 use Rattle.catalog_core.specs.declared.change.Action.{Action}
 use Rattle.catalog_core.specs.declared.change.Plan.{Plan}
-use Rattle.catalog_core.specs.declared.table.Reference.{Reference}
 use Rattle.catalog_core.specs.declared.table.TableDef.{TableDef}
 use Rattle.history_model.proofs.Lists.{exchange}
 use Rattle.version_store.specs.GoodStore.{AreLawful}
-use Rattle.period_keys.specs.Current.{HaveIndexes, HaveMoreIndexes, IsIndexed, IsIndexedBy, rows_by_key}
+use Rattle.period_keys.specs.Current.{HaveIndexes, HaveMoreIndexes, IsIndexedBy, rows_by_key}
 use Rattle.period_keys.specs.Keys.{key_values}
 use Rattle.period_keys.specs.Lawful.{own_positions, parent_positions}
 use Rattle.period_keys.specs.PeriodIndexes.{AreKeysByEach}
 use Rattle.period_keys.specs.Planned.{IsPlanOf}
-use Rattle.period_keys.specs.Rows.{HasRows, RowsByKey}
+use Rattle.period_keys.specs.Rows.{RowsByKey}
 use Rattle.period_keys.specs.TableRows.{AreTouchedKeys, HasTableRows, TableRows}
 use Rattle.period_keys.specs.declared.table_index.TouchedKeys.{TouchedKeys}
 use Rattle.period_keys.proofs.FaultFacts.{split_of}

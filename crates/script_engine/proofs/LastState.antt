@@ -1,6 +1,6 @@
 -- What the last state of a history holds, by the current versions of a store; and that it stays lawful with each event.
-use Rattle.std.proofs.Common.{◌≡◌, ◌≤◌, ◌<◌, ◌+◌, ◌++◌, ◌∷◌, ◌==◌, ◌∙◌, ◌≤ℤ◌, ◌<ℤ◌, ◌⊎◌, Bool, ℕ, zero, suc, ℤ, List, [], Option, Some, append-nil, append_assoc, length, map, refl, subst, subst₂, sym, ap, take, inl, inr, arith}
-use Rattle.std.specs.List.{All, AllByRecursion, Contains, filter, slice_get}
+use Rattle.std.proofs.Common.{◌≡◌, ◌≤◌, ◌<◌, ◌++◌, ◌∷◌, ◌==◌, ◌∙◌, ◌≤ℤ◌, ◌<ℤ◌, ◌⊎◌, Bool, ℕ, zero, suc, ℤ, List, [], Option, Some, append-nil, append_assoc, length, map, refl, subst, sym, ap, take, inl, inr, arith}
+use Rattle.std.specs.List.{All, Contains, filter, slice_get}
 use Rattle.std.specs.List.Sorted.{IsPermutation}
 use Rattle.std.specs.Option.{option_map_or}
 use Rattle.std.proofs.lemmas.Int.{ints}
@@ -25,15 +25,15 @@ use Rattle.version_tables.specs.Good.{AreMoments, IsClock}
 use Rattle.version_store.specs.Contents.{Contents, TableVersion, of_table, version_in}
 use Rattle.version_store.specs.GoodStore.{AreLawful}
 use Rattle.version_store.specs.Scans.{seen_of}
-use Rattle.history_model.specs.Histories.{Changed, Created, History, IsInOrder, State, catalog_of, last_state, with_event}
+use Rattle.history_model.specs.Histories.{Changed, History, IsInOrder, State, catalog_of, last_state, with_event}
 use Rattle.history_model.specs.Versions.{IsRecorded, current, last_moment, row_of}
-use Rattle.history_model.proofs.HistoryLemmas.{catalog_of-event, state_at-changed_later, state_at-event}
+use Rattle.history_model.proofs.HistoryLemmas.{state_at-changed_later}
 use Rattle.history_model.proofs.LeftFacts.{left_hold}
 use Rattle.history_model.proofs.VersionFacts.{current_hold}
 use Rattle.period_keys.specs.Current.{HoldCurrent, ReferToEarlier}
 use Rattle.period_keys.specs.Days.{LacksParent, ShareKey}
 use Rattle.period_keys.specs.Keys.{values_at}
-use Rattle.period_keys.specs.Lawful.{IsLawfulChange, IsLawfulState, LacksParentBy, Refers, key_positions, own_positions, parent_positions, state_after}
+use Rattle.period_keys.specs.Lawful.{IsLawfulChange, IsLawfulState, LacksParentBy, key_positions, own_positions, parent_positions, state_after}
 use Rattle.period_keys.specs.Rows.{RowsByKey}
 use Rattle.period_keys.proofs.LawfulFacts.{stays_lawful}
 use Rattle.period_keys.proofs.Earlier.{earlier_parent, refer_to_earlier}

@@ -1,5 +1,5 @@
 -- For worked rows: a change is lawful where at most one row of its table is there on a day, or rows of distinct keys, and no table has a reference.
-use Rattle.std.proofs.Common.{◌≡◌, ◌∷◌, ◌++◌, ◌+◌, ◌≤◌, ◌<◌, ◌∙◌, ℕ, zero, suc, ℤ, Bool, true, false, List, [], Option, Some, cond, inl, inr, length, length-append, map, not, refl, sym, ap, subst, arith}
+use Rattle.std.proofs.Common.{◌≡◌, ◌∷◌, ◌+◌, ◌≤◌, ◌∙◌, ℕ, suc, ℤ, Bool, true, false, List, [], Some, cond, inl, inr, length, length-append, map, not, refl, sym, ap, subst, arith}
 use Rattle.std.specs.List.{Contains, enumerate_from, filter}
 use Rattle.std.proofs.lemmas.List.{length-map}
 use Rattle.period_core.specs.declared.value.Value.{Value}
@@ -13,7 +13,7 @@ use Rattle.catalog_core.specs.declared.table.TableDef.{TableDef}
 use Rattle.history_model.specs.Effects.{Traced, acts_on, given_covers, given_of, given_row, kept, traced, updated}
 use Rattle.history_model.specs.Histories.{State}
 use Rattle.period_keys.specs.Keys.{values_at}
-use Rattle.period_keys.specs.Lawful.{IsLawfulChange, OriginsShareKey, Refers, key_positions}
+use Rattle.period_keys.specs.Lawful.{IsLawfulChange, OriginsShareKey, key_positions}
 
 -- ---- how many rows are traced
 

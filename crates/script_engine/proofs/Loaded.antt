@@ -1,6 +1,6 @@
 -- The rows in memory as they are loaded, table by table.
 use Rattle.std.proofs.Common.{◌≡◌, ◌<◌, ◌≤◌, ◌+◌, ◌==◌, ◌++◌, ◌∷◌, ◌∙◌, ℕ, zero, suc, Bool, true, false, List, [], None, Some, eqb-true, get_or, length, map, nat_lt, refl, sym, ap, ap₂, subst, take, take_all, length-append, arith}
-use Rattle.std.specs.List.{AllByRecursion, filter, slice_get}
+use Rattle.std.specs.List.{filter}
 use Rattle.std.specs.List.Sorted.{IsPermutation}
 use Rattle.std.specs.Option.{option_map_or}
 use Rattle.std.proofs.lemmas.Bool.Decides.{nat_tests}
@@ -8,7 +8,6 @@ use Rattle.std.proofs.lemmas.List.{map-append, take_more}
 use Rattle.std.proofs.lemmas.List.Sorted.{IsPermutation-refl}
 use Rattle.std.proofs.lemmas.Option.{none-some, slice_get_past}
 use Rattle.sqlite_trees.proofs.ListLemmas.{all_weaker, filter_none}
-use Rattle.sqlite.specs.Held.{state}
 use Rattle.sqlite.specs.Store.{Ghosts}
 use Rattle.period_core.specs.declared.version.VersionRow.{VersionRow}
 use Rattle.period_core.specs.Windows.{window_sees}
@@ -17,10 +16,8 @@ use Rattle.catalog_core.specs.declared.table.TableDef.{TableDef}
 use Rattle.catalog_core.specs.table.TableWords.{table_of}
 use Rattle.period_keys.specs.Lawful.{key_positions}
 use Rattle.period_keys.specs.Rows.{RowsByKey}
-use Rattle.version_tables.specs.Steps.{IsAsBefore}
-use Rattle.version_store.specs.Contents.{Contents, TableVersion, of_table, version_in}
+use Rattle.version_store.specs.Contents.{Contents, TableVersion, of_table}
 use Rattle.version_store.specs.GoodStore.{HaveTables}
-use Rattle.version_store.specs.Scans.{seen_of}
 use Rattle.version_store.specs.StoreState.{IsOnlyRead, IsUsable, StoreRepresents, StoreState}
 use Rattle.version_store.specs.Written.{Has}
 use Rattle.script_engine.specs.engine.InMemory.{AreCurrentOf, HaveCurrentRows, keys_in, rows_in}

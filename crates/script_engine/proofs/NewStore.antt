@@ -1,5 +1,5 @@
 -- A new store is one of the history to which nothing was done.
-use Rattle.std.proofs.Common.{◌≡◌, ◌<ℤ◌, ◌≤ℤ◌, [], refl, arith, zero, suc, ℕ, ℤ}
+use Rattle.std.proofs.Common.{◌≡◌, [], refl, arith, zero, suc, ℕ, ℤ}
 use Rattle.std.specs.List.{All}
 use Rattle.std.proofs.lemmas.Int.{ints}
 use Rattle.std.proofs.lemmas.List.Elements.{All-nil}

@@ -4,9 +4,8 @@ use Rattle.std.specs.List.{AllByRecursion}
 use Rattle.std.specs.List.Sorted.{IsPermutation}
 use Rattle.std.proofs.lemmas.Bool.Decides.{nat_tests}
 use Rattle.std.proofs.lemmas.List.Sorted.{IsPermutation-refl}
-use Rattle.std.proofs.lemmas.Option.{none-some, slice_get_within}
+use Rattle.std.proofs.lemmas.Option.{none-some}
 use Rattle.sqlite_trees.proofs.ListLemmas.{all_weaker, filter_none}
-use Rattle.period_core.specs.declared.period.Period.{Period}
 use Rattle.period_core.specs.declared.version.VersionRow.{VersionRow}
 use Rattle.catalog_core.specs.declared.table.TableDef.{TableDef}
 use Rattle.catalog_core.specs.table.TableWords.{table_of}
@@ -15,12 +14,12 @@ use Rattle.version_store.specs.Contents.{Contents, TableVersion, of_table, versi
 use Rattle.version_store.specs.GoodStore.{HaveTables, IsGoodStore, IsGoodVersion, NothingMore}
 use Rattle.sqlite.specs.Effect as sqlite
 use Rattle.sqlite.specs.Store.{Ghosts}
-use Rattle.history_model.specs.Histories.{Database, History, last_state, new_database, opened, versions_in}
+use Rattle.history_model.specs.Histories.{Database, History, last_state, opened, versions_in}
 use Rattle.history_model.specs.Versions.{plain_version}
 use Rattle.period_keys.specs.Lawful.{IsLawfulState}
 use Rattle.script_engine.specs.engine.EngineState.{EngineState}
 use Rattle.script_engine.specs.engine.Faults.{AreConstrained, current_state}
-use Rattle.script_engine.specs.engine.Stored.{AreOfHistory, AreRecorded, EngineRepresents, HasContents, HoldsTable}
+use Rattle.script_engine.specs.engine.Stored.{AreOfHistory, AreRecorded, EngineRepresents, HasContents}
 use Rattle.script_engine.proofs.LastState.{IsLeft, lawful_along, recorded_rows, state_said}
 
 -- a good version as a version row

@@ -1,8 +1,7 @@
 -- Worked rows: a sequenced query of a table with one row and of one with two that overlap, each as a step of the history.
-use Rattle.std.specs.Prelude.{int_le, int_lt}
 use Rattle.std.specs.List.Sorted.{IsPermutation}
 use Rattle.std.proofs.lemmas.List.Sorted.{Contains-permutation, IsPermutation-refl, IsPermutation-sym}
-use Rattle.std.proofs.Common.{◌≡◌, ◌==◌, ◌∷◌, ◌++◌, ◌↔◌, append-nil, eqb-true, ◌<ℤ◌, fold, filter_map, [], ℕ, zero, suc, ℤ, pos, Bool, true, false, List, Option, None, Some, Ok, map, codes, refl, sym, ap, ap₂, ◌∙◌, subst, inl, inr, arith}
+use Rattle.std.proofs.Common.{◌≡◌, ◌==◌, ◌∷◌, ◌++◌, ◌↔◌, append-nil, eqb-true, [], ℕ, zero, suc, ℤ, pos, Bool, true, false, List, Option, None, Some, Ok, map, codes, refl, sym, ap, ap₂, ◌∙◌, subst, inl, inr, arith}
 use Rattle.std.proofs.lemmas.Int.{by_lt_z, ints}
 use Rattle.std.specs.List.{All, Contains}
 use Rattle.std.proofs.lemmas.Bool.{and_parts}
@@ -14,7 +13,6 @@ use Rattle.period_core.specs.declared.row.PeriodRow.{PeriodRow}
 use Rattle.period_core.specs.Moments.{first_moment, forever}
 use Rattle.period_core.specs.declared.value.Value.{Value}
 use Rattle.period_core.specs.declared.version.VersionRow.{VersionRow}
-use Rattle.period_core.specs.declared.window.Window.{Window}
 use Rattle.period_core.specs.declared.window.Window.TheVariants.{Now}
 use Rattle.temporal_model.specs.Snapshot.{covers_day, values_on}
 use Rattle.temporal_model.proofs.Members.{Contains-cons_cases, Contains-here, Contains-nil, Contains-one, Contains-there}
@@ -24,27 +22,24 @@ use Rattle.sql_statements.specs.declared.statement.SelectItem.{SelectItem}
 use Rattle.sql_statements.specs.declared.statement.TableReference.{TableReference}
 use Rattle.sql_statements.specs.Trees.{combined, last, simple}
 use Rattle.sql_statements.specs.declared.tree.Tree.{Tree}
-use Rattle.history_model.specs.Effects.{effect}
-use Rattle.history_model.specs.Versions.{IsRecorded, last_moment, plain_version, values_at}
+use Rattle.history_model.specs.Versions.{IsRecorded, last_moment, plain_version}
 use Rattle.history_model.specs.OrdinaryQuery.{InAnswerOn, IsProjection, read_items}
-use Rattle.history_model.specs.Histories.{Asked, Changed, Created, Database, History, IsInOrder, changed_until, last_state, state_at, versions_in, with_event}
+use Rattle.history_model.specs.Histories.{Asked, History, IsInOrder, last_state, state_at, versions_in, with_event}
 use Rattle.catalog_core.specs.Judged.{Holds}
 use Rattle.catalog_core.specs.table.Matches.{is_matching}
 use Rattle.catalog_core.specs.table.Naming.{Name}
 use Rattle.catalog_core.specs.query.Refusals.{compares_kinds, is_too_long, lacks_table, names_period, names_twice, some_column_matches}
 use Rattle.catalog_core.specs.query.Fitting.{are_in_place}
 use Rattle.catalog_core.specs.query.Queries.{Query, both, one, references_of}
-use Rattle.catalog_core.specs.query.Resolving.{ReferenceParts, ResolvesQuery, ResolvesSelect, ResolvesTree, conjunct_parts, query_conditions, reference_parts, written_item, written_reference}
+use Rattle.catalog_core.specs.query.Resolving.{ReferenceParts, ResolvesQuery, ResolvesSelect, ResolvesTree, conjunct_parts, query_conditions, reference_parts, written_reference}
 use Rattle.catalog_core.specs.query.Selection.{item_parts}
 use Rattle.catalog_core.specs.table.Kinds.{kind_of_column}
-use Rattle.catalog_core.specs.table.TableWords.{is_value_column, number_of, table_of, table_of_name}
+use Rattle.catalog_core.specs.table.TableWords.{is_value_column, number_of, table_of_name}
 use Rattle.catalog_core.specs.declared.query.AnswerColumn.{AnswerColumn}
 use Rattle.catalog_core.specs.declared.condition.CompareValues.{CompareValues}
 use Rattle.catalog_core.specs.declared.query.resolved.QueryReference.{QueryReference}
 use Rattle.catalog_core.specs.declared.query.resolved.Select.{Select}
-use Rattle.catalog_core.specs.declared.table.ValueKind.{ValueKind}
 use Rattle.catalog_core.specs.declared.table.ValueKind.TheVariants as value_kind
-use Rattle.catalog_core.specs.declared.table.TableDef.{TableDef}
 use Rattle.script_engine.specs.Headline.{IsSequencedAnswer}
 use Rattle.history_model.specs.Left.{AreLeftBy}
 use Rattle.history_model.proofs.LeftFacts.{left_hold}

@@ -1,5 +1,5 @@
 -- Worked rows: which refusal a whole script has, the run of no pieces, a refused statement, and an answer of one row.
-use Rattle.std.proofs.Common.{◌≡◌, ◌<◌, ◌≤◌, ◌+◌, ◌<ℤ◌, ◌≤ℤ◌, ◌-ℤ◌, ◌∙◌, ◌∷◌, [], ℕ, ℤ, pos, List, Some, Ok, Err, true, false, codes, length, refl, ap, subst, inl, inr, arith, ◌++◌, lit≤}
+use Rattle.std.proofs.Common.{◌≡◌, ◌<◌, ◌≤◌, ◌+◌, ◌<ℤ◌, ◌≤ℤ◌, ◌-ℤ◌, ◌∙◌, ◌∷◌, [], ℕ, ℤ, pos, List, Some, Ok, Err, true, false, codes, length, refl, ap, inl, inr, arith, ◌++◌, lit≤}
 use Rattle.std.proofs.lemmas.Int.{ints}
 use Rattle.std.proofs.lemmas.Str.{is_utf8-from_IsUtf8}
 use Rattle.std.specs.Str.{IsUtf8, chars, is_utf8}

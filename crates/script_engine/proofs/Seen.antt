@@ -1,10 +1,8 @@
 -- What one table reference sees, as period rows: those of the versions that its window sees.
-use Rattle.std.proofs.Common.{◌≡◌, ◌↔◌, ◌<ℤ◌, ◌++◌, ◌∷◌, ◌∙◌, ℕ, ℤ, Bool, false, List, [], Ok, append-nil, append_assoc, filter, fold, map, refl, sym, ap, subst}
-use Rattle.std.specs.List.{Contains}
+use Rattle.std.proofs.Common.{◌≡◌, ◌↔◌, ◌++◌, ◌∷◌, ◌∙◌, ℕ, ℤ, Bool, false, List, [], Ok, append-nil, append_assoc, filter, fold, map, sym, ap, subst}
 use Rattle.std.specs.List.Sorted.{IsPermutation}
 use Rattle.std.proofs.lemmas.List.Sorted.{Contains-permutation, IsPermutation-map, IsPermutation-refl, IsPermutation-sym}
 use Rattle.sqlite_trees.proofs.ListLemmas.{all_of, filter-map, filter_none, map-map}
-use Rattle.period_core.specs.Moments.{forever}
 use Rattle.period_core.specs.Windows.{window_sees}
 use Rattle.period_core.specs.declared.row.PeriodRow.{PeriodRow}
 use Rattle.period_core.specs.declared.value.Value.{Value}

@@ -1,5 +1,5 @@
 -- A stored query that is answered is a step of the histories that the engine represents.
-use Rattle.std.proofs.Common.{◌≡◌, ◌∙◌, List, [], Some, Ok, Err, refl, sym, ap, subst, subst₂, fold, inl, inr}
+use Rattle.std.proofs.Common.{◌≡◌, ◌∙◌, List, [], Some, Ok, Err, refl, sym, ap, subst, fold, inl}
 use Rattle.period_core.specs.Leasts.{MayAnswer, NoneApplies}
 use Rattle.period_core.specs.declared.refusal.Refusal.{Refusal}
 use Rattle.period_core.specs.declared.version.VersionRow.{VersionRow}
@@ -7,7 +7,6 @@ use Rattle.sqlite.specs.Store.{Ghosts}
 use Rattle.sql_statements.specs.Trees.{Statement}
 use Rattle.sql_statements.specs.Trees as statement
 use Rattle.catalog_core.specs.Judged.{Holds}
-use Rattle.catalog_core.specs.stored.StoredAnswers.{shown_versions}
 use Rattle.catalog_core.specs.stored.StoredQueries.{ResolvesStoredQuery, stored_query_conditions}
 use Rattle.catalog_core.specs.table.TableWords.{table_of}
 use Rattle.catalog_core.specs.declared.stored.Stored.{Stored}
@@ -15,7 +14,7 @@ use Rattle.catalog_core.specs.declared.table.TableDef.{TableDef}
 use Rattle.version_store.specs.Contents.{Contents}
 use Rattle.version_store.specs.Scans.{AreFirstSeen, Visits}
 use Rattle.version_store.specs.StoreState.{IsStoreRefusal}
-use Rattle.history_model.specs.Histories.{Asked, History, catalog_of, with_event}
+use Rattle.history_model.specs.Histories.{Asked, History, with_event}
 use Rattle.script_engine.specs.engine.Runs.{StepsTo}
 use Rattle.script_engine.specs.engine.Shown.{AreShown, AreShownOf, version_columns}
 use Rattle.script_engine.specs.engine.EngineState.{EngineState}

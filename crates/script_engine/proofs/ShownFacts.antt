@@ -1,5 +1,5 @@
 -- What a scan leaves in a visitor of a stored query is what the query shows.
-use Rattle.std.proofs.Common.{◌≡◌, ◌&&◌, ◌∷◌, ◌++◌, ◌∙◌, ℕ, Bool, true, false, List, [], append-nil, append_assoc, fold, length, map, refl, sym, ap, ap₂, subst, subst₂, arith}
+use Rattle.std.proofs.Common.{◌≡◌, ◌&&◌, ◌∷◌, ◌++◌, ◌∙◌, ℕ, Bool, true, false, List, [], append-nil, append_assoc, fold, length, map, refl, sym, ap, subst, subst₂, arith}
 use Rattle.std.specs.Prelude.{IsSorted, ◌+◌, ◌<◌}
 use Rattle.std.specs.List.{filter}
 use Rattle.std.specs.List.Sorted.{IsPermutation, IsSortedBy}

@@ -1,5 +1,5 @@
 -- Each way in which the engine runs a statement is a step of the histories that it represents.
-use Rattle.std.proofs.Common.{◌≡◌, ◌++◌, ◌∷◌, ◌<ℤ◌, ◌≤ℤ◌, ◌≤◌, ℤ, true, false, List, [], Result, Ok, Err, OnErr, OnOk, refl, sym, ap, ◌∙◌, subst, inl, inr, arith}
+use Rattle.std.proofs.Common.{◌≡◌, ◌<ℤ◌, ◌≤ℤ◌, ◌≤◌, ℤ, true, false, List, [], Result, Ok, Err, OnOk, refl, sym, ◌∙◌, subst, inl, inr, arith}
 use Rattle.std.specs.Prelude.{int_lt}
 use Rattle.std.proofs.lemmas.Bool.{false≢true}
 use Rattle.std.proofs.lemmas.Int.{ints}
@@ -8,7 +8,6 @@ use Rattle.period_core.specs.Codes.{code_of}
 use Rattle.period_core.specs.Leasts.{MayAnswer, NoneApplies}
 use Rattle.period_core.specs.Moments.{forever}
 use Rattle.period_core.specs.declared.refusal.Refusal.{Refusal}
-use Rattle.period_core.specs.declared.refusal.Refusal.TheVariants.{MomentBack}
 use Rattle.sqlite.specs.Store.{Ghosts}
 use Rattle.sql_statements.specs.declared.create.CreateTable.{CreateTable}
 use Rattle.sql_statements.specs.Trees.{Statement}
@@ -22,11 +21,10 @@ use Rattle.version_store.specs.Contents.{Contents}
 use Rattle.version_store.specs.GoodStore.{AreLawful}
 use Rattle.version_store.specs.StoreState.{Changes, IsStoreRefusal, IsUsable}
 use Rattle.history_model.specs.Histories.{Advanced, Created, History, catalog_of, clock_of, last_state, with_event}
-use Rattle.script_engine.specs.engine.Runs.{MayRefuse, MayRefuseMoment, MayRefuseStatement, NoneBeforeStore, StatementApplies, StepsTo}
+use Rattle.script_engine.specs.engine.Runs.{MayRefuse, MayRefuseMoment, MayRefuseStatement, StatementApplies, StepsTo}
 use Rattle.script_engine.specs.engine.EngineState.{EngineState, store_of}
 use Rattle.script_engine.specs.engine.InMemory.{HaveCurrentRows}
-use Rattle.script_engine.specs.engine.Stored.{AreOfHistory, EngineRepresents, HasContents, KeepsOnErr}
-use Rattle.script_engine.specs.declared.engine.outcome.Outcome.{Outcome}
+use Rattle.script_engine.specs.engine.Stored.{EngineRepresents, HasContents, KeepsOnErr}
 use Rattle.script_engine.specs.declared.engine.outcome.Outcome.TheVariants.{Done}
 use Rattle.script_engine.specs.declared.engine.outcome.Word.TheVariants as word
 use Rattle.script_engine.proofs.Contents.{is_left, said-advanced, said-created}

@@ -1,9 +1,8 @@
 -- Worked rows: a union and a difference of two selects, and a table as it was, each as a step of the history.
-use Rattle.std.proofs.Common.{◌≡◌, ◌∷◌, ◌↔◌, ◌<ℤ◌, [], ℤ, pos, Bool, true, false, List, None, Some, Ok, codes, refl, subst, inl, inr, arith}
+use Rattle.std.proofs.Common.{◌≡◌, ◌∷◌, ◌↔◌, [], ℤ, pos, Bool, true, false, List, None, Some, Ok, codes, refl, subst, inl, inr, arith}
 use Rattle.std.proofs.lemmas.Int.{ints}
 use Rattle.std.specs.List.{Contains}
 use Rattle.period_core.specs.Leasts.{NoneApplies}
-use Rattle.period_core.specs.Moments.{first_moment, forever}
 use Rattle.period_core.specs.declared.answer.Answer.{Answer}
 use Rattle.period_core.specs.declared.value.Value.{Value}
 use Rattle.period_core.specs.declared.window.Window.TheVariants as window
@@ -24,7 +23,6 @@ use Rattle.catalog_core.specs.table.Matches.{is_matching}
 use Rattle.catalog_core.specs.table.Naming.{matches_among, repeats}
 use Rattle.catalog_core.specs.table.TableWords.{is_value_column, number_of, table_of_name}
 use Rattle.catalog_core.specs.declared.change.Action.TheVariants as action
-use Rattle.catalog_core.specs.declared.query.resolved.Select.{Select}
 use Rattle.history_model.specs.Histories.{Advanced, Asked, Changed, History, last_state, state_at, with_event}
 use Rattle.history_model.specs.OrdinaryQuery.{InAnswerOn}
 use Rattle.history_model.specs.Versions.{last_moment}

@@ -1,5 +1,5 @@
 -- Audits of answers: what the audit of a statement's answer says, in a history.
-use Rattle.std.specs.Prelude.{◌≡◌, ◌↔◌, List, Option, None, Some, Result, Ok, Err, Contains, ⊤}
+use Rattle.std.specs.Prelude.{◌≡◌, List, Option, None, Some, Result, Ok, Err, Contains, ⊤}
 use Rattle.period_core.specs.declared.answer.Answer.{Answer}
 use Rattle.period_core.specs.declared.refusal.Refusal.{Refusal}
 use Rattle.period_core.specs.declared.refusal.Refusal.TheVariants.{Memory}

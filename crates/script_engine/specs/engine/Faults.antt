@@ -1,5 +1,5 @@
 -- Which fault a change is refused with, and what keys and references ask of a store's contents.
-use Rattle.std.specs.Prelude.{ℕ, ℤ, List, filter, map}
+use Rattle.std.specs.Prelude.{ℤ, List, filter, map}
 use Rattle.period_core.specs.declared.refusal.Refusal.{Refusal}
 use Rattle.period_core.specs.declared.refusal.Refusal.TheVariants.{KeyOverlap, PeriodReference}
 use Rattle.period_core.specs.declared.window.Window.TheVariants.{Now}

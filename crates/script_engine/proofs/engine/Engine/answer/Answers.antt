@@ -1,4 +1,4 @@
-use Rattle.std.proofs.Common.{◌≡◌, List, Ok, map, subst, sym}
+use Rattle.std.proofs.Common.{List, map, subst, sym}
 use Rattle.period_core.specs.Leasts.{NoneApplies}
 use Rattle.sql_statements.specs.Plain.{plain_query}
 use Rattle.sql_statements.specs.Trees.{Statement}
@@ -9,8 +9,6 @@ use Rattle.catalog_core.specs.query.Resolving.{ResolvesQuery, query_conditions}
 use Rattle.catalog_core.specs.declared.table.catalog.Catalog.{Catalog}
 use Rattle.period_keys.specs.Rows.{RowsByKey}
 use Rattle.period_keys.specs.TableRows.{TableRows}
-use Rattle.history_model.specs.OrdinaryQuery.{InAnswerOn}
-use Rattle.script_engine.specs.Headline.{IsSequencedAnswer}
 use Rattle.script_engine.specs.engine.EngineState.{EngineState, engine_of}
 use Rattle.script_engine.specs.engine.Stored.{EngineRepresents, HasContents}
 use Rattle.script_engine.proofs.Answered.{answered_step, failed_answer}

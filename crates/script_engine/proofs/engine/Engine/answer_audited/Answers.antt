@@ -1,4 +1,4 @@
-use Rattle.std.proofs.Common.{◌≡◌, List, Ok, map, subst, sym}
+use Rattle.std.proofs.Common.{List, map, subst, sym}
 use Rattle.period_core.specs.Leasts.{NoneApplies}
 use Rattle.sql_statements.specs.Plain.{plain_query}
 use Rattle.sql_statements.specs.Trees.{Statement}
@@ -11,12 +11,11 @@ use Rattle.catalog_core.specs.declared.table.catalog.Catalog.{Catalog}
 use Rattle.period_keys.specs.Current.{rows_by_key}
 use Rattle.period_keys.specs.Rows.{RowsByKey}
 use Rattle.period_keys.specs.TableRows.{TableRows}
-use Rattle.history_model.specs.Histories.{catalog_of}
 use Rattle.script_engine.specs.engine.Audits.{AuditedStepsTo}
 use Rattle.script_engine.specs.engine.EngineState.{EngineState, engine_of}
 use Rattle.script_engine.specs.declared.entry.Entry.{Entry}
 use Rattle.script_engine.specs.engine.Stored.{EngineRepresents, HasContents}
-use Rattle.script_engine.proofs.Answered.{answered_step, failed_answer, unanswered_step}
+use Rattle.script_engine.proofs.Answered.{answered_step, failed_answer}
 use Rattle.script_engine.proofs.Audited.{answer_entry, refused_entry}
 use Rattle.script_engine.proofs.Loaded.{represents_still}
 use Rattle.script_engine.proofs.Steps.{tables_of}

@@ -1,4 +1,4 @@
-use Rattle.std.proofs.Common.{◌≡◌, ◌<◌, ◌++◌, ◌∷◌, ◌∙◌, List, [], ap, length, map, refl, subst, sym}
+use Rattle.std.proofs.Common.{◌≡◌, ◌<◌, ◌∙◌, List, [], ap, length, map, refl, subst, sym}
 use Rattle.period_core.specs.Leasts.{MayAnswer, NoneApplies}
 use Rattle.catalog_core.specs.create.Creation.{create_conditions}
 use Rattle.catalog_core.specs.create.Definition.{Defines}

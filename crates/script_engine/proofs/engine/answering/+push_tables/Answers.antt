@@ -4,7 +4,6 @@ use Rattle.catalog_core.specs.declared.query.resolved.QueryReference.{QueryRefer
 use Rattle.catalog_core.specs.query.Queries.{plain_query, references_of}
 use Rattle.script_engine.specs.engine.Answering.{EachSees}
 use Rattle.script_engine.proofs.Answering.{engine_still}
-use Rattle.script_engine.proofs.Loaded.{read_more}
 use Rattle.period_keys.specs.Current.{rows_by_key}
 use Rattle.script_engine.proofs.engine.answering.+push_tables.Goals as goal
 

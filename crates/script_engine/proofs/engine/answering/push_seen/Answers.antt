@@ -1,4 +1,4 @@
-use Rattle.std.proofs.Common.{◌≡◌, ◌+◌, ◌++◌, ◌∷◌, ◌∙◌, List, [], append-nil, append_assoc, ap, map, subst, sym, take, take_all}
+use Rattle.std.proofs.Common.{◌≡◌, ◌+◌, ◌++◌, ◌∷◌, ◌∙◌, List, [], append-nil, append_assoc, ap, map, subst, sym, take}
 use Rattle.std.proofs.lemmas.List.{take_more}
 use Rattle.period_core.specs.declared.row.PeriodRow.{PeriodRow}
 use Rattle.catalog_core.specs.declared.query.resolved.QueryReference.{QueryReference}

@@ -1,8 +1,7 @@
-use Rattle.std.proofs.Common.{◌≡◌, ◌∙◌, List, map, subst, sym}
+use Rattle.std.proofs.Common.{List, map, subst, sym}
 use Rattle.period_core.specs.declared.row.PeriodRow.{PeriodRow}
 use Rattle.period_core.specs.declared.window.Window.{Window}
 use Rattle.script_engine.specs.engine.Answering.{AreRowsSeen}
-use Rattle.script_engine.proofs.Loaded.{read_nothing}
 use Rattle.script_engine.proofs.Seen.{current_seen, rows_seen_hold}
 use Rattle.period_keys.specs.Current.{rows_by_key}
 use Rattle.script_engine.proofs.engine.answering.seen_by.Goals as goal

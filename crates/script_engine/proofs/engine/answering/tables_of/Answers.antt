@@ -1,5 +1,4 @@
-use Rattle.std.proofs.Common.{◌≡◌, ◌∙◌, List, [], subst, sym}
-use Rattle.period_core.specs.declared.row.PeriodRow.{PeriodRow}
+use Rattle.std.proofs.Common.{◌∙◌, [], subst, sym}
 use Rattle.catalog_core.specs.query.Queries.{plain_query, references_of}
 use Rattle.script_engine.specs.engine.Answering.{EachSees}
 use Rattle.script_engine.proofs.engine.answering.tables_of.Goals as goal

@@ -2,7 +2,6 @@ use Rattle.std.proofs.Common.{◌≡◌, ◌<◌, ◌≤◌, ◌+◌, ◌++◌, 
 use Rattle.catalog_core.specs.declared.table.TableDef.{TableDef}
 use Rattle.catalog_core.specs.declared.table.catalog.Catalog.{Catalog}
 use Rattle.period_keys.specs.Lawful.{key_positions}
-use Rattle.period_keys.specs.Rows.{RowsByKey}
 use Rattle.script_engine.proofs.Loaded.{AreLoaded, all_loaded, one_loaded, read_more, represents_still}
 use Rattle.script_engine.proofs.engine.in_memory.load.Goals as goal
 

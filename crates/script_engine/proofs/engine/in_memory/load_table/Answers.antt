@@ -1,4 +1,4 @@
-use Rattle.std.proofs.Common.{◌++◌, ◌∙◌, List, append-nil, subst}
+use Rattle.std.proofs.Common.{◌++◌, List, append-nil, subst}
 use Rattle.std.specs.List.Sorted.{IsPermutation}
 use Rattle.std.proofs.lemmas.List.Sorted.{IsPermutation-sym}
 use Rattle.period_core.specs.declared.version.VersionRow.{VersionRow}

@@ -1,6 +1,5 @@
-use Rattle.std.proofs.Common.{◌≡◌, ◌++◌, ◌∷◌, [], List, map}
+use Rattle.std.proofs.Common.{◌++◌, ◌∷◌, [], List}
 use Rattle.catalog_core.specs.declared.table.TableDef.{TableDef}
-use Rattle.period_keys.specs.Current.{HaveIndexes, rows_by_key}
 use Rattle.period_keys.specs.Lawful.{key_positions}
 use Rattle.period_keys.specs.TableRows.{TableRows}
 use Rattle.script_engine.proofs.Indexed.{follow_created, follow_more, on_err_from, on_ok_both, same_rows_of}

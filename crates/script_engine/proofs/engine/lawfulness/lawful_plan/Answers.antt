@@ -1,4 +1,4 @@
-use Rattle.std.proofs.Common.{◌≡◌, ◌∙◌, Bool, false, inl, inr, sym, true}
+use Rattle.std.proofs.Common.{◌≡◌, ◌∙◌, false, inl, inr, sym}
 use Rattle.std.proofs.lemmas.Bool.{false≢true}
 use Rattle.catalog_core.specs.change.Resolution.{has_empty_row}
 use Rattle.script_engine.proofs.Refused.{days-planned}

@@ -1,6 +1,4 @@
-use Rattle.std.proofs.Common.{◌≡◌, ◌<◌, ◌≤◌, ◌∙◌, List, ap, arith, false, get_or, length, map, sym, true}
-use Rattle.catalog_core.specs.declared.table.Column.{Column}
-use Rattle.script_engine.specs.engine.Shown.{version_column, version_columns}
+use Rattle.std.proofs.Common.{◌∙◌, arith, false, sym, true}
 use Rattle.script_engine.proofs.ColumnFacts.{columns_end, columns_more, position_more}
 use Rattle.script_engine.proofs.engine.shown.version_columns.Goals as goal
 use Rattle.script_engine.proofs.engine.shown.version_columns.Goals.{then-is_value_column, else-is_value_column}
