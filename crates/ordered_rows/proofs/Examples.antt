@@ -1,14 +1,15 @@
 -- Worked rows: the rows 2, 5 and 9 under the edits at 5, and what a cursor gives of them.
-use Rattle.std.proofs.Common.{◌≡◌, true, false, [], ◌∷◌, ℤ, pos, Some, None, reverse, refl, Ordering, int_cmp, true≢false}
+use Rattle.std.proofs.Common.{◌≡◌, true, false, [], ◌∷◌, ℤ, pos, Some, reverse, refl, Ordering, Less, Equal, int_cmp, true≢false}
 use Rattle.std.specs.declared.alloc.Global.{Global}
 use Rattle.std.specs.declared.rc.Rc.{Rc}
-use Rattle.sqlite_value.specs.declared.value.Value.TheVariants.{Int}
-use Rattle.sqlite_value.specs.Order.{Row}
+use Rattle.sqlite_value.specs.declared.value.Value.TheVariants.{Int, Blob}
+use Rattle.sqlite_value.specs.Order.{Row, column}
 use Rattle.sqlite_trees.specs.Tree.{rowid}
 use Rattle.sqlite_trees.specs.declared.store.Direction.TheVariants.{Forward, Backward}
 use Rattle.ordered_rows.specs.declared.tree.Fork.{Fork}
 use Rattle.ordered_rows.specs.declared.tree.Link.TheVariants as link
-use Rattle.ordered_rows.specs.Integers.{integer_of}
+use Rattle.ordered_rows.specs.declared.head.Head.TheVariants.{Other, Integer, IntegerAndBlob}
+use Rattle.ordered_rows.specs.Heads.{head_by, head_cmp, integer_of}
 use Rattle.ordered_rows.specs.Forks.{rows_of}
 use Rattle.ordered_rows.specs.Edits.{IsAt, IsCut, with_new, without}
 use Rattle.ordered_rows.specs.Steps.{given, left_to_give}
@@ -68,12 +69,30 @@ rows-fork shared left row right = rw (left, row, right)
 given-backward : given Backward (two ∷ five ∷ nine ∷ []) ≡ nine ∷ five ∷ two ∷ []
 given-backward = refl
 
--- the integer that is kept beside a row that begins with one
-integer-first : integer_of (rowid other_five) ≡ Some (pos 5)
-integer-first = refl
+-- the key of a version in table 3 with the value 258: its head has the table's number, the byte of an integer, and 258 above the least
+head-key : head_by (Int (pos 3)) (Blob (1 ∷ 128 ∷ 0 ∷ 0 ∷ 0 ∷ 0 ∷ 0 ∷ 1 ∷ 2 ∷ [])) ≡ IntegerAndBlob (pos 3) 1 9223372036854776066
+head-key = refl
 
-integer-none : integer_of (rowid []) ≡ None
-integer-none = refl
+-- bytes that are not there are zeros
+head-short : head_by (Int (pos 3)) (Blob (2 ∷ 97 ∷ 0 ∷ 0 ∷ [])) ≡ IntegerAndBlob (pos 3) 2 6989586621679009792
+head-short = refl
+
+head-integer : head_by (rowid other_five) (column other_five 1) ≡ Integer (pos 5)
+head-integer = refl
+
+head-other : head_by (rowid []) (column [] 1) ≡ Other
+head-other = refl
+
+head-rowid : integer_of (head_by (Int (pos 3)) (Blob (1 ∷ []))) ≡ Some (pos 3)
+head-rowid = refl
+
+-- the first byte decides before the number does
+head-first_byte : head_cmp (IntegerAndBlob (pos 3) 1 9) (IntegerAndBlob (pos 3) 2 7) ≡ Less
+head-first_byte = refl
+
+-- a head without a blob tells nothing
+head-nothing : head_cmp (Integer (pos 3)) (IntegerAndBlob (pos 4) 1 0) ≡ Equal
+head-nothing = refl
 
 -- a cursor with one fork gives its row, and then its right side or, backward, its left
 left-forward : (shared : Rc Fork Global) → left_to_give Forward (shared ∷ []) ≡ shared.value.row ∷ shared.value.right

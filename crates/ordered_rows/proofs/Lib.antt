@@ -1,6 +1,6 @@
 pub mod Cuts
 mod Examples
 pub mod Forked
-pub mod Integers
+pub mod Heads
 pub mod Orders
 pub mod Walks

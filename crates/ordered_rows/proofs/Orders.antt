@@ -1,5 +1,5 @@
 -- Tables and indexes are in the orders that edits and seeks go by, and what their edits are.
-use Rattle.std.proofs.Common.{◌≡◌, true, false, ℤ, List, [], ◌∷◌, refl, sym, ap, ◌∙◌, Ordering, Less, Equal, Greater, is_lt, true≢false, Bor}
+use Rattle.std.proofs.Common.{◌≡◌, true, false, ℤ, List, [], ◌∷◌, refl, sym, ap, ◌∙◌, Ordering, Less, Equal, Greater, is_lt, true≢false}
 use Rattle.std.specs.Cmp.{IsTotalOrder}
 use Rattle.std.specs.Ordering.{match_ordering, ordering_reverse}
 use Rattle.sqlite_value.specs.declared.value.Value.{Value}
@@ -14,7 +14,7 @@ use Rattle.sqlite_trees.specs.Tree.{IsIndex, IsTable, insert_entry, order_of, pu
 use Rattle.sqlite_trees.specs.View.{IsShaped}
 use Rattle.sqlite_trees.proofs.ListLemmas.{ascending_weaker}
 use Rattle.sqlite_trees.proofs.TreeLemmas.{AtMost, above, prefix_cmp_follows, sorted_shape}
-use Rattle.ordered_rows.specs.declared.place.Place.TheVariants.{Entry, Rowid}
+use Rattle.ordered_rows.specs.declared.place.Place.TheVariants.{Rowid}
 use Rattle.ordered_rows.specs.Places.{side}
 use Rattle.ordered_rows.specs.Edits.{IsCut, with_new}
 use Rattle.ordered_rows.specs.Seeks.{IsSeekable}
@@ -49,6 +49,7 @@ pub row_put : {made tree rows : List Row} {new row : Row} (id : ℤ) → made �
 row_put {made} {tree} {rows} {new} {row} id is same_tree same_row same_id =
     is ∙ (λ i. with_new (λ r. value_cmp (rowid r) (same_id i)) true (same_row i) (same_tree i)) ∙ sym (put_row-with_new row rows)
 
-pub entry_inserted : {made tree rows : List Row} {new : Row} (o : Order) (entry : Bor Row) → made ≡ with_new (side (Entry o entry)) false new tree → tree ≡ rows → new ≡ entry.now → made ≡ insert_entry o entry.now rows
-entry_inserted {made} {tree} {rows} {new} o entry is same_tree same_row =
-    is ∙ (λ i. with_new (λ r. entry_cmp o r entry.now) false (same_row i) (same_tree i)) ∙ sym (insert_entry-with_new o entry.now rows)
+pub entry_inserted : {made tree rows : List Row} {new : Row} (o same_o : Order) (entry same_entry : Row) → same_o ≡ o → same_entry ≡ entry
+    → made ≡ with_new (λ r. entry_cmp same_o r same_entry) false new tree → tree ≡ rows → new ≡ entry → made ≡ insert_entry o entry rows
+entry_inserted {made} {tree} {rows} {new} o same_o entry same_entry order_is entry_is is same_tree same_row =
+    is ∙ (λ i. with_new (λ r. entry_cmp (order_is i) r (entry_is i)) false (same_row i) (same_tree i)) ∙ sym (insert_entry-with_new o entry rows)

@@ -1,5 +1,5 @@
 pub mod Cursors
-pub mod Integers
+pub mod Heads
 pub mod Forks
 pub mod ForkDepths
 pub mod Places

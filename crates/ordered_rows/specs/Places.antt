@@ -10,4 +10,4 @@ use Rattle.ordered_rows.specs.declared.place.Place.TheVariants.{Rowid, Entry}
 -- how a row compares with the place
 abbrev pub side : Place → Row → Ordering
 side (Rowid id) r = value_cmp (rowid r) (Int id)
-side (Entry o e) r = entry_cmp o r e.now
+side (Entry s) r = entry_cmp s.now.order r s.now.row.now

@@ -2,6 +2,7 @@
 
 ghost use Rattle.std.specs.Prelude.{◌≡◌, IfOk};
 
+use crate::place::Sought;
 use crate::tree::{Fork, Tree};
 use sqlite_trees::store::Direction;
 use sqlite_value::keys::Order;
@@ -50,13 +51,14 @@ impl RowCursor {
         ensures { IfOk result (λ cursor. cursor ≡ sought order direction key.now tree.now) }
     {
         let mut forks = Vec::new(alloc);
+        let sought = Sought::new(order, key);
         match direction {
             Direction::Forward => {
-                tree.push_from(&mut forks, order, key)?;
+                tree.push_from(&mut forks, &sought)?;
                 Ok(RowCursor { direction, forks })
             }
             Direction::Backward => {
-                tree.push_up_to(&mut forks, order, key)?;
+                tree.push_up_to(&mut forks, &sought)?;
                 Ok(RowCursor { direction, forks })
             }
         }

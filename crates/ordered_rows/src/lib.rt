@@ -4,6 +4,7 @@
 #![tactic(auto)]
 
 pub mod cursor;
+mod head;
 mod place;
 pub mod rows;
 mod shared;

@@ -6,7 +6,7 @@ ghost use Rattle.sqlite_trees.specs.Tree.{rowid, sought, without_rowid};
 ghost use Rattle.sqlite_trees.specs.View.{Finds, IsShaped, is_int};
 
 use crate::cursor::RowCursor;
-use crate::place::Place;
+use crate::place::{Place, Sought};
 use crate::shared::SharedRow;
 use crate::tree::Tree;
 use sqlite_trees::store::{Direction, Shape};
@@ -100,7 +100,8 @@ impl OrderedRows {
         ensures err { OnErr result (self.new ≡ self.old) }
     {
         let new = SharedRow::new(self.alloc, entry)?;
-        let place = Place::Entry(order, entry);
+        let sought = Sought::new(order, entry);
+        let place = Place::Entry(&sought);
         self.tree = self.tree.with_new(self.alloc, place, &new, false)?;
         Ok(())
     }
@@ -111,7 +112,8 @@ impl OrderedRows {
         ensures ok { OnOk result (self.new ≡ remove_entry order entry.now self.old) }
         ensures err { OnErr result (self.new ≡ self.old) }
     {
-        let place = Place::Entry(order, entry);
+        let sought = Sought::new(order, entry);
+        let place = Place::Entry(&sought);
         self.tree = self.tree.without(self.alloc, place)?;
         Ok(())
     }

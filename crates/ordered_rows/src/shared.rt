@@ -1,12 +1,13 @@
 //! A row that versions of a tree share.
 
-ghost use Rattle.std.specs.Prelude.{◌≡◌, IfOk};
+ghost use Rattle.std.specs.Prelude.{◌≡◌, ◌≢◌, IfOk};
 ghost use Rattle.sqlite_trees.specs.Tree.{rowid};
+ghost use Rattle.sqlite_value.specs.Keys.{entry_cmp, prefix_cmp};
 ghost use Rattle.sqlite_value.specs.Order.{value_cmp};
-ghost use Rattle.sqlite_value.specs.Value.{owned};
 ghost use Rattle.sqlite_value.specs.declared.value.Value.TheVariants.{Int};
-ghost use Rattle.ordered_rows.specs.Integers.{integer_of};
 
+use crate::head::Head;
+use crate::place::Sought;
 use sqlite_value::order::compare;
 use sqlite_value::row::Row;
 use sqlite_value::value::ValueRef;
@@ -15,20 +16,17 @@ use std::cmp::Ordering;
 use std::marker::Model;
 use std::rc::Rc;
 
-/// Contracts see the row alone. Where it begins with an integer, that is kept beside it too, so
-/// that the way to a rowid reads no row.
+/// Contracts see the row alone. Its head is kept beside it.
 #[derive(Drop)]
 pub(crate) struct SharedRow {
-    first: Option<i64>,
+    head: Head,
     row: Rc<Row>,
 }
 
 impl Model for SharedRow {
-    ghost use Rattle.std.specs.Prelude.{◌≡◌};
-    ghost use Rattle.sqlite_trees.specs.Tree.{rowid};
     ghost use Rattle.sqlite_value.specs.Order.{Row as AnyRow};
     ghost use Rattle.sqlite_value.specs.contracts.row.Row.{the_row};
-    ghost use Rattle.ordered_rows.specs.Integers.{integer_of};
+    ghost use Rattle.ordered_rows.specs.Heads.{IsHead};
 
     ghost Value = { AnyRow };
 
@@ -36,7 +34,7 @@ impl Model for SharedRow {
 
     ghost view = { λ s. s.row.value };
 
-    ghost invariant = { λ s. s.first ≡ integer_of (rowid s.row.value) };
+    ghost invariant = { λ s. IsHead s.head s.row.value };
 }
 
 impl SharedRow {
@@ -44,9 +42,9 @@ impl SharedRow {
     pub(crate) fn new(alloc: Global, row: &Row) -> Result<SharedRow, AllocError>
         ensures { IfOk result (λ shared. shared ≡ row.now) }
     {
-        let first = integer(row.get(0));
+        let head = Head::of(row);
         let row = Rc::new(alloc, row.copy(alloc)?)?;
-        Ok(SharedRow { first, row })
+        Ok(SharedRow { head, row })
     }
 
     /// The same row: it is not copied.
@@ -55,7 +53,7 @@ impl SharedRow {
     {
         let row = self.row.clone()?;
         Ok(SharedRow {
-            first: self.first,
+            head: self.head,
             row,
         })
     }
@@ -71,18 +69,45 @@ impl SharedRow {
     pub(crate) fn cmp_rowid(&self, id: i64) -> Ordering
         ensures { result ≡ value_cmp (rowid self.now) (Int id) }
     {
-        match self.first {
+        match self.head.integer() {
             Some(first) => first.cmp(&id),
             None => compare(self.row.as_ref().get(0), ValueRef::Int(id)),
         }
     }
-}
 
-fn integer(value: ValueRef<'_>) -> Option<i64>
-    ensures { result ≡ integer_of (owned value.entry) }
-{
-    match value {
-        ValueRef::Int(n) => Some(n),
-        ValueRef::Null | ValueRef::Real(_) | ValueRef::Text(_) | ValueRef::Blob(_) => None,
+    /// Whether the row is below an entry, at it or above it.
+    #[inline(always)]
+    pub(crate) fn cmp_entry(&self, sought: &Sought<'_>) -> Ordering
+        ensures { result ≡ entry_cmp sought.now.order self.now sought.now.row.now }
+    {
+        match self.cmp_head(sought) {
+            Ordering::Equal => self.row.as_ref().cmp_entry(sought.order, sought.row),
+            found => found,
+        }
+    }
+
+    /// The same over the columns that a key has.
+    #[inline(always)]
+    pub(crate) fn cmp_prefix(&self, sought: &Sought<'_>) -> Ordering
+        ensures { result ≡ prefix_cmp sought.now.order self.now sought.now.row.now }
+    {
+        match self.cmp_head(sought) {
+            Ordering::Equal => self.row.as_ref().cmp_prefix(sought.order, sought.row),
+            found => found,
+        }
+    }
+
+    // What the heads tell of either: `Equal` tells nothing.
+    #[inline(always)]
+    fn cmp_head(&self, sought: &Sought<'_>) -> Ordering
+        ensures entry { result ≢ Ordering.Equal
+            → entry_cmp sought.now.order self.now sought.now.row.now ≡ result }
+        ensures prefix { result ≢ Ordering.Equal
+            → prefix_cmp sought.now.order self.now sought.now.row.now ≡ result }
+    {
+        if sought.order.digits != 0 {
+            return Ordering::Equal;
+        }
+        self.head.cmp(sought.head)
     }
 }

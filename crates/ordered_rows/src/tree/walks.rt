@@ -7,8 +7,8 @@ ghost use Rattle.ordered_rows.specs.Seeks.{IsSeekable};
 ghost use Rattle.ordered_rows.specs.Steps as steps;
 
 use super::{Fork, Link, Tree};
+use crate::place::Sought;
 use sqlite_trees::store::Direction;
-use sqlite_value::keys::Order;
 use sqlite_value::row::Row;
 use std::alloc::AllocError;
 use std::rc::Rc;
@@ -60,22 +60,21 @@ impl Tree {
     pub(crate) fn push_from(
         &self,
         forks: &mut Vec<Rc<Fork>>,
-        order: Order,
-        key: &Row,
+        sought: &Sought<'_>,
     ) -> Result<(), AllocError>
-        requires { IsSeekable order key.now self.now }
+        requires { IsSeekable sought.now.order sought.now.row.now self.now }
         ensures { OnOk result (steps.left_to_give Forward forks.new.items
-            ≡ from_key order key.now self.now ++ steps.left_to_give Forward forks.old.items) }
+            ≡ from_key sought.now.order sought.now.row.now self.now ++ steps.left_to_give Forward forks.old.items) }
     {
         let Link::Fork(fork) = &self.root else {
             return Ok(());
         };
         let here = fork.as_ref();
-        if here.row().cmp_prefix(order, key).is_lt() {
-            return here.right.push_from(forks, order, key);
+        if here.row.cmp_prefix(sought).is_lt() {
+            return here.right.push_from(forks, sought);
         }
         forks.push(fork.clone()?)?;
-        here.left.push_from(forks, order, key)
+        here.left.push_from(forks, sought)
     }
 
     /// The rows up to the last that is not above the key are to come, from the last on, before
@@ -83,22 +82,21 @@ impl Tree {
     pub(crate) fn push_up_to(
         &self,
         forks: &mut Vec<Rc<Fork>>,
-        order: Order,
-        key: &Row,
+        sought: &Sought<'_>,
     ) -> Result<(), AllocError>
-        requires { IsSeekable order key.now self.now }
+        requires { IsSeekable sought.now.order sought.now.row.now self.now }
         ensures { OnOk result (steps.left_to_give Backward forks.new.items
-            ≡ reverse (up_to_key order key.now self.now)
+            ≡ reverse (up_to_key sought.now.order sought.now.row.now self.now)
             ++ steps.left_to_give Backward forks.old.items) }
     {
         let Link::Fork(fork) = &self.root else {
             return Ok(());
         };
         let here = fork.as_ref();
-        if here.row().cmp_prefix(order, key).is_gt() {
-            return here.left.push_up_to(forks, order, key);
+        if here.row.cmp_prefix(sought).is_gt() {
+            return here.left.push_up_to(forks, sought);
         }
         forks.push(fork.clone()?)?;
-        here.right.push_up_to(forks, order, key)
+        here.right.push_up_to(forks, sought)
     }
 }

@@ -1,5 +1,8 @@
+use Rattle.std.proofs.Common.{sym, subst}
+use Rattle.sqlite_trees.specs.Tree.{IsIndex}
 use Rattle.ordered_rows.proofs.Orders.{index_cut}
 use Rattle.ordered_rows.proofs.rows.OrderedRows.remove.Goals as goal
 
 pub without-requires : goal.without-requires
-without-requires c = rw c.self.view_is (index_cut _ _ _ c.requires)
+without-requires c =
+    rw c.self.view_is (index_cut _ c.new-sought.result.row.now _ (subst (λ o. IsIndex o c.args.self.now) (sym c.new-sought.ensures.order) c.requires))

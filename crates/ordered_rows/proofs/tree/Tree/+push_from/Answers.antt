@@ -8,25 +8,25 @@ pub push_from-requires : goal.push_from-requires
 push_from-requires t c =
     let is = forked c.self.view_is c.in-Fork.is c.as_ref-here.ensures in
     let less = shorter _ _ _ is in
-    (search rules, seekable_upper c.as_ref-here.result.now _ is c.args.order c.args.key.now c.requires)
+    (search rules, seekable_upper c.as_ref-here.result.now _ is c.args.sought.now.order c.args.sought.now.row.now c.requires)
 
 pub returns-then-is_lt : goal.returns-then-is_lt
 returns-then-is_lt t c =
     let is = forked c.self.view_is c.in-Fork.is c.as_ref-here.ensures in
-    let here : is_lt (prefix_cmp c.args.order c.as_ref-here.result.now.row c.args.key.now) ≡ true = cc in
-    let out = left_out_from c.as_ref-here.result.now _ is c.args.order c.args.key.now c.requires here in
+    let here : is_lt (prefix_cmp c.args.sought.now.order c.as_ref-here.result.now.row c.args.sought.now.row.now) ≡ true = cc in
+    let out = left_out_from c.as_ref-here.result.now _ is c.args.sought.now.order c.args.sought.now.row.now c.requires here in
     rw out at c.push_from.ensures
 
 pub push_from-requires-2 : goal.push_from-requires-2
 push_from-requires-2 t c =
     let is = forked c.self.view_is c.in-Fork.is c.as_ref-here.ensures in
     let less = shorter _ _ _ is in
-    (search rules, seekable_lower c.as_ref-here.result.now _ is c.args.order c.args.key.now c.requires)
+    (search rules, seekable_lower c.as_ref-here.result.now _ is c.args.sought.now.order c.args.sought.now.row.now c.requires)
 
 pub returns : goal.returns
 returns t c =
     let is = forked c.self.view_is c.in-Fork.is c.as_ref-here.ensures in
-    let here : is_lt (prefix_cmp c.args.order c.as_ref-here.result.now.row c.args.key.now) ≡ false = cc in
+    let here : is_lt (prefix_cmp c.args.sought.now.order c.as_ref-here.result.now.row c.args.sought.now.row.now) ≡ false = cc in
     let same = c.in_ok-clone.ensures.cases ∙ sym c.as_ref-here.ensures in
-    let kept = kept_from c.as_ref-here.result.now _ is c.args.order c.args.key.now c.requires c.in_ok-clone.field-0 c.args.forks.now.items same here in
+    let kept = kept_from c.as_ref-here.result.now _ is c.args.sought.now.order c.args.sought.now.row.now c.requires c.in_ok-clone.field-0 c.args.forks.now.items same here in
     rw (c.in_ok-push.ensures.items, kept) at c.push_from-2.ensures

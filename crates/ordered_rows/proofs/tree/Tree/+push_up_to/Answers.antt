@@ -8,25 +8,25 @@ pub push_up_to-requires : goal.push_up_to-requires
 push_up_to-requires t c =
     let is = forked c.self.view_is c.in-Fork.is c.as_ref-here.ensures in
     let less = shorter _ _ _ is in
-    (search rules, seekable_lower c.as_ref-here.result.now _ is c.args.order c.args.key.now c.requires)
+    (search rules, seekable_lower c.as_ref-here.result.now _ is c.args.sought.now.order c.args.sought.now.row.now c.requires)
 
 pub returns-then-is_gt : goal.returns-then-is_gt
 returns-then-is_gt t c =
     let is = forked c.self.view_is c.in-Fork.is c.as_ref-here.ensures in
-    let here : is_gt (prefix_cmp c.args.order c.as_ref-here.result.now.row c.args.key.now) ≡ true = cc in
-    let out = left_out_up_to c.as_ref-here.result.now _ is c.args.order c.args.key.now c.requires here in
+    let here : is_gt (prefix_cmp c.args.sought.now.order c.as_ref-here.result.now.row c.args.sought.now.row.now) ≡ true = cc in
+    let out = left_out_up_to c.as_ref-here.result.now _ is c.args.sought.now.order c.args.sought.now.row.now c.requires here in
     rw out at c.push_up_to.ensures
 
 pub push_up_to-requires-2 : goal.push_up_to-requires-2
 push_up_to-requires-2 t c =
     let is = forked c.self.view_is c.in-Fork.is c.as_ref-here.ensures in
     let less = shorter _ _ _ is in
-    (search rules, seekable_upper c.as_ref-here.result.now _ is c.args.order c.args.key.now c.requires)
+    (search rules, seekable_upper c.as_ref-here.result.now _ is c.args.sought.now.order c.args.sought.now.row.now c.requires)
 
 pub returns : goal.returns
 returns t c =
     let is = forked c.self.view_is c.in-Fork.is c.as_ref-here.ensures in
-    let here : is_gt (prefix_cmp c.args.order c.as_ref-here.result.now.row c.args.key.now) ≡ false = cc in
+    let here : is_gt (prefix_cmp c.args.sought.now.order c.as_ref-here.result.now.row c.args.sought.now.row.now) ≡ false = cc in
     let same = c.in_ok-clone.ensures.cases ∙ sym c.as_ref-here.ensures in
-    let kept = kept_up_to c.as_ref-here.result.now _ is c.args.order c.args.key.now c.requires c.in_ok-clone.field-0 c.args.forks.now.items same here in
+    let kept = kept_up_to c.as_ref-here.result.now _ is c.args.sought.now.order c.args.sought.now.row.now c.requires c.in_ok-clone.field-0 c.args.forks.now.items same here in
     rw (c.in_ok-push.ensures.items, kept) at c.push_up_to-2.ensures

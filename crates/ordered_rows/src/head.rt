@@ -1,0 +1,104 @@
+//! How a row begins.
+
+ghost use Rattle.std.specs.Prelude.{◌≡◌, ◌<◌, ℕ, slice_index_or};
+ghost use Rattle.sqlite_value.specs.declared.value.Value.TheVariants.{Blob};
+ghost use Rattle.ordered_rows.specs.Heads.{IsHead, head_after, head_cmp, integer_of, spelled};
+
+use sqlite_value::row::Row;
+use sqlite_value::value::ValueRef;
+use std::cmp::Ordering;
+
+/// What is kept of a row beside it, so that most comparisons read no row. The key of a version
+/// begins with its table's number and then the bytes of its values: one byte tells the kind of the
+/// first, and the eight after it are the value where it is an integer.
+#[derive(Clone, Copy)]
+pub(crate) enum Head {
+    /// The row begins with no integer.
+    Other,
+    /// It begins with this one.
+    Integer(i64),
+    /// A blob comes next: its first byte, and the number that the eight after it spell.
+    IntegerAndBlob(i64, u8, u64),
+}
+
+impl Head {
+    /// The head of a row.
+    pub(crate) fn of(row: &Row) -> Head
+        ensures { IsHead result row.now }
+    {
+        let ValueRef::Int(first) = row.get(0) else {
+            return Head::Other;
+        };
+        let ValueRef::Blob(blob) = row.get(1) else {
+            return Head::Integer(first);
+        };
+        Head::after(first, blob)
+    }
+
+    // The head of a row that begins with this integer and this blob.
+    fn after(first: i64, blob: &[u8]) -> Head
+        ensures value { result ≡ head_after first (Blob blob.now) }
+        ensures bounded { (at : ℕ) → slice_index_or blob.now at 0 < 256 }
+    {
+        match blob {
+            [byte, bytes @ ..] => Head::IntegerAndBlob(first, *byte, number(bytes)),
+            [] => Head::Integer(first),
+        }
+    }
+
+    /// The integer that the row begins with, if it does.
+    #[inline(always)]
+    pub(crate) fn integer(self) -> Option<i64>
+        ensures { result ≡ integer_of self }
+    {
+        match self {
+            Head::Integer(first) => Some(first),
+            Head::IntegerAndBlob(first, _, _) => Some(first),
+            Head::Other => None,
+        }
+    }
+
+    /// How two rows compare by what is kept of them: where this is `Equal`, it tells nothing.
+    #[inline(always)]
+    pub(crate) fn cmp(self, other: Head) -> Ordering
+        ensures { result ≡ head_cmp self other }
+    {
+        match (self, other) {
+            (
+                Head::IntegerAndBlob(first, byte, number),
+                Head::IntegerAndBlob(other_first, other_byte, other_number),
+            ) => {
+                let first = first.cmp(&other_first);
+                let byte = byte.cmp(&other_byte);
+                first.then(byte).then(number.cmp(&other_number))
+            }
+            _ => Ordering::Equal,
+        }
+    }
+}
+
+/// The number that the first eight bytes spell, the first the highest; those that are not there are
+/// zeros.
+fn number(bytes: &[u8]) -> u64
+    ensures { result ≡ spelled 8 0 bytes.now }
+{
+    u64::from_be_bytes([
+        byte_at(bytes, 0),
+        byte_at(bytes, 1),
+        byte_at(bytes, 2),
+        byte_at(bytes, 3),
+        byte_at(bytes, 4),
+        byte_at(bytes, 5),
+        byte_at(bytes, 6),
+        byte_at(bytes, 7),
+    ])
+}
+
+fn byte_at(bytes: &[u8], at: usize) -> u8
+    ensures { result ≡ slice_index_or bytes.now at 0 }
+{
+    match bytes.get(at) {
+        Some(byte) => *byte,
+        None => 0,
+    }
+}
