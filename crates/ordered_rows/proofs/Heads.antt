@@ -3,11 +3,10 @@ use Rattle.std.proofs.Common.{◌≡◌, ◌<◌, ◌+◌, ◌*◌, ◌∙◌, �
 use Rattle.std.specs.Ordering.{MatchOrdering, ordering_reverse, ordering_then}
 use Rattle.std.specs.Cmp.{ranks}
 use Rattle.std.specs.Cmp.Lexicographic.{slice_cmp}
-use Rattle.std.specs.Int.{from_be_bytes, w64}
 use Rattle.std.proofs.lemmas.Cmp.{nat_list_cmp_total}
 use Rattle.sqlite_value.specs.declared.value.Value.{Value}
 use Rattle.sqlite_value.specs.declared.value.Value.TheVariants.{Null, Int, Real, Text, Blob}
-use Rattle.sqlite_value.specs.Order.{Row, bytes, column, value_cmp}
+use Rattle.sqlite_value.specs.Order.{Row, bytes, column}
 use Rattle.sqlite_value.specs.declared.keys.Order.{Order}
 use Rattle.sqlite_value.specs.Keys.{entry_cmp, plain, prefix_cmp}
 use Rattle.sqlite_value.proofs.KeyLemmas.{first_key-plain}
@@ -71,18 +70,6 @@ by_number k s t fit fits r e tells = by_rank r (subst (λ o. MatchOrdering o (sp
     by_rank Less h tells = less_by_number k 0 s t fit fits h
     by_rank Equal h tells = absurd (tells refl)
     by_rank Greater h tells = nat_list_cmp_total.antisymm s t ∙ ap ordering_reverse (less_by_number k 0 t s fits fit h)
-
--- eight bytes
-pub eight_spelled : (s : List ℕ) → from_be_bytes w64 (get_or s 0 0 ∷ get_or s 1 0 ∷ get_or s 2 0 ∷ get_or s 3 0 ∷ get_or s 4 0 ∷ get_or s 5 0 ∷ get_or s 6 0 ∷ get_or s 7 0 ∷ []) ≡ spelled 8 0 s
-eight_spelled [] = omega arith
-eight_spelled (a ∷ []) = omega arith
-eight_spelled (a ∷ b ∷ []) = omega arith
-eight_spelled (a ∷ b ∷ c ∷ []) = omega arith
-eight_spelled (a ∷ b ∷ c ∷ d ∷ []) = omega arith
-eight_spelled (a ∷ b ∷ c ∷ d ∷ e ∷ []) = omega arith
-eight_spelled (a ∷ b ∷ c ∷ d ∷ e ∷ f ∷ []) = omega arith
-eight_spelled (a ∷ b ∷ c ∷ d ∷ e ∷ f ∷ g ∷ []) = omega arith
-eight_spelled (a ∷ b ∷ c ∷ d ∷ e ∷ f ∷ g ∷ h ∷ more) = omega arith
 
 -- ---- rows by their heads
 

@@ -8,6 +8,7 @@ use Rattle.temporal_model.proofs.Members.{Contains-here, Contains-one}
 use Rattle.period_core.specs.declared.period.Period.{Period}
 use Rattle.period_keys.specs.Keys.{key_values, ShareKeyOn, IsKeyClash, IsUncovered}
 use Rattle.period_keys.specs.Index.{earlier, periods_of_key}
+use Rattle.period_keys.specs.Leading.{first_integer}
 use Rattle.period_keys.specs.Repeats.{key_row}
 
 -- key 1 with the department, over a period
@@ -25,6 +26,13 @@ overlapping = row_over (pos 4) (pos 31) (pos 60) refl
 
 key-first : key_values (0 ∷ []) first ≡ Int (pos 1) ∷ []
 key-first = refl
+
+-- what is kept of a key beside its values
+leading-first : first_integer (Int (pos 1) ∷ []) ≡ Some (pos 1)
+leading-first = refl
+
+leading-none : first_integer [] ≡ None
+leading-none = refl
 
 -- positions stand in any order
 key-turned : key_values (1 ∷ 0 ∷ []) first ≡ Int (pos 3) ∷ Int (pos 1) ∷ []

@@ -1,4 +1,5 @@
 pub mod Positions
+pub mod Leading
 pub mod Keys
 pub mod Days
 pub mod Ordered

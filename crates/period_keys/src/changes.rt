@@ -6,9 +6,10 @@ ghost use Rattle.period_core.specs.declared.row.PeriodRow.{PeriodRow as Row};
 ghost use Rattle.period_keys.specs.Keys.{key_values};
 ghost use Rattle.period_keys.specs.Index.{IsIndexOf};
 
+use crate::key::Key;
 use crate::keyed_periods::KeyedPeriods;
 use crate::keys::key_of;
-use period_core::{Memory, PeriodRow, Values};
+use period_core::{Memory, PeriodRow};
 use std::alloc::Global;
 
 /// Makes of an index of rows that of the rows after a change: the ended ones are among them and go,
@@ -38,11 +39,7 @@ pub fn apply_change(
 }
 
 /// The keys of the rows, row by row. The only error is out of memory.
-pub fn keys_of(
-    alloc: Global,
-    positions: &[usize],
-    rows: &[PeriodRow],
-) -> Result<Vec<Values>, Memory>
+pub fn keys_of(alloc: Global, positions: &[usize], rows: &[PeriodRow]) -> Result<Vec<Key>, Memory>
     ensures { IfOk result (λ keys. keys.items ≡ map (key_values positions.now) rows.now) }
 {
     let mut keys = Vec::new(alloc);
@@ -56,7 +53,7 @@ pub fn keys_of(
 pub fn add_rows(
     alloc: Global,
     index: &mut KeyedPeriods,
-    keys: &[Values],
+    keys: &[Key],
     rows: &[PeriodRow],
 ) -> Result<(), Memory>
     requires { length keys.now ≡ length rows.now }
@@ -79,7 +76,7 @@ pub fn add_rows(
 
 /// Takes out the rows, whose keys are handed in. It takes no memory: so where several indexes follow
 /// one change, the rows that were added to some can be taken out again once another was refused.
-pub fn take_rows(index: &mut KeyedPeriods, keys: &[Values], rows: &[PeriodRow])
+pub fn take_rows(index: &mut KeyedPeriods, keys: &[Key], rows: &[PeriodRow])
     requires { length keys.now ≡ length rows.now }
     ensures { (positions : List ℕ) (rest : List Row)
         → keys.now ≡ map (key_values positions) rows.now
@@ -90,7 +87,7 @@ pub fn take_rows(index: &mut KeyedPeriods, keys: &[Values], rows: &[PeriodRow])
 }
 
 // Takes out the first rows, whose keys are handed in.
-fn take_first(index: &mut KeyedPeriods, keys: &[Values], rows: &[PeriodRow], count: usize)
+fn take_first(index: &mut KeyedPeriods, keys: &[Key], rows: &[PeriodRow], count: usize)
     requires keys { length keys.now ≡ length rows.now }
     requires count { count ≤ length rows.now }
     ensures { (positions : List ℕ) (rest : List Row)

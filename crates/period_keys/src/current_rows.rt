@@ -9,6 +9,7 @@ ghost use Rattle.period_keys.specs.Rows.{HasRows, rows_of_key, rows_of_lists};
 ghost use Rattle.period_keys.specs.Versions.{begun, period_of, recorded, version_key};
 
 use crate::groups::{Groups, add_to, take_from};
+use crate::key::Key;
 use crate::key_rows::KeyRows;
 use crate::keys::values_of;
 use period_core::{Items, Memory, Moment, Period, PeriodRow, Values, VersionRow};
@@ -56,7 +57,7 @@ impl CurrentRows {
     }
 
     /// The rows of a key, in the order of their periods' starts.
-    pub fn of_key(&self, key: &Values) -> &[VersionRow]
+    pub fn of_key(&self, key: &Key) -> &[VersionRow]
         ensures rows { result.now ≡ rows_of_key self.now key.now }
         ensures ordered { AreInOrder (map period_of result.now) }
     {
@@ -67,7 +68,7 @@ impl CurrentRows {
     }
 
     /// Their periods.
-    pub fn periods_of_key(&self, key: &Values) -> &[Period]
+    pub fn periods_of_key(&self, key: &Key) -> &[Period]
         ensures periods { result.now ≡ map period_of (rows_of_key self.now key.now) }
         ensures ordered { AreInOrder result.now }
     {
@@ -78,7 +79,7 @@ impl CurrentRows {
     }
 
     /// The rows of each key, one key after another.
-    pub fn groups(&self) -> btree_map::Values<'_, Values, KeyRows>
+    pub fn groups(&self) -> btree_map::Values<'_, Key, KeyRows>
         ensures { rows_of_lists result ≡ self.now.rows }
     {
         self.groups.values()
@@ -97,7 +98,7 @@ impl CurrentRows {
     /// there. It takes no memory.
     fn take_recorded(
         &mut self,
-        key: &Values,
+        key: &Key,
         values: &Values,
         period: Period,
         from: Moment,
@@ -113,7 +114,7 @@ impl CurrentRows {
     }
 
     /// Takes out rows, which are there, whose keys are handed in. It takes no memory.
-    pub fn take_all(&mut self, keys: &[Values], rows: &[VersionRow])
+    pub fn take_all(&mut self, keys: &[Key], rows: &[VersionRow])
         requires { keys.now ≡ map (version_key self.old.positions) rows.now }
         ensures same { self.new.positions ≡ self.old.positions }
         ensures rows { (rest : List Version) → IsPermutation self.old.rows (rows.now ++ rest)
@@ -131,7 +132,7 @@ impl CurrentRows {
         &mut self,
         alloc: Global,
         moment: Moment,
-        keys: &[Values],
+        keys: &[Key],
         rows: &[PeriodRow],
     ) -> Result<(), Memory>
         requires { keys.now ≡ map (key_values self.old.positions) rows.now }
@@ -149,7 +150,7 @@ impl CurrentRows {
     }
 
     /// Takes back what `add_all` added. It takes no memory.
-    pub fn take_added(&mut self, moment: Moment, keys: &[Values], rows: &[PeriodRow])
+    pub fn take_added(&mut self, moment: Moment, keys: &[Key], rows: &[PeriodRow])
         requires { keys.now ≡ map (key_values self.old.positions) rows.now }
         ensures same { self.new.positions ≡ self.old.positions }
         ensures rows { (rest : List Version)
@@ -164,7 +165,7 @@ impl CurrentRows {
         &mut self,
         alloc: Global,
         moment: Moment,
-        key: &Values,
+        key: &Key,
         row: &PeriodRow,
     ) -> Result<(), Memory>
         requires { key.now ≡ key_values self.old.positions row.now }
@@ -181,7 +182,7 @@ impl CurrentRows {
     }
 
     // Takes out the first rows that begin at a moment, whose keys are handed in.
-    fn take_begun(&mut self, moment: Moment, keys: &[Values], rows: &[PeriodRow], count: usize)
+    fn take_begun(&mut self, moment: Moment, keys: &[Key], rows: &[PeriodRow], count: usize)
         requires keys { keys.now ≡ map (key_values self.old.positions) rows.now }
         requires count { count ≤ length rows.now }
         ensures same { self.new.positions ≡ self.old.positions }

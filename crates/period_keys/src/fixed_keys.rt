@@ -6,6 +6,7 @@ ghost use Rattle.catalog_core.specs.declared.condition.Comparand.TheVariants.{Li
 ghost use Rattle.period_core.specs.declared.value.Value.{Value as ColumnValue};
 ghost use Rattle.period_keys.specs.FixedKeys.{Fixes, FixesKey};
 
+use crate::key::Key;
 use catalog_core::{Comparand, CompareValues, Cond};
 use period_core::{Memory, Value, Values};
 use sql_statements::{Comparison, Tree};
@@ -18,7 +19,7 @@ pub fn fixed_key(
     alloc: Global,
     condition: &Cond,
     positions: &[usize],
-) -> Result<Option<Values>, Memory>
+) -> Result<Option<Key>, Memory>
     ensures { IfOk result (λ found. IfSome found (FixesKey condition.now positions.now)) }
 {
     let mut key = Vec::new(alloc);
@@ -28,7 +29,7 @@ pub fn fixed_key(
         };
         key.push(value.copy(alloc)?)?;
     }
-    Ok(Some(Values::from_vec(key)))
+    Ok(Some(Key::new(Values::from_vec(key))))
 }
 
 // The value that the condition fixes at a position. The parser gives a chain of OR or of AND even

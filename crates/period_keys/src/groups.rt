@@ -6,21 +6,17 @@ ghost use Rattle.period_keys.specs.Keys.{values_at};
 ghost use Rattle.period_keys.specs.Rows.{AreGrouped, rows_of_groups};
 ghost use Rattle.period_keys.specs.Versions.{recorded, version_key};
 
+use crate::key::Key;
 use crate::key_rows::KeyRows;
 use period_core::{Memory, Moment, Period, Values, VersionRow};
 use std::alloc::Global;
 use std::collections::BTreeMap;
 
 /// Groups of rows, each by its key.
-pub type Groups = BTreeMap<Values, KeyRows>;
+pub type Groups = BTreeMap<Key, KeyRows>;
 
 /// Adds a row of this key. The only error is out of memory, and changes nothing.
-pub fn add_to(
-    alloc: Global,
-    groups: &mut Groups,
-    key: &Values,
-    row: VersionRow,
-) -> Result<(), Memory>
+pub fn add_to(alloc: Global, groups: &mut Groups, key: &Key, row: VersionRow) -> Result<(), Memory>
     ensures ok { OnOk result (IsPermutation (rows_of_groups groups.new.entries)
         (row ∷ rows_of_groups groups.old.entries)) }
     ensures err { OnErr result
@@ -41,7 +37,7 @@ pub fn add_to(
 /// memory.
 pub fn take_from(
     groups: &mut Groups,
-    key: &Values,
+    key: &Key,
     values: &Values,
     period: Period,
     from: Moment,

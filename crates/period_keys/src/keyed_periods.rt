@@ -10,15 +10,16 @@ ghost use Rattle.period_core.specs.declared.value.Value.{Value as ColumnValue};
 ghost use Rattle.period_keys.specs.Index.{periods_at};
 ghost use Rattle.period_keys.specs.Ordered.{AreInOrder};
 
+use crate::key::Key;
 use crate::ordered_periods::OrderedPeriods;
-use period_core::{Memory, Period, Values};
+use period_core::{Memory, Period};
 use std::alloc::Global;
 use std::collections::{BTreeMap, btree_map};
 
 /// For each key its periods, in the order of their starts. Contracts read them by `periods_at`.
 #[derive(Drop)]
 pub struct KeyedPeriods {
-    entries: BTreeMap<Values, OrderedPeriods>,
+    entries: BTreeMap<Key, OrderedPeriods>,
 }
 
 impl KeyedPeriods {
@@ -32,7 +33,7 @@ impl KeyedPeriods {
     }
 
     /// The periods of a key.
-    pub fn of_key(&self, key: &Values) -> &[Period]
+    pub fn of_key(&self, key: &Key) -> &[Period]
         ensures value { result.now ≡ periods_at self.now key.now }
         ensures ordered { AreInOrder result.now }
     {
@@ -43,7 +44,7 @@ impl KeyedPeriods {
     }
 
     /// The keys in ascending order, among them each that has a period.
-    pub fn keys(&self) -> btree_map::Keys<'_, Values, OrderedPeriods>
+    pub fn keys(&self) -> btree_map::Keys<'_, Key, OrderedPeriods>
         ensures { (key : List ColumnValue) (period : PeriodModel)
             → Contains (periods_at self.now key) period → Contains result key }
     {
@@ -51,7 +52,7 @@ impl KeyedPeriods {
     }
 
     /// Adds a period to those of a key. The only error is out of memory, and changes nothing.
-    pub fn add(&mut self, alloc: Global, key: &Values, period: Period) -> Result<(), Memory>
+    pub fn add(&mut self, alloc: Global, key: &Key, period: Period) -> Result<(), Memory>
         ensures ok { OnOk result ((other : List ColumnValue)
             → IsPermutation (periods_at self.new other)
             (if eq_by_cmp values_cmp key.now other
@@ -71,7 +72,7 @@ impl KeyedPeriods {
     }
 
     /// Takes one such period out of those of a key, and says whether it was there.
-    pub fn take_out(&mut self, key: &Values, period: &Period) -> bool
+    pub fn take_out(&mut self, key: &Key, period: &Period) -> bool
         ensures taken { OnTrue result
             (IsPermutation (periods_at self.old key.now)
             (period.now ∷ periods_at self.new key.now)) }

@@ -4,25 +4,26 @@ ghost use Rattle.std.specs.Prelude.{◌≡◌, ◌++◌, ◌∷◌, [], IfOk, On
 ghost use Rattle.std.specs.List.{filter_map};
 ghost use Rattle.period_keys.specs.Keys.{key_values, values_at};
 
+use crate::key::Key;
 use period_core::{Memory, PeriodRow, Value, Values};
 use std::alloc::Global;
 
 /// A row's values at these positions, in this order. The only error is out of memory.
-pub fn key_of(alloc: Global, positions: &[usize], row: &PeriodRow) -> Result<Values, Memory>
+pub fn key_of(alloc: Global, positions: &[usize], row: &PeriodRow) -> Result<Key, Memory>
     ensures { IfOk result (λ key. key ≡ key_values positions.now row.now) }
 {
     values_of(alloc, positions, row.values.as_slice())
 }
 
 /// The values at these positions, in this order. The only error is out of memory.
-pub fn values_of(alloc: Global, positions: &[usize], values: &[Value]) -> Result<Values, Memory>
+pub fn values_of(alloc: Global, positions: &[usize], values: &[Value]) -> Result<Key, Memory>
     ensures { IfOk result (λ key. key ≡ values_at positions.now values.now) }
 {
     let mut key = Vec::new(alloc);
     for position in positions {
         push_value_at(alloc, &mut key, values, *position)?;
     }
-    Ok(Values::from_vec(key))
+    Ok(Key::new(Values::from_vec(key)))
 }
 
 // Adds the value at the position, if there is one.

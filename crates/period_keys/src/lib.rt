@@ -2,10 +2,10 @@
 //! which a child row has no parent row.
 //!
 //! - Whole lists are judged by a table's definition (`tables`, `sweep`).
-//! - A table's current rows are kept by key in memory (`current_rows`, of `groups` of `key_rows`),
-//!   and beside them their periods by the columns of references (`period_indexes`, `keyed_periods`).
-//!   `TableIndex` has both, and follows a change all or none. `planning` makes a change's plan of
-//!   the rows of the key that its condition fixes (`fixed_keys`), or of all.
+//! - A table's current rows are kept by `key` in memory (`current_rows`, of `groups` of
+//!   `key_rows`), and beside them their periods by the columns of references (`period_indexes`,
+//!   `keyed_periods`). `TableIndex` has both, and follows a change all or none. `planning` makes a
+//!   change's plan of the rows of the key that its condition fixes (`fixed_keys`), or of all.
 //! - A plan is judged by the rows that it touches (`faults`, by `clashes` and `references`), and by
 //!   all references of the catalog (`reference_faults`).
 //! - `table_list` keeps the rows of all tables with the indexes that references need, and
@@ -21,6 +21,7 @@ mod faults;
 mod fixed_keys;
 mod gaps;
 mod groups;
+mod key;
 mod key_laws;
 mod key_rows;
 mod keyed_periods;
@@ -44,6 +45,7 @@ pub use clashes::{index_of, index_of_current, index_of_versions, key_clash_after
 pub use current_rows::CurrentRows;
 pub use faults::{child_fault, key_fault, parent_fault, rows_of, rows_of_current};
 pub use fixed_keys::fixed_key;
+pub use key::Key;
 pub use key_laws::{clashes_after_change, clashes_are_of_days, uncovered_are_of_days};
 pub use keyed_periods::KeyedPeriods;
 pub use keys::{key_of, values_of};

@@ -7,8 +7,9 @@ ghost use Rattle.period_keys.specs.PeriodIndexes.{AreKeysByEach, EachIndexes, In
 ghost use Rattle.period_keys.specs.PeriodIndexes.{PartlyIndex, positions_by};
 
 use crate::changes::{add_rows, keys_of, take_rows};
+use crate::key::Key;
 use crate::keyed_periods::KeyedPeriods;
-use period_core::{Items, Memory, PeriodRow, Values};
+use period_core::{Items, Memory, PeriodRow};
 use std::alloc::Global;
 
 /// The periods of a table's rows by their values at some positions.
@@ -20,7 +21,7 @@ pub struct PeriodIndex {
 
 impl PeriodIndex {
     // Adds rows, whose keys are handed in, or none of them.
-    fn add_all(&mut self, alloc: Global, keys: &[Values], rows: &[PeriodRow]) -> Result<(), Memory>
+    fn add_all(&mut self, alloc: Global, keys: &[Key], rows: &[PeriodRow]) -> Result<(), Memory>
         requires { keys.now ≡ map (key_values self.old.positions) rows.now }
         ensures same { self.new.positions ≡ self.old.positions }
         ensures ok { OnOk result ((before : List Row)
@@ -32,7 +33,7 @@ impl PeriodIndex {
     }
 
     // Takes out rows, whose keys are handed in.
-    fn take_all(&mut self, keys: &[Values], rows: &[PeriodRow])
+    fn take_all(&mut self, keys: &[Key], rows: &[PeriodRow])
         requires { keys.now ≡ map (key_values self.old.positions) rows.now }
         ensures same { self.new.positions ≡ self.old.positions }
         ensures rows { (rest : List Row)
@@ -47,7 +48,7 @@ pub fn keys_by_each(
     alloc: Global,
     indexes: &[PeriodIndex],
     rows: &[PeriodRow],
-) -> Result<Vec<Items<Values>>, Memory>
+) -> Result<Vec<Items<Key>>, Memory>
     ensures { IfOk result
         (λ keys. AreKeysByEach rows.now (map positions_by indexes.now) keys.items) }
 {
@@ -64,7 +65,7 @@ pub fn keys_by_each(
 pub fn add_to_each(
     alloc: Global,
     indexes: &mut [PeriodIndex],
-    keys: &[Items<Values>],
+    keys: &[Items<Key>],
     rows: &[PeriodRow],
 ) -> Result<(), Memory>
     requires { AreKeysByEach rows.now (map positions_by indexes.old) keys.now }
@@ -85,7 +86,7 @@ pub fn add_to_each(
 
 /// Takes rows, which are there and whose keys are handed in, out of each of the indexes. It takes no
 /// memory.
-pub fn take_from_each(indexes: &mut [PeriodIndex], keys: &[Items<Values>], rows: &[PeriodRow])
+pub fn take_from_each(indexes: &mut [PeriodIndex], keys: &[Items<Key>], rows: &[PeriodRow])
     requires { AreKeysByEach rows.now (map positions_by indexes.old) keys.now }
     ensures same { map positions_by indexes.new ≡ map positions_by indexes.old }
     ensures rows { (rest : List Row)
@@ -98,7 +99,7 @@ pub fn take_from_each(indexes: &mut [PeriodIndex], keys: &[Items<Values>], rows:
 // Takes rows, whose keys are handed in, out of the first indexes.
 fn take_from_first(
     indexes: &mut [PeriodIndex],
-    keys: &[Items<Values>],
+    keys: &[Items<Key>],
     rows: &[PeriodRow],
     count: usize,
 )

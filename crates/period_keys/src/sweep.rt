@@ -39,7 +39,7 @@ pub fn key_rows(
     let mut keyed = Vec::new(alloc);
     for row in rows {
         keyed.push(PeriodRow {
-            values: key_of(alloc, positions, row)?,
+            values: key_of(alloc, positions, row)?.into_values(),
             period: row.period,
         })?;
     }

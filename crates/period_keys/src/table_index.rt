@@ -11,9 +11,10 @@ ghost use Rattle.period_keys.specs.Versions.{begun};
 use crate::changes::keys_of;
 use crate::clashes::index_of_current;
 use crate::current_rows::CurrentRows;
+use crate::key::Key;
 use crate::keyed_periods::KeyedPeriods;
 use crate::period_indexes::{PeriodIndex, add_to_each, keys_by_each, take_from_each};
-use period_core::{Items, Memory, Moment, PeriodRow, Values, VersionRow};
+use period_core::{Items, Memory, Moment, PeriodRow, VersionRow};
 use std::alloc::Global;
 use std::marker::Model;
 
@@ -45,8 +46,8 @@ impl Model for TableIndex {
 /// The keys of rows that a change touches, by the table's key and by each of its indexes.
 #[derive(Drop)]
 pub struct TouchedKeys {
-    by_key: Vec<Values>,
-    by_each: Vec<Items<Values>>,
+    by_key: Vec<Key>,
+    by_each: Vec<Items<Key>>,
 }
 
 impl TableIndex {

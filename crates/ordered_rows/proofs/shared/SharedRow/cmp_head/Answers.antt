@@ -1,7 +1,7 @@
 use Rattle.std.proofs.Common.{◌≡◌, sym, subst}
 use Rattle.sqlite_value.specs.Keys.{plain}
 use Rattle.ordered_rows.specs.Heads.{IsHead}
-use Rattle.ordered_rows.proofs.Heads.{Told, heads_tell, is_plain}
+use Rattle.ordered_rows.proofs.Heads.{heads_tell, is_plain}
 use Rattle.ordered_rows.proofs.shared.SharedRow.cmp_head.Goals as goal
 
 pub returns-clause-entry : goal.returns-clause-entry
