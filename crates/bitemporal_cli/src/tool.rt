@@ -18,8 +18,8 @@ use crate::tracked::Tracked;
 use memory_store::open_in_memory;
 use period_core::Refusal;
 use script_engine::{
-    Entry, Outcome, Verdict, check_script, run_audited, run_script, write_audited, write_check,
-    write_report,
+    Entry, Outcome, Verdict, check_script, run_last_audited, run_last_script, write_audited,
+    write_check, write_report,
 };
 use std::alloc::Global;
 use std::io::{Read, Write};
@@ -139,7 +139,7 @@ fn run_results<R: Read>(
     let Ok(connection) = open_in_memory(alloc) else {
         return Err(RunFault::Memory);
     };
-    match run_script(alloc, connection, script.as_slice()) {
+    match run_last_script(alloc, connection, script.as_slice()) {
         Ok(results) => Ok(results),
         Err(refusal) => Err(RunFault::Script(refusal)),
     }
@@ -158,7 +158,7 @@ fn audited_results<R: Read>(alloc: Global, input: &mut Tracked<R>) -> Result<Vec
     let Ok(connection) = open_in_memory(alloc) else {
         return Err(RunFault::Memory);
     };
-    match run_audited(alloc, connection, script.as_slice()) {
+    match run_last_audited(alloc, connection, script.as_slice()) {
         Ok(entries) => Ok(entries),
         Err(refusal) => Err(RunFault::Script(refusal)),
     }

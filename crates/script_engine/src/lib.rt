@@ -24,5 +24,7 @@ pub use report::check::{write_check, write_check_with_capacity};
 pub use report::writer::{ReportWriter, WriteRefused};
 pub use report::{ReportFault, write_report, write_report_with_capacity};
 pub use script::check::check_script;
-pub use script::{MOST_BYTES, MOST_TOKENS, run_audited, run_script};
+pub use script::{
+    MOST_BYTES, MOST_TOKENS, run_audited, run_last_audited, run_last_script, run_script,
+};
 pub use snapshot_audit::Verdict;

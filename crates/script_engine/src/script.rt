@@ -32,6 +32,7 @@ use sql_statements::{Statement, Token};
 use sqlite::Connection;
 use sqlite_trees::store::Alter;
 use std::alloc::Global;
+use std::mem::ManuallyDrop;
 use std::str;
 
 /// The most bytes that a script may have.
@@ -132,16 +133,17 @@ fn run_pieces<S: Alter, K: Kept<S> + Drop>(
     Ok(results)
 }
 
-/// What a run of a script over the store of a connection keeps of its pieces.
+/// What a run of a script over the store of a connection keeps of its pieces, and the engine as it
+/// is then.
 pub(crate) fn run_kept<S: Alter + Drop, K: Kept<S> + Drop>(
     alloc: Global,
     connection: Connection<S>,
     script: &[u8],
-) -> Result<Vec<K>, Refusal>
+) -> Result<(Vec<K>, Engine<S>), Refusal>
     requires { connection.in_transaction ≡ false }
     ensures run { IsAlwaysUsable S.Store
         → (history : History) → DatabaseRepresents history (state S.Store connection).now
-        → IfOk result (λ kept. IsRunBy K.is_step history script.now kept.items) }
+        → IfOk result (λ ran. IsRunBy K.is_step history script.now ran.0.items) }
     ensures refused { IfErr result (MayRefuseRun script.now) }
 {
     let text = script_text(script)?;
@@ -151,13 +153,14 @@ pub(crate) fn run_kept<S: Alter + Drop, K: Kept<S> + Drop>(
         Ok(engine) => engine,
         Err((refusal, _connection)) => return Err(refusal),
     };
-    run_pieces(
+    let kept = run_pieces(
         alloc,
         &mut engine,
         text,
         tokens.as_slice(),
         pieces.as_slice(),
-    )
+    )?;
+    Ok((kept, engine))
 }
 
 /// Runs a script over the store of a connection, a new one where there is none. The results are
@@ -177,7 +180,26 @@ pub fn run_script<S: Alter + Drop>(
         → IfOk result (λ results. IsRunFrom history script.now results.items) }
     ensures refused { IfErr result (MayRefuseRun script.now) }
 {
-    run_kept(alloc, connection, script)
+    let (results, _engine) = run_kept(alloc, connection, script)?;
+    Ok(results)
+}
+
+/// The same, as the last that a process does: the memory of the store is left until that ends. To
+/// give back many rows, one by one, would take a fifth of the time of the run.
+pub fn run_last_script<S: Alter + Drop>(
+    alloc: Global,
+    connection: Connection<S>,
+    script: &[u8],
+) -> Result<Vec<Result<Outcome, Refusal>>, Refusal>
+    requires { connection.in_transaction ≡ false }
+    ensures run { IsAlwaysUsable S.Store
+        → (history : History) → DatabaseRepresents history (state S.Store connection).now
+        → IfOk result (λ results. IsRunFrom history script.now results.items) }
+    ensures refused { IfErr result (MayRefuseRun script.now) }
+{
+    let (results, engine) = run_kept(alloc, connection, script)?;
+    let _left = ManuallyDrop::new(engine);
+    Ok(results)
 }
 
 /// The same, with an audit of each answer at once, over the rows that were seen for it. The entries
@@ -197,5 +219,26 @@ pub fn run_audited<S: Alter + Drop>(
         → IfOk result (λ entries. IsRunFrom history script.now (results_of entries.items)) }
     ensures refused { IfErr result (MayRefuseRun script.now) }
 {
-    run_kept(alloc, connection, script)
+    let (entries, _engine) = run_kept(alloc, connection, script)?;
+    Ok(entries)
+}
+
+/// The same, as the last that a process does, as [`run_last_script`] is.
+pub fn run_last_audited<S: Alter + Drop>(
+    alloc: Global,
+    connection: Connection<S>,
+    script: &[u8],
+) -> Result<Vec<Entry>, Refusal>
+    requires { connection.in_transaction ≡ false }
+    ensures audited { IsAlwaysUsable S.Store
+        → (history : History) → DatabaseRepresents history (state S.Store connection).now
+        → IfOk result (λ entries. IsAuditedRunFrom history script.now entries.items) }
+    ensures run { IsAlwaysUsable S.Store
+        → (history : History) → DatabaseRepresents history (state S.Store connection).now
+        → IfOk result (λ entries. IsRunFrom history script.now (results_of entries.items)) }
+    ensures refused { IfErr result (MayRefuseRun script.now) }
+{
+    let (entries, engine) = run_kept(alloc, connection, script)?;
+    let _left = ManuallyDrop::new(engine);
+    Ok(entries)
 }

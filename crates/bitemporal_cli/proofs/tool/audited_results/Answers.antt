@@ -6,11 +6,11 @@ use Rattle.script_engine.specs.script.AuditedRuns.{IsAuditedRunOf}
 use Rattle.script_engine.specs.script.Script.{MayRefuseRun}
 use Rattle.bitemporal_cli.proofs.tool.audited_results.Goals as goal
 
-pub returns-in-Ok-run_audited-clause-run : goal.returns-in-Ok-run_audited-clause-run
-returns-in-Ok-run_audited-clause-run g c =
-    let run = c.in-Ok-run_audited.ensures.audited memory_is_usable (opened new_database) (inl (c.in-Ok.ensures.empty.2, refl)) in
+pub returns-in-Ok-run_last_audited-clause-run : goal.returns-in-Ok-run_last_audited-clause-run
+returns-in-Ok-run_last_audited-clause-run g c =
+    let run = c.in-Ok-run_last_audited.ensures.audited memory_is_usable (opened new_database) (inl (c.in-Ok.ensures.empty.2, refl)) in
     IfSome_then (g.R.Read.remaining c.args.input.now.inner) c.in_ok-script.ensures.bytes
-    (λ all bytes. subst (λ (script : List ℕ). IsAuditedRunOf script c.in-Ok-run_audited.entries.items) (c.as_slice.ensures.value ∙ bytes) run)
+    (λ all bytes. subst (λ (script : List ℕ). IsAuditedRunOf script c.in-Ok-run_last_audited.entries.items) (c.as_slice.ensures.value ∙ bytes) run)
 
 pub returns-clause-refused : goal.returns-clause-refused
 returns-clause-refused g c =
