@@ -1,6 +1,7 @@
 //! Rows of a table or entries of an index, in order, in a balanced tree whose parts are shared
-//! between its versions: an edit makes new what lies on the way to one row, at most one and a half
-//! times the binary logarithm of their number, and every other version stays as it is.
+//! between its versions. The way to a row is at most one and a half times the binary logarithm of
+//! their number: an edit makes new what other versions share of it, and writes over the rest. Every
+//! other version stays as it is.
 #![tactic(auto)]
 
 pub mod cursor;

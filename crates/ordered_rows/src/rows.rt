@@ -78,7 +78,7 @@ impl OrderedRows {
         };
         let place = Place::Rowid(id);
         let new = SharedRow::new(self.alloc, row)?;
-        self.tree = self.tree.with_new(self.alloc, place, &new, true)?;
+        self.tree.put_new(self.alloc, place, &new, true)?;
         Ok(())
     }
 
@@ -89,7 +89,7 @@ impl OrderedRows {
         ensures err { OnErr result (self.new ≡ self.old) }
     {
         let place = Place::Rowid(id);
-        self.tree = self.tree.without(self.alloc, place)?;
+        self.tree.take_out(self.alloc, place)?;
         Ok(())
     }
 
@@ -102,7 +102,7 @@ impl OrderedRows {
         let new = SharedRow::new(self.alloc, entry)?;
         let sought = Sought::new(order, entry);
         let place = Place::Entry(&sought);
-        self.tree = self.tree.with_new(self.alloc, place, &new, false)?;
+        self.tree.put_new(self.alloc, place, &new, false)?;
         Ok(())
     }
 
@@ -114,7 +114,7 @@ impl OrderedRows {
     {
         let sought = Sought::new(order, entry);
         let place = Place::Entry(&sought);
-        self.tree = self.tree.without(self.alloc, place)?;
+        self.tree.take_out(self.alloc, place)?;
         Ok(())
     }
 

@@ -9,6 +9,7 @@ use std::rc::Rc;
 
 mod balance;
 mod edits;
+mod in_place;
 mod walks;
 
 /// Trees share their forks, so that another version of a tree takes no copy of it.

@@ -8,7 +8,7 @@ use Rattle.std.proofs.Math.Path.{fun_ext}
 use Rattle.std.proofs.lemmas.Bool.{and_parts}
 use Rattle.std.proofs.lemmas.List.{map-append}
 use Rattle.std.proofs.lemmas.List.Elements.{filter-append}
-use Rattle.std.proofs.lemmas.List.Sorted.{IsPermutation-refl, IsPermutation-sym, IsPermutation-trans, IsPermutation-cons, IsPermutation-map, IsPermutation-append, IsPermutation-to_front}
+use Rattle.std.proofs.lemmas.List.Sorted.{IsPermutation-refl, IsPermutation-sym, IsPermutation-trans, IsPermutation-cons, IsPermutation-map, IsPermutation-append, IsPermutation-append_comm, IsPermutation-to_front}
 use Rattle.std.proofs.lemmas.Map.Lookups.{exact_bytes, exact_signed}
 use Rattle.sqlite_trees.proofs.ListLemmas.{all-append, filter-map, IsPermutation-filter}
 use Rattle.sqlite.specs.Effect.{Database}
@@ -16,15 +16,16 @@ use Rattle.period_core.specs.Encoding.{IsColumnValue, encoded}
 use Rattle.period_core.specs.Moments.{forever}
 use Rattle.period_core.specs.declared.row.PeriodRow.{PeriodRow}
 use Rattle.period_core.specs.declared.version.VersionRow.{VersionRow}
-use Rattle.version_tables.specs.Represents.{Records, Represents, Version, added, changed, closing, ended, key_of, removed, same_key, version, with_ends}
+use Rattle.version_tables.specs.Represents.{Records, Represents, Version, added, all_added, changed, closing, ended, key_of, new_version, removed, same_key, version, with_ends}
 use Rattle.version_tables.proofs.Goes.{de_morgan, twice}
-use Rattle.version_store.specs.declared.place.NewRow.{NewRow}
-use Rattle.version_store.specs.declared.place.Place.{Place}
+use Rattle.version_tables.specs.declared.place.NewRow.{NewRow}
+use Rattle.version_tables.specs.declared.place.Place.{Place}
 use Rattle.version_store.specs.Contents.{Contents, TableVersion, added_in, version_in}
 use Rattle.version_store.specs.Changed.{added_at, ended_at}
-use Rattle.version_store.specs.Leaving.{HasBut, is_leaving, key_at, new_version}
+use Rattle.version_store.specs.Leaving.{HasBut, is_leaving, key_at}
 use Rattle.version_store.specs.Written.{Has, written, written_version}
-use Rattle.version_store.proofs.Sweeps.{ended_held, ending, equal, one_row, permuted, taken}
+use Rattle.version_store.proofs.Sweeps.{ended_held, ending, equal, one_row, taken}
+use Rattle.version_tables.proofs.Rows.{permuted}
 
 -- ---- tests and lists
 
@@ -150,6 +151,33 @@ module _ (table : ℕ) (moment : ℤ) (row : PeriodRow) (values : All IsColumnVa
     values = more_held c was.values;
   }
 
+-- ---- rows are added where none is to leave
+
+module _ (table : ℕ) (moment : ℤ) where
+  abbrev pub new_of : PeriodRow → Version
+  new_of row = written_version (added_in table moment forever row)
+
+  all_new : (rows : List PeriodRow) → map written_version (map (added_in table moment forever) rows) ≡ map new_of rows
+  all_new [] = refl
+  all_new (row ∷ rows) = ap (λ l. new_of row ∷ l) (all_new rows)
+
+  all_held : (rows : List PeriodRow) → AllByRecursion (λ (row : PeriodRow). All IsColumnValue row.values) rows → AllByRecursion (λ (v : TableVersion). All IsColumnValue v.values) (map (added_in table moment forever) rows)
+  all_held [] held = tt
+  all_held (row ∷ rows) held = (held.0, all_held rows held.1)
+
+  pub all_adds : (rows : List PeriodRow) → AllByRecursion (λ (row : PeriodRow). All IsColumnValue row.values) rows → (old now : Database) (c : Contents) → HasBut old table moment [] c
+      → ((m : Records) → Represents old m → Represents now (all_added (map new_of rows) m)) → HasBut now table moment [] (added_at table moment rows c)
+  all_adds rows held old now c was made = record {
+    versions = map new_of rows ++ was.versions;
+    rows = made (record (written c) { versions = was.versions }) was.rows;
+    others = subst₂ IsPermutation (sym (kept (map new_of rows ++ was.versions)))
+        (ap (λ l. map written_version c.versions ++ l) (sym (all_new rows)) ∙ sym (map-append written_version c.versions (map (added_in table moment forever) rows)))
+        (IsPermutation-trans _ _ _ (IsPermutation-append _ _ _ _ (IsPermutation-refl (map new_of rows)) (subst (λ vs. IsPermutation vs (map written_version c.versions)) (kept was.versions) was.others))
+        (IsPermutation-append_comm (map new_of rows) (map written_version c.versions)));
+    definitions = was.definitions;
+    values = all-append (λ (v : TableVersion). All IsColumnValue v.values) c.versions (map (added_in table moment forever) rows) was.values (all_held rows held);
+  }
+
 -- ---- one leaves
 
 pub leaves : (old now : Database) (table : ℕ) (moment : ℤ) (key : Version) (before after : List Place) (c : Contents) → HasBut old table moment before c
@@ -217,7 +245,7 @@ module _ (table : ℕ) (values : List ℕ) (start from end to : ℤ) where
 -- ---- a row as it is written
 
 pub same_row : (table : ℕ) (moment : ℤ) (row : PeriodRow) (new : NewRow) → new.place.values.items ≡ encoded row.values → new.place.start ≡ row.period.start → new.end ≡ row.period.end
-    → new_version table moment new ≡ written_version (added_in table moment forever row)
+    → new_version table moment forever new ≡ written_version (added_in table moment forever row)
 same_row table moment row new values start end =
     ap (λ n. version table n new.place.start new.end moment forever) values ∙ ap (λ n. version table (encoded row.values) n new.end moment forever) start ∙ ap (λ n. version table (encoded row.values) row.period.start n moment forever) end
 

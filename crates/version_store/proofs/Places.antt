@@ -9,8 +9,8 @@ use Rattle.std.specs.Cmp.Lexicographic.{slice_cmp}
 use Rattle.std.proofs.lemmas.Bool.{and_parts, or_parts}
 use Rattle.std.proofs.lemmas.Map.Lookups.{exact_bytes, exact_signed}
 use Rattle.version_tables.specs.Represents.{Version, same_key}
-use Rattle.version_store.specs.contracts.place.PlaceOrd.TheImpl as impl
-use Rattle.version_store.specs.declared.place.Place.{Place}
+use Rattle.version_tables.specs.contracts.place.PlaceOrd.TheImpl as impl
+use Rattle.version_tables.specs.declared.place.Place.{Place}
 use Rattle.version_store.specs.Leaving.{is_leaving, key_at}
 use Rattle.version_store.proofs.Sweeps.{equal}
 

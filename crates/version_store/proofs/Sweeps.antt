@@ -110,20 +110,7 @@ pub ended_held : (table : ℕ) (moment : ℤ) (rows : List VersionRow) (vs : Lis
 ended_held table moment rows vs h =
     all-flat_map (λ (v : TableVersion). All IsColumnValue v.values) (left_of table moment rows) vs (all_weaker (λ (v : TableVersion). All IsColumnValue v.values) (λ v. HaveColumnValues (left_of table moment rows v)) (left_held table moment rows) vs h)
 
--- ---- the database after one row
-
--- the order of the versions does not matter
-pub permuted : (db : Database) (m : Records) (vs : List Version) → IsPermutation m.versions vs → Represents db m → Represents db (record m { versions = vs })
-permuted db m vs same was = record {
-  schema = was.schema;
-  says = record {
-    meta = was.says.meta;
-    tables = was.says.tables;
-    versions = IsPermutation-trans _ _ _ (IsPermutation-map stored _ _ (IsPermutation-sym _ _ same)) was.says.versions;
-  };
-  untied = was.untied;
-  keyed = was.keyed;
-}
+-- ---- one row
 
 -- the moments of a row and of a change
 pub same_moment : (a b : ℤ) → a ≡ b → is_eq (int_cmp a b) ≡ true

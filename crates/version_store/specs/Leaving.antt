@@ -2,26 +2,19 @@
 use Rattle.std.specs.Prelude.{ℕ, ℤ, Bool, not, List, map, filter}
 use Rattle.std.specs.Prelude.{IsPermutation, IsTrue, OnOk, Result}
 use Rattle.std.specs.List.{AllByRecursion, list_any}
-use Rattle.period_core.specs.Moments.{forever}
 use Rattle.period_core.specs.declared.refusal.Refusal.{Refusal}
 use Rattle.sqlite.specs.Store.{Ghosts}
 use Rattle.sqlite.specs.State.{HasCleanDisk}
 use Rattle.sqlite.specs.Held.{Held, state}
 use Rattle.sqlite.specs.Effect.{Database}
-use Rattle.version_tables.specs.Represents.{Represents, Version, key_of, same_key, version}
-use Rattle.version_store.specs.declared.place.NewRow.{NewRow}
-use Rattle.version_store.specs.declared.place.Place.{Place}
+use Rattle.version_tables.specs.Represents.{Represents, Version, key_of, same_key}
+use Rattle.version_tables.specs.declared.place.Place.{Place}
 use Rattle.version_store.specs.Contents.{Contents, HaveColumnValues}
 use Rattle.version_store.specs.Written.{IsReadable, written, written_version}
 
 -- the key of a version of the table that began at the moment and has its place here
 abbrev pub key_at : ℕ → ℤ → Place → Version
 key_at table moment place = key_of table place.values.items place.start moment
-
--- a row as a version of the table: recorded from the moment on, and current
-abbrev pub new_version : ℕ → ℤ → NewRow → Version
-new_version table moment row =
-    version table row.place.values.items row.place.start row.end moment forever
 
 -- whether a version of the table began at the moment and has one of the places
 abbrev pub is_leaving : ℕ → ℤ → List Place → Version → Bool

@@ -1,27 +1,17 @@
 //! Rows as a plan's change writes them.
 
-ghost use Rattle.std.specs.Prelude.{◌≡◌, IfErr, IfOk};
-ghost use Rattle.std.specs.List.{All};
+ghost use Rattle.std.specs.Prelude.{◌≡◌, ℕ, ℤ, map, IfErr, IfOk};
+ghost use Rattle.std.specs.List.{All, AllByRecursion};
 ghost use Rattle.period_core.specs.Encoding.{IsColumnValue, encoded};
+ghost use Rattle.period_core.specs.Moments.{forever};
+ghost use Rattle.version_tables.specs.Represents.{new_version};
+ghost use Rattle.version_store.specs.Contents.{added_in};
+ghost use Rattle.version_store.specs.Written.{written_version};
 ghost use Rattle.version_store.specs.StoreState.{IsStoreRefusal};
 
 use period_core::{Period, PeriodRow, Refusal, Values, encode_values};
 use std::alloc::Global;
-
-/// What tells the versions of a table that begin at one moment: their values' bytes, and the number
-/// of the first day of the period.
-#[derive(PartialEq, Eq, PartialOrd, Ord, Debug, Drop)]
-pub(crate) struct Place {
-    pub(crate) values: Vec<u8>,
-    pub(crate) start: i64,
-}
-
-/// A row that is added: its place, and the number of the day before which its period ends.
-#[derive(Debug, Drop)]
-pub(crate) struct NewRow {
-    pub(crate) place: Place,
-    pub(crate) end: i64,
-}
+use version_tables::{NewRow, Place};
 
 /// The place of a row with these values and this period.
 pub(crate) fn place_of(alloc: Global, values: &Values, period: Period) -> Result<Place, Refusal>
@@ -48,4 +38,25 @@ pub(crate) fn new_row(alloc: Global, row: &PeriodRow) -> Result<NewRow, Refusal>
         place: place_of(alloc, &row.values, row.period)?,
         end: i64::from(row.period.end.number()),
     })
+}
+
+/// Rows as they are added.
+pub(crate) fn new_rows(alloc: Global, rows: &[PeriodRow]) -> Result<Vec<NewRow>, Refusal>
+    ensures same { IfOk result (λ new. (table : ℕ) (moment : ℤ)
+        → map (new_version table moment forever) new.items
+        ≡ map (λ row. written_version (added_in table moment forever row)) rows.now) }
+    ensures held { IfOk result
+        (λ _. AllByRecursion (λ row. All IsColumnValue row.values) rows.now) }
+    ensures named { IfErr result IsStoreRefusal }
+{
+    let Ok(mut new) = Vec::with_capacity(alloc, rows.len()) else {
+        return Err(Refusal::Memory);
+    };
+    for row in rows {
+        let row = new_row(alloc, row)?;
+        let Ok(()) = new.push(row) else {
+            return Err(Refusal::Memory);
+        };
+    }
+    Ok(new)
 }

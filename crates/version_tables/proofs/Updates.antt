@@ -50,18 +50,18 @@ free_is : (b : Bool) → not b ≡ true → b ≡ false
 free_is true h = cc
 free_is false h = refl
 
-put_fresh : (news rows : List Row) → are_fresh rows news ≡ true → IsPermutation (news ++ rows) (put_all rows news)
+pub put_fresh : (news rows : List Row) → are_fresh rows news ≡ true → IsPermutation (news ++ rows) (put_all rows news)
 put_fresh [] rows fresh = IsPermutation-refl _
 put_fresh (r ∷ rs) rows fresh =
     let parts = and_parts _ _ fresh in
     IsPermutation-trans _ _ _ (IsPermutation-sym _ _ (IsPermutation-middle rs r rows))
     (IsPermutation-trans _ _ _ (IsPermutation-append_right rs _ _ (put_row_fresh r rows (free_is _ parts.0))) (put_fresh rs (put_row r rows) parts.1))
 
-put_table : (news rows : List Row) → are_fresh rows news ≡ true → AreUntied rows → AreUntied (put_all rows news)
+pub put_table : (news rows : List Row) → are_fresh rows news ≡ true → AreUntied rows → AreUntied (put_all rows news)
 put_table [] rows fresh up = up
 put_table (r ∷ rs) rows fresh up = let parts = and_parts _ _ fresh in put_table rs (put_row r rows) parts.1 (untied-put_row r rows (free_is _ parts.0) up)
 
-put_keyed : (news rows : List Row) → list_all (λ r. is_int (rowid r)) news ≡ true → AllByRecursion (λ r. is_int (rowid r) ≡ true) rows → AllByRecursion (λ r. is_int (rowid r) ≡ true) (put_all rows news)
+pub put_keyed : (news rows : List Row) → list_all (λ r. is_int (rowid r)) news ≡ true → AllByRecursion (λ r. is_int (rowid r) ≡ true) rows → AllByRecursion (λ r. is_int (rowid r) ≡ true) (put_all rows news)
 put_keyed [] rows ints all = all
 put_keyed (r ∷ rs) rows ints all = let parts = and_parts _ _ ints in put_keyed rs (put_row r rows) parts.1 (all-put_row (λ r. is_int (rowid r) ≡ true) r rows parts.0 all)
 

@@ -22,10 +22,6 @@ begin_text = codes "INSERT INTO bt_meta (id, form, clock) VALUES (1, ?1, ?2)"
 
 -- ---- the changes
 
-abbrev pub insert_text : List ℕ
-insert_text =
-    codes "INSERT INTO bt_version (tab, vals, s, e, ss, se) VALUES (?1, ?2, ?3, ?4, ?5, ?6)"
-
 abbrev pub delete_text : List ℕ
 delete_text = codes "DELETE FROM bt_version WHERE tab = ?1 AND vals = ?2 AND s = ?3 AND ss = ?4"
 
@@ -43,6 +39,25 @@ define_text = codes "INSERT INTO bt_table (id, def) VALUES (?1, ?2)"
 
 abbrev pub clock_text : List ℕ
 clock_text = codes "UPDATE bt_meta SET clock = ?1"
+
+-- Versions are added by one, two, four or eight in a statement. ?1 is their table, ?2 and ?3 are the
+-- ends of their system time, and each of them has three more parameters.
+
+abbrev pub one_text : List ℕ
+one_text =
+    codes "INSERT INTO bt_version (tab, vals, s, e, ss, se) VALUES (?1, ?4, ?5, ?6, ?2, ?3)"
+
+abbrev pub two_text : List ℕ
+two_text = one_text ++ codes ", (?1, ?7, ?8, ?9, ?2, ?3)"
+
+abbrev pub four_text : List ℕ
+four_text = two_text
+    ++ codes ", (?1, ?10, ?11, ?12, ?2, ?3)" ++ codes ", (?1, ?13, ?14, ?15, ?2, ?3)"
+
+abbrev pub eight_text : List ℕ
+eight_text = four_text
+    ++ codes ", (?1, ?16, ?17, ?18, ?2, ?3)" ++ codes ", (?1, ?19, ?20, ?21, ?2, ?3)"
+    ++ codes ", (?1, ?22, ?23, ?24, ?2, ?3)" ++ codes ", (?1, ?25, ?26, ?27, ?2, ?3)"
 
 -- ---- the queries
 

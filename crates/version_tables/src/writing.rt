@@ -2,7 +2,7 @@
 //! moments are numbers of the calendar.
 
 ghost use Rattle.std.specs.Prelude.{◌≡◌, ◌+◌, length};
-ghost use Rattle.version_tables.specs.Represents.{added, ended, key_of, removed, version};
+ghost use Rattle.version_tables.specs.Represents.{ended, key_of, removed};
 ghost use Rattle.version_tables.specs.Represents.{with_clock, with_definition, with_ends};
 ghost use Rattle.version_tables.specs.Steps.{CommitsNothing, ChangesKey, ChangesRecords, ChangesWhere};
 
@@ -68,29 +68,6 @@ pub fn move_ends<S: Alter>(
         "UPDATE bt_version SET e = ?5, se = ?6 \
          WHERE tab = ?1 AND vals = ?2 AND s = ?3 AND ss = ?4",
         params![table, values, start, from, end, to],
-    )
-}
-
-/// Adds a version: the table's number, the values' bytes, the period from the day `start` on and
-/// before the day `end`, the system time from the moment `from` on and before the moment `to`. It
-/// is refused where a version has its key.
-pub fn insert_version<S: Alter>(
-    transaction: &mut Transaction<'_, S>,
-    table: u32,
-    values: &[u8],
-    start: i64,
-    end: i64,
-    from: i64,
-    to: i64,
-) -> Result<usize, Error>
-    ensures same_reference { transaction.new.conn.ghost_name ≡ transaction.old.conn.ghost_name }
-    ensures made { ChangesRecords S.Store transaction.old.conn.now transaction.new.conn.now result
-        (added (version table values.now start end from to)) }
-    ensures inside { CommitsNothing S.Store transaction.old.conn.now transaction.new.conn.now }
-{
-    transaction.execute(
-        "INSERT INTO bt_version (tab, vals, s, e, ss, se) VALUES (?1, ?2, ?3, ?4, ?5, ?6)",
-        params![table, values, start, end, from, to],
     )
 }
 

@@ -86,7 +86,7 @@ impl Tree {
     }
 
     /// One tree after another, whose heights differ by one at most.
-    fn merged(alloc: Global, left: &Tree, right: &Tree) -> Result<Tree, AllocError>
+    pub(super) fn merged(alloc: Global, left: &Tree, right: &Tree) -> Result<Tree, AllocError>
         ensures { IfOk result (λ tree. tree ≡ left.now ++ right.now) }
     {
         match right.split_first(alloc)? {

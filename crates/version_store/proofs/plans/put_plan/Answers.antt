@@ -2,7 +2,7 @@ use Rattle.std.proofs.Common.{List, arith, subst, subst₂, sym}
 use Rattle.sqlite.specs.Held.{state}
 use Rattle.period_core.specs.declared.row.PeriodRow.{PeriodRow}
 use Rattle.period_core.specs.declared.version.VersionRow.{VersionRow}
-use Rattle.version_store.specs.declared.place.Place.{Place}
+use Rattle.version_tables.specs.declared.place.Place.{Place}
 use Rattle.version_store.specs.Changed.{planned}
 use Rattle.version_store.specs.Leaving.{HasBut}
 use Rattle.version_store.specs.Written.{Has}

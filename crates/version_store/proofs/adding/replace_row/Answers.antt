@@ -4,7 +4,7 @@ use Rattle.period_core.specs.Moments.{forever}
 use Rattle.version_tables.proofs.Steps.{nothing_then}
 use Rattle.version_store.proofs.Leaves.{same_moved, one_moved, none_moved}
 use Rattle.version_store.proofs.Standing.{on_ok}
-use Rattle.version_store.proofs.plans.replace_row.Goals as goal
+use Rattle.version_store.proofs.adding.replace_row.Goals as goal
 
 pub returns-in-Ok-eq0-clause-made : goal.returns-in-Ok-eq0-clause-made
 returns-in-Ok-eq0-clause-made g c clean begun =

@@ -5,7 +5,7 @@ use Rattle.version_tables.specs.Steps.{CommitsNothing}
 use Rattle.version_store.specs.Changed.{added_at}
 use Rattle.version_store.specs.Contents.{Contents}
 use Rattle.version_store.specs.Leaving.{HasBut}
-use Rattle.version_store.proofs.plans.add_rows.Given as goal
+use Rattle.version_store.proofs.adding.add_rows.Given as goal
 
 abbrev pub invariant-loop-row : goal.invariant-loop-row
 invariant-loop-row g l =

@@ -1,0 +1,19 @@
+-- What the statements that add versions are given.
+use Rattle.std.specs.Prelude.{◌≡◌, ◌⊎◌, ℕ, ℤ, pos, List, [], ◌∷◌}
+use Rattle.std.specs.List.{flat_map}
+use Rattle.sqlite.specs.declared.types.Value.TheVariants.{Int, Blob}
+use Rattle.sqlite.specs.Order.{Row}
+use Rattle.version_tables.specs.declared.place.NewRow.{NewRow}
+
+-- a statement adds one, two, four or eight rows
+abbrev pub IsBatch : ℕ → Type 0
+IsBatch rows = (rows ≡ 1) ⊎ ((rows ≡ 2) ⊎ ((rows ≡ 4) ⊎ (rows ≡ 8)))
+
+-- the parameters of one row
+abbrev pub cells : NewRow → Row
+cells row = Blob row.place.values.items ∷ Int row.place.start ∷ Int row.end ∷ []
+
+-- the parameters of a statement
+abbrev pub given_rows : ℕ → ℤ → ℤ → List NewRow → Row
+given_rows table from to rows =
+    Int (pos table) ∷ Int from ∷ Int to ∷ flat_map cells rows
