@@ -33,12 +33,13 @@ fn insert_rows<S: Alter>(
     ensures inside { CommitsNothing S.Store transaction.old.conn.now transaction.new.conn.now }
     ensures named { IfErr result IsStoreRefusal }
 {
+    let until = Moment::forever().number();
     match insert_versions(
         alloc,
         transaction,
         u32::from(table),
         moment.number(),
-        Moment::forever().number(),
+        until,
         new,
     ) {
         Ok(()) => Ok(()),

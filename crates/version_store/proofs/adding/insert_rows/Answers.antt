@@ -4,5 +4,5 @@ use Rattle.version_store.proofs.adding.insert_rows.Goals as goal
 pub returns-in-Ok-clause-made : goal.returns-in-Ok-clause-made
 returns-in-Ok-clause-made g c clean begun =
     let f : to_z w64 (of_z w64 c.number.result) ≡ c.number.result = search rules in
-    let t : to_z w64 (of_z w64 c.number-to.result) ≡ c.number-to.result = search rules in
-    rw (c.from.ensures, f, t, c.number.ensures.value, c.number-to.ensures.value, c.forever.ensures) at (c.in-Ok.ensures.made clean begun)
+    let t : to_z w64 (of_z w64 c.number-until.result) ≡ c.number-until.result = search rules in
+    rw (c.from.ensures, f, t, c.number.ensures.value, c.number-until.ensures.value, c.forever.ensures) at (c.in-Ok.ensures.made clean begun)
