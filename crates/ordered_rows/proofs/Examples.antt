@@ -1,5 +1,5 @@
 -- Worked rows: the rows 2, 5 and 9 under the edits at 5, and what a cursor gives of them.
-use Rattle.std.proofs.Common.{◌≡◌, true, false, [], ◌∷◌, ℤ, pos, Some, reverse, refl, Ordering, Less, Equal, int_cmp, true≢false}
+use Rattle.std.proofs.Common.{ℕ, ◌≡◌, true, false, [], ◌∷◌, ℤ, pos, Some, reverse, refl, Ordering, Less, Equal, int_cmp, true≢false}
 use Rattle.std.specs.declared.alloc.Global.{Global}
 use Rattle.std.specs.declared.rc.Rc.{Rc}
 use Rattle.sqlite_value.specs.declared.value.Value.TheVariants.{Int, Blob}
@@ -62,19 +62,19 @@ not-found : IsAt side_of_five (two ∷ nine ∷ []) two false
 not-found = refl
 
 -- a fork shows the rows on its left, its row and those on its right
-rows-fork : (shared : Rc Fork Global) → shared.value.left ≡ two ∷ [] → shared.value.row ≡ five → shared.value.right ≡ nine ∷ []
-    → rows_of (link.Fork shared) ≡ two ∷ five ∷ nine ∷ []
-rows-fork shared left row right = rw (left, row, right)
+rows-fork : (height : ℕ) (shared : Rc Fork Global) → shared.value.left ≡ two ∷ [] → shared.value.row ≡ five → shared.value.right ≡ nine ∷ []
+    → rows_of (link.Fork height shared) ≡ two ∷ five ∷ nine ∷ []
+rows-fork height shared left row right = rw (left, row, right)
 
 given-backward : given Backward (two ∷ five ∷ nine ∷ []) ≡ nine ∷ five ∷ two ∷ []
 given-backward = refl
 
 -- the key of a version in table 3 with the value 258: its head has the table's number, the byte of an integer, and 258 above the least
-head-key : head_by (Int (pos 3)) (Blob (1 ∷ 128 ∷ 0 ∷ 0 ∷ 0 ∷ 0 ∷ 0 ∷ 1 ∷ 2 ∷ [])) ≡ IntegerAndBlob (pos 3) 1 9223372036854776066
+head-key : head_by (Int (pos 3)) (Blob (1 ∷ 128 ∷ 0 ∷ 0 ∷ 0 ∷ 0 ∷ 0 ∷ 1 ∷ 2 ∷ [])) ≡ IntegerAndBlob 1 (pos 3) 9223372036854776066
 head-key = refl
 
 -- bytes that are not there are zeros
-head-short : head_by (Int (pos 3)) (Blob (2 ∷ 97 ∷ 0 ∷ 0 ∷ [])) ≡ IntegerAndBlob (pos 3) 2 6989586621679009792
+head-short : head_by (Int (pos 3)) (Blob (2 ∷ 97 ∷ 0 ∷ 0 ∷ [])) ≡ IntegerAndBlob 2 (pos 3) 6989586621679009792
 head-short = refl
 
 head-integer : head_by (rowid other_five) (column other_five 1) ≡ Integer (pos 5)
@@ -87,11 +87,11 @@ head-rowid : integer_of (head_by (Int (pos 3)) (Blob (1 ∷ []))) ≡ Some (pos 
 head-rowid = refl
 
 -- the first byte decides before the number does
-head-first_byte : head_cmp (IntegerAndBlob (pos 3) 1 9) (IntegerAndBlob (pos 3) 2 7) ≡ Less
+head-first_byte : head_cmp (IntegerAndBlob 1 (pos 3) 9) (IntegerAndBlob 2 (pos 3) 7) ≡ Less
 head-first_byte = refl
 
 -- a head without a blob tells nothing
-head-nothing : head_cmp (Integer (pos 3)) (IntegerAndBlob (pos 4) 1 0) ≡ Equal
+head-nothing : head_cmp (Integer (pos 3)) (IntegerAndBlob 1 (pos 4) 0) ≡ Equal
 head-nothing = refl
 
 -- a cursor with one fork gives its row, and then its right side or, backward, its left

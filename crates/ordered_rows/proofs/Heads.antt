@@ -92,7 +92,7 @@ chain_tells Equal Equal Less bytes others o step e tells = ap (λ r. ordering_th
 chain_tells Equal Equal Equal bytes others o step e tells = absurd (tells (sym e))
 chain_tells Equal Equal Greater bytes others o step e tells = ap (λ r. ordering_then r others) (step (λ h. cc)) ∙ e
 
-begun : (row : Row) (n : ℤ) (byte number : ℕ) → head_by (column row 0) (column row 1) ≡ IntegerAndBlob n byte number → AreBytes (bytes (column row 1)) → Begins n byte number row
+begun : (row : Row) (n : ℤ) (byte number : ℕ) → head_by (column row 0) (column row 1) ≡ IntegerAndBlob byte n number → AreBytes (bytes (column row 1)) → Begins n byte number row
 begun [] n byte number e fit = absurd (cc)
 begun (Null ∷ row) n byte number e fit = absurd (cc)
 begun (Real x ∷ row) n byte number e fit = absurd (cc)
@@ -127,10 +127,10 @@ both_begun {m} {n} {x} {y} {p} {q} a b o begins starts e tells =
 pub heads_tell : (h k : Head) (a b : Row) → IsHead h a → IsHead k b → (o : Ordering) → head_cmp h k ≡ o → (o ≡ Equal → ⊥) → Told o a b
 heads_tell Other k a b of_a of_b o e tells = absurd (tells (sym e))
 heads_tell (Integer m) k a b of_a of_b o e tells = absurd (tells (sym e))
-heads_tell (IntegerAndBlob m x p) Other a b of_a of_b o e tells = absurd (tells (sym e))
-heads_tell (IntegerAndBlob m x p) (Integer n) a b of_a of_b o e tells = absurd (tells (sym e))
-heads_tell (IntegerAndBlob m x p) (IntegerAndBlob n y q) a b of_a of_b o e tells =
-    both_begun a b o (begun a m x p (sym of_a.value) (of_a.bounded m x p refl)) (begun b n y q (sym of_b.value) (of_b.bounded n y q refl)) e tells
+heads_tell (IntegerAndBlob x m p) Other a b of_a of_b o e tells = absurd (tells (sym e))
+heads_tell (IntegerAndBlob x m p) (Integer n) a b of_a of_b o e tells = absurd (tells (sym e))
+heads_tell (IntegerAndBlob x m p) (IntegerAndBlob y n q) a b of_a of_b o e tells =
+    both_begun a b o (begun a m x p (sym of_a.value) (of_a.bounded x m p refl)) (begun b n y q (sym of_b.value) (of_b.bounded y n q refl)) e tells
 
 pub is_plain : (o : Order) → o.digits ≡ 0 → o ≡ plain
 is_plain o e = λ i. record { digits = e i }

@@ -7,4 +7,4 @@ use Rattle.ordered_rows.specs.declared.tree.Link.TheVariants.{Leaf, Fork}
 -- the rows in order
 abbrev pub rows_of : Link → List Row
 rows_of Leaf = []
-rows_of (Fork f) = f.value.left ++ f.value.row ∷ f.value.right
+rows_of (Fork height f) = f.value.left ++ f.value.row ∷ f.value.right

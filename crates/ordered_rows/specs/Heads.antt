@@ -22,7 +22,7 @@ head_after n (Int m) = Integer n
 head_after n (Real x) = Integer n
 head_after n (Text t) = Integer n
 head_after n (Blob []) = Integer n
-head_after n (Blob (byte ∷ more)) = IntegerAndBlob n byte (spelled 8 0 more)
+head_after n (Blob (byte ∷ more)) = IntegerAndBlob byte n (spelled 8 0 more)
 
 -- the start of a row with these two values first
 abbrev pub head_by : Value → Value → Head
@@ -35,17 +35,17 @@ head_by (Blob b) next = Other
 -- the head is of this row, and what was spelled are bytes
 pub record IsHead (head : Head) (row : Row) : Type 0 where
   pub value : head ≡ head_by (column row 0) (column row 1)
-  pub bounded : (n : ℤ) (byte number : ℕ) → head ≡ IntegerAndBlob n byte number
+  pub bounded : (byte : ℕ) (n : ℤ) (number : ℕ) → head ≡ IntegerAndBlob byte n number
       → (at : ℕ) → slice_index_or (bytes (column row 1)) at 0 < 256
 
 -- the integer that the row begins with, if it does
 abbrev pub integer_of : Head → Option ℤ
 integer_of Other = None
 integer_of (Integer n) = Some n
-integer_of (IntegerAndBlob n byte number) = Some n
+integer_of (IntegerAndBlob byte n number) = Some n
 
 -- by the integer, then by the first byte, then by the number
 abbrev pub head_cmp : Head → Head → Ordering
-head_cmp (IntegerAndBlob m x a) (IntegerAndBlob n y b) =
+head_cmp (IntegerAndBlob x m a) (IntegerAndBlob y n b) =
     ordering_then (ordering_then (int_cmp m n) (nat_cmp x y)) (nat_cmp a b)
 head_cmp _ _ = Equal

@@ -17,8 +17,9 @@ pub(crate) enum Head {
     Other,
     /// It begins with this one.
     Integer(i64),
-    /// A blob comes next: its first byte, and the number that the eight after it spell.
-    IntegerAndBlob(i64, u8, u64),
+    /// A blob comes next: its first byte, the integer, and the number that the eight bytes after it
+    /// spell. (In this order they take the least room.)
+    IntegerAndBlob(u8, i64, u64),
 }
 
 impl Head {
@@ -41,7 +42,7 @@ impl Head {
         ensures bounded { (at : ℕ) → slice_index_or blob.now at 0 < 256 }
     {
         match blob {
-            [byte, bytes @ ..] => Head::IntegerAndBlob(first, *byte, number(bytes)),
+            [byte, bytes @ ..] => Head::IntegerAndBlob(*byte, first, number(bytes)),
             [] => Head::Integer(first),
         }
     }
@@ -53,7 +54,7 @@ impl Head {
     {
         match self {
             Head::Integer(first) => Some(first),
-            Head::IntegerAndBlob(first, _, _) => Some(first),
+            Head::IntegerAndBlob(_, first, _) => Some(first),
             Head::Other => None,
         }
     }
@@ -65,8 +66,8 @@ impl Head {
     {
         match (self, other) {
             (
-                Head::IntegerAndBlob(first, byte, number),
-                Head::IntegerAndBlob(other_first, other_byte, other_number),
+                Head::IntegerAndBlob(byte, first, number),
+                Head::IntegerAndBlob(other_byte, other_first, other_number),
             ) => {
                 let first = first.cmp(&other_first);
                 let byte = byte.cmp(&other_byte);

@@ -19,20 +19,21 @@ pub(crate) struct Tree {
     root: Link,
 }
 
+/// A fork has its height beside it, one more than that of its higher side, so that a look at the
+/// heights of two sides reads neither.
 #[cycle(tree)]
 #[derive(Drop)]
 pub(crate) enum Link {
     Leaf,
-    Fork(Rc<Fork>),
+    Fork(u8, Rc<Fork>),
 }
 
-/// A row, and the rows on either side of it. The height is one more than that of the higher side.
+/// A row, and the rows on either side of it.
 #[cycle(tree)]
 #[derive(Drop)]
 pub(crate) struct Fork {
     left: Tree,
     row: SharedRow,
-    height: u8,
     right: Tree,
 }
 
@@ -70,10 +71,10 @@ impl Tree {
     {
         match &self.root {
             Link::Leaf => Ok(Tree::empty()),
-            Link::Fork(fork) => {
+            Link::Fork(height, fork) => {
                 let fork = fork.clone()?;
                 Ok(Tree {
-                    root: Link::Fork(fork),
+                    root: Link::Fork(*height, fork),
                 })
             }
         }
@@ -82,7 +83,7 @@ impl Tree {
     fn height(&self) -> u8 {
         match &self.root {
             Link::Leaf => 0,
-            Link::Fork(fork) => fork.as_ref().height,
+            Link::Fork(height, _) => *height,
         }
     }
 
@@ -91,17 +92,9 @@ impl Tree {
         ensures { IfOk result (λ tree. tree ≡ left ++ row ∷ right) }
     {
         let height = left.height().max(right.height()).saturating_add(1);
-        let fork = Rc::new(
-            alloc,
-            Fork {
-                left,
-                row,
-                height,
-                right,
-            },
-        )?;
+        let fork = Rc::new(alloc, Fork { left, row, right })?;
         Ok(Tree {
-            root: Link::Fork(fork),
+            root: Link::Fork(height, fork),
         })
     }
 }

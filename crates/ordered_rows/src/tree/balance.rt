@@ -36,12 +36,12 @@ impl Tree {
     ) -> Result<Tree, AllocError>
         ensures { IfOk result (λ tree. tree ≡ left ++ row ∷ right) }
     {
-        let Link::Fork(outer) = &left.root else {
+        let Link::Fork(_, outer) = &left.root else {
             return Tree::joined(alloc, left, row, right);
         };
         let outer = outer.as_ref();
         let inner = match &outer.right.root {
-            Link::Fork(inner) if outer.right.height() > outer.left.height() => inner.as_ref(),
+            Link::Fork(_, inner) if outer.right.height() > outer.left.height() => inner.as_ref(),
             _ => {
                 let far = Tree::joined(alloc, outer.right.share()?, row, right)?;
                 return Tree::joined(alloc, outer.left.share()?, outer.row.share()?, far);
@@ -66,12 +66,12 @@ impl Tree {
     ) -> Result<Tree, AllocError>
         ensures { IfOk result (λ tree. tree ≡ left ++ row ∷ right) }
     {
-        let Link::Fork(outer) = &right.root else {
+        let Link::Fork(_, outer) = &right.root else {
             return Tree::joined(alloc, left, row, right);
         };
         let outer = outer.as_ref();
         let inner = match &outer.left.root {
-            Link::Fork(inner) if outer.left.height() > outer.right.height() => inner.as_ref(),
+            Link::Fork(_, inner) if outer.left.height() > outer.right.height() => inner.as_ref(),
             _ => {
                 let near = Tree::joined(alloc, left, row, outer.left.share()?)?;
                 return Tree::joined(alloc, near, outer.row.share()?, outer.right.share()?);

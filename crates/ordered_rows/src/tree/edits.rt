@@ -17,7 +17,7 @@ impl Tree {
         requires { IsCut (side place) self.now }
         ensures { IfOk result (IsAt (side place.entry) self.now row.new) }
     {
-        let Link::Fork(fork) = &self.root else {
+        let Link::Fork(_, fork) = &self.root else {
             return Ok(false);
         };
         let fork = fork.as_ref();
@@ -43,7 +43,7 @@ impl Tree {
         ensures { IfOk result (λ tree. tree
             ≡ with_new (side place.entry) replaces new.now self.now) }
     {
-        let Link::Fork(fork) = &self.root else {
+        let Link::Fork(_, fork) = &self.root else {
             return Tree::joined(alloc, Tree::empty(), new.share()?, Tree::empty());
         };
         let fork = fork.as_ref();
@@ -68,7 +68,7 @@ impl Tree {
         requires { IsCut (side place) self.now }
         ensures { IfOk result (λ tree. tree ≡ without (side place.entry) self.now) }
     {
-        let Link::Fork(fork) = &self.root else {
+        let Link::Fork(_, fork) = &self.root else {
             return Ok(Tree::empty());
         };
         let fork = fork.as_ref();
@@ -100,7 +100,7 @@ impl Tree {
         ensures { IfOk result (λ parts. MatchOption parts
             (self.now ≡ []) (λ p. self.now ≡ p.0 ∷ p.1)) }
     {
-        let Link::Fork(fork) = &self.root else {
+        let Link::Fork(_, fork) = &self.root else {
             return Ok(None);
         };
         let fork = fork.as_ref();

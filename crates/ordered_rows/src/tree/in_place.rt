@@ -30,14 +30,14 @@ impl Tree {
     fn settle(&mut self, alloc: Global)
         ensures { self.new ≡ self.old }
     {
-        let Link::Fork(shared) = &mut self.root else {
+        let Link::Fork(height, shared) = &mut self.root else {
             return;
         };
         let Some(fork) = Rc::get_mut(shared) else {
             return;
         };
         let (left, right) = (fork.left.height(), fork.right.height());
-        fork.height = left.max(right).saturating_add(1);
+        *height = left.max(right).saturating_add(1);
         if left.abs_diff(right) > 1 {
             if let Some(balanced) = fork.balanced(alloc) {
                 *self = balanced;
@@ -58,7 +58,7 @@ impl Tree {
             ≡ with_new (side place.entry) replaces new.now self.old) }
         ensures err { OnErr result (self.new ≡ self.old) }
     {
-        if let Link::Fork(shared) = &mut self.root {
+        if let Link::Fork(_, shared) = &mut self.root {
             if let Some(fork) = Rc::get_mut(shared) {
                 match place.side(&fork.row) {
                     Ordering::Less => fork.right.put_new(alloc, place, new, replaces)?,
@@ -80,7 +80,7 @@ impl Tree {
         ensures ok { OnOk result (self.new ≡ without (side place.entry) self.old) }
         ensures err { OnErr result (self.new ≡ self.old) }
     {
-        if let Link::Fork(shared) = &mut self.root {
+        if let Link::Fork(_, shared) = &mut self.root {
             if let Some(fork) = Rc::get_mut(shared) {
                 match place.side(&fork.row) {
                     Ordering::Less => fork.right.take_out(alloc, place)?,

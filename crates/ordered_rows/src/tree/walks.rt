@@ -49,7 +49,7 @@ impl Tree {
         ensures { OnOk result (steps.left_to_give direction forks.new.items
             ≡ steps.given direction self.now ++ steps.left_to_give direction forks.old.items) }
     {
-        let Link::Fork(fork) = &self.root else {
+        let Link::Fork(_, fork) = &self.root else {
             return Ok(());
         };
         forks.push(fork.clone()?)?;
@@ -66,7 +66,7 @@ impl Tree {
         ensures { OnOk result (steps.left_to_give Forward forks.new.items
             ≡ from_key sought.now.order sought.now.row.now self.now ++ steps.left_to_give Forward forks.old.items) }
     {
-        let Link::Fork(fork) = &self.root else {
+        let Link::Fork(_, fork) = &self.root else {
             return Ok(());
         };
         let here = fork.as_ref();
@@ -89,7 +89,7 @@ impl Tree {
             ≡ reverse (up_to_key sought.now.order sought.now.row.now self.now)
             ++ steps.left_to_give Backward forks.old.items) }
     {
-        let Link::Fork(fork) = &self.root else {
+        let Link::Fork(_, fork) = &self.root else {
             return Ok(());
         };
         let here = fork.as_ref();
