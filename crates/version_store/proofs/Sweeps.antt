@@ -8,7 +8,7 @@ use Rattle.std.proofs.lemmas.Bool.{and_parts}
 use Rattle.std.proofs.lemmas.List.Concat.{flat_map-append}
 use Rattle.std.proofs.lemmas.List.Folds.{list_any_more}
 use Rattle.std.proofs.lemmas.List.{map-append, take_more}
-use Rattle.std.proofs.lemmas.List.Sorted.{IsPermutation-refl, IsPermutation-sym, IsPermutation-trans, IsPermutation-cons, IsPermutation-map, IsPermutation-middle}
+use Rattle.std.proofs.lemmas.List.Sorted.{IsPermutation-refl, IsPermutation-trans, IsPermutation-cons, IsPermutation-middle}
 use Rattle.std.proofs.lemmas.Map.Lookups.{exact_signed}
 use Rattle.std.proofs.lemmas.Cmp.{int_cmp_total, tied_itself}
 use Rattle.sqlite_trees.proofs.ListLemmas.{all-flat_map, all_weaker}
@@ -19,7 +19,7 @@ use Rattle.period_core.specs.Moments.{forever}
 use Rattle.period_core.specs.Order.{values_cmp}
 use Rattle.period_core.specs.declared.row.PeriodRow.{PeriodRow}
 use Rattle.period_core.specs.declared.version.VersionRow.{VersionRow}
-use Rattle.version_tables.specs.Represents.{Records, Represents, Version, version, same_key, closing, ended, stored, with_clock}
+use Rattle.version_tables.specs.Represents.{Records, Represents, Version, version, same_key, closing, ended, with_clock}
 use Rattle.version_store.specs.Contents.{Contents, HaveColumnValues, TableVersion, added_in, same_version, version_in}
 use Rattle.version_store.specs.Changed.{added_at, closed_at, ended_at, is_ended, left_of, with_clock as clock_in}
 use Rattle.version_store.specs.Written.{Has, written, written_version}

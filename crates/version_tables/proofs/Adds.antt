@@ -1,5 +1,5 @@
 -- What INSERT of several versions does.
-use Rattle.std.proofs.Common.{◌≡◌, inl, inr, ℕ, zero, suc, ◌+◌, ◌/◌, ◌<◌, ℤ, pos, List, [], ◌∷◌, ◌++◌, map, take, drop, length, get_or, append-nil, append_assoc, None, Ok, Err, Result, OnOk, IsTrue, refl, sym, ap, subst, subst₂, ◌∙◌, get_or-drop, drop-drop, arith}
+use Rattle.std.proofs.Common.{◌≡◌, inl, inr, ℕ, ◌+◌, ◌/◌, ◌<◌, ℤ, pos, List, [], ◌∷◌, ◌++◌, map, take, drop, length, get_or, append-nil, append_assoc, None, Ok, Err, Result, OnOk, IsTrue, refl, sym, ap, subst, subst₂, ◌∙◌, get_or-drop, drop-drop, arith}
 use Rattle.std.specs.List.{flat_map}
 use Rattle.std.specs.List.Sorted.{IsPermutation}
 use Rattle.std.proofs.lemmas.List.{map-append, take_more}

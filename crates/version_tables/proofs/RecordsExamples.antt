@@ -1,6 +1,6 @@
 -- Worked rows and changes, by computation.
 use Rattle.std.proofs.Common.{◌≡◌, refl, pos, [], ◌∷◌, true, false}
-use Rattle.std.proofs.Common.{ℕ, ℤ, List}
+use Rattle.std.proofs.Common.{ℕ, ℤ}
 use Rattle.std.specs.Prelude.{Vec}
 use Rattle.std.specs.declared.alloc.Global.{Global}
 use Rattle.period_core.specs.Moments.{forever}

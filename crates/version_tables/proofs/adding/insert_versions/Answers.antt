@@ -1,4 +1,4 @@
-use Rattle.std.proofs.Common.{◌≡◌, ◌++◌, arith, rules, sym, ap, subst, ◌∙◌, append_assoc, append-nil, take, drop, take-append-drop, List, [], map, w64, to_z, of_z}
+use Rattle.std.proofs.Common.{◌≡◌, ◌++◌, arith, rules, sym, ap, subst, ◌∙◌, append_assoc, append-nil, List, [], map, w64, to_z, of_z}
 use Rattle.std.proofs.lemmas.Int.{to_z-of_z}
 use Rattle.std.proofs.lemmas.List.{nil_from_length}
 use Rattle.sqlite.specs.Held.{state}
