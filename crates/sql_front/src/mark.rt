@@ -23,6 +23,8 @@ pub enum Mark<'m> {
 }
 
 /// Is the token this mark?
+// At each call the mark is a literal, for which little of this is left.
+#[inline(always)]
 pub fn is_mark(token: &Token<'_>, want: Mark<'_>) -> bool
     ensures { result ≡ mark want.entry (lexeme token.now) }
 {

@@ -40,8 +40,8 @@ define_text = codes "INSERT INTO bt_table (id, def) VALUES (?1, ?2)"
 abbrev pub clock_text : List ℕ
 clock_text = codes "UPDATE bt_meta SET clock = ?1"
 
--- Versions are added by one, two, four or eight in a statement. ?1 is their table, ?2 and ?3 are the
--- ends of their system time, and each of them has three more parameters.
+-- Versions are added by one, two, four or eight in a statement. ?1 is their table, ?2 and ?3 are
+-- the ends of their system time, and each of them has three more parameters.
 
 abbrev pub one_text : List ℕ
 one_text =
