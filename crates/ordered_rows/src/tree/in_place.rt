@@ -10,37 +10,134 @@ use crate::place::Place;
 use crate::shared::SharedRow;
 use std::alloc::{AllocError, Global};
 use std::cmp::Ordering;
+use std::mem;
 use std::rc::Rc;
 
-impl Fork {
-    /// A balanced tree of the same rows, if there is memory for it.
-    fn balanced(&self, alloc: Global) -> Option<Tree>
-        ensures { IfSome result (λ tree. tree ≡ self.now.left ++ self.now.row ∷ self.now.right) }
+impl Tree {
+    /// Takes the height of its sides after an edit of one of them.
+    fn take_height(&mut self)
+        ensures { self.new ≡ self.old }
     {
-        let left = self.left.share().ok()?;
-        let row = self.row.share().ok()?;
-        let right = self.right.share().ok()?;
+        if let Link::Fork(height, fork) = &mut self.root {
+            let fork = fork.as_ref();
+            *height = fork
+                .left
+                .height()
+                .max(fork.right.height())
+                .saturating_add(1);
+        }
+    }
+
+    /// Turns to the left, where no other version shares its root and that of its right side, or
+    /// answers false.
+    fn turn_left(&mut self) -> bool
+        ensures { self.new ≡ self.old }
+    {
+        let Link::Fork(_, shared) = &mut self.root else {
+            return false;
+        };
+        let Some(lower) = Rc::get_mut(shared) else {
+            return false;
+        };
+        let mut turned = mem::replace(&mut lower.right, Tree::empty());
+        let Link::Fork(_, shared) = &mut turned.root else {
+            lower.right = turned;
+            return false;
+        };
+        let Some(upper) = Rc::get_mut(shared) else {
+            lower.right = turned;
+            return false;
+        };
+        lower.right = mem::replace(&mut upper.left, Tree::empty());
+        self.take_height();
+        upper.left = mem::replace(self, Tree::empty());
+        turned.take_height();
+        *self = turned;
+        true
+    }
+
+    /// Turns to the right, where no other version shares its root and that of its left side, or
+    /// answers false.
+    fn turn_right(&mut self) -> bool
+        ensures { self.new ≡ self.old }
+    {
+        let Link::Fork(_, shared) = &mut self.root else {
+            return false;
+        };
+        let Some(lower) = Rc::get_mut(shared) else {
+            return false;
+        };
+        let mut turned = mem::replace(&mut lower.left, Tree::empty());
+        let Link::Fork(_, shared) = &mut turned.root else {
+            lower.left = turned;
+            return false;
+        };
+        let Some(upper) = Rc::get_mut(shared) else {
+            lower.left = turned;
+            return false;
+        };
+        lower.left = mem::replace(&mut upper.right, Tree::empty());
+        self.take_height();
+        upper.right = mem::replace(self, Tree::empty());
+        turned.take_height();
+        *self = turned;
+        true
+    }
+
+    /// How much higher its right side is.
+    fn tilt(&self) -> i16 {
+        match &self.root {
+            Link::Leaf => 0,
+            Link::Fork(_, fork) => {
+                let fork = fork.as_ref();
+                i16::from(fork.right.height()) - i16::from(fork.left.height())
+            }
+        }
+    }
+
+    /// A balanced tree of the same rows, if there is memory for it.
+    fn balanced_anew(&self, alloc: Global) -> Option<Tree>
+        ensures { IfSome result (λ tree. tree ≡ self.now) }
+    {
+        let Link::Fork(_, fork) = &self.root else {
+            return None;
+        };
+        let fork = fork.as_ref();
+        let left = fork.left.share().ok()?;
+        let row = fork.row.share().ok()?;
+        let right = fork.right.share().ok()?;
         Tree::balanced(alloc, left, row, right).ok()
     }
-}
 
-impl Tree {
-    /// Takes the height of its sides after an edit of one of them, and is balanced again. Without
-    /// memory for that it stays as it is, which is slow and not wrong.
+    /// Is balanced again after an edit of one of its sides. Without memory for that, where another
+    /// version shares what is to turn, it stays as it is, which is slow and not wrong.
     fn settle(&mut self, alloc: Global)
         ensures { self.new ≡ self.old }
     {
-        let Link::Fork(height, shared) = &mut self.root else {
+        self.take_height();
+        let tilt = self.tilt();
+        let Link::Fork(_, shared) = &mut self.root else {
             return;
         };
         let Some(fork) = Rc::get_mut(shared) else {
             return;
         };
-        let (left, right) = (fork.left.height(), fork.right.height());
-        *height = left.max(right).saturating_add(1);
-        if left.abs_diff(right) > 1 {
-            if let Some(balanced) = fork.balanced(alloc) {
-                *self = balanced;
+        let turned = if tilt > 1 {
+            if fork.right.tilt() < 0 {
+                fork.right.turn_right();
+            }
+            self.turn_left()
+        } else if tilt < -1 {
+            if fork.left.tilt() > 0 {
+                fork.left.turn_left();
+            }
+            self.turn_right()
+        } else {
+            return;
+        };
+        if !turned {
+            if let Some(tree) = self.balanced_anew(alloc) {
+                *self = tree;
             }
         }
     }
