@@ -1,11 +1,11 @@
 //! Edits in place: forks that no other version of the tree shares are written over, and from the
 //! first that is shared the way to the row is made new.
 
-ghost use Rattle.std.specs.Prelude.{◌≡◌, ◌∷◌, ◌++◌, IfSome, OnErr, OnOk};
+ghost use Rattle.std.specs.Prelude.{◌≡◌, IfSome, OnErr, OnOk};
 ghost use Rattle.ordered_rows.specs.Places.{side};
 ghost use Rattle.ordered_rows.specs.Edits.{IsCut, with_new, without};
 
-use super::{Fork, Link, Tree};
+use super::{Link, Tree};
 use crate::place::Place;
 use crate::shared::SharedRow;
 use std::alloc::{AllocError, Global};
