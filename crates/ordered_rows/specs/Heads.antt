@@ -1,5 +1,6 @@
 -- What is kept of a row beside it.
-use Rattle.std.specs.Prelude.{◌≡◌, ◌+◌, ◌*◌, ◌<◌, ℕ, ℤ, zero, suc, List, [], ◌∷◌, Option, Some, None, slice_index_or}
+use Rattle.std.specs.Prelude.{◌≡◌, ◌+◌, ◌*◌, ◌<◌, ℕ, ℤ, zero, suc, List, [], ◌∷◌}
+use Rattle.std.specs.Prelude.{Option, Some, None, slice_index_or}
 use Rattle.std.specs.declared.cmp.Ordering.{Ordering}
 use Rattle.std.specs.declared.cmp.Ordering.TheVariants.{Equal}
 use Rattle.std.specs.Ordering.{int_cmp, nat_cmp, ordering_then}
@@ -9,7 +10,8 @@ use Rattle.sqlite_value.specs.Order.{Row, bytes, column}
 use Rattle.ordered_rows.specs.declared.head.Head.{Head}
 use Rattle.ordered_rows.specs.declared.head.Head.TheVariants.{Other, Integer, IntegerAndBlob}
 
--- the digits of a number to base 256, then so many bytes as its further digits; one that is not there is a zero
+-- the digits of a number to base 256, then so many bytes as its further digits; one that is not
+-- there is a zero
 abbrev pub spelled : ℕ → ℕ → List ℕ → ℕ
 spelled zero number more = number
 spelled (suc left) number [] = spelled left (number * 256) []

@@ -64,7 +64,8 @@ impl Tree {
     ) -> Result<(), AllocError>
         requires { IsSeekable sought.now.order sought.now.row.now self.now }
         ensures { OnOk result (steps.left_to_give Forward forks.new.items
-            ≡ from_key sought.now.order sought.now.row.now self.now ++ steps.left_to_give Forward forks.old.items) }
+            ≡ from_key sought.now.order sought.now.row.now self.now
+            ++ steps.left_to_give Forward forks.old.items) }
     {
         let Link::Fork(_, fork) = &self.root else {
             return Ok(());
