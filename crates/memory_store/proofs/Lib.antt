@@ -1,4 +1,6 @@
+pub mod Logs
 pub mod Shaped
 pub mod Seen
-pub mod Views
 pub mod Opened
+pub mod Stands
+pub mod Views

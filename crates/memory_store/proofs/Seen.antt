@@ -10,13 +10,13 @@ use Rattle.sqlite_trees.specs.declared.store.Shape.{Shape}
 use Rattle.sqlite_trees.specs.declared.store.Shape.TheVariants.{Absent, Table}
 use Rattle.sqlite_trees.specs.Listing.{Heading, no_heading, objects_from, objects_from-push, objects_from-set, reals_in, reals_unless_absent, shape_in}
 use Rattle.sqlite_trees.specs.Memory.{snapshot_of}
-use Rattle.sqlite_trees.specs.Objects.{MayRelist, catalog_tree, description, object_row, set_at, version_rows, version_tree, with_version}
+use Rattle.sqlite_trees.specs.Objects.{catalog_tree, description, object_row, set_at, version_rows, version_tree, with_version}
 use Rattle.sqlite_trees.specs.Tree.{Trees, put_row, with_tree}
-use Rattle.sqlite_trees.specs.View.{Snapshot, View}
+use Rattle.sqlite_trees.specs.View.{Snapshot}
 use Rattle.sqlite_trees.proofs.StoreLemmas.{get_or-set_cases, named, present_reals, unnumbered, version_twice}
 use Rattle.memory_store.specs.declared.tree.Tree.{Tree}
 use Rattle.memory_store.specs.declared.content.Content.{Content}
-use Rattle.memory_store.specs.Content.{HasPlaced, heading, rows_of, seen, seen_in, with_edit, with_listed, with_object}
+use Rattle.memory_store.specs.Content.{HasPlaced, MayList, heading, rows_of, seen, seen_in, with_edit, with_listed, with_object}
 
 -- ---- what is at a number
 
@@ -45,7 +45,7 @@ within_by_shape trees version t low there =
 
 -- ---- functions of a number
 
-cond_under : {A B : Type 0} (f : A → B) (b : Bool) (x y : A) → f (cond b x y) ≡ cond b (f x) (f y)
+pub cond_under : {A B : Type 0} (f : A → B) (b : Bool) (x y : A) → f (cond b x y) ≡ cond b (f x) (f y)
 cond_under f true x y = refl
 cond_under f false x y = refl
 
@@ -193,5 +193,5 @@ pub listed_next : (s was now : Snapshot) (all : List (ℕ × Object)) (at : ℕ)
 listed_next s was now all at d within before is =
     is ∙ ap (λ v. with_listed v (get_or all at d ∷ [])) before ∙ listed_more s (take at all) (get_or all at d) ∙ ap (with_listed s) (sym (take_more all at d within))
 
-pub still_shaped : (v : View) (shape : ℕ → Shape) (change : ℕ × Object) → shape ≡ v.shape → MayRelist v change → shape change.0 ≡ change.1.shape
-still_shaped v shape change same may = ap (λ (f : ℕ → Shape). f change.0) same ∙ may.shaped
+pub still_shaped : (s : Snapshot) (shape : ℕ → Shape) (change : ℕ × Object) → shape ≡ s.shape → MayList s change → shape change.0 ≡ change.1.shape
+still_shaped s shape change same may = ap (λ (f : ℕ → Shape). f change.0) same ∙ may.shaped

@@ -1,5 +1,5 @@
 -- An edit that fits a shape keeps it.
-use Rattle.std.proofs.Common.{◌≡◌, ◌≢◌, Err, List, Ok, OnErr, OnOk, Result}
+use Rattle.std.proofs.Common.{◌≡◌, ◌≢◌, Err, IfOk, List, Ok, OnErr, Result}
 use Rattle.std.proofs.Math.Logic.{∥∥₁_elim}
 use Rattle.sqlite_value.specs.Order.{Row}
 use Rattle.sqlite_trees.specs.declared.store.Shape.{Shape}
@@ -23,10 +23,10 @@ stays_shaped (Insert order entry) shape rows fits h =
 stays_shaped (Remove order entry) shape rows fits h = ∣ IsShaped-filter shape _ rows (shaped shape rows h) ∣₁
 
 -- the edit was made, or nothing was changed
-pub done_or_not : {X E : Type 0} (r : Result X E) (shape : Shape) (old new after : List Row) → OnOk r (new ≡ after) → OnErr r (new ≡ old)
+pub done_or_not : {X E : Type 0} (r : Result X E) (shape : Shape) (old new after : List Row) (Undoes : X → Type 0) → IfOk r (λ x. (new ≡ after) × Undoes x) → OnErr r (new ≡ old)
     → ∥ IsShaped shape old ∥₁ → ∥ IsShaped shape after ∥₁ → ∥ IsShaped shape new ∥₁
-done_or_not (Ok x) shape old new after ok err was is = rw ok is
-done_or_not (Err e) shape old new after ok err was is = rw err was
+done_or_not (Ok x) shape old new after Undoes ok err was is = rw ok.0 is
+done_or_not (Err e) shape old new after Undoes ok err was is = rw err was
 
 pub fits_present : (edit : Edit) (shape : Shape) → Fits edit shape → shape ≢ Absent
 fits_present (Put row) shape fits none = let is = fits.0 in cc

@@ -1,58 +1,85 @@
 -- What the store shows after a call.
-use Rattle.std.proofs.Common.{◌<◌, ◌≡◌, ◌∙◌, Bool, Global, List, None, Option, Some, Vec, [], ap, false, get_or, length, map, refl, set, sym, true, ℕ}
+use Rattle.std.proofs.Common.{◌<◌, ◌≡◌, ◌∙◌, [], Bool, List, None, Some, ap, cond, eq-eqb, eqb, false, get_or, inl, inr, length, ne_eqb, option_map, refl, set, sym, true, ℕ}
 use Rattle.std.specs.Vec.{with_item}
-use Rattle.std.proofs.lemmas.List.{set-get_or}
+use Rattle.std.proofs.lemmas.Bool.{cases_eq}
 use Rattle.sqlite_value.specs.Order.{Row}
 use Rattle.sqlite_trees.specs.View.{Advances, Commits, OnlyCommits, Snapshot, View}
 use Rattle.sqlite_trees.proofs.StoreLemmas.{get_or-set_cases}
 use Rattle.ordered_rows.specs.Cursors.{Gives}
-use Rattle.memory_store.specs.declared.content.Content.{Content}
+use Rattle.memory_store.specs.declared.store.Cursor.{Cursor}
 use Rattle.memory_store.specs.declared.store.MemoryStore.{MemoryStore}
 use Rattle.memory_store.specs.Content.{seen}
-use Rattle.memory_store.specs.Memory.{Keeps, current, current_of, memory_view}
+use Rattle.memory_store.specs.History.{Keeps, base}
+use Rattle.memory_store.specs.Memory.{left_in, memory_view}
+use Rattle.memory_store.specs.Stands.{before_all, marked, shows, stand}
+use Rattle.memory_store.proofs.Seen.{cond_under}
 
--- the content is what the transaction sees now, and the last commit and the savepoints stay
-pub shows : (old mid : MemoryStore) (content : Content) (cursors : Vec (Option (List Row)) Global) (to : Snapshot) → Keeps old mid → seen content ≡ to
-    → memory_view (record mid { pending = Some content; cursors = cursors })
-    ≡ record (memory_view old) { trees = to.trees; shape = to.shape; reals = to.reals; cursors = λ c. get_or cursors.items c None }
-shows old mid content cursors to keeps is = λ i. record (memory_view old) {
+-- the content is seen so, and the last commit and the savepoints stay
+pub written : (old new : MemoryStore) (to : Snapshot) → Keeps old.history new.history → seen new.history.content ≡ to
+    → memory_view new ≡ record (memory_view old) { trees = to.trees; shape = to.shape; reals = to.reals; cursors = (memory_view new).cursors }
+written old new to keeps is = λ i. record (memory_view new) {
   trees = (is i).trees;
   shape = (is i).shape;
   reals = (is i).reals;
-  committed = (seen (keeps.committed i)).trees;
-  committed_shape = (seen (keeps.committed i)).shape;
-  committed_reals = (seen (keeps.committed i)).reals;
-  marks = map seen (keeps.marks i).items;
-  cursors = λ c. get_or cursors.items c None;
+  committed = (shows (keeps.base i)).trees;
+  committed_shape = (shows (keeps.base i)).shape;
+  committed_reals = (shows (keeps.base i)).reals;
+  marks = keeps.marks i;
 }
 
--- What the transaction saw is committed, and the savepoints are dropped.
-pub commits : (old new : MemoryStore) → new.committed ≡ current old → new.pending ≡ None → new.marks.items ≡ [] → Commits (memory_view old) (memory_view new)
-commits old new base none unmarked =
-    let same : current new ≡ current old = (λ i. current_of (none i) (base i)) in
-    record {
-      sound = refl;
-      is = λ i. record (memory_view new) {
-        trees = (seen (same i)).trees;
-        shape = (seen (same i)).shape;
-        reals = (seen (same i)).reals;
-        committed = (seen (base i)).trees;
-        committed_shape = (seen (base i)).shape;
-        committed_reals = (seen (base i)).reals;
-        marks = map seen (unmarked i);
-      };
-    }
+-- There is nothing to undo any more: what the transaction saw is committed, and the savepoints are dropped.
+pub commits : (old new : MemoryStore) → new.history.content ≡ old.history.content → new.history.log.items ≡ [] → Commits (memory_view old) (memory_view new)
+commits old new content log = record {
+  sound = refl;
+  is = λ i. record (memory_view new) {
+    trees = (seen (content i)).trees;
+    shape = (seen (content i)).shape;
+    reals = (seen (content i)).reals;
+    committed = (shows (before_all (log i) (stand (content i)))).trees;
+    committed_shape = (shows (before_all (log i) (stand (content i)))).shape;
+    committed_reals = (shows (before_all (log i) (stand (content i)))).reals;
+    marks = marked (log i) (stand (content i));
+  };
+}
 
 pub only_commits : (old new : View) → Commits old new → OnlyCommits old new
 only_commits old new h = λ i. record (h.is i) { committed = new.committed }
 
 -- A cursor gives its next row, or is at its end.
-pub advances : (s : MemoryStore) (at : ℕ) (found left : List Row) (row : Row) (more : Bool) → at < length s.cursors.items → get_or s.cursors.items at None ≡ Some found
-    → Gives found left row more → Advances (memory_view s) (memory_view (record s { cursors = with_item s.cursors at (Some left) })) at row more
-advances s at found left row true within held given =
-    let moved = get_or-set_cases s.cursors.items at (Some left) None within in
-    (left, held ∙ ap Some given, λ i. record (memory_view s) { cursors = λ c. moved c i })
-advances s at found left row false within held given =
-    let still : get_or s.cursors.items at None ≡ Some left = held ∙ ap Some (given.0 ∙ sym given.1) in
-    let kept : set s.cursors.items at (Some left) ≡ s.cursors.items = ap (set s.cursors.items at) (sym still) ∙ set-get_or s.cursors.items at None in
-    (held ∙ ap Some given.0, λ i. record (memory_view s) { cursors = λ c. get_or (kept i) c None })
+module _ (s : MemoryStore) (at : ℕ) (found moved : Cursor) (row : Row) (within : at < length s.cursors.items) (held : get_or s.cursors.items at None ≡ Some found) where
+  in_content : Cursor → List Row
+  in_content = left_in s.history.content
+
+  cursor_at : (c : ℕ) → option_map in_content (get_or (set s.cursors.items at (Some moved)) c None) ≡ cond (eqb c at) (Some (in_content moved)) (option_map in_content (get_or s.cursors.items c None))
+  cursor_at c = ap (option_map in_content) (get_or-set_cases s.cursors.items at (Some moved) None within c) ∙ cond_under (option_map in_content) (eqb c at) (Some moved) (get_or s.cursors.items c None)
+
+  pub advances : (more : Bool) → Gives (left_in s.history.content found) (left_in s.history.content moved) row more
+      → Advances (memory_view s) (memory_view (record s { cursors = with_item s.cursors at (Some moved) })) at row more
+  unfolding in_content
+  advances true given =
+      (left_in s.history.content moved, ap (option_map in_content) held ∙ ap Some given, λ i. record (memory_view s) { cursors = λ c. cursor_at c i })
+  advances false given =
+      let still : Some (in_content moved) ≡ option_map in_content (get_or s.cursors.items at None) = ap Some (given.1 ∙ sym given.0) ∙ sym (ap (option_map in_content) held) in
+      let same = λ (c : ℕ). cursor_at c ∙ elim (cases_eq c at) [
+        | inl is ↦ rw (eq-eqb c at is, is) still
+        | inr other ↦ rw (ne_eqb c at other) refl
+      ] in
+      (ap (option_map in_content) held ∙ ap Some given.0, λ i. record (memory_view s) { cursors = λ c. same c i })
+
+-- All was undone.
+pub rolled_back : (old new : MemoryStore) → stand new.history.content ≡ base old.history → new.history.log.items ≡ [] → memory_view new ≡ record (memory_view old) {
+  trees = (memory_view old).committed;
+  shape = (memory_view old).committed_shape;
+  reals = (memory_view old).committed_reals;
+  marks = [];
+  cursors = (memory_view new).cursors;
+}
+rolled_back old new content log = λ i. record (memory_view new) {
+  trees = (shows (content i)).trees;
+  shape = (shows (content i)).shape;
+  reals = (shows (content i)).reals;
+  committed = (shows (before_all (log i) (content i))).trees;
+  committed_shape = (shows (before_all (log i) (content i))).shape;
+  committed_reals = (shows (before_all (log i) (content i))).reals;
+  marks = marked (log i) (content i);
+}

@@ -1,8 +1,10 @@
 -- What a content shows: its trees and its version.
-use Rattle.std.specs.Prelude.{◌≡◌, [], ◌<◌, List, fold, length, map, slice_index_or, slice_set, ℕ}
+use Rattle.std.specs.Prelude.{◌≡◌, ◌≢◌, [], ◌<◌, List, ℕ}
+use Rattle.std.specs.Prelude.{fold, length, map, slice_index_or, slice_set}
 use Rattle.sqlite_value.specs.Order.{Row}
 use Rattle.sqlite_trees.specs.declared.schema.Object.{Object}
 use Rattle.sqlite_trees.specs.declared.store.Shape.{Shape}
+use Rattle.sqlite_trees.specs.declared.store.Shape.TheVariants.{Absent}
 use Rattle.sqlite_trees.specs.Listing.{Heading}
 use Rattle.sqlite_trees.specs.Memory.{snapshot_of}
 use Rattle.sqlite_trees.specs.Objects.{catalog_tree, relisted, set_at}
@@ -12,7 +14,7 @@ use Rattle.memory_store.specs.declared.content.Content.{Content}
 use Rattle.memory_store.specs.declared.tree.Tree.{Tree}
 
 abbrev pub heading : Tree → Heading
-heading t = (t.shape, t.reals, t.described.value)
+heading t = (t.shape, t.reals, t.described)
 
 -- the rows at each number
 abbrev pub rows_of : List Tree → Trees
@@ -43,6 +45,11 @@ with_listed s changes = record s {
   trees = with_tree s.trees catalog_tree (relisted (s.trees catalog_tree) changes);
   reals = fold (λ reals change. set_at reals change.0 change.1.reals) s.reals changes;
 }
+
+-- the tree may be listed as this object, which has its shape
+pub record MayList (s : Snapshot) (change : ℕ × Object) : Type 0 where
+  pub shaped : s.shape change.0 ≡ change.1.shape
+  pub present : change.1.shape ≢ Absent
 
 -- there is room for the number, and the tree is there
 pub record HasPlaced (old new : Content) (tree : ℕ) (it : Tree) : Type 0 where

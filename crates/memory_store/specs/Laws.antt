@@ -12,9 +12,11 @@ use Rattle.memory_store.specs.declared.content.Content.{Content}
 use Rattle.memory_store.specs.declared.store.MemoryStore.{MemoryStore}
 use Rattle.memory_store.specs.declared.tree.Tree.{Tree}
 use Rattle.memory_store.specs.Content.{heading, rows_of, seen}
-use Rattle.memory_store.specs.Memory.{current, memory_view}
+use Rattle.memory_store.specs.History.{base}
+use Rattle.memory_store.specs.Memory.{memory_view}
 
-rows_are_ordered : (trees : List Tree) → IsOrdered (shape_in (map heading trees)) (rows_of trees)
+pub rows_are_ordered : (trees : List Tree)
+    → IsOrdered (shape_in (map heading trees)) (rows_of trees)
 rows_are_ordered [] t = refl
 rows_are_ordered (x ∷ trees) zero = ∥∥₁_elim x.ordered (IsShaped-prop x.shape x.rows) (λ h. h)
 rows_are_ordered (x ∷ trees) (suc t) = rows_are_ordered trees t
@@ -42,11 +44,11 @@ content_is_listed : (c : Content)
 content_is_listed c = objects_are_listed (map heading c.trees.items)
 
 pub memory_is_ordered : (s : MemoryStore) → IsOrdered (memory_view s).shape (memory_view s).trees
-memory_is_ordered s = content_is_ordered (current s)
+memory_is_ordered s = content_is_ordered s.history.content
 
 pub memory_is_listed : (s : MemoryStore)
     → IsListed ((memory_view s).trees catalog_tree) (memory_view s).shape (memory_view s).reals
-memory_is_listed s = content_is_listed (current s)
+memory_is_listed s = content_is_listed s.history.content
 
 -- one list gives the shapes and the REAL columns
 pub memory_is_unaltered : (s : MemoryStore)
@@ -56,4 +58,4 @@ pub memory_is_unaltered : (s : MemoryStore)
 memory_is_unaltered s same =
     let now = subst (λ objects. IsListed objects (memory_view s).shape (memory_view s).reals)
     same (memory_is_listed s) in
-    listed_once _ _ _ _ _ now (content_is_listed s.committed)
+    listed_once _ _ _ _ _ now (objects_are_listed (base s.history).headings)

@@ -1,19 +1,21 @@
 //! The trees and the version at one moment.
 
-ghost use Rattle.std.specs.Prelude.{◌+◌, ◌-◌, ◌<◌, ◌≡◌, ◌≢◌, ◌≤◌, ◌⊎◌, ◌^◌, [], ◌∷◌};
-ghost use Rattle.std.specs.Prelude.{IfOk, OnErr, OnOk, length, map, pos, take, ℕ};
-ghost use Rattle.sqlite_trees.specs.Objects.{catalog_tree, object_row};
-ghost use Rattle.sqlite_trees.specs.Tree.{IsIndexShape, order_of, put_row, sought, without_rowid};
+ghost use Rattle.std.specs.Prelude.{◌-◌, ◌<◌, ◌≡◌, ◌≢◌, ◌≤◌, ◌⊎◌, ◌^◌};
+ghost use Rattle.std.specs.Prelude.{[], ◌∷◌, IfOk, OnErr, length, map, slice_set, take, ℕ};
+ghost use Rattle.sqlite_trees.specs.Objects.{catalog_tree, description};
+ghost use Rattle.sqlite_trees.specs.declared.schema.Object.{Object};
+ghost use Rattle.sqlite_trees.specs.Tree.{IsIndexShape, order_of, sought};
 ghost use Rattle.sqlite_trees.specs.View.{Finds};
+ghost use Rattle.ordered_rows.specs.Cursors.{Gives, left};
 
 use crate::edit::Edit;
 use crate::tree::Tree;
-use ordered_rows::{OrderedRows, RowCursor};
-use sqlite_trees::schema::Object;
+use crate::undo::Undo;
+use ordered_rows::{OrderedRows, RowCursor, Undo as RowsUndo};
 use sqlite_trees::store::{Direction, Shape};
 use sqlite_value::row::Row;
 use std::alloc::{AllocError, Global};
-use std::rc::Rc;
+use std::mem;
 
 /// A tree has the place of its number. Contracts see `seen` of it: the trees with the list of them,
 /// their shapes and their REAL columns.
@@ -25,22 +27,8 @@ pub(crate) struct Content {
 
 impl Content {
     ghost use Rattle.memory_store.specs.Edit.{Fits, edited};
-    ghost use Rattle.memory_store.specs.Content.{HasPlaced, seen, with_edit, with_listed};
-    ghost use Rattle.memory_store.specs.Content.{with_object};
-
-    /// The same content: no row is copied.
-    pub(crate) fn share(&self, alloc: Global) -> Result<Content, AllocError>
-        ensures { IfOk result (λ content. seen content ≡ seen self.now) }
-    {
-        let mut trees = Vec::with_capacity(alloc, self.trees.len())?;
-        for tree in &self.trees {
-            trees.push(tree.share()?)?;
-        }
-        Ok(Content {
-            trees,
-            version: self.version,
-        })
-    }
+    ghost use Rattle.memory_store.specs.Content.{MayList, seen, with_edit, with_listed};
+    ghost use Rattle.memory_store.specs.Stands.{IsShapely, before, stand};
 
     pub(crate) fn shape(&self, tree: u32) -> Shape
         ensures { result ≡ (seen self.now).shape tree }
@@ -82,12 +70,30 @@ impl Content {
         key: &Row,
         direction: Direction,
     ) -> Result<RowCursor, AllocError>
-        ensures { IfOk result (λ cursor. cursor ≡ sought (order_of ((seen self.now).shape tree))
-            direction key.now ((seen self.now).trees tree)) }
+        ensures { IfOk result (λ cursor. left cursor ((seen self.now).trees tree)
+            ≡ sought (order_of ((seen self.now).shape tree)) direction key.now
+            ((seen self.now).trees tree)) }
     {
         match self.trees.get(tree as usize) {
             Some(found) => found.rows.seek(found.shape, key, direction),
             None => OrderedRows::new(alloc).seek(Shape::Absent, key, direction),
+        }
+    }
+
+    /// Writes the next row of a cursor in the tree with this number over `row`, and moves past it,
+    /// or answers false where none is left.
+    pub(crate) fn next(
+        &self,
+        tree: u32,
+        cursor: &mut RowCursor,
+        row: &mut Row,
+    ) -> Result<bool, AllocError>
+        ensures { IfOk result (Gives (left cursor.old ((seen self.now).trees tree))
+            (left cursor.new ((seen self.now).trees tree)) row.new) }
+    {
+        match self.trees.get(tree as usize) {
+            Some(found) => found.rows.next(cursor, row),
+            None => Ok(false),
         }
     }
 
@@ -100,78 +106,76 @@ impl Content {
     }
 
     /// The edit is made, or on an error nothing is changed.
-    pub(crate) fn edit(&mut self, tree: u32, edit: Edit<'_>) -> Result<(), AllocError>
+    pub(crate) fn edit(&mut self, tree: u32, edit: Edit<'_>) -> Result<RowsUndo, AllocError>
         requires { Fits edit ((seen self.old).shape tree) }
-        ensures ok { OnOk result
-            (seen self.new ≡ with_edit (seen self.old) tree (edited edit.entry)) }
-        ensures err { OnErr result (seen self.new ≡ seen self.old) }
+        ensures ok { IfOk result (λ undo. (seen self.new
+            ≡ with_edit (seen self.old) tree (edited edit.entry))
+            × (before (Undo.Rows tree undo) (stand self.new) ≡ stand self.old)) }
+        ensures err { OnErr result (stand self.new ≡ stand self.old) }
     {
         self.trees[tree as usize].apply(edit)
     }
 
-    fn make_room(&mut self, alloc: Global, tree: u32) -> Result<(), AllocError>
-        ensures room { OnOk result (tree < length self.new.trees.items) }
-        ensures same { seen self.new ≡ seen self.old }
+    /// Another tree with this number, and the one that had it.
+    pub(crate) fn replace(&mut self, tree: u32, new: Tree) -> Tree
+        requires { tree < length self.old.trees.items }
+        ensures trees { self.new.trees.items ≡ slice_set self.old.trees.items tree new }
         ensures version { self.new.version ≡ self.old.version }
+        ensures undo { before (Undo.Tree tree result) (stand self.new) ≡ stand self.old }
     {
-        while self.trees.len() <= tree as usize {
-            self.trees.push(Tree::absent(alloc)?)?;
-        }
-        Ok(())
+        mem::replace(&mut self.trees[tree as usize], new)
     }
 
-    fn place(&mut self, alloc: Global, tree: u32, new: Tree) -> Result<(), AllocError>
-        ensures ok { OnOk result (HasPlaced self.old self.new tree new) }
-        ensures err { OnErr result (seen self.new ≡ seen self.old) }
+    /// Another description and other REAL columns of the tree with this number, and those that it
+    /// had.
+    pub(crate) fn relist(&mut self, tree: u32, described: Row, reals: u64) -> (Row, u64)
+        requires { tree < length self.old.trees.items }
+        ensures stand { stand self.new
+            ≡ before (Undo.Listed tree described reals) (stand self.old) }
+        ensures seen { (o : Object) → described ≡ description o → reals ≡ o.reals
+            → MayList (seen self.old) (tree, o)
+            → seen self.new ≡ with_listed (seen self.old) ((tree, o) ∷ []) }
+        ensures undo { before (Undo.Listed tree result.0 result.1) (stand self.new)
+            ≡ stand self.old }
     {
-        self.make_room(alloc, tree)?;
-        self.trees[tree as usize] = new;
-        Ok(())
-    }
-
-    /// Makes the empty tree of an object, or on an error changes nothing.
-    pub(crate) fn create(
-        &mut self,
-        alloc: Global,
-        tree: u32,
-        object: &Object<'_>,
-    ) -> Result<(), AllocError>
-        requires { object.now.shape ≢ Shape.Absent }
-        ensures ok { OnOk result (seen self.new ≡ with_object (seen self.old) tree
-            object.now.shape object.now.reals (put_row (object_row tree object.now))) }
-        ensures err { OnErr result (seen self.new ≡ seen self.old) }
-    {
-        let new = Tree::new(alloc, object)?;
-        self.place(alloc, tree, new)
-    }
-
-    /// Drops a tree and its rows, or on an error changes nothing.
-    pub(crate) fn destroy(&mut self, alloc: Global, tree: u32) -> Result<(), AllocError>
-        ensures ok { OnOk result (seen self.new ≡ with_object (seen self.old) tree
-            Shape.Absent 0 (without_rowid (pos (tree + 1)))) }
-        ensures err { OnErr result (seen self.new ≡ seen self.old) }
-    {
-        let new = Tree::absent(alloc)?;
-        self.place(alloc, tree, new)
-    }
-
-    /// Lists a tree as this object.
-    pub(crate) fn relist(
-        &mut self,
-        alloc: Global,
-        tree: u32,
-        object: &Object<'_>,
-    ) -> Result<(), AllocError>
-        requires shaped { (seen self.old).shape tree ≡ object.now.shape }
-        requires present { object.now.shape ≢ Shape.Absent }
-        ensures { OnOk result
-            (seen self.new ≡ with_listed (seen self.old) ((tree, object.now) ∷ [])) }
-    {
-        let described = Rc::new(alloc, object.describe(alloc)?)?;
         let found = &mut self.trees[tree as usize];
-        found.described = described;
-        found.reals = object.reals;
-        Ok(())
+        let described = mem::replace(&mut found.described, described);
+        let reals = mem::replace(&mut found.reals, reals);
+        (described, reals)
+    }
+
+    /// A change is undone, if no other came after it.
+    pub(crate) fn undo(&mut self, undo: Undo)
+        requires { ∥ IsShapely (before undo (stand self.old)) ∥₁ }
+        ensures { stand self.new ≡ before undo (stand self.old) }
+    {
+        match undo {
+            Undo::Nothing | Undo::Mark => {}
+            Undo::Rows(tree, undo) => self.undo_rows(tree, undo),
+            Undo::Grown => {
+                self.trees.pop();
+            }
+            Undo::Tree(tree, old) => {
+                if (tree as usize) < self.trees.len() {
+                    self.replace(tree, old);
+                }
+            }
+            Undo::Listed(tree, described, reals) => {
+                if (tree as usize) < self.trees.len() {
+                    self.relist(tree, described, reals);
+                }
+            }
+            Undo::Version(version) => self.version = version,
+        }
+    }
+
+    fn undo_rows(&mut self, tree: u32, undo: RowsUndo)
+        requires { ∥ IsShapely (before (Undo.Rows tree undo) (stand self.old)) ∥₁ }
+        ensures { stand self.new ≡ before (Undo.Rows tree undo) (stand self.old) }
+    {
+        if (tree as usize) < self.trees.len() {
+            self.trees[tree as usize].undo(undo);
+        }
     }
 
     /// For each tree its rowid in `sqlite_schema`, type, name, table and SQL text.

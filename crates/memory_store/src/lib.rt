@@ -1,18 +1,20 @@
 //! A store of `sqlite` in memory, whose trees are [`ordered_rows::OrderedRows`]: a write costs the
 //! logarithm of the rows of its tree, and a transaction, a savepoint or a way back copies no row.
 //!
-//! `MemoryStore` keeps what was last committed, what the transaction sees, and what each savepoint
-//! goes back to, each a `Content` of its own. Contents share their rows, so that a new one costs a
-//! few pointers for each tree. An edit that fails leaves its tree as it was, so the store is never
-//! broken and never shut: the one error of its calls, beside a row that may not be stored, is to be
-//! out of memory.
+//! `MemoryStore` keeps what the transaction sees, which is changed in place, and an undo log, which
+//! leads back to the newest savepoint and to the last commit. Undoing needs no memory, so that no
+//! rollback fails. An edit that fails leaves its tree as it was, so the store is never broken and
+//! never shut: the one error of its calls, beside a row that may not be stored, is to be out of
+//! memory.
 #![tactic(auto)]
 
 mod content;
 mod edit;
+mod history;
 pub mod opening;
 pub mod store;
 mod tree;
+mod undo;
 
 pub use opening::open_in_memory;
 pub use store::MemoryStore;

@@ -1,12 +1,13 @@
-//! The store: what was last committed, what the transaction sees, its savepoints and its cursors.
+//! The store: what the transaction sees and what undoes it, and the cursors.
 
-ghost use Rattle.std.specs.Prelude.{◌==◌, ◌≡◌, [], IfOk, OnErr, OnOk, if◌then◌else◌, refl};
+ghost use Rattle.std.specs.Prelude.{◌==◌, ◌≡◌, [], OnErr, OnOk, if◌then◌else◌, refl};
 ghost use Rattle.std.specs.Prelude.{slice_index_or, ℕ};
 ghost use Rattle.std.proofs.Common.{true≢false};
 ghost use Rattle.sqlite_trees.specs.Objects.{catalog_tree};
 
 use crate::content::Content;
 use crate::edit::Edit;
+use crate::history::History;
 use ordered_rows::RowCursor;
 use sqlite_trees::error::StoreError;
 use sqlite_trees::schema::Object;
@@ -15,23 +16,27 @@ use sqlite_trees::typed::is_typed;
 use sqlite_value::row::Row;
 use std::alloc::{AllocError, Global};
 
+/// A cursor in the tree with this number.
+#[derive(Clone, Copy)]
+pub(crate) struct Cursor {
+    tree: u32,
+    place: RowCursor,
+}
+
 /// A store in memory, never broken and never shut. Contracts see `memory_view` of it.
 #[derive(Drop)]
 pub struct MemoryStore {
     alloc: Global,
-    committed: Content,
-    /// What the transaction sees, once it has written.
-    pending: Option<Content>,
-    /// What each savepoint goes back to, the newest last.
-    marks: Vec<Content>,
-    cursors: Vec<Option<RowCursor>>,
+    history: History,
+    cursors: Vec<Option<Cursor>>,
 }
 
 impl MemoryStore {
     ghost use Rattle.sqlite_trees.specs.View.{SetsTree};
-    ghost use Rattle.memory_store.specs.Content.{seen};
+    ghost use Rattle.memory_store.specs.Content.{seen, with_listed};
     ghost use Rattle.memory_store.specs.Edit.{Fits, edited};
-    ghost use Rattle.memory_store.specs.Memory.{Keeps, current, memory_view};
+    ghost use Rattle.memory_store.specs.History.{Keeps};
+    ghost use Rattle.memory_store.specs.Memory.{memory_view};
 
     /// A store with no tree.
     pub fn new(alloc: Global) -> MemoryStore
@@ -41,57 +46,32 @@ impl MemoryStore {
     {
         MemoryStore {
             alloc,
-            committed: Content {
-                trees: Vec::new(alloc),
-                version: 0,
-            },
-            pending: None,
-            marks: Vec::new(alloc),
+            history: History::new(alloc),
             cursors: Vec::new(alloc),
         }
     }
 
-    fn current(&self) -> &Content
-        ensures { result.now ≡ current self.now }
+    fn content(&self) -> &Content
+        ensures { result.now ≡ self.now.history.content }
     {
-        match &self.pending {
-            Some(content) => content,
-            None => &self.committed,
-        }
-    }
-
-    // What the transaction sees, to be changed and put back: the store is whole again once it is
-    // in `pending`, changed or not.
-    fn take(&mut self) -> Result<Content, AllocError>
-        ensures ok { IfOk result (λ content. seen content ≡ seen (current self.old)) }
-        ensures err { OnErr result (self.new.pending ≡ self.old.pending) }
-        ensures kept { Keeps self.old self.new }
-        ensures cursors { self.new.cursors ≡ self.old.cursors }
-    {
-        match self.pending.take() {
-            Some(content) => Ok(content),
-            None => self.committed.share(self.alloc),
-        }
+        &self.history.content
     }
 
     fn write(&mut self, tree: u32, edit: Edit<'_>) -> Result<(), AllocError>
         requires { Fits edit ((memory_view self.old).shape tree) }
         ensures ok { OnOk result
             (SetsTree (memory_view self.old) (memory_view self.new) tree (edited edit.entry)) }
-        ensures err { OnErr result (memory_view self.new ≡ memory_view self.old) }
+        ensures err { OnErr result (memory_view self.new
+            ≡ record (memory_view self.old) { cursors = (memory_view self.new).cursors }) }
     {
-        let mut content = self.take()?;
-        let written = content.edit(tree, edit);
-        self.pending = Some(content);
-        written?;
         self.cursors.clear();
-        Ok(())
+        self.history.edit(tree, edit)
     }
 
     fn set_cursor(
-        cursors: &mut Vec<Option<RowCursor>>,
+        cursors: &mut Vec<Option<Cursor>>,
         at: usize,
-        cursor: RowCursor,
+        cursor: Cursor,
     ) -> Result<(), AllocError>
         ensures ok { OnOk result ((c : ℕ) → slice_index_or cursors.new.items c None
             ≡ (if c == at then Some cursor else slice_index_or cursors.old.items c None)) }
@@ -141,15 +121,15 @@ impl Store for MemoryStore {
     }
 
     fn shape(&self, tree: u32) -> Shape {
-        self.current().shape(tree)
+        self.content().shape(tree)
     }
 
     fn tree_count(&self) -> u64 {
-        self.current().count()
+        self.content().count()
     }
 
     fn reals(&self, tree: u32) -> u64 {
-        self.current().reals(tree)
+        self.content().reals(tree)
     }
 
     fn seek(
@@ -159,19 +139,24 @@ impl Store for MemoryStore {
         key: &Row,
         direction: Direction,
     ) -> Result<(), StoreError> {
-        let found = self.current().seek(self.alloc, tree, key, direction)?;
+        let place = self.content().seek(self.alloc, tree, key, direction)?;
+        let found = Cursor { tree, place };
         Ok(Self::set_cursor(&mut self.cursors, usize::from(cursor), found)?)
     }
 
     fn next(&mut self, cursor: u16, row: &mut Row) -> Result<bool, StoreError> {
         match &mut self.cursors[usize::from(cursor)] {
-            Some(found) => Ok(found.next(row)?),
+            Some(found) => Ok(
+                self.history
+                    .content
+                    .next(found.tree, &mut found.place, row)?,
+            ),
             None => Ok(false),
         }
     }
 
     fn get(&mut self, table: u32, id: i64, row: &mut Row) -> Result<bool, StoreError> {
-        Ok(self.current().get(table, id, row)?)
+        Ok(self.content().get(table, id, row)?)
     }
 
     fn put(&mut self, table: u32, row: &Row) -> Result<(), StoreError> {
@@ -199,36 +184,28 @@ impl Store for MemoryStore {
     }
 
     fn commit(&mut self) -> Result<(), StoreError> {
-        self.marks.clear();
-        if let Some(content) = self.pending.take() {
-            self.committed = content;
-        }
+        self.history.commit();
         Ok(())
     }
 
     fn rollback(&mut self) {
-        self.pending = None;
-        self.marks.clear();
+        self.history.roll_back();
         self.cursors.clear();
     }
 
     fn savepoint(&mut self) -> Result<(), StoreError> {
-        let mark = self.current().share(self.alloc)?;
-        Ok(self.marks.push(mark)?)
+        Ok(self.history.mark()?)
     }
 
     fn release(&mut self) -> Result<(), StoreError> {
-        self.marks.pop();
+        self.history.release();
         Ok(())
     }
 
     fn rollback_to(&mut self) -> Result<(), StoreError> {
-        let Some(mark) = self.marks.last() else {
-            return Ok(());
-        };
-        let content = mark.share(self.alloc)?;
-        self.pending = Some(content);
-        self.cursors.clear();
+        if self.history.go_back() {
+            self.cursors.clear();
+        }
         Ok(())
     }
 }
@@ -239,46 +216,30 @@ impl Alter for MemoryStore {
     ghost listed = { λ s _. memory_is_listed s };
 
     fn objects(&self, alloc: Global) -> Result<Vec<Row>, AllocError> {
-        self.current().objects(alloc)
+        self.content().objects(alloc)
     }
 
     fn create(&mut self, tree: u32, object: &Object<'_>) -> Result<(), StoreError> {
-        let mut content = self.take()?;
-        let made = content.create(self.alloc, tree, object);
-        self.pending = Some(content);
-        made?;
         self.cursors.clear();
-        Ok(())
+        Ok(self.history.create(self.alloc, tree, object)?)
     }
 
     fn destroy(&mut self, tree: u32) -> Result<(), StoreError> {
-        let mut content = self.take()?;
-        let dropped = content.destroy(self.alloc, tree);
-        self.pending = Some(content);
-        dropped?;
         self.cursors.clear();
-        Ok(())
+        Ok(self.history.destroy(self.alloc, tree)?)
     }
 
     fn relist(&mut self, changes: &[(u32, Object<'_>)]) -> Result<(), StoreError> {
-        let mut content = self.current().share(self.alloc)?;
-        for (tree, object) in changes {
-            content.relist(self.alloc, *tree, object)?;
-        }
-        self.pending = Some(content);
         self.cursors.clear();
-        Ok(())
+        Ok(self.history.relist_all(self.alloc, changes)?)
     }
 
     fn version(&self) -> u32 {
-        self.current().version
+        self.content().version
     }
 
     fn set_version(&mut self, version: u32) -> Result<(), StoreError> {
-        let mut content = self.take()?;
-        content.version = version;
-        self.pending = Some(content);
         self.cursors.clear();
-        Ok(())
+        Ok(self.history.set_version(version)?)
     }
 }

@@ -1,24 +1,24 @@
 //! One tree: its rows, and how it is listed.
 
-ghost use Rattle.std.specs.Prelude.{◌≡◌, [], IfOk, OnErr, OnOk, take, ◌<◌, ◌^◌};
+ghost use Rattle.std.specs.Prelude.{◌≡◌, [], IfOk, OnErr, take, ◌<◌, ◌^◌};
 ghost use Rattle.sqlite_trees.specs.Objects.{description, listing};
 ghost use Rattle.sqlite_trees.specs.View.{IsShaped};
+ghost use Rattle.ordered_rows.specs.Undos.{Undoes, undone};
 
 use crate::edit::Edit;
-use ordered_rows::OrderedRows;
+use ordered_rows::{OrderedRows, Undo};
 use sqlite_trees::schema::Object;
 use sqlite_trees::store::Shape;
 use sqlite_value::row::Row;
 use sqlite_value::value::ValueRef;
 use std::alloc::{AllocError, Global};
-use std::rc::Rc;
 
 /// Its shape, its REAL columns and its description are its heading. The rows have that shape.
 #[derive(Drop)]
 pub(crate) struct Tree {
     pub shape: Shape,
     pub reals: u64,
-    pub described: Rc<Row>,
+    pub described: Row,
     pub rows: OrderedRows,
     pub ghost ordered: { ∥ IsShaped shape rows ∥₁ },
 }
@@ -36,44 +36,31 @@ impl Tree {
         Ok(Tree {
             shape: object.shape,
             reals: object.reals,
-            described: Rc::new(alloc, object.describe(alloc)?)?,
+            described: object.describe(alloc)?,
             rows: OrderedRows::new(alloc),
         })
     }
 
     /// What stands at a number that names no tree.
-    pub(crate) fn absent(alloc: Global) -> Result<Tree, AllocError>
-        ensures heading { IfOk result (λ tree. heading tree ≡ (Shape.Absent, 0, [])) }
-        ensures rows { IfOk result (λ tree. tree.rows ≡ []) }
+    pub(crate) fn absent(alloc: Global) -> Tree
+        ensures heading { heading result ≡ (Shape.Absent, 0, []) }
+        ensures rows { result.rows ≡ [] }
     {
-        Ok(Tree {
+        Tree {
             shape: Shape::Absent,
             reals: 0,
-            described: Rc::new(alloc, Row::new(alloc))?,
+            described: Row::new(alloc),
             rows: OrderedRows::new(alloc),
-        })
-    }
-
-    /// The same tree: no row is copied, and no text.
-    pub(crate) fn share(&self) -> Result<Tree, AllocError>
-        ensures heading { IfOk result (λ tree. heading tree ≡ heading self.now) }
-        ensures rows { IfOk result (λ tree. tree.rows ≡ self.now.rows) }
-    {
-        Ok(Tree {
-            shape: self.shape,
-            reals: self.reals,
-            described: self.described.clone()?,
-            rows: self.rows.share()?,
-        })
+        }
     }
 
     /// Its rowid in `sqlite_schema`, type, name, table and SQL text.
     pub(crate) fn listing(&self, alloc: Global, tree: usize) -> Result<Row, AllocError>
         requires { tree < 2 ^ 62 }
         ensures { IfOk result (λ row. row ≡ take 5
-            (listing tree self.now.described.value self.now.shape self.now.reals)) }
+            (listing tree self.now.described self.now.shape self.now.reals)) }
     {
-        let described = self.described.as_ref();
+        let described = &self.described;
         let mut row = Row::new(alloc);
         row.push(ValueRef::Int(tree as i64 + 1))?;
         row.push(described.get(0))?;
@@ -84,9 +71,9 @@ impl Tree {
     }
 
     /// The edit is made, or on an error nothing is changed.
-    pub(crate) fn apply(&mut self, edit: Edit<'_>) -> Result<(), AllocError>
+    pub(crate) fn apply(&mut self, edit: Edit<'_>) -> Result<Undo, AllocError>
         requires { Fits edit self.old.shape }
-        ensures ok { OnOk result (self.new.rows ≡ edited edit.entry self.old.rows) }
+        ensures ok { IfOk result (Undoes self.old.rows self.new.rows (edited edit.entry)) }
         ensures err { OnErr result (self.new.rows ≡ self.old.rows) }
         ensures heading { heading self.new ≡ heading self.old }
     {
@@ -96,5 +83,14 @@ impl Tree {
             Edit::Insert(order, entry) => self.rows.insert(order, entry),
             Edit::Remove(order, entry) => self.rows.remove(order, entry),
         }
+    }
+
+    /// An edit of the rows is undone, if no other came after it.
+    pub(crate) fn undo(&mut self, undo: Undo)
+        requires { ∥ IsShaped self.old.shape (undone undo self.old.rows) ∥₁ }
+        ensures rows { self.new.rows ≡ undone undo self.old.rows }
+        ensures heading { heading self.new ≡ heading self.old }
+    {
+        self.rows.undo(undo);
     }
 }

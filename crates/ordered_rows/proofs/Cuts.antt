@@ -1,13 +1,12 @@
 -- Rows in order around one of them, and what an edit or a look-up does on either side of it.
-use Rattle.std.proofs.Common.{◌≡◌, Bool, true, false, not, cond, List, [], ◌∷◌, ◌++◌, refl, sym, ap, ◌∙◌, subst, Ordering, Less, Equal, Greater, is_lt, is_gt, is_eq, true≢false}
+use Rattle.std.proofs.Common.{◌≡◌, Bool, true, false, not, List, [], ◌∷◌, ◌++◌, refl, sym, ap, ◌∙◌, subst, Ordering, Less, Equal, Greater, is_lt, is_gt, is_eq, true≢false}
 use Rattle.std.specs.List.{AllByRecursion}
-use Rattle.std.specs.Ordering.{match_ordering}
 use Rattle.std.proofs.lemmas.List.{append-nil}
 use Rattle.std.proofs.lemmas.List.Elements.{filter-append}
 use Rattle.sqlite_value.specs.Order.{Row}
 use Rattle.sqlite_trees.specs.Tree.{IsAscending}
 use Rattle.sqlite_trees.proofs.ListLemmas.{all_weaker, filter_all, filter_none}
-use Rattle.ordered_rows.specs.Edits.{IsAt, IsCut, with_new, without}
+use Rattle.ordered_rows.specs.Edits.{IsAt, IsCut, without}
 
 -- what ascends, seen from one of its elements
 pub record IsAround {A : Type 0} (R : A → A → Type 0) (xs : List A) (x : A) (ys : List A) : Type 0 where
@@ -51,24 +50,6 @@ module _ (side : Row → Ordering) where
   pub all_above : (xs : List Row) (r : Row) (ys : List Row) → IsCut side (xs ++ r ∷ ys) → is_lt (side r) ≡ false → AllByRecursion Above ys
   all_above xs r ys up high = all_weaker _ Above (λ y h. h high) ys (around _ xs r ys up).after
 
-  with_new_above : (replaces : Bool) (new : Row) (xs : List Row) (r : Row) (ys : List Row) → AllByRecursion Below xs → side r ≡ Less
-      → with_new side replaces new (xs ++ r ∷ ys) ≡ xs ++ r ∷ with_new side replaces new ys
-  with_new_above replaces new [] r ys low here = rw here
-  with_new_above replaces new (x ∷ xs) r ys low here = rw low.0 (ap (λ l. x ∷ l) (with_new_above replaces new xs r ys low.1 here))
-
-  with_new_at : (replaces : Bool) (new : Row) (xs : List Row) (r : Row) (ys : List Row) → AllByRecursion Below xs → side r ≡ Equal
-      → with_new side replaces new (xs ++ r ∷ ys) ≡ xs ++ cond replaces new r ∷ ys
-  with_new_at replaces new [] r ys low here = rw here
-  with_new_at replaces new (x ∷ xs) r ys low here = rw low.0 (ap (λ l. x ∷ l) (with_new_at replaces new xs r ys low.1 here))
-
-  with_new_below : (replaces : Bool) (new : Row) (xs : List Row) (r : Row) (ys : List Row) → side r ≡ Greater
-      → with_new side replaces new (xs ++ r ∷ ys) ≡ with_new side replaces new xs ++ r ∷ ys
-  with_new_below replaces new [] r ys here = rw here
-  with_new_below replaces new (x ∷ xs) r ys here =
-      elim (side x) as (λ o. match_ordering o (x ∷ with_new side replaces new (xs ++ r ∷ ys)) (cond replaces new x ∷ (xs ++ r ∷ ys)) (new ∷ x ∷ (xs ++ r ∷ ys))
-      ≡ match_ordering o (x ∷ with_new side replaces new xs) (cond replaces new x ∷ xs) (new ∷ x ∷ xs) ++ r ∷ ys)
-      [ Less ↦ ap (λ l. x ∷ l) (with_new_below replaces new xs r ys here) | Equal ↦ refl | Greater ↦ refl ]
-
   others : (zs : List Row) → AllByRecursion (λ x. is_eq (side x) ≡ false) zs → without side zs ≡ zs
   others zs h = filter_all _ zs (all_weaker _ (λ x. not (is_eq (side x)) ≡ true) (λ x e. ap not e) zs h)
 
@@ -83,35 +64,11 @@ module _ (side : Row → Ordering) where
     pub cut_upper : IsCut side ys
     cut_upper = (around _ xs r ys up).upper
 
-    pub new_upper : (replaces : Bool) (new : Row) → side r ≡ Less → xs ++ r ∷ with_new side replaces new ys ≡ with_new side replaces new rows
-    new_upper replaces new here = rw is (sym (with_new_above replaces new xs r ys (all_below xs r ys up (ap is_gt here)) here))
-
-    pub new_lower : (replaces : Bool) (new : Row) → side r ≡ Greater → with_new side replaces new xs ++ r ∷ ys ≡ with_new side replaces new rows
-    new_lower replaces new here = rw is (sym (with_new_below replaces new xs r ys here))
-
-    new_here : (replaces : Bool) (new : Row) → side r ≡ Equal → xs ++ cond replaces new r ∷ ys ≡ with_new side replaces new rows
-    new_here replaces new here = rw is (sym (with_new_at replaces new xs r ys (all_below xs r ys up (ap is_gt here)) here))
-
-    pub new_replaces : (replaces : Bool) (new : Row) → replaces ≡ true → side r ≡ Equal → xs ++ new ∷ ys ≡ with_new side replaces new rows
-    new_replaces replaces new is_so here = ap (λ b. xs ++ cond b new r ∷ ys) (sym is_so) ∙ new_here replaces new here
-
-    pub old_stays : (replaces : Bool) (new : Row) → replaces ≡ false → side r ≡ Equal → rows ≡ with_new side replaces new rows
-    old_stays replaces new is_not here = is ∙ ap (λ b. xs ++ cond b new r ∷ ys) (sym is_not) ∙ new_here replaces new here
-
     none_lower : is_gt (side r) ≡ false → AllByRecursion (λ x. is_eq (side x) ≡ false) xs
     none_lower low = all_weaker Below (λ x. is_eq (side x) ≡ false) (λ x h. ap is_eq h) xs (all_below xs r ys up low)
 
     none_upper : is_lt (side r) ≡ false → AllByRecursion (λ x. is_eq (side x) ≡ false) ys
     none_upper high = all_weaker Above (λ x. is_eq (side x) ≡ false) (λ x h. ap is_eq h) ys (all_above xs r ys up high)
-
-    pub without_upper : side r ≡ Less → xs ++ r ∷ without side ys ≡ without side rows
-    without_upper here = rw (is, filter-append, here, others xs (none_lower (ap is_gt here)))
-
-    pub without_lower : side r ≡ Greater → without side xs ++ r ∷ ys ≡ without side rows
-    without_lower here = rw (is, filter-append, here, others ys (none_upper (ap is_lt here)))
-
-    pub without_here : side r ≡ Equal → xs ++ ys ≡ without side rows
-    without_here here = rw (is, filter-append, here, others xs (none_lower (ap is_gt here)), others ys (none_upper (ap is_lt here)))
 
     pub at_upper : (row : Row) (found : Bool) → side r ≡ Less → IsAt side ys row found → IsAt side rows row found
     at_upper row found here h = rw (is, filter-append, here, filter_none _ xs (none_lower (ap is_gt here))) h

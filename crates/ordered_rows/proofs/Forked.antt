@@ -1,14 +1,14 @@
 -- The rows of a tree whose root is a fork.
 use Rattle.std.proofs.Common.{◌≡◌, ◌<◌, ℕ, List, ◌∷◌, ◌++◌, length, sym, ap, ◌∙◌, arith, length-append}
 use Rattle.std.specs.declared.alloc.Global.{Global}
-use Rattle.std.specs.declared.rc.Rc.{Rc}
+use Rattle.std.specs.declared.boxed.Box.{Box}
 use Rattle.sqlite_value.specs.Order.{Row}
 use Rattle.ordered_rows.specs.declared.tree.Fork.{Fork}
 use Rattle.ordered_rows.specs.declared.tree.Link.{Link}
 use Rattle.ordered_rows.specs.declared.tree.Link.TheVariants as link
 use Rattle.ordered_rows.specs.Forks.{rows_of}
 
-pub forked : {l : Link} {rows : List Row} {height : ℕ} {shared : Rc Fork Global} {f : Fork} → rows_of l ≡ rows → l ≡ link.Fork height shared → f ≡ shared.value
+pub forked : {l : Link} {rows : List Row} {height : ℕ} {count : ℕ} {shared : Box Fork Global} {f : Fork} → rows_of l ≡ rows → l ≡ link.Fork height count shared → f ≡ shared.value
     → rows ≡ f.left ++ f.row ∷ f.right
 forked view_is is same = sym view_is ∙ ap rows_of is ∙ ap (λ (f : Fork). f.left ++ f.row ∷ f.right) (sym same)
 

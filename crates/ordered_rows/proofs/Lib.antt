@@ -1,6 +1,10 @@
 pub mod Cuts
 mod Examples
 pub mod Forked
+pub mod Given
 pub mod Heads
+pub mod Numbers
 pub mod Orders
+pub mod Placed
+pub mod Undone
 pub mod Walks

@@ -10,13 +10,13 @@ use Rattle.sqlite_value.specs.Keys.{entry_cmp}
 use Rattle.sqlite_value.proofs.KeyLemmas.{entry_cmp_total}
 use Rattle.sqlite_value.proofs.OrderLemmas.{value_cmp_total}
 use Rattle.sqlite_trees.specs.declared.store.Shape.{Shape}
-use Rattle.sqlite_trees.specs.Tree.{IsIndex, IsTable, insert_entry, order_of, put_row, rowid}
+use Rattle.sqlite_trees.specs.Tree.{IsIndex, IsTable, insert_entry, order_of, put_row, remove_entry, rowid, without_rowid}
 use Rattle.sqlite_trees.specs.View.{IsShaped}
 use Rattle.sqlite_trees.proofs.ListLemmas.{ascending_weaker}
 use Rattle.sqlite_trees.proofs.TreeLemmas.{AtMost, above, prefix_cmp_follows, sorted_shape}
 use Rattle.ordered_rows.specs.declared.place.Place.TheVariants.{Rowid}
 use Rattle.ordered_rows.specs.Places.{side}
-use Rattle.ordered_rows.specs.Edits.{IsCut, with_new}
+use Rattle.ordered_rows.specs.Edits.{IsCut, with_new, without}
 use Rattle.ordered_rows.specs.Seeks.{IsSeekable}
 
 -- what is above a key that is not below k is above k
@@ -45,11 +45,16 @@ pub insert_entry-with_new : (o : Order) (new : Row) (rows : List Row) → insert
 insert_entry-with_new o new [] = refl
 insert_entry-with_new o new (r ∷ rows) = ap (λ l. match_ordering (entry_cmp o r new) (r ∷ l) (r ∷ rows) (new ∷ r ∷ rows)) (insert_entry-with_new o new rows)
 
-pub row_put : {made tree rows : List Row} {new row : Row} (id : ℤ) → made ≡ with_new (side (Rowid id)) true new tree → tree ≡ rows → new ≡ row → Int id ≡ rowid row → made ≡ put_row row rows
-row_put {made} {tree} {rows} {new} {row} id is same_tree same_row same_id =
-    is ∙ (λ i. with_new (λ r. value_cmp (rowid r) (same_id i)) true (same_row i) (same_tree i)) ∙ sym (put_row-with_new row rows)
+pub row_put : {made : List Row} (rows : List Row) (row : Row) (id : ℤ) → Int id ≡ rowid row → made ≡ with_new (side (Rowid id)) true row rows → made ≡ put_row row rows
+row_put rows row id same is = is ∙ (λ i. with_new (λ r. value_cmp (rowid r) (same i)) true row rows) ∙ sym (put_row-with_new row rows)
 
-pub entry_inserted : {made tree rows : List Row} {new : Row} (o same_o : Order) (entry same_entry : Row) → same_o ≡ o → same_entry ≡ entry
-    → made ≡ with_new (λ r. entry_cmp same_o r same_entry) false new tree → tree ≡ rows → new ≡ entry → made ≡ insert_entry o entry rows
-entry_inserted {made} {tree} {rows} {new} o same_o entry same_entry order_is entry_is is same_tree same_row =
-    is ∙ (λ i. with_new (λ r. entry_cmp (order_is i) r (entry_is i)) false (same_row i) (same_tree i)) ∙ sym (insert_entry-with_new o entry rows)
+pub rowid_removed : {made : List Row} (rows : List Row) (id same_id : ℤ) → same_id ≡ id → made ≡ without (side (Rowid same_id)) rows → made ≡ without_rowid id rows
+rowid_removed rows id same_id same is = is ∙ (λ i. without_rowid (same i) rows)
+
+-- an entry, and what stands for it in a comparison
+module _ {made : List Row} (rows : List Row) (o same_o : Order) (entry same_entry : Row) (order_is : same_o ≡ o) (entry_is : same_entry ≡ entry) where
+  pub entry_inserted : made ≡ with_new (λ r. entry_cmp same_o r same_entry) false entry rows → made ≡ insert_entry o entry rows
+  entry_inserted is = is ∙ (λ i. with_new (λ r. entry_cmp (order_is i) r (entry_is i)) false entry rows) ∙ sym (insert_entry-with_new o entry rows)
+
+  pub entry_removed : made ≡ without (λ r. entry_cmp same_o r same_entry) rows → made ≡ remove_entry o entry rows
+  entry_removed is = is ∙ (λ i. remove_entry (order_is i) (entry_is i) rows)

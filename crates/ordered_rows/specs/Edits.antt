@@ -1,7 +1,9 @@
--- Edits of a list in order, at the place that a comparison tells of each row.
-use Rattle.std.specs.Prelude.{◌≡◌, Bool, false, not, if◌then◌else◌, List, [], ◌∷◌, filter}
+-- Edits of a list in order, at the place that a comparison tells of each row, and by number.
+use Rattle.std.specs.Prelude.{◌≡◌, ◌+◌, ◌++◌, ℕ, Bool, true, false, not, if◌then◌else◌}
+use Rattle.std.specs.Prelude.{List, [], ◌∷◌, drop, filter, length, take}
 use Rattle.std.specs.declared.cmp.Ordering.{Ordering}
-use Rattle.std.specs.declared.cmp.Ordering.TheVariants.{Greater}
+use Rattle.std.specs.declared.cmp.Ordering.TheVariants.{Less, Equal, Greater}
+use Rattle.std.specs.List.{AllByRecursion}
 use Rattle.std.specs.Ordering.{is_lt, is_eq, match_ordering}
 use Rattle.sqlite_value.specs.Order.{Row}
 use Rattle.sqlite_trees.specs.Tree.{IsAscending}
@@ -24,3 +26,27 @@ without side = filter (λ r. not (is_eq (side r)))
 -- this row is at the place, or none is
 abbrev pub IsAt : (Row → Ordering) → List Row → Row → Bool → Type 0
 IsAt side rows row found = filter (λ r. is_eq (side r)) rows ≡ (if found then row ∷ [] else [])
+
+-- one row at the place, or none
+abbrev pub IsHere : (Row → Ordering) → List Row → Bool → Type 0
+IsHere side [] found = found ≡ false
+IsHere side (r ∷ rs) found = (found ≡ true) × (side r ≡ Equal) × (rs ≡ [])
+
+-- so many rows are below the place, then there is one at it or none, and the others are above it
+pub record IsPlaced (side : Row → Ordering) (rows : List Row) (at : ℕ) (found : Bool) : Type 0 where
+  pub below : List Row
+  pub here : List Row
+  pub above : List Row
+  pub is : rows ≡ below ++ (here ++ above)
+  pub number : length below ≡ at
+  pub lower : AllByRecursion (λ r. side r ≡ Less) below
+  pub same : IsHere side here found
+  pub upper : AllByRecursion (λ r. side r ≡ Greater) above
+
+-- the rows, with one more before the one with this number
+abbrev pub inserted : ℕ → Row → List Row → List Row
+inserted at new rows = take at rows ++ new ∷ drop at rows
+
+-- the rows without the one with this number
+abbrev pub removed : ℕ → List Row → List Row
+removed at rows = take at rows ++ drop (at + 1) rows

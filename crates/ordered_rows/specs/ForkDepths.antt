@@ -8,5 +8,5 @@ use Rattle.ordered_rows.specs.Forks.{rows_of}
 
 pub depth_le_length : (l : Link) → max (deep-Link l) 0 ≤ length (rows_of l)
 depth_le_length Leaf = omega arith
-depth_le_length (Fork height f) =
+depth_le_length (Fork height count f) =
     omega (arith, length-append f.value.left (f.value.row ∷ f.value.right))

@@ -2,7 +2,8 @@ pub mod Cursors
 pub mod Heads
 pub mod Forks
 pub mod ForkDepths
+pub mod Lows
 pub mod Places
 pub mod Edits
-pub mod Steps
+pub mod Undos
 pub mod Seeks

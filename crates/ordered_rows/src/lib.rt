@@ -1,15 +1,16 @@
-//! Rows of a table or entries of an index, in order, in a balanced tree whose parts are shared
-//! between its versions. The way to a row is at most one and a half times the binary logarithm of
-//! their number: an edit makes new what other versions share of it, and writes over the rest. Every
-//! other version stays as it is.
+//! Rows of a table or entries of an index, in order, in a balanced tree. The way to a row is at
+//! most one and a half times the binary logarithm of their number. Each edit gives what takes it
+//! back, and taking it back needs no memory.
 #![tactic(auto)]
 
 pub mod cursor;
 mod head;
+mod kept;
 mod place;
 pub mod rows;
-mod shared;
 mod tree;
+pub mod undo;
 
 pub use cursor::RowCursor;
 pub use rows::OrderedRows;
+pub use undo::Undo;

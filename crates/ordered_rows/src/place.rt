@@ -4,7 +4,7 @@ ghost use Rattle.std.specs.Prelude.{◌≡◌};
 ghost use Rattle.ordered_rows.specs.Heads.{IsHead};
 
 use crate::head::Head;
-use crate::shared::SharedRow;
+use crate::kept::KeptRow;
 use sqlite_value::keys::Order;
 use sqlite_value::row::Row;
 use std::cmp::Ordering;
@@ -44,7 +44,7 @@ impl Place<'_> {
 
     /// Whether a row is below the place, at it or above it.
     #[inline(always)]
-    pub(crate) fn side(self, row: &SharedRow) -> Ordering
+    pub(crate) fn side(self, row: &KeptRow) -> Ordering
         ensures { result ≡ side self.entry row.now }
     {
         match self {

@@ -1,14 +1,20 @@
 //! The rows, and their edits.
 
-ghost use Rattle.std.specs.Prelude.{◌≡◌, [], IfOk, IsTrue, OnErr, OnOk};
+ghost use Rattle.std.specs.Prelude.{◌≡◌, ◌<◌, ◌≤◌, [], IfOk, IsTrue, OnErr, length, slice_set};
 ghost use Rattle.sqlite_trees.specs.Tree.{IsIndex, insert_entry, order_of, put_row, remove_entry};
 ghost use Rattle.sqlite_trees.specs.Tree.{rowid, sought, without_rowid};
 ghost use Rattle.sqlite_trees.specs.View.{Finds, IsShaped, is_int};
+ghost use Rattle.ordered_rows.specs.Cursors.{Gives, left};
+ghost use Rattle.ordered_rows.specs.Edits.{IsCut, IsPlaced, inserted, removed};
+ghost use Rattle.ordered_rows.specs.Forks.{most};
+ghost use Rattle.ordered_rows.specs.Places.{side};
+ghost use Rattle.ordered_rows.specs.Undos.{Undoes, undone};
 
 use crate::cursor::RowCursor;
+use crate::kept::KeptRow;
 use crate::place::{Place, Sought};
-use crate::shared::SharedRow;
-use crate::tree::Tree;
+use crate::tree::{Fork, Tree};
+use crate::undo::{Change, Undo};
 use sqlite_trees::store::{Direction, Shape};
 use sqlite_value::keys::Order;
 use sqlite_value::row::Row;
@@ -47,17 +53,6 @@ impl OrderedRows {
         }
     }
 
-    /// The same rows: no row is copied.
-    pub fn share(&self) -> Result<OrderedRows, AllocError>
-        ensures { IfOk result (λ rows. rows ≡ self.now) }
-    {
-        let tree = self.tree.share()?;
-        Ok(OrderedRows {
-            alloc: self.alloc,
-            tree,
-        })
-    }
-
     /// Writes the row that has the rowid over `row`, or answers false.
     pub fn get(&self, id: i64, row: &mut Row) -> Result<bool, AllocError>
         requires { IsShaped Shape.Table self.now }
@@ -67,55 +62,86 @@ impl OrderedRows {
     }
 
     /// Inserts the row, or replaces the one that has its rowid.
-    pub fn put(&mut self, row: &Row) -> Result<(), AllocError>
+    pub fn put(&mut self, row: &Row) -> Result<Undo, AllocError>
         requires table { IsShaped Shape.Table self.old }
         requires keyed { IsTrue (is_int (rowid row.now)) }
-        ensures ok { OnOk result (self.new ≡ put_row row.now self.old) }
+        ensures ok { IfOk result (Undoes self.old self.new (put_row row.now)) }
         ensures err { OnErr result (self.new ≡ self.old) }
     {
         let ValueRef::Int(id) = row.get(0) else {
             unreachable!()
         };
-        let place = Place::Rowid(id);
-        let new = SharedRow::new(self.alloc, row)?;
-        self.tree.put_new(self.alloc, place, &new, true)?;
-        Ok(())
+        let (at, found) = self.placed(Place::Rowid(id))?;
+        let new = KeptRow::new(self.alloc, row)?;
+        if found {
+            Ok(self.replace(at, new))
+        } else {
+            self.add(at, new)
+        }
     }
 
     /// Removes the row that has the rowid, if there is one.
-    pub fn delete(&mut self, id: i64) -> Result<(), AllocError>
+    pub fn delete(&mut self, id: i64) -> Result<Undo, AllocError>
         requires { IsShaped Shape.Table self.old }
-        ensures ok { OnOk result (self.new ≡ without_rowid id self.old) }
-        ensures err { OnErr result (self.new ≡ self.old) }
+        ensures ok { IfOk result (Undoes self.old self.new (without_rowid id)) }
+        ensures err { OnErr result ((self.new ≡ self.old) × (most ≤ length self.old)) }
     {
-        let place = Place::Rowid(id);
-        self.tree.take_out(self.alloc, place)?;
-        Ok(())
+        let (at, found) = self.placed(Place::Rowid(id))?;
+        if found {
+            Ok(self.take_out(at))
+        } else {
+            Ok(Undo::nothing())
+        }
     }
 
     /// Inserts the entry, unless an equal one is there.
-    pub fn insert(&mut self, order: Order, entry: &Row) -> Result<(), AllocError>
+    pub fn insert(&mut self, order: Order, entry: &Row) -> Result<Undo, AllocError>
         requires { IsIndex order self.old }
-        ensures ok { OnOk result (self.new ≡ insert_entry order entry.now self.old) }
+        ensures ok { IfOk result (Undoes self.old self.new (insert_entry order entry.now)) }
         ensures err { OnErr result (self.new ≡ self.old) }
     {
-        let new = SharedRow::new(self.alloc, entry)?;
         let sought = Sought::new(order, entry);
-        let place = Place::Entry(&sought);
-        self.tree.put_new(self.alloc, place, &new, false)?;
-        Ok(())
+        let (at, found) = self.placed(Place::Entry(&sought))?;
+        if found {
+            Ok(Undo::nothing())
+        } else {
+            let new = KeptRow::new(self.alloc, entry)?;
+            self.add(at, new)
+        }
     }
 
     /// Removes the entry that equals this one, if there is one.
-    pub fn remove(&mut self, order: Order, entry: &Row) -> Result<(), AllocError>
+    pub fn remove(&mut self, order: Order, entry: &Row) -> Result<Undo, AllocError>
         requires { IsIndex order self.old }
-        ensures ok { OnOk result (self.new ≡ remove_entry order entry.now self.old) }
-        ensures err { OnErr result (self.new ≡ self.old) }
+        ensures ok { IfOk result (Undoes self.old self.new (remove_entry order entry.now)) }
+        ensures err { OnErr result ((self.new ≡ self.old) × (most ≤ length self.old)) }
     {
         let sought = Sought::new(order, entry);
-        let place = Place::Entry(&sought);
-        self.tree.take_out(self.alloc, place)?;
-        Ok(())
+        let (at, found) = self.placed(Place::Entry(&sought))?;
+        if found {
+            Ok(self.take_out(at))
+        } else {
+            Ok(Undo::nothing())
+        }
+    }
+
+    /// Undoes an edit, if no other came after it.
+    pub fn undo(&mut self, undo: Undo)
+        ensures { self.new ≡ undone undo self.old }
+    {
+        let Undo { change } = undo;
+        match change {
+            Change::Nothing => {}
+            Change::Out(at) => {
+                self.take_out(at);
+            }
+            Change::In(at, fork) => {
+                self.tree = self.tree.take().inserted(at, fork);
+            }
+            Change::Over(at, row) => {
+                self.replace(at, row);
+            }
+        }
     }
 
     /// A cursor at the first row that is not below the key, or at the last that is not above it.
@@ -126,10 +152,113 @@ impl OrderedRows {
         direction: Direction,
     ) -> Result<RowCursor, AllocError>
         requires { IsShaped shape self.now }
-        ensures { IfOk result (λ cursor. cursor
+        ensures ok { IfOk result (λ cursor. left cursor self.now
             ≡ sought (order_of shape) direction key.now self.now) }
+        ensures err { OnErr result (most ≤ length self.now) }
     {
-        RowCursor::at(self.alloc, &self.tree, key_order(shape), key, direction)
+        let sought = Sought::new(key_order(shape), key);
+        let at = match direction {
+            Direction::Forward => self.tree.rank_from(&sought),
+            Direction::Backward => self.tree.rank_up_to(&sought),
+        };
+        if at == u32::MAX {
+            return Err(AllocError);
+        }
+        Ok(RowCursor { direction, at })
+    }
+
+    /// Writes the cursor's next row over `row` and moves past it, or answers false where none is
+    /// left.
+    pub fn next(&self, cursor: &mut RowCursor, row: &mut Row) -> Result<bool, AllocError>
+        ensures ok { IfOk result
+            (Gives (left cursor.old self.now) (left cursor.new self.now) row.new) }
+        ensures err { OnErr result (cursor.new ≡ cursor.old) }
+    {
+        let (at, after) = match cursor.direction {
+            Direction::Forward => (cursor.at, cursor.at.saturating_add(1)),
+            Direction::Backward => {
+                let rest = cursor.at.min(self.tree.count());
+                if rest == 0 {
+                    return Ok(false);
+                }
+                (rest - 1, rest - 1)
+            }
+        };
+        if at == u32::MAX {
+            return Err(AllocError);
+        }
+        let Some(found) = self.tree.nth(at) else {
+            return Ok(false);
+        };
+        row.copy_from(found.row())?;
+        cursor.at = after;
+        Ok(true)
+    }
+
+    // The number of the rows below the place, which can be told, and whether there is one at it.
+    fn placed(&self, place: Place<'_>) -> Result<(u32, bool), AllocError>
+        requires { IsCut (side place) self.now }
+        ensures ok { IfOk result (λ found. (found.0 < most)
+            × IsPlaced (side place.entry) self.now found.0 found.1) }
+        ensures err { OnErr result (most ≤ length self.now) }
+    {
+        let (at, found) = self.tree.rank(place);
+        if at == u32::MAX {
+            return Err(AllocError);
+        }
+        Ok((at, found))
+    }
+
+    // A new row before the one with this number.
+    fn add(&mut self, at: u32, new: KeptRow) -> Result<Undo, AllocError>
+        requires low { at < most }
+        requires within { at ≤ length self.old }
+        ensures ok { IfOk result (Undoes self.old self.new (inserted at new)) }
+        ensures err { OnErr result (self.new ≡ self.old) }
+    {
+        let (left, right) = (Tree::empty(), Tree::empty());
+        let fork = Box::new(
+            self.alloc,
+            Fork {
+                left,
+                right,
+                row: new,
+            },
+        )?;
+        self.tree = self.tree.take().inserted(at, fork);
+        Ok(Undo {
+            change: Change::Out(at),
+        })
+    }
+
+    // A new row over the one with this number.
+    fn replace(&mut self, at: u32, new: KeptRow) -> Undo
+        requires { at < most }
+        ensures { Undoes self.old self.new (λ rows. slice_set rows at new) result }
+    {
+        let (tree, taken) = self.tree.take().replaced(at, new);
+        self.tree = tree;
+        match taken {
+            Some(old) => Undo {
+                change: Change::Over(at, old),
+            },
+            None => Undo::nothing(),
+        }
+    }
+
+    // Takes out the row with this number.
+    fn take_out(&mut self, at: u32) -> Undo
+        requires { at < most }
+        ensures { Undoes self.old self.new (removed at) result }
+    {
+        let (tree, taken) = self.tree.take().removed(at);
+        self.tree = tree;
+        match taken {
+            Some(fork) => Undo {
+                change: Change::In(at, fork),
+            },
+            None => Undo::nothing(),
+        }
     }
 }
 

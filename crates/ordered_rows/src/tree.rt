@@ -1,40 +1,39 @@
 //! A balanced tree of rows, which contracts see as the list of these rows.
 
-ghost use Rattle.std.specs.Prelude.{◌≡◌, [], ◌∷◌, ◌++◌, IfOk};
+ghost use Rattle.std.specs.Prelude.{◌≡◌, [], ◌∷◌, ◌++◌, length, min};
+ghost use Rattle.ordered_rows.specs.Forks.{most};
 
-use crate::shared::SharedRow;
-use std::alloc::{AllocError, Global};
+use crate::kept::KeptRow;
 use std::marker::Model;
-use std::rc::Rc;
+use std::mem;
 
 mod balance;
-mod edits;
-mod in_place;
-mod walks;
+mod numbered;
+mod places;
 
-/// Trees share their forks, so that another version of a tree takes no copy of it.
 #[cycle(tree)]
 #[derive(Drop)]
 pub(crate) struct Tree {
     root: Link,
 }
 
-/// A fork has its height beside it, one more than that of its higher side, so that a look at the
-/// heights of two sides reads neither.
+/// A fork has beside it its height, one more than that of its higher side, and the number of its
+/// rows, so that a look at either reads no fork. A number that is too large for 32 bits stands as
+/// the greatest.
 #[cycle(tree)]
 #[derive(Drop)]
 pub(crate) enum Link {
     Leaf,
-    Fork(u8, Rc<Fork>),
+    Fork(u8, u32, Box<Fork>),
 }
 
 /// A row, and the rows on either side of it.
 #[cycle(tree)]
 #[derive(Drop)]
 pub(crate) struct Fork {
-    left: Tree,
-    row: SharedRow,
-    right: Tree,
+    pub left: Tree,
+    pub right: Tree,
+    pub row: KeptRow,
 }
 
 impl Model for Tree {
@@ -47,9 +46,11 @@ impl Model for Tree {
 
     ghost coded = { coded_list the_row.coded };
 
-    ghost use Rattle.ordered_rows.specs.Forks.{rows_of};
+    ghost use Rattle.ordered_rows.specs.Forks.{IsCounted, rows_of};
 
     ghost view = { λ t. rows_of t.root };
+
+    ghost invariant = { λ t. IsCounted t.root };
 
     ghost size = { length };
 
@@ -65,36 +66,40 @@ impl Tree {
         Tree { root: Link::Leaf }
     }
 
-    /// The same tree: no row is copied.
-    pub(crate) fn share(&self) -> Result<Tree, AllocError>
-        ensures { IfOk result (λ tree. tree ≡ self.now) }
+    /// The tree, which leaves an empty one.
+    pub(crate) fn take(&mut self) -> Tree
+        ensures taken { result ≡ self.old }
+        ensures after { self.new ≡ [] }
     {
-        match &self.root {
-            Link::Leaf => Ok(Tree::empty()),
-            Link::Fork(height, fork) => {
-                let fork = fork.clone()?;
-                Ok(Tree {
-                    root: Link::Fork(*height, fork),
-                })
-            }
-        }
+        mem::replace(self, Tree::empty())
     }
 
     fn height(&self) -> u8 {
         match &self.root {
             Link::Leaf => 0,
-            Link::Fork(height, _) => *height,
+            Link::Fork(height, _, _) => *height,
         }
     }
 
-    /// A row between two trees, whose heights differ by one at most.
-    fn joined(alloc: Global, left: Tree, row: SharedRow, right: Tree) -> Result<Tree, AllocError>
-        ensures { IfOk result (λ tree. tree ≡ left ++ row ∷ right) }
+    /// The number of rows, or the greatest one.
+    pub(crate) fn count(&self) -> u32
+        ensures { result ≡ min (length self.now) most }
     {
+        match &self.root {
+            Link::Leaf => 0,
+            Link::Fork(_, count, _) => *count,
+        }
+    }
+
+    /// A fork as a tree. The heights of its sides differ by one at most.
+    fn joined(fork: Box<Fork>) -> Tree
+        ensures { result ≡ fork.value.left ++ fork.value.row ∷ fork.value.right }
+    {
+        let (left, right) = (&fork.left, &fork.right);
         let height = left.height().max(right.height()).saturating_add(1);
-        let fork = Rc::new(alloc, Fork { left, row, right })?;
-        Ok(Tree {
-            root: Link::Fork(height, fork),
-        })
+        let count = left.count().saturating_add(right.count()).saturating_add(1);
+        Tree {
+            root: Link::Fork(height, count, fork),
+        }
     }
 }

@@ -1,89 +1,101 @@
 //! Rotations, which keep a tree low and its rows as they are. No contract speaks of heights: a tree
 //! out of balance would be slow, and not wrong.
 
-ghost use Rattle.std.specs.Prelude.{◌≡◌, ◌∷◌, ◌++◌, IfOk};
+ghost use Rattle.std.specs.Prelude.{◌≡◌, ◌∷◌, ◌++◌, []};
 
-use super::{Link, Tree};
-use crate::shared::SharedRow;
-use std::alloc::{AllocError, Global};
+use super::{Fork, Link, Tree};
 
 impl Tree {
-    /// A row between two balanced trees, whose heights differ by two at most.
-    pub(super) fn balanced(
-        alloc: Global,
-        left: Tree,
-        row: SharedRow,
-        right: Tree,
-    ) -> Result<Tree, AllocError>
-        ensures { IfOk result (λ tree. tree ≡ left ++ row ∷ right) }
+    /// A fork as a tree, with a new left side that is balanced, and as high as the old one or one
+    /// higher or lower.
+    pub(super) fn with_left(mut fork: Box<Fork>, left: Tree) -> Tree
+        ensures { result ≡ left ++ fork.value.row ∷ fork.value.right }
     {
-        let (left_height, right_height) = (left.height(), right.height());
-        if left_height > right_height.saturating_add(1) {
-            Tree::turned_right(alloc, left, row, right)
-        } else if right_height > left_height.saturating_add(1) {
-            Tree::turned_left(alloc, left, row, right)
+        fork.left = left;
+        Tree::balanced(fork)
+    }
+
+    /// The same on the right.
+    pub(super) fn with_right(mut fork: Box<Fork>, right: Tree) -> Tree
+        ensures { result ≡ fork.value.left ++ fork.value.row ∷ right }
+    {
+        fork.right = right;
+        Tree::balanced(fork)
+    }
+
+    /// A fork as a tree. Its sides are balanced, and their heights differ by two at most.
+    fn balanced(fork: Box<Fork>) -> Tree
+        ensures { result ≡ fork.value.left ++ fork.value.row ∷ fork.value.right }
+    {
+        let (left, right) = (fork.left.height(), fork.right.height());
+        if left > right.saturating_add(1) {
+            Tree::turned_right(fork)
+        } else if right > left.saturating_add(1) {
+            Tree::turned_left(fork)
         } else {
-            Tree::joined(alloc, left, row, right)
+            Tree::joined(fork)
         }
     }
 
-    /// The same where the left tree is higher by two.
-    fn turned_right(
-        alloc: Global,
-        left: Tree,
-        row: SharedRow,
-        right: Tree,
-    ) -> Result<Tree, AllocError>
-        ensures { IfOk result (λ tree. tree ≡ left ++ row ∷ right) }
+    /// The same where the left side is higher by two.
+    fn turned_right(mut lower: Box<Fork>) -> Tree
+        ensures { result ≡ lower.value.left ++ lower.value.row ∷ lower.value.right }
     {
-        let Link::Fork(_, outer) = &left.root else {
-            return Tree::joined(alloc, left, row, right);
+        let left = lower.left.take();
+        let Link::Fork(_, _, mut upper) = left.root else {
+            return Tree::joined(lower);
         };
-        let outer = outer.as_ref();
-        let inner = match &outer.right.root {
-            Link::Fork(_, inner) if outer.right.height() > outer.left.height() => inner.as_ref(),
-            _ => {
-                let far = Tree::joined(alloc, outer.right.share()?, row, right)?;
-                return Tree::joined(alloc, outer.left.share()?, outer.row.share()?, far);
-            }
-        };
-        let near = Tree::joined(
-            alloc,
-            outer.left.share()?,
-            outer.row.share()?,
-            inner.left.share()?,
-        )?;
-        let far = Tree::joined(alloc, inner.right.share()?, row, right)?;
-        Tree::joined(alloc, near, inner.row.share()?, far)
+        if upper.right.height() > upper.left.height() {
+            let middle = upper.right.take();
+            upper = Tree::risen_right(upper, middle);
+        }
+        lower.left = upper.right.take();
+        upper.right = Tree::joined(lower);
+        Tree::joined(upper)
     }
 
-    /// The same where the right tree is higher by two.
-    fn turned_left(
-        alloc: Global,
-        left: Tree,
-        row: SharedRow,
-        right: Tree,
-    ) -> Result<Tree, AllocError>
-        ensures { IfOk result (λ tree. tree ≡ left ++ row ∷ right) }
+    /// The same where the right side is higher by two.
+    fn turned_left(mut lower: Box<Fork>) -> Tree
+        ensures { result ≡ lower.value.left ++ lower.value.row ∷ lower.value.right }
     {
-        let Link::Fork(_, outer) = &right.root else {
-            return Tree::joined(alloc, left, row, right);
+        let right = lower.right.take();
+        let Link::Fork(_, _, mut upper) = right.root else {
+            return Tree::joined(lower);
         };
-        let outer = outer.as_ref();
-        let inner = match &outer.left.root {
-            Link::Fork(_, inner) if outer.left.height() > outer.right.height() => inner.as_ref(),
-            _ => {
-                let near = Tree::joined(alloc, left, row, outer.left.share()?)?;
-                return Tree::joined(alloc, near, outer.row.share()?, outer.right.share()?);
-            }
+        if upper.left.height() > upper.right.height() {
+            let middle = upper.left.take();
+            upper = Tree::risen_left(upper, middle);
+        }
+        lower.right = upper.left.take();
+        upper.left = Tree::joined(lower);
+        Tree::joined(upper)
+    }
+
+    // The fork of the middle, which was taken from the right of the upper one, above that.
+    fn risen_right(mut upper: Box<Fork>, middle: Tree) -> Box<Fork>
+        requires { upper.value.right ≡ [] }
+        ensures { result.value.left ++ result.value.row ∷ result.value.right
+            ≡ upper.value.left ++ upper.value.row ∷ middle }
+    {
+        let Link::Fork(_, _, mut middle) = middle.root else {
+            return upper;
         };
-        let near = Tree::joined(alloc, left, row, inner.left.share()?)?;
-        let far = Tree::joined(
-            alloc,
-            inner.right.share()?,
-            outer.row.share()?,
-            outer.right.share()?,
-        )?;
-        Tree::joined(alloc, near, inner.row.share()?, far)
+        upper.right = middle.left.take();
+        middle.left = Tree::joined(upper);
+        middle
+    }
+
+    // The same with the middle from the left.
+    fn risen_left(mut upper: Box<Fork>, middle: Tree) -> Box<Fork>
+        requires { upper.value.left ≡ [] }
+        ensures { result.value.left ++ result.value.row ∷ result.value.right
+            ≡ middle ++ upper.value.row ∷ upper.value.right }
+    {
+        let Link::Fork(_, _, mut middle) = middle.root else {
+            return upper;
+        };
+        upper.left = middle.right.take();
+        middle.right = Tree::joined(upper);
+        middle
     }
 }

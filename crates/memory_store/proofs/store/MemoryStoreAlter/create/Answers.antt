@@ -1,20 +1,19 @@
-use Rattle.std.proofs.Common.{◌∙◌, ap, refl, true}
+use Rattle.std.proofs.Common.{refl, true}
 use Rattle.sqlite_trees.specs.Objects.{object_row}
 use Rattle.sqlite_trees.specs.Tree.{put_row}
 use Rattle.sqlite_trees.proofs.Doubt.{no_doubt}
-use Rattle.memory_store.specs.Content.{with_object}
-use Rattle.memory_store.proofs.Views.{shows}
+use Rattle.memory_store.specs.Content.{seen, with_object}
+use Rattle.memory_store.proofs.Views.{written}
 use Rattle.memory_store.proofs.store.MemoryStoreAlter.create.Goals as goal
 
-pub create-made-requires : goal.create-made-requires
-create-made-requires c = (c.requires (no_doubt true refl)).shaped
+pub create-requires : goal.create-requires
+create-requires c = (c.requires (no_doubt true refl)).shaped
 
 pub returns-clause-ok : goal.returns-clause-ok
 returns-clause-ok c _ =
-    let took = c.in_ok-content.ensures in
+    let s = c.args.self.now in
     let o = c.args.object.now in
     record {
       sound = refl;
-      is = shows c.args.self.now c.take.new.self c.create-made.new.self c.clear.new.self _ took.kept
-          (c.in_ok-made.ensures.ok ∙ ap (λ s. with_object s c.args.tree o.shape o.reals (put_row (object_row c.args.tree o))) took.ok);
+      is = written s (record s { history = c.create.new.self; cursors = c.clear.new.self }) (with_object (seen s.history.content) c.args.tree o.shape o.reals (put_row (object_row c.args.tree o))) c.create.ensures.kept c.in_ok-create.ensures.ok;
     }

@@ -1,9 +1,19 @@
+use Rattle.std.proofs.Common.{ap, ◌∙◌}
 use Rattle.std.proofs.lemmas.Int.{to_z-of_z}
-use Rattle.ordered_rows.proofs.Orders.{table_cut}
+use Rattle.ordered_rows.specs.Undos.{changed}
+use Rattle.ordered_rows.proofs.Orders.{rowid_removed, table_cut}
+use Rattle.ordered_rows.proofs.Placed.{none_removed, one_removed}
 use Rattle.ordered_rows.proofs.rows.OrderedRows.delete.Goals as goal
 
-pub take_out-requires : goal.take_out-requires
-take_out-requires c = rw c.self.view_is (table_cut _ _ c.requires.0)
+pub placed-requires : goal.placed-requires
+placed-requires c = table_cut _ _ c.requires.0
 
-pub returns-clause-ok : goal.returns-clause-ok
-returns-clause-ok c = rw (c.in_ok-take_out.ensures.ok, c.self.view_is, to_z-of_z _ c.args.id c.ranges.id)
+pub returns-then-found-clause-ok : goal.returns-then-found-clause-ok
+returns-then-found-clause-ok c =
+    let placed = rw c.if-found.true at c.in_ok-at.ensures.ok.1 in
+    (rowid_removed c.args.self.now c.args.id _ (to_z-of_z _ c.args.id c.ranges.id) (c.take_out.ensures.0 ∙ one_removed _ _ _ placed), c.take_out.ensures.1)
+
+pub returns-else-found-clause-ok : goal.returns-else-found-clause-ok
+returns-else-found-clause-ok c =
+    let placed = rw c.if-found.false at c.in_ok-at.ensures.ok.1 in
+    (rowid_removed c.args.self.now c.args.id _ (to_z-of_z _ c.args.id c.ranges.id) (none_removed _ _ _ placed), ap (λ change. changed change c.args.self.now) c.nothing.ensures)

@@ -1,5 +1,8 @@
 use Rattle.ordered_rows.proofs.Orders.{shape_seekable}
 use Rattle.ordered_rows.proofs.rows.OrderedRows.seek.Goals as goal
 
-pub at-requires : goal.at-requires
-at-requires c = rw (c.key_order.ensures, c.self.view_is) (shape_seekable c.args.shape c.args.key.now _ c.requires)
+pub rank_from-at-requires : goal.rank_from-at-requires
+rank_from-at-requires c = rw (c.new-sought.ensures.order, c.new-sought.ensures.row, c.key_order.ensures, c.self.view_is) (shape_seekable c.args.shape c.args.key.now _ c.requires)
+
+pub rank_up_to-at-requires : goal.rank_up_to-at-requires
+rank_up_to-at-requires c = rw (c.new-sought.ensures.order, c.new-sought.ensures.row, c.key_order.ensures, c.self.view_is) (shape_seekable c.args.shape c.args.key.now _ c.requires)

@@ -1,0 +1,135 @@
+//! Rows by their number, the first is 0: a look at one, and edits in place.
+
+ghost use Rattle.std.specs.Prelude.{◌≡◌, ◌∷◌, ◌++◌, ◌+◌, ◌<◌, ◌≤◌, []};
+ghost use Rattle.std.specs.Prelude.{MatchOption, drop, length, slice_set};
+ghost use Rattle.ordered_rows.specs.Edits.{inserted, removed};
+ghost use Rattle.ordered_rows.specs.Forks.{most};
+
+use super::{Fork, Link, Tree};
+use crate::kept::KeptRow;
+use std::cmp::Ordering;
+use std::mem;
+
+impl Tree {
+    /// The row with this number, if there is one.
+    pub(crate) fn nth(&self, at: u32) -> Option<&KeptRow>
+        requires { at < most }
+        ensures { MatchOption result (length self.now ≤ at)
+            (λ row. drop at self.now ≡ row.now ∷ drop (at + 1) self.now) }
+    {
+        let Link::Fork(_, _, fork) = &self.root else {
+            return None;
+        };
+        let fork = fork.as_ref();
+        let left = fork.left.count();
+        match at.cmp(&left) {
+            Ordering::Less => fork.left.nth(at),
+            Ordering::Equal => Some(&fork.row),
+            Ordering::Greater => fork.right.nth(at - left - 1),
+        }
+    }
+
+    /// The row of a fork before the row with this number. The fork becomes one of the tree's.
+    pub(crate) fn inserted(self, at: u32, mut new: Box<Fork>) -> Tree
+        requires { at < most }
+        ensures { result ≡ inserted at new.value.row self }
+    {
+        let Link::Fork(_, _, mut fork) = self.root else {
+            new.left = Tree::empty();
+            new.right = Tree::empty();
+            return Tree::joined(new);
+        };
+        let left = fork.left.count();
+        if at <= left {
+            let side = fork.left.take().inserted(at, new);
+            Tree::with_left(fork, side)
+        } else {
+            let side = fork.right.take().inserted(at - left - 1, new);
+            Tree::with_right(fork, side)
+        }
+    }
+
+    /// The tree without the row with this number, and the fork of that, if there is one.
+    pub(crate) fn removed(self, at: u32) -> (Tree, Option<Box<Fork>>)
+        requires { at < most }
+        ensures rest { result.0 ≡ removed at self }
+        ensures taken { MatchOption result.1 (length self ≤ at)
+            (λ fork. drop at self ≡ fork.value.row ∷ drop (at + 1) self) }
+    {
+        let Link::Fork(_, _, mut fork) = self.root else {
+            return (Tree::empty(), None);
+        };
+        let left = fork.left.count();
+        match at.cmp(&left) {
+            Ordering::Less => {
+                let (rest, taken) = fork.left.take().removed(at);
+                (Tree::with_left(fork, rest), taken)
+            }
+            Ordering::Equal => {
+                let left = fork.left.take();
+                let right = fork.right.take();
+                (Tree::merged(left, right), Some(fork))
+            }
+            Ordering::Greater => {
+                let (rest, taken) = fork.right.take().removed(at - left - 1);
+                (Tree::with_right(fork, rest), taken)
+            }
+        }
+    }
+
+    /// One tree after another, whose heights differ by one at most.
+    fn merged(left: Tree, right: Tree) -> Tree
+        ensures { result ≡ left ++ right }
+    {
+        match right.split_first() {
+            None => left,
+            Some((mut first, others)) => {
+                first.left = left;
+                Tree::with_right(first, others)
+            }
+        }
+    }
+
+    /// The fork of the first row, and the tree of the others.
+    fn split_first(self) -> Option<(Box<Fork>, Tree)>
+        ensures { MatchOption result (self ≡ []) (λ parts. self ≡ parts.0.value.row ∷ parts.1) }
+    {
+        let Link::Fork(_, _, mut fork) = self.root else {
+            return None;
+        };
+        match fork.left.take().split_first() {
+            None => {
+                let right = fork.right.take();
+                Some((fork, right))
+            }
+            Some((first, others)) => Some((first, Tree::with_left(fork, others))),
+        }
+    }
+
+    /// The tree with a new row over the one with this number, and the old one, if there is one.
+    pub(crate) fn replaced(self, at: u32, new: KeptRow) -> (Tree, Option<KeptRow>)
+        requires { at < most }
+        ensures after { result.0 ≡ slice_set self at new }
+        ensures taken { MatchOption result.1 (length self ≤ at)
+            (λ row. drop at self ≡ row ∷ drop (at + 1) self) }
+    {
+        let Link::Fork(_, _, mut fork) = self.root else {
+            return (Tree::empty(), None);
+        };
+        let left = fork.left.count();
+        match at.cmp(&left) {
+            Ordering::Less => {
+                let (side, taken) = fork.left.take().replaced(at, new);
+                (Tree::with_left(fork, side), taken)
+            }
+            Ordering::Equal => {
+                let old = mem::replace(&mut fork.row, new);
+                (Tree::joined(fork), Some(old))
+            }
+            Ordering::Greater => {
+                let (side, taken) = fork.right.take().replaced(at - left - 1, new);
+                (Tree::with_right(fork, side), taken)
+            }
+        }
+    }
+}
