@@ -1,6 +1,7 @@
+mod Examples
 pub mod Logs
-pub mod Shaped
-pub mod Seen
 pub mod Opened
+pub mod Seen
+pub mod Shaped
 pub mod Stands
 pub mod Views
