@@ -1,5 +1,5 @@
 -- Worked rows: a store with one table of two rows, and what its undo log leads back to.
-use Rattle.std.proofs.Common.{◌≡◌, [], ◌∷◌, arith, pos, refl, true}
+use Rattle.std.proofs.Common.{◌≡◌, [], ◌∷◌, arith, pos, refl}
 use Rattle.sqlite_value.specs.declared.value.Value.TheVariants.{Int}
 use Rattle.sqlite_value.specs.Order.{Row}
 use Rattle.sqlite_trees.specs.declared.store.Shape.TheVariants.{Table}
