@@ -5,4 +5,6 @@
 #[cfg(test)]
 mod definitions;
 #[cfg(test)]
+mod scripts;
+#[cfg(test)]
 mod values;
