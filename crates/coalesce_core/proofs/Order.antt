@@ -78,13 +78,6 @@ PrecedesWithGap-trans a b c p q = (
       ] refl,
 )
 
--- what precedes a row with a gap so precedes one of the same values and first day
-pub PrecedesWithGap-same_start :
-    (a b c : PeriodRow) → b.values ≡ c.values → b.period.start ≡ c.period.start
-    → PrecedesWithGap a b → PrecedesWithGap a c
-PrecedesWithGap-same_start a b c v s p =
-    ((λ i. ordering_then (values_cmp a.values (sym v i)) (int_cmp a.period.start (sym s i))) ∙ p.0, λ e. subst (λ d. a.period.end <ℤ d) s (p.1 (e ∙ sym v)))
-
 pub NotAfter-refl : (a : PeriodRow) → NotAfter a a
 NotAfter-refl a = ap is_lt (tied_itself answer_cmp_total a)
 

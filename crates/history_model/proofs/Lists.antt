@@ -1,6 +1,6 @@
 -- Lists by their elements: what a test leaves, what each element gives, and other orders of them.
-use Rattle.std.proofs.Common.{◌≡◌, zero, suc, List, [], ◌∷◌, ◌++◌, Bool, true, false, cond, Option, Some, None, map, refl, sym, ◌∙◌, ap, ap₂, subst, append_assoc, arith}
-use Rattle.std.specs.List.{All, filter, flat_map, filter_map}
+use Rattle.std.proofs.Common.{◌≡◌, zero, suc, List, [], ◌∷◌, ◌++◌, Bool, true, false, cond, map, refl, sym, ◌∙◌, ap, ap₂, subst, append_assoc, arith}
+use Rattle.std.specs.List.{All, filter, flat_map}
 use Rattle.std.specs.List.Sorted.{IsPermutation}
 use Rattle.std.proofs.lemmas.List.Concat.{flat_map-append}
 use Rattle.std.proofs.lemmas.List.Elements.{All-head, All-tail}
@@ -55,20 +55,6 @@ pub flat_map-nested : {X Y Z : Type 0} (f : Y → List Z) (g : X → List Y) (xs
 flat_map-nested f g [] = refl
 flat_map-nested f g (x ∷ xs) = flat_map-append f (g x) (flat_map g xs) ∙ ap (λ l. flat_map f (g x) ++ l) (flat_map-nested f g xs)
 
-abbrev pub option_of : {X Y : Type 0} → (X → List Y) → Option X → List Y
-option_of f None = []
-option_of f (Some x) = f x
-
--- what the elements give that are left of others
-pub flat_map-filter_map : {X Y Z : Type 0} (f : Y → List Z) (g : X → Option Y) (xs : List X) → flat_map f (filter_map g xs) ≡ flat_map (λ x. option_of f (g x)) xs
-flat_map-filter_map f g [] = refl
-flat_map-filter_map f g (x ∷ xs) = go (g x) refl (flat_map-filter_map f g xs)
-  where
-    go : (o : Option _) → g x ≡ o → flat_map f (filter_map g xs) ≡ flat_map (λ x. option_of f (g x)) xs
-        → flat_map f (filter_map g (x ∷ xs)) ≡ flat_map (λ x. option_of f (g x)) (x ∷ xs)
-    go None e ih = rw e ih
-    go (Some y) e ih = rw e (ap (λ l. f y ++ l) ih)
-
 pub exchange : {X : Type 0} (xs ys zs : List X) → IsPermutation (xs ++ (ys ++ zs)) (ys ++ (xs ++ zs))
 exchange xs ys zs =
     subst (λ l. IsPermutation l (ys ++ (xs ++ zs))) (append_assoc xs ys zs)
@@ -92,15 +78,6 @@ pub All-put : {X : Type 0} (P : X → Type 0) (x : X) (xs : List X) → P x → 
 All-put P x xs here rest zero d h = here
 All-put P x xs here rest (suc k) d h = rest k d (omega arith)
 
--- the elements that pass a test have what all have, and pass it
-pub All-filter : {X : Type 0} (P : X → Type 0) (p : X → Bool) (xs : List X) → All P xs → All P (filter p xs)
-All-filter P p [] h = h
-All-filter P p (x ∷ xs) h = go (p x) (All-filter P p xs (All-tail P x xs h))
-  where
-    go : (b : Bool) → All P (filter p xs) → All P (cond b (x ∷ filter p xs) (filter p xs))
-    go true rest = All-put P x (filter p xs) (All-head P x xs h) rest
-    go false rest = rest
-
 pub All-nothing : {X : Type 0} (P : X → Type 0) → All P []
 All-nothing P k d h = absurd (omega arith)
 
@@ -119,14 +96,6 @@ filter-whole p (x ∷ xs) h = go (p x) (All-head (λ x. p x ≡ true) x xs h) (f
     go : (b : Bool) → b ≡ true → filter p xs ≡ xs → cond b (x ∷ filter p xs) (filter p xs) ≡ x ∷ xs
     go true e ih = ap (λ l. x ∷ l) ih
     go false e ih = cc
-
-pub All-front : {X : Type 0} (P : X → Type 0) (xs ys : List X) → All P (xs ++ ys) → All P xs
-All-front P [] ys h = All-nothing P
-All-front P (x ∷ xs) ys h = All-put P x xs (All-head P x (xs ++ ys) h) (All-front P xs ys (All-tail P x (xs ++ ys) h))
-
-pub All-behind : {X : Type 0} (P : X → Type 0) (xs ys : List X) → All P (xs ++ ys) → All P ys
-All-behind P [] ys h = h
-All-behind P (x ∷ xs) ys h = All-behind P xs ys (All-tail P x (xs ++ ys) h)
 
 pub All-joined : {X : Type 0} (P : X → Type 0) (xs ys : List X) → All P xs → All P ys → All P (xs ++ ys)
 All-joined P [] ys h k = k

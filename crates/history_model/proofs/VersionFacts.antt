@@ -1,33 +1,23 @@
 -- What versions hold as of a moment: those that began then, and those that have not ended.
-use Rattle.std.proofs.Common.{◌≡◌, ◌&&◌, ◌<ℤ◌, ◌≤ℤ◌, ◌+◌, ap₂, ℕ, ℤ, Bool, true, false, cond, List, [], ◌∷◌, ◌++◌, map, filter, inl, inr, refl, sym, ◌∙◌, ap, arith}
+use Rattle.std.proofs.Common.{◌≡◌, ◌&&◌, ◌<ℤ◌, ◌≤ℤ◌, ◌+◌, ℤ, Bool, true, false, cond, List, [], ◌∷◌, ◌++◌, map, filter, inl, inr, refl, sym, ◌∙◌, ap, arith}
 use Rattle.std.specs.Prelude.{int_lt, int_le}
 use Rattle.std.specs.Ordering.{int_cmp, int_eq, is_eq}
 use Rattle.std.specs.declared.cmp.Ordering.{Ordering}
 use Rattle.std.specs.declared.cmp.Ordering.TheVariants.{Less, Equal, Greater}
-use Rattle.std.specs.List.{All, enumerate_from}
+use Rattle.std.specs.List.{All}
 use Rattle.std.proofs.lemmas.Cmp.{int_ranked}
 use Rattle.std.proofs.lemmas.Int.{ints}
-use Rattle.std.proofs.lemmas.List.{map-append}
-use Rattle.std.proofs.lemmas.List.Elements.{All-head, All-tail, filter-append}
+use Rattle.std.proofs.lemmas.List.Elements.{All-head, All-tail}
 use Rattle.std.specs.List.Sorted.{IsPermutation}
 use Rattle.std.proofs.lemmas.List.Sorted.{IsPermutation-map}
 use Rattle.temporal_model.proofs.Rearranged.{IsPermutation-filter}
 use Rattle.period_core.specs.Moments.{forever}
 use Rattle.period_core.specs.Windows.{window_sees}
 use Rattle.period_core.specs.declared.row.PeriodRow.{PeriodRow}
-use Rattle.period_core.specs.declared.value.Value.{Value}
 use Rattle.period_core.specs.declared.version.VersionRow.{VersionRow}
 use Rattle.period_core.specs.declared.window.Window.TheVariants.{AsOf, Now}
 use Rattle.temporal_model.specs.Snapshot.{covers_day, values_on}
-use Rattle.catalog_core.specs.declared.change.Action.TheVariants.{Insert}
-use Rattle.catalog_core.specs.declared.change.GivenRow.{GivenRow}
-use Rattle.history_model.specs.Effects.{Traced, given_covers, given_row, kept, traced}
-use Rattle.history_model.specs.Versions.{AreBegun, IsRecorded, PlainVersion, current, is_seen, plain_begun, plain_version, row_of, values_at}
-
-pub values_at-append : (xs ys : List VersionRow) (moment day : ℤ) → values_at (xs ++ ys) moment day ≡ values_at xs moment day ++ values_at ys moment day
-values_at-append xs ys moment day =
-    ap (map (λ (v : VersionRow). v.values)) (filter-append (is_seen (AsOf moment) day) xs ys)
-    ∙ map-append (λ (v : VersionRow). v.values) (filter (is_seen (AsOf moment) day) xs) (filter (is_seen (AsOf moment) day) ys)
+use Rattle.history_model.specs.Versions.{IsRecorded, current, is_seen, row_of, values_at}
 
 pub values_at-permutation : (xs ys : List VersionRow) (moment day : ℤ) → IsPermutation xs ys → IsPermutation (values_at xs moment day) (values_at ys moment day)
 values_at-permutation xs ys moment day p =
@@ -73,72 +63,6 @@ itself a = go (int_eq a a) refl
 one_more : {A B : Type 0} (f : A → B) (b : Bool) (x : A) (xs : List A) → map f (cond b (x ∷ xs) xs) ≡ cond b (f x ∷ map f xs) (map f xs)
 one_more f true x xs = refl
 one_more f false x xs = refl
-
-abbrev values_of : VersionRow → List Value
-values_of v = v.values
-
-abbrev traced_row : Traced → List Value
-traced_row t = t.row
-
--- a plain version is seen as of the moment, and holds on the day
-abbrev plain_seen : ℤ → ℤ → PlainVersion → Bool
-plain_seen moment day p = window_sees (AsOf moment) p.from p.to && covers_day p.start p.end day
-
--- the given rows that hold on the day, from the n-th on
-abbrev shown : ℕ → List GivenRow → ℤ → List (List Value)
-shown n given day = map traced_row (map given_row (filter (given_covers day) (enumerate_from n given)))
-
--- from their moment on the versions hold on each day what the given rows hold
-pub begun_later : (clock moment day : ℤ) → clock ≤ℤ moment → moment <ℤ forever → (n : ℕ) (given : List GivenRow) (versions : List VersionRow) → AreBegun clock given versions → values_at versions moment day ≡ shown n given day
-begun_later clock moment day late before n [] [] e = refl
-begun_later clock moment day late before n [] (v ∷ versions) e = cc
-begun_later clock moment day late before n (first ∷ given) [] e = cc
-begun_later clock moment day late before n (first ∷ given) (v ∷ versions) e =
-    let head : plain_version v ≡ plain_begun clock first = cc in
-    let tail : map plain_version versions ≡ map (plain_begun clock) given = cc in
-    let a : int_le clock moment ≡ true = grind (arith, ints) in
-    let b : int_lt moment forever ≡ true = grind (arith, ints) in
-    let covers = covers_day first.start first.end day in
-    let seen : is_seen (AsOf moment) day v ≡ covers = ap (plain_seen moment day) head ∙ ap (λ t. t && covers) (both (int_le clock moment) (int_lt moment forever) a b) in
-    let values : v.values ≡ first.values = ap (λ (p : PlainVersion). p.values) head in
-    let later = filter (is_seen (AsOf moment) day) versions in
-    let more = begun_later clock moment day late before (n + 1) given versions tail in
-    ap (λ t. map values_of (cond t (v ∷ later) later)) seen
-    ∙ one_more values_of covers v later
-    ∙ ap₂ (λ (w : List Value) (vs : List (List Value)). cond covers (w ∷ vs) vs) values more
-    ∙ sym (shown_more n first given)
-  where
-    shown_more : (n : ℕ) (first : GivenRow) (given : List GivenRow) → shown n (first ∷ given) day ≡ cond (covers_day first.start first.end day) (first.values ∷ shown (n + 1) given day) (shown (n + 1) given day)
-    shown_more n first given = go (given_covers day (n, first)) (filter (given_covers day) (enumerate_from (n + 1) given))
-      where
-        go : (b : Bool) (rest : List (ℕ × GivenRow)) → map traced_row (map given_row (cond b ((n, first) ∷ rest) rest)) ≡ cond b (first.values ∷ map traced_row (map given_row rest)) (map traced_row (map given_row rest))
-        go true rest = refl
-        go false rest = refl
-
--- and before it nothing
-pub begun_earlier : (clock moment day : ℤ) → moment <ℤ clock → (given : List GivenRow) (versions : List VersionRow) → AreBegun clock given versions → values_at versions moment day ≡ []
-begun_earlier clock moment day early [] [] e = refl
-begun_earlier clock moment day early [] (v ∷ versions) e = cc
-begun_earlier clock moment day early (first ∷ given) [] e = cc
-begun_earlier clock moment day early (first ∷ given) (v ∷ versions) e =
-    let head : plain_version v ≡ plain_begun clock first = cc in
-    let tail : map plain_version versions ≡ map (plain_begun clock) given = cc in
-    let a : int_le clock moment ≡ false = grind (arith, ints) in
-    let covers = covers_day first.start first.end day in
-    let seen : is_seen (AsOf moment) day v ≡ false = ap (plain_seen moment day) head ∙ ap (λ t. t && covers) (first_false (int_le clock moment) (int_lt moment forever) a) in
-    let later = filter (is_seen (AsOf moment) day) versions in
-    ap (λ t. map values_of (cond t (v ∷ later) later)) seen
-    ∙ begun_earlier clock moment day early given versions tail
-
-rows_of-kept : (rows : List (List Value)) → map traced_row (map kept rows) ≡ rows
-rows_of-kept [] = refl
-rows_of-kept (row ∷ rows) = ap (λ (rest : List (List Value)). row ∷ rest) (rows_of-kept rows)
-
--- what INSERT makes of a day's rows: those that were there, and those of the given rows that hold
-pub rows_of-inserted : (given : List GivenRow) (rows : List (List Value)) (day : ℤ) → map traced_row (traced (Insert given) day rows) ≡ rows ++ shown 0 given day
-rows_of-inserted given rows day =
-    map-append traced_row (map kept rows) (map given_row (filter (given_covers day) (enumerate_from 0 given)))
-    ∙ ap (λ (kept_rows : List (List Value)). kept_rows ++ shown 0 given day) (rows_of-kept rows)
 
 -- ---- the last moment
 

@@ -8,7 +8,6 @@ use Rattle.period_core.specs.declared.version.VersionRow.{VersionRow}
 use Rattle.period_core.specs.declared.window.Window.{Window}
 use Rattle.period_core.specs.declared.window.Window.TheVariants.{AsOf, Now}
 use Rattle.temporal_model.specs.Snapshot.{covers_day}
-use Rattle.catalog_core.specs.declared.change.GivenRow.{GivenRow}
 
 -- the last moment that a clock may show: that before FOREVER
 abbrev pub last_moment : ℤ
@@ -59,17 +58,3 @@ plain_version v = record {
   from = v.from;
   to = v.to;
 }
-
--- a given row as it is added at a moment: it begins then, and has not ended
-abbrev pub plain_begun : ℤ → GivenRow → PlainVersion
-plain_begun moment given = record {
-  values = given.values;
-  start = given.start;
-  end = given.end;
-  from = moment;
-  to = forever;
-}
-
--- the versions are the given rows, added at the moment
-abbrev pub AreBegun : ℤ → List GivenRow → List VersionRow → Type 0
-AreBegun moment given versions = map plain_version versions ≡ map (plain_begun moment) given

@@ -1,6 +1,6 @@
 -- An undo log with one entry more or less.
 use Rattle.std.proofs.Common.{◌≡◌, ◌+◌, ◌-◌, ◌∙◌, [], ◌∷◌, ◌++◌, List, ap, append_assoc, arith, drop, false, get_or, length, refl, set, sym, take, true≢false, ℕ}
-use Rattle.std.proofs.lemmas.List.{append-nil, drop_at, drop_more, length-append, length-take-le, set_at, take-append-drop, take_at}
+use Rattle.std.proofs.lemmas.List.{append-nil, drop_more, length-append, length-take-le, set_at, take-append-drop}
 use Rattle.std.proofs.Math.Seq.{get_or-append_seam}
 use Rattle.std.proofs.Math.Logic.{∥∥₁_map}
 use Rattle.sqlite_trees.specs.View.{Snapshot}
@@ -143,22 +143,11 @@ undone_marks log n s none =
 shorter_with : {X : Type 0} (xs : List X) → xs ≡ shorter xs ++ drop (length xs - 1) xs
 shorter_with xs = sym (take-append-drop (length xs - 1) xs)
 
-pub last_entry : (log us : List Undo) (u : Undo) (s : Stand) → log ≡ us ++ u ∷ [] → before_all (drop (length log - 1) log) s ≡ before u s
-last_entry log us u s is =
-    ap (λ l. before_all (drop (length l - 1) l) s) is
-    ∙ ap (λ l. before_all l s) (drop_at us (u ∷ []) (length (us ++ u ∷ []) - 1) (omega (arith, length-append us (u ∷ []))))
-
-pub shorter_log : (log us : List Undo) (u : Undo) → log ≡ us ++ u ∷ [] → us ≡ shorter log
-shorter_log log us u is = sym (ap shorter is ∙ shorter_push us u)
-
 -- so far the log was undone to here
 pub record IsUndone (first now : List Undo) (from to : Stand) : Type 0 where
   pub done : List Undo
   pub is : first ≡ now ++ done
   pub stand : to ≡ before_all done from
-
-pub not_yet : (log : List Undo) (s : Stand) → IsUndone log log s s
-not_yet log s = record { done = []; is = sym (append-nil log); stand = refl }
 
 pub once_more : (first now next : List Undo) (from to then_ : Stand) → IsUndone first now from to → next ≡ shorter now → then_ ≡ before_all (drop (length now - 1) now) to → IsUndone first next from then_
 once_more first now next from to then_ h log stands =
@@ -168,9 +157,3 @@ once_more first now next from to then_ h log stands =
       is = h.is ∙ ap (λ l. l ++ h.done) (shorter_with now) ∙ append_assoc (shorter now) last h.done ∙ ap (λ l. l ++ (last ++ h.done)) (sym log);
       stand = stands ∙ ap (before_all last) h.stand ∙ sym (before_append last h.done from);
     }
-
-pub undone_log : (first now : List Undo) (from to : Stand) (n : ℕ) → IsUndone first now from to → length now ≡ n → now ≡ take n first
-undone_log first now from to n h is = sym (ap (take n) h.is ∙ take_at now h.done n is)
-
-pub undone_stand : (first now : List Undo) (from to : Stand) (n : ℕ) → IsUndone first now from to → length now ≡ n → to ≡ before_all (drop n first) from
-undone_stand first now from to n h is = h.stand ∙ ap (λ us. before_all us from) (sym (ap (drop n) h.is ∙ drop_at now h.done n is))

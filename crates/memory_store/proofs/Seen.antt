@@ -9,11 +9,10 @@ use Rattle.sqlite_trees.specs.declared.schema.Object.{Object}
 use Rattle.sqlite_trees.specs.declared.store.Shape.{Shape}
 use Rattle.sqlite_trees.specs.declared.store.Shape.TheVariants.{Absent, Table}
 use Rattle.sqlite_trees.specs.Listing.{Heading, no_heading, objects_from, objects_from-push, objects_from-set, reals_in, reals_unless_absent, shape_in}
-use Rattle.sqlite_trees.specs.Memory.{snapshot_of}
 use Rattle.sqlite_trees.specs.Objects.{catalog_tree, description, object_row, set_at, version_rows, version_tree, with_version}
 use Rattle.sqlite_trees.specs.Tree.{Trees, put_row, with_tree}
 use Rattle.sqlite_trees.specs.View.{Snapshot}
-use Rattle.sqlite_trees.proofs.StoreLemmas.{get_or-set_cases, named, present_reals, unnumbered, version_twice}
+use Rattle.sqlite_trees.proofs.StoreLemmas.{get_or-set_cases, named, present_reals, unnumbered}
 use Rattle.memory_store.specs.declared.tree.Tree.{Tree}
 use Rattle.memory_store.specs.declared.content.Content.{Content}
 use Rattle.memory_store.specs.Content.{HasPlaced, MayList, heading, rows_of, seen, seen_in, with_edit, with_listed, with_object}
@@ -143,9 +142,6 @@ module _ (trees : List Tree) (version t : ℕ) (it : Tree) (low : t < 2 ^ 32) (w
 
 -- ---- trees that are seen alike
 
-pub seen_alike : (a b : List Tree) (version : ℕ) → map heading a ≡ map heading b → map (λ (y : Tree). y.rows) a ≡ map (λ (y : Tree). y.rows) b → seen_in a version ≡ seen_in b version
-seen_alike a b version headings rows = λ i. snapshot_of (headings i) (λ t. get_or (rows i) t []) version
-
 get_or-default_last : {X : Type 0} (xs : List X) (d : X) (k : ℕ) → get_or (xs ++ d ∷ []) k d ≡ get_or xs k d
 get_or-default_last [] d zero = refl
 get_or-default_last [] d (suc k) = refl
@@ -173,10 +169,6 @@ seen_placed old new t it low placed empty shape reals kind bits edit listed =
     (λ i. seen_in (placed.is i) (placed.version i))
     ∙ seen_object placed.room old.version t it low placed.within empty edit listed
     ∙ (λ i. with_object (placed.same i) t (kind i) (bits i) edit)
-
--- the version was set
-pub seen_version : (trees : List Tree) (old new : ℕ) → seen_in trees new ≡ with_edit (seen_in trees old) version_tree (λ _. version_rows new)
-seen_version trees old new = λ i. record (seen_in trees old) { trees = version_twice (with_tree (rows_of trees) catalog_tree (objects_from 0 (map heading trees))) old new i }
 
 -- one more object was listed
 pub listed_more : (s : Snapshot) (done : List (ℕ × Object)) (change : ℕ × Object) → with_listed (with_listed s done) (change ∷ []) ≡ with_listed s (done ++ change ∷ [])

@@ -1,7 +1,7 @@
 -- From the days of two periods to their starts and ends: each is seen at a first or a last day.
 use Rattle.std.proofs.Common.{◌≡◌, ◌≤ℤ◌, ◌<ℤ◌, ◌-ℤ◌, ℤ, pos, arith}
 use Rattle.std.proofs.lemmas.Int.{ints, by_lt_z}
-use Rattle.period_core.specs.DaySets.{AreEqual, Contain, InPeriod, IsAfter, IsBefore, Meet, Overlap, Precede}
+use Rattle.period_core.specs.DaySets.{InPeriod, IsAfter, IsBefore, Meet, Overlap, Precede}
 use Rattle.period_core.specs.declared.period.Period.{Period}
 
 -- a day of a period is from its start on and before its end
@@ -34,34 +34,6 @@ pub overlap_left : (x y : Period) → Overlap x y → x.start <ℤ y.end
 overlap_left x y (day, both) =
     let from : x.start ≤ℤ day = days_from x day both.0 in
     let to : day <ℤ y.end = days_to y day both.1 in omega (arith, ints)
-
-pub contain_start : (x y : Period) → Contain x y → x.start ≤ℤ y.start
-contain_start x y h = days_from x y.start (h y.start (first_in y))
-
-pub contain_end : (x y : Period) → Contain x y → y.end ≤ℤ x.end
-contain_end x y h = let k : last y <ℤ x.end = days_to x (last y) (h (last y) (last_in y)) in omega (arith, ints)
-
-pub contain_by : (x y : Period) → x.start ≤ℤ y.start → y.end ≤ℤ x.end → Contain x y
-contain_by x y h k day inside =
-    let from : y.start ≤ℤ day = days_from y day inside in
-    let to : day <ℤ y.end = days_to y day inside in
-    day_in x day (omega (arith, ints)) (omega (arith, ints))
-
-pub equal_start : (x y : Period) → AreEqual x y → x.start ≡ y.start
-equal_start x y h =
-    let k : x.start ≤ℤ y.start = contain_start x y (λ day inside. (h day).1 inside) in
-    let l : y.start ≤ℤ x.start = contain_start y x (λ day inside. (h day).0 inside) in omega (arith, ints)
-
-pub equal_end : (x y : Period) → AreEqual x y → x.end ≡ y.end
-equal_end x y h =
-    let k : y.end ≤ℤ x.end = contain_end x y (λ day inside. (h day).1 inside) in
-    let l : x.end ≤ℤ y.end = contain_end y x (λ day inside. (h day).0 inside) in omega (arith, ints)
-
-pub equal_by : (x y : Period) → x.start ≡ y.start → x.end ≡ y.end → AreEqual x y
-equal_by x y h k day = (
-  λ inside. contain_by y x (omega (arith, ints)) (omega (arith, ints)) day inside,
-  λ inside. contain_by x y (omega (arith, ints)) (omega (arith, ints)) day inside,
-)
 
 pub before_by : (y : Period) (day : ℤ) → IsBefore day y → day <ℤ y.start
 before_by y day h = h y.start (first_in y)

@@ -21,7 +21,6 @@ pub mod PlanParts
 pub mod FaultFacts
 pub mod ReferenceFacts
 pub mod TableLists
-pub mod CurrentFacts
 pub mod Earlier
 pub mod StateFacts
 pub mod Partly

@@ -11,8 +11,8 @@ use Rattle.period_core.specs.declared.row.PeriodRow.{PeriodRow}
 use Rattle.period_keys.specs.declared.keyed_periods.KeyedPeriods.{KeyedPeriods}
 use Rattle.period_keys.specs.Keys.{IsWithin, BothHold, key_values, ShareKeyOn, IsKeyClash, HasNoClash}
 use Rattle.period_keys.specs.Index.{periods_at, has_key, periods_of_key, AreAtKeys, IsIndexOf, SharesDayOfKept, MeetsKept, AddsClash}
-use Rattle.period_keys.proofs.Members.{some_member, member_of, Any-one, in_filter, from_filter, in_map, from_map}
-use Rattle.period_keys.proofs.Pairs.{SomeCross, SomePair-append, SomePair-left, SomePair-right, SomePair-cross, SomePair-one, SomePair-permutation}
+use Rattle.period_keys.proofs.Members.{some_member, member_of, in_filter, from_filter, in_map, from_map}
+use Rattle.period_keys.proofs.Pairs.{SomeCross, SomePair-append, SomePair-left, SomePair-right, SomePair-cross, SomePair-permutation}
 
 abbrev pub period_of : PeriodRow → Period
 period_of row = row.period
@@ -72,24 +72,6 @@ clash_of_both positions rows others day =
         | inr (inl cross) ↦ SomePair-cross R rows others ((cross_by_key positions rows others day).1 cross)
         | inr (inr second) ↦ SomePair-right R rows others second
       ],
-    )
-
--- with one row more
-pub clash_of_more :
-    (positions : List ℕ) (rows : List PeriodRow) (row : PeriodRow) (day : ℤ)
-    → (IsKeyClash positions (rows ++ row ∷ []) day
-    ↔ (IsKeyClash positions rows day ⊎ SharesDay (periods_of_key positions rows (key_values positions row)) row.period day))
-clash_of_more positions rows row day =
-    let P : PeriodRow → Type 0 = λ (row : PeriodRow). SharesDay (periods_of_key positions rows (key_values positions row)) row.period day in (
-      λ h. elim ((clash_of_both positions rows (row ∷ []) day).0 h) [
-        | inl first ↦ inl first
-        | inr (inl cross) ↦ inr ((Any-one P row).0 cross)
-        | inr (inr one) ↦ absurd (SomePair-one (ShareKeyOn positions day) row one)
-      ],
-      λ h. (clash_of_both positions rows (row ∷ []) day).1 (elim h [
-        | inl first ↦ inl first
-        | inr shares ↦ inr (inl ((Any-one P row).1 shares))
-      ]),
     )
 
 -- what is at a key is what its rows have

@@ -18,14 +18,6 @@ abbrev pub NoneBelow : List Period → List Period → Period → ℕ → Type 0
 NoneBelow periods gone period i =
     (k : ℕ) (d : Period) (day : ℤ) → k < i → Kept gone period day (get_or periods k d) → ⊥
 
--- those that end by the period's start do not
-pub none_near : (periods gone : List Period) (period : Period) (i : ℕ) → ((k : ℕ) (d : Period) → k < i → (get_or periods k d).end ≤ℤ period.start) → NoneBelow periods gone period i
-none_near periods gone period i ends k d day lt p =
-    let to : day <ℤ (get_or periods k d).end = p.0.1.1 in
-    let from : period.start ≤ℤ day = p.0.0.0 in
-    let end : (get_or periods k d).end ≤ℤ period.start = ends k d lt in
-    omega (arith, ints)
-
 pub none_more :
     (periods gone : List Period) (period : Period) (i : ℕ) (x : Period) → i < length periods → x ≡ get_or periods i x
     → ((day : ℤ) → Kept gone period day x → ⊥) → NoneBelow periods gone period i → NoneBelow periods gone period (i + 1)
@@ -60,11 +52,6 @@ none_past periods gone period i x order below is past none day (k, y, inside, at
             omega (arith, ints)
       ]
     ]
-
-pub none_all :
-    (periods gone : List Period) (period : Period) (i : ℕ) → length periods ≤ i → NoneBelow periods gone period i
-    → (day : ℤ) → SharesDayOfKept periods gone period day → ⊥
-none_all periods gone period i all none day (k, y, inside, at, p) = none k y day (omega arith) (subst (Kept gone period day) (sym at) p)
 
 -- the first one that does, where they are apart
 pub found_least :

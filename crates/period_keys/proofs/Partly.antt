@@ -52,9 +52,6 @@ partly_down first second xs i w inside partly new = λ k d below.
       ],
     )
 
-pub partly_none : (first second : List PeriodRow) (xs : List PeriodIndex) → EachIndexes second xs → PartlyIndex first second xs 0
-partly_none first second xs each = λ k d below. (λ less. absurd (omega arith), λ ge. each k d below)
-
 pub partly_each : (first second : List PeriodRow) (xs : List PeriodIndex) (i : ℕ) → length xs ≤ i → EachIndexes first xs → PartlyIndex first second xs i
 partly_each first second xs i all each = λ k d below. (λ less. each k d below, λ ge. absurd (omega arith))
 

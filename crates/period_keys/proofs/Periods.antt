@@ -4,8 +4,7 @@ use Rattle.std.specs.List.Sorted.{IsPermutation}
 use Rattle.std.proofs.lemmas.List.Sorted.{IsPermutation-refl}
 use Rattle.std.specs.Option.{option_map_or}
 use Rattle.std.specs.Ordering.{eq_by_cmp}
-use Rattle.std.specs.BTreeMap.{BTreeMap, get, Updates, is_at}
-use Rattle.std.specs.Map.{lookup}
+use Rattle.std.specs.BTreeMap.{BTreeMap, get, Updates}
 use Rattle.period_core.specs.Order.{values_cmp}
 use Rattle.period_core.specs.OrderLaws.{values_eq}
 use Rattle.period_core.specs.declared.value.Value.{Value}
@@ -46,9 +45,6 @@ read_there items m key v e = ap (λ o. option_map_or items o []) (sym e)
 
 pub read_absent : {V : Type 0} (items : V → List Period) (m : BTreeMap (List Value) V) (key : List Value) → get values_cmp m key ≡ None → read items m key ≡ []
 read_absent items m key e = ap (λ o. option_map_or items o []) e
-
-pub read_entries : {V : Type 0} (items : V → List Period) (m n : BTreeMap (List Value) V) (key : List Value) → n.entries ≡ m.entries → read items n key ≡ read items m key
-read_entries items m n key e = ap (λ es. option_map_or items (lookup (is_at (values_cmp key)) es) []) e
 
 pub cond_same : {X : Type 0} (b : Bool) (x : X) → cond b x x ≡ x
 cond_same true x = refl

@@ -63,14 +63,6 @@ fault_by_parent catalog before change number child reference parent found is lea
       λ (other, other_is, h). subst (λ p. Lacks p day) (definition_is other parent (sym other_is ∙ is)) h,
     )) found least
 
--- a reference without a parent gives none
-pub fault_without_parent : (catalog : List TableDef) (before : State) (change : Change) (number : ℕ) (child : TableDef) (reference : Reference)
-    → table_of catalog reference.parent ≡ None → IsLeastOf (λ day. IsFaultBy catalog before change number child day reference) None
-fault_without_parent catalog before change number child reference none day (parent, is, lacks) = nothing parent (sym is ∙ none)
-  where
-    nothing : (p : TableDef) → Some p ≡ None → ⊥
-    nothing p e = cc
-
 -- nor does one that neither is of the changed table nor refers to it
 pub fault_elsewhere : (catalog : List TableDef) (before : State) (change : Change) (number : ℕ) (child : TableDef) (reference : Reference) → IsLawfulState catalog before
     → table_of catalog number ≡ Some child → Contains child.references reference → (number ≡ change.table → ⊥) → (reference.parent ≡ change.table → ⊥)

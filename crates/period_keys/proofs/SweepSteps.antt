@@ -105,10 +105,6 @@ turn rows n latest found more new first row order below place is_first is_row la
     (subst (IsLeastOf (λ day. RepeatsBelow rows n day ⊎ NewPair rows n day)) (sym new_is)
     (IsLeastOf-either (RepeatsBelow rows n) (NewPair rows n) found more so_far newest))
 
--- before the second entry there is no pair
-pub none_below : (rows : List PeriodRow) → IsLeastOf (RepeatsBelow rows 1) None
-none_below rows = λ day (i, j, lt, below, both). omega arith
-
 -- the entries passed are all
 pub found_all : (rows : List PeriodRow) (n : ℕ) (found : Option ℤ) → length rows ≤ n → (1 < n → n ≤ length rows) → IsLeastOf (RepeatsBelow rows n) found → IsLeastOf (Repeats rows) found
 found_all rows n found all bound so_far =

@@ -4,15 +4,14 @@ use Rattle.std.specs.List.{Contains, slice_get}
 use Rattle.std.proofs.Math.Seq.{map-set_same}
 use Rattle.std.proofs.lemmas.Bool.{cases_eq}
 use Rattle.std.proofs.lemmas.Option.{get_or_from_slice_get, slice_get_within}
-use Rattle.period_core.specs.declared.version.VersionRow.{VersionRow}
 use Rattle.catalog_core.specs.table.TableWords.{table_of}
 use Rattle.catalog_core.specs.declared.table.Reference.{Reference}
 use Rattle.catalog_core.specs.declared.table.TableDef.{TableDef}
 use Rattle.std.proofs.lemmas.List.{length-map, take_all}
 use Rattle.period_keys.proofs.Loops.{none_left}
-use Rattle.period_keys.specs.Current.{AreParentsIndexed, AreReferencesIndexed, HaveIndexes, HaveMoreIndexes, HaveTableRows, IsIndexed, IsIndexedAsChild, IsIndexedBy, ReferToEarlier, rows_by_key}
+use Rattle.period_keys.specs.Current.{AreParentsIndexed, AreReferencesIndexed, HaveIndexes, HaveMoreIndexes, IsIndexed, IsIndexedAsChild, IsIndexedBy, ReferToEarlier, rows_by_key}
 use Rattle.period_keys.specs.Lawful.{own_positions, parent_positions}
-use Rattle.period_keys.specs.Rows.{HasRows, RowsByKey}
+use Rattle.period_keys.specs.Rows.{RowsByKey}
 use Rattle.period_keys.specs.TableRows.{HasMoreIndexes, TableRows}
 
 value_is : {T : Type 0} (x y : T) → Some x ≡ Some y → x ≡ y
@@ -48,21 +47,6 @@ more_cases [] t x zero there = inr (refl, sym (value_is t x there))
 more_cases [] t x (suc place) there = cc
 more_cases (y ∷ ts) t x zero there = inl there
 more_cases (y ∷ ts) t x (suc place) there = elim (more_cases ts t x place there) [ inl first ↦ inl first | inr (last, is) ↦ inr (ap suc last, is) ]
-
--- ---- rows of one table
-
-pub have_rows_set : (ts : List RowsByKey) (place : ℕ) (old new : RowsByKey) (wanted : List VersionRow) → slice_get ts place ≡ Some old → HasRows wanted old new → HaveTableRows (suc place) wanted ts (set ts place new)
-have_rows_set ts place old new wanted there has = record {
-  there = λ table is. (
-    new,
-    set_here ts place new (slice_get_within ts place old there),
-    subst (λ (t : RowsByKey). HasRows wanted t new) (value_is old table (sym there ∙ is)) has,
-  );
-  others = others;
-} where
-  others : (other : ℕ) → (other ≡ suc place → ⊥) → table_of (set ts place new) other ≡ table_of ts other
-  others zero off = refl
-  others (suc other) off = set_elsewhere ts place other new (λ same. off (ap suc same))
 
 -- ---- more indexes
 

@@ -113,6 +113,3 @@ left_in_the_end current plan index next first rows past passed e test is =
       taken = subst (λ l. IsPermutation current (l ++ stay)) (sym is) (IsPermutation-filter_both test (λ v. not (test v)) (λ v. refl) current);
       rest = same_order rows (map row_of stay ++ plan.added) (e ∙ ap (λ l. l ++ plan.added) kept);
     }
-
-pub Passed-start : (current ended : List VersionRow) → Passed current ended 0 0 []
-Passed-start current ended = record { low = omega arith; ahead = λ test is. is; kept = λ test is. refl }

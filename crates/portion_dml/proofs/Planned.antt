@@ -1,45 +1,17 @@
 -- One version more in a plan.
-use Rattle.std.proofs.Common.{◌≡◌, ◌+◌, ◌<◌, ℕ, Bool, true, cond, List, [], ◌∷◌, ◌++◌, map, refl, sym, ◌∙◌, ap, take, length, get_or, append-nil}
+use Rattle.std.proofs.Common.{◌≡◌, ◌+◌, ◌<◌, ℕ, true, List, [], ◌∷◌, ◌++◌, map, refl, sym, ◌∙◌, ap, take, length, get_or, append-nil}
 use Rattle.std.specs.List.{filter, flat_map}
 use Rattle.std.proofs.lemmas.List.{map-append, take_more}
-use Rattle.std.proofs.lemmas.List.Concat.{flat_map-append}
-use Rattle.std.proofs.lemmas.List.Elements.{filter-append}
 use Rattle.period_core.specs.declared.version.VersionRow.{VersionRow}
-use Rattle.history_model.specs.Effects.{given_of}
 use Rattle.history_model.specs.Portions.{plain_given, plain_row, replacements}
 use Rattle.portion_dml.specs.Plans.{Plans, version_row}
 use Rattle.catalog_core.specs.declared.change.Action.{Action}
-use Rattle.catalog_core.specs.declared.change.Action.TheVariants.{Insert, Update, Delete}
+use Rattle.catalog_core.specs.declared.change.Action.TheVariants.{Insert}
 use Rattle.catalog_core.specs.declared.change.GivenRow.{GivenRow}
 use Rattle.portion_dml.proofs.Daily.{touched}
 use Rattle.period_core.specs.declared.row.PeriodRow.{PeriodRow}
 use Rattle.catalog_core.specs.change.Resolution.{has_empty_row, is_empty_row}
-use Rattle.portion_dml.specs.Plans.{IsDelete, IsUpdate}
 use Rattle.std.proofs.lemmas.List.Folds.{list_any_at}
-
-pub filter_more : (action : Action) (current : List VersionRow) (index : ℕ) (version : VersionRow) (b : Bool) → index < length current → version ≡ get_or current index version
-    → touched action version ≡ b → filter (touched action) (take (index + 1) current) ≡ filter (touched action) (take index current) ++ cond b (version ∷ []) []
-filter_more action current index version b inside its is =
-    ap (filter (touched action)) (take_more current index version inside ∙ ap (λ (v : VersionRow). take index current ++ v ∷ []) (sym its))
-    ∙ filter-append (touched action) (take index current) (version ∷ [])
-    ∙ ap (λ t. filter (touched action) (take index current) ++ cond t (version ∷ []) []) is
-
-pub replaced_more : (action : Action) (ended : List VersionRow) (version : VersionRow)
-    → flat_map (replacements action) (map version_row (ended ++ version ∷ [])) ≡ flat_map (replacements action) (map version_row ended) ++ replacements action (version_row version)
-replaced_more action ended version =
-    ap (flat_map (replacements action)) (map-append version_row ended (version ∷ []))
-    ∙ flat_map-append (replacements action) (map version_row ended) (version_row version ∷ [])
-    ∙ ap (λ l. flat_map (replacements action) (map version_row ended) ++ l) (append-nil (replacements action (version_row version)))
-
-pub update_gives_none : (action : Action) → IsUpdate action → given_of action ≡ []
-update_gives_none (Insert given) h = absurd h
-update_gives_none (Update portion assignments condition) h = refl
-update_gives_none (Delete portion condition) h = refl
-
-pub delete_gives_none : (action : Action) → IsDelete action → given_of action ≡ []
-delete_gives_none (Insert given) h = absurd h
-delete_gives_none (Update portion assignments condition) h = refl
-delete_gives_none (Delete portion condition) h = refl
 
 -- INSERT touches no version
 pub none_touched : (given : List GivenRow) (current : List VersionRow) → filter (touched (Insert given)) current ≡ []

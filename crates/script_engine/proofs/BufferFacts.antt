@@ -2,7 +2,6 @@
 use Rattle.std.proofs.Common.{◌++◌, ◌∙◌, ℕ, List, [], Option, Some, None, Result, Ok, Err, refl, sym, append_assoc}
 use Rattle.std.specs.Prelude.{OnOk}
 use Rattle.std.specs.Io.KnownBytes.{Appends, append_known}
-use Rattle.std.proofs.lemmas.List.{append-nil}
 
 -- before the first text
 pub kept-start : (known : Option (List ℕ)) → Appends known (append_known known []) []
@@ -13,12 +12,6 @@ kept-start (Some xs) = refl
 pub kept-more : (known : Option (List ℕ)) (texts text : List ℕ) → Appends (append_known known texts) (append_known known (texts ++ text)) text
 kept-more None texts text = tt
 kept-more (Some xs) texts text = sym (append_assoc xs texts text)
-
--- one text more, and all are written
-pub kept-written : (old new : Option (List ℕ)) (texts text : List ℕ) → Appends old new (texts ++ text) → Appends (append_known old texts) (append_known new []) text
-kept-written None new texts text h = tt
-kept-written (Some xs) None texts text h = absurd h
-kept-written (Some xs) (Some ys) texts text h = append-nil ys ∙ h ∙ sym (append_assoc xs texts text)
 
 all-written : (old mid new : Option (List ℕ)) (texts whole : List ℕ) → Appends old (append_known mid texts) whole → Appends mid new texts → Appends old new whole
 all-written None mid new texts whole before last = tt

@@ -5,7 +5,7 @@ use Rattle.std.specs.List.Sorted.{IsPermutation}
 use Rattle.std.specs.Option.{option_map_or}
 use Rattle.std.proofs.lemmas.Bool.Decides.{nat_tests}
 use Rattle.std.proofs.lemmas.List.{map-append}
-use Rattle.std.proofs.lemmas.List.Sorted.{IsPermutation-map, IsPermutation-refl, IsPermutation-sym, IsPermutation-trans}
+use Rattle.std.proofs.lemmas.List.Sorted.{IsPermutation-map, IsPermutation-sym, IsPermutation-trans}
 use Rattle.period_core.specs.declared.version.VersionRow.{VersionRow}
 use Rattle.period_core.specs.Windows.{window_sees}
 use Rattle.period_core.specs.declared.window.Window.TheVariants.{Now}
@@ -85,9 +85,6 @@ have_rows_set ts place old new wanted there has = record {
     others : (other : ℕ) → (other ≡ suc place → ⊥) → rows_in (set ts place new) other ≡ rows_in ts other
     others zero off = refl
     others (suc other) off = set_elsewhere ts place other new (λ same. off (ap suc same))
-
-pub have_rows_same : (number : ℕ) (ts : List RowsByKey) → HaveRows number (rows_in ts number) ts ts
-have_rows_same number ts = record { keys = refl; there = IsPermutation-refl (rows_in ts number); others = λ other off. refl }
 
 -- ---- a table's versions have changed, and its rows in memory with them
 

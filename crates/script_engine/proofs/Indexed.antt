@@ -1,11 +1,10 @@
 -- The tables in memory follow a catalog: with more indexes, with one table written, and without the last.
-use Rattle.std.proofs.Common.{◌≡◌, ◌<◌, ◌≤◌, ◌-◌, ◌++◌, ◌∷◌, ◌∙◌, ℕ, zero, suc, List, [], None, Some, Result, Ok, Err, OnErr, OnOk, inl, inr, length, length-append, map, refl, set, sym, take, ap, ap₂, subst, arith}
+use Rattle.std.proofs.Common.{◌≡◌, ◌<◌, ◌≤◌, ◌-◌, ◌++◌, ◌∷◌, ◌∙◌, ℕ, zero, suc, List, [], Some, Result, Ok, Err, OnErr, OnOk, inl, inr, length, length-append, map, refl, set, sym, take, ap, ap₂, subst, arith}
 use Rattle.std.specs.List.{slice_get}
 use Rattle.std.specs.List.Sorted.{IsPermutation}
 use Rattle.std.proofs.lemmas.List.Sorted.{IsPermutation-append_right, IsPermutation-trans}
 use Rattle.std.proofs.lemmas.List.{length-map, length-set, map-set}
 use Rattle.std.proofs.lemmas.Option.{slice_get_within}
-use Rattle.period_core.specs.declared.row.PeriodRow.{PeriodRow}
 use Rattle.period_core.specs.declared.version.VersionRow.{VersionRow}
 use Rattle.catalog_core.specs.create.Lawful.{IsLawful}
 use Rattle.catalog_core.specs.table.TableWords.{table_of}
@@ -15,18 +14,14 @@ use Rattle.catalog_core.specs.declared.table.TableDef.{TableDef}
 use Rattle.history_model.proofs.Lists.{exchange}
 use Rattle.version_store.specs.GoodStore.{AreLawful}
 use Rattle.period_keys.specs.Current.{HaveIndexes, HaveMoreIndexes, IsIndexedBy, rows_by_key}
-use Rattle.period_keys.specs.Keys.{key_values}
 use Rattle.period_keys.specs.Lawful.{own_positions, parent_positions}
-use Rattle.period_keys.specs.PeriodIndexes.{AreKeysByEach}
 use Rattle.period_keys.specs.Planned.{IsPlanOf}
-use Rattle.period_keys.specs.Rows.{RowsByKey}
-use Rattle.period_keys.specs.TableRows.{AreTouchedKeys, HasTableRows, TableRows}
-use Rattle.period_keys.specs.declared.table_index.TouchedKeys.{TouchedKeys}
+use Rattle.period_keys.specs.TableRows.{HasTableRows, TableRows}
 use Rattle.period_keys.proofs.FaultFacts.{split_of}
 use Rattle.period_keys.proofs.TableLists.{have_indexes_set, indexed_still, more_cases, more_first, same_count}
 use Rattle.script_engine.specs.engine.InMemory.{FollowCatalog, HaveRows, rows_in}
 use Rattle.script_engine.proofs.InMemory.{have_rows_set, some_rows}
-use Rattle.script_engine.proofs.LastState.{lawful_less, lawful_more, none_there}
+use Rattle.script_engine.proofs.LastState.{lawful_less, lawful_more}
 
 -- ---- the rows of tables
 
@@ -38,18 +33,6 @@ rows_at (t ∷ tables) (suc place) table is = rows_at tables place table is
 pub rows_there : (tables : List TableRows) (number : ℕ) (table : TableRows) → table_of tables number ≡ Some table → table_of (map rows_by_key tables) number ≡ Some (rows_by_key table)
 rows_there tables zero table is = cc
 rows_there tables (suc place) table is = rows_at tables place table is
-
-no_rows_at : (tables : List TableRows) (place : ℕ) → slice_get tables place ≡ None → slice_get (map rows_by_key tables) place ≡ None
-no_rows_at [] place is = refl
-no_rows_at (t ∷ tables) zero is = cc
-no_rows_at (t ∷ tables) (suc place) is = no_rows_at tables place is
-
-pub no_rows_there : (tables : List TableRows) (number : ℕ) → table_of tables number ≡ None → table_of (map rows_by_key tables) number ≡ None
-no_rows_there tables zero is = refl
-no_rows_there tables (suc place) is = no_rows_at tables place is
-
-pub the_rows : (rows : RowsByKey) (table : TableRows) → rows.positions ≡ table.positions → rows.rows ≡ table.rows → rows ≡ rows_by_key table
-the_rows rows table positions same = rw (sym positions, sym same) refl
 
 -- ---- one table written
 
@@ -65,11 +48,6 @@ follow_written catalog tables place old new there same was = record {
   count = length-set tables place new ∙ was.count;
   indexed = have_indexes_set catalog tables place old new there same was.indexed;
 }
-
--- no tables follow a catalog without tables
-pub follow_none : (catalog : List TableDef) → AreLawful [] catalog → length catalog ≡ 0 → FollowCatalog catalog []
-follow_none [] lawful none = record { lawful = lawful; count = refl; indexed = λ number child is. absurd (none_there number child is) }
-follow_none (d ∷ catalog) lawful none = absurd (omega (arith, none))
 
 -- ---- more indexes, and one table more or less
 
@@ -165,13 +143,6 @@ on_err_from (Err e) f p = f p
 -- the rows that a plan ends are some of those that it is made over
 pub ended_there : (action : Action) (rows : List VersionRow) (plan : Plan) → IsPlanOf action rows plan → (stay : List VersionRow) × IsPermutation rows (plan.ended ++ stay)
 ended_there action rows plan planned = let (stay, taken, effect) = split_of action rows plan planned in (stay, taken)
-
--- the keys that rows touch in a table, they touch in it once it has other rows
-pub touched_still : (old new : TableRows) (rows : List PeriodRow) (keys : TouchedKeys) → new.positions ≡ old.positions → new.indexed ≡ old.indexed → AreTouchedKeys old rows keys → AreTouchedKeys new rows keys
-touched_still old new rows keys positions indexed touched = record {
-  by_key = subst (λ (ps : List ℕ). keys.by_key.items ≡ map (key_values ps) rows) (sym positions) touched.by_key;
-  by_each = subst (λ (each : List (List ℕ)). AreKeysByEach rows each keys.by_each.items) (sym indexed) touched.by_each;
-}
 
 -- the rows in memory of a table's number
 pub rows_of_table : (tables : List TableRows) (number : ℕ) (table : TableRows) → table_of tables number ≡ Some table → rows_in (map rows_by_key tables) number ≡ table.rows

@@ -1,7 +1,5 @@
 -- What is known of a change that is planned over the rows in memory, as it is judged.
-use Rattle.std.proofs.Common.{◌≡◌, ◌<◌, ◌∙◌, ℕ, zero, suc, List, [], ◌∷◌, None, Some, length, map, refl, subst, sym, arith}
-use Rattle.std.specs.List.{slice_get}
-use Rattle.std.proofs.lemmas.Option.{slice_get_within}
+use Rattle.std.proofs.Common.{◌≡◌, ◌<◌, ◌∙◌, List, [], ◌∷◌, Some, map, subst, sym}
 use Rattle.catalog_core.specs.table.TableWords.{table_of}
 use Rattle.catalog_core.specs.declared.change.Change.{Change}
 use Rattle.catalog_core.specs.declared.change.Plan.{Plan}
@@ -45,19 +43,3 @@ module _ (catalog : List TableDef) (tables : List TableRows) (table : TableRows)
     holds = hold;
     planned = λ other other_there. subst (λ (t : TableRows). IsPlanOf change.action t.rows plan) (same_table table other (sym there ∙ other_there)) planned;
   }
-
--- a table of the catalog is in memory
-pub not_lost : (catalog : List TableDef) (tables : List TableRows) (number : ℕ) (def : TableDef) → length tables ≡ length catalog → table_of catalog number ≡ Some def → table_of tables number ≡ None → ⊥
-not_lost catalog tables zero def count is none = cc
-not_lost catalog tables (suc place) def count is none =
-    let inside : place < length catalog = slice_get_within catalog place def is in
-    let (table, there) = within tables place (omega (arith, inside, count)) in
-    none_some table (sym there ∙ none)
-  where
-    none_some : (t : TableRows) → Some t ≡ None → ⊥
-    none_some t e = cc
-
-    within : (ts : List TableRows) (place : ℕ) → place < length ts → (t : TableRows) × (slice_get ts place ≡ Some t)
-    within [] place inside = absurd (omega (arith, inside))
-    within (t ∷ ts) zero inside = (t, refl)
-    within (t ∷ ts) (suc place) inside = within ts place (omega (arith, inside))

@@ -172,18 +172,6 @@ lawful_empty catalog state none = record {
   references = λ day (number, child, reference, parent, refers, lacks). no_child (own_positions child reference) (state number day) (parent_positions parent reference) (state reference.parent day) (none number day) lacks;
 }
 
--- so is any state without tables
-pub none_there : (number : ℕ) (def : TableDef) → table_of {T = TableDef} [] number ≡ Some def → ⊥
-none_there zero def is = cc
-none_there (suc place) def is = cc
-
-pub lawful_without_tables : (catalog : List TableDef) (state : State) → length catalog ≡ 0 → IsLawfulState catalog state
-lawful_without_tables [] state none = record {
-  keys = λ table def is day shared. none_there table def is;
-  references = λ day (number, child, reference, parent, refers, lacks). none_there number child refers.is_child;
-}
-lawful_without_tables (d ∷ catalog) state none = absurd (omega (arith, none))
-
 -- ---- catalogs
 
 -- each definition is one that CREATE gives over those before it

@@ -11,7 +11,6 @@ mod ScriptFacts
 mod Seen
 mod Shown
 mod ShownFacts
-mod Images
 mod Steps
 mod TableNumbers
 mod ColumnFacts

@@ -63,9 +63,6 @@ pub record AreLoaded (c : Contents) (count : ℕ) (tables : List RowsByKey) : Ty
   pub keys : keys_in tables ≡ map key_positions (take count c.tables)
   pub rows : (place : ℕ) → place < count → AreCurrentOf c (suc place) (rows_in tables (suc place))
 
-pub none_loaded : (c : Contents) → AreLoaded c 0 []
-none_loaded c = record { long = refl; keys = refl; rows = λ place inside. absurd (omega arith) }
-
 before_last : (ts : List RowsByKey) (t : RowsByKey) (place : ℕ) → place < length ts → rows_in (ts ++ t ∷ []) (suc place) ≡ rows_in ts (suc place)
 before_last [] t place inside = absurd (omega arith)
 before_last (x ∷ ts) t zero inside = refl

@@ -34,13 +34,6 @@ kept_rows query before (row ∷ rows) =
     (append_assoc before (shown_versions query (row ∷ [])) (shown_versions query rows)
     ∙ ap (λ (l : List VersionRow). before ++ l) (sym (filter-append (is_shown query) (row ∷ []) rows)))
 
--- a version that isn't shown is not kept
-pub kept_none : (query : Stored) (rows : List VersionRow) (row : VersionRow) → is_shown query row ≡ false → rows ≡ rows ++ shown_versions query (row ∷ [])
-kept_none query rows row off = rw off (sym (append-nil rows))
-
-pub kept_one : (query : Stored) (rows : List VersionRow) (row : VersionRow) → is_shown query row ≡ true → rows ++ row ∷ [] ≡ rows ++ shown_versions query (row ∷ [])
-kept_one query rows row on = rw on refl
-
 -- ---- the order
 
 -- version rows by the order of what they are in a table

@@ -6,7 +6,7 @@ use Rattle.std.specs.Ordering.{is_lt, ordering_reverse}
 use Rattle.std.proofs.lemmas.Int.{ints}
 use Rattle.std.proofs.lemmas.List.Elements.{Contains-append_left, Contains-push, Contains-push_cases}
 use Rattle.period_core.specs.declared.value.Value.{Value}
-use Rattle.temporal_model.proofs.Members.{Contains-here, Contains-there, Contains-nil, AllPairs-head}
+use Rattle.temporal_model.proofs.Members.{Contains-here, Contains-there, AllPairs-head}
 use Rattle.sequenced_ops.specs.declared.keyed.Key.{Key}
 use Rattle.sequenced_ops.specs.declared.keyed.KeyedRow.{KeyedRow}
 use Rattle.sequenced_ops.specs.declared.keyed.Side.{Side}
@@ -42,12 +42,6 @@ gone_later a x b p q gone same =
 pub record Active (side : Side) (done active rest : List KeyedRow) : Type 0 where
   pub there : (a : KeyedRow) → Contains active a → Contains done a × (a.side ≡ side)
   pub others : (a : KeyedRow) → Contains done a → a.side ≡ side → (Contains active a ⊎ ((b : KeyedRow) → Contains rest b → IsGone a b))
-
-pub active_none : (side : Side) (rest : List KeyedRow) → Active side [] [] rest
-active_none side rest = record {
-  there = λ a c. absurd (Contains-nil a c);
-  others = λ a c e. absurd (Contains-nil a c);
-}
 
 -- each row that is done comes before each that is left
 abbrev pub DoneBefore : List KeyedRow → List KeyedRow → Type 0
@@ -105,9 +99,6 @@ active_added side done active x rest mine old = record {
 
 wrong_side : (a : KeyedRow) → a.side ≡ Left → a.side ≡ Right → ⊥
 wrong_side a p q = let wrong : Left ≡ Right = sym p ∙ q in cc
-
-pub pairs_none : (day : ℤ) (vs : List Value) → InPairs [] day vs → ⊥
-pairs_none day vs h = Contains-nil h.0 h.2
 
 pub pairs_left :
     (done rights : List KeyedRow) (x : KeyedRow) (rest : List KeyedRow) → x.side ≡ Left → Active Right done rights (x ∷ rest)

@@ -1,5 +1,5 @@
 -- The values at given positions, and the keys that are made of them.
-use Rattle.std.proofs.Common.{◌≡◌, ◌<◌, ◌+◌, Ordering, ◌++◌, ℕ, zero, suc, ℤ, pos, List, [], ◌∷◌, Option, Some, None, length, get_or, map, take, refl, sym, ◌∙◌, ap, ap₂, subst, arith}
+use Rattle.std.proofs.Common.{◌≡◌, ◌<◌, ◌+◌, Ordering, ◌++◌, ℕ, zero, suc, ℤ, List, [], ◌∷◌, Option, Some, None, length, get_or, map, take, refl, sym, ◌∙◌, ap, ap₂, subst, arith}
 use Rattle.std.specs.Prelude.{slice_get, MatchOption}
 use Rattle.std.specs.List.{All}
 use Rattle.std.specs.declared.cmp.Ordering.TheVariants.{Less, Equal, Greater}
@@ -154,12 +154,6 @@ abbrev pub KeyRead : List ℕ → List Value → Option Key → Type 0
 KeyRead columns values found =
     MatchOption found ((read : List Value) → ReadsColumns columns values read → ⊥)
     (λ (key : Key). (read : List Value) × ReadsColumns columns values read × (key_of read ≡ key))
-
-pub no_columns : (values : List Value) (found : Option Key) → RestRead [] values (pos 0) found → KeyRead [] values found
-no_columns values None none = none
-no_columns values (Some key) (lead, reads) =
-    let empty : [] ≡ key.rest = same_read [] values [] key.rest refl reads in
-    ([], refl, key_from (key_of []) key (sym lead) empty)
 
 -- the first value is an integer
 pub integer_first :

@@ -1,16 +1,15 @@
 -- What the values of a row from a position on decide of a condition.
 use Rattle.std.proofs.Common.{◌≡◌, ◌<◌, ◌≤◌, ◌-◌, ◌++◌, ◌∷◌, [], ℕ, zero, suc, Bool, List}
-use Rattle.std.proofs.Common.{Some, true, false, not, length, get_or, refl, sym, ◌∙◌, ap, ap₂}
+use Rattle.std.proofs.Common.{true, false, not, length, get_or, refl, sym, ◌∙◌, ap}
 use Rattle.std.proofs.Common.{arith}
 use Rattle.std.specs.Prelude.{◌||◌, ◌&&◌, slice_get}
 use Rattle.std.specs.Global.{Box, Vec}
 use Rattle.std.specs.List.{All, list_any, list_all}
 use Rattle.std.proofs.lemmas.List.Elements.{All-head, All-tail}
 use Rattle.std.proofs.lemmas.List.Folds.{list_any_at, list_all_at}
-use Rattle.period_core.specs.Order.{value_cmp}
 use Rattle.period_core.specs.declared.value.Value.{Value}
 use Rattle.sql_statements.specs.declared.tree.Tree as code
-use Rattle.catalog_core.specs.Conditions.{allows, compared, compares, meets, side_value}
+use Rattle.catalog_core.specs.Conditions.{compares, meets}
 use Rattle.catalog_core.specs.declared.condition.CompareValues.{CompareValues}
 use Rattle.catalog_core.proofs.lemmas.conditions.Truth.{and_both, and_truth, not_truth, or_none}
 use Rattle.catalog_core.proofs.lemmas.conditions.Truth.{or_truth, test_truth}
@@ -32,36 +31,6 @@ pub get-right
 get-right [] ys p q h e = ap (slice_get ys) (omega arith)
 get-right (x ∷ xs) ys zero q h e = absurd (omega arith)
 get-right (x ∷ xs) ys (suc p) q h e = get-right xs ys p q (omega arith) (omega arith)
-
--- a value that is there stays where others follow
-pub get-there
-    : (xs ys : List Value) (p : ℕ) (value : Value) → slice_get xs p ≡ Some value
-    → slice_get (xs ++ ys) p ≡ Some value
-get-there [] ys p value e = cc
-get-there (x ∷ xs) ys zero value e = e
-get-there (x ∷ xs) ys (suc p) value e = get-there xs ys p value e
-
--- a value that is known, in the whole row
-pub known_at
-    : (values : List Value) (start position : ℕ) (value : Value) → start ≤ position
-    → slice_get values (position - start) ≡ Some value
-    → (first rest : List Value) → length first ≡ start
-    → slice_get (first ++ (values ++ rest)) position ≡ Some value
-known_at values start position value past there first rest e =
-    get-right first (values ++ rest) position (position - start) (omega arith) (omega arith)
-    ∙ get-there values rest (position - start) value there
-
--- ---- comparisons
-
-pub test_known
-    : (start : ℕ) (values : List Value) (test : CompareValues) (left right : Value)
-    → ((first rest : List Value) → length first ≡ start
-    → side_value test.left (first ++ (values ++ rest)) ≡ Some left)
-    → ((first rest : List Value) → length first ≡ start
-    → side_value test.right (first ++ (values ++ rest)) ≡ Some right)
-    → IsTestTruth start values test (allows test.comparison (value_cmp left right))
-test_known start values test left right lefts rights first rest e =
-    ap₂ (compared test.comparison) (lefts first rest e) (rights first rest e)
 
 -- ---- conditions by their parts
 

@@ -32,16 +32,6 @@ pair_pushed rows first second new same values days day vs = (
   ]),
 )
 
--- two rows without a common day have no pair
-pub pair_none :
-    (rows : List PeriodRow) (first second : KeyedRow)
-    → ((day : ℤ) → InPeriod first.period day × InPeriod second.period day → ⊥) → (day : ℤ) (vs : List Value)
-    → (InSnapshot rows day vs ↔ (InSnapshot rows day vs ⊎ PairHolds first second day vs))
-pair_none rows first second none day vs = (
-  λ h. inl h,
-  λ h. elim h [ inl old ↦ old | inr both ↦ absurd (none day (both.1, both.2)) ],
-)
-
 -- ---- the pairs of one row
 
 -- what is added already, and the pairs with what is left, are what was there and all the pairs

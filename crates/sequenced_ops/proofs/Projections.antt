@@ -30,8 +30,3 @@ projection_pushed columns row read rows its day vs = (
     | inr here ↦ inr (same_read columns row.values read vs its here.0, days_from row.period day here.1, days_to row.period day here.1)
   ]),
 )
-
-pub projection_skipped :
-    (columns : List ℕ) (row : PeriodRow) (rows : List PeriodRow) → ((read : List Value) → ReadsColumns columns row.values read → ⊥)
-    → (day : ℤ) (vs : List Value) → (InSnapshot rows day vs ↔ (InSnapshot rows day vs ⊎ IsProjectedOn columns row day vs))
-projection_skipped columns row rows none day vs = (λ h. inl h, λ h. elim h [ inl old ↦ old | inr here ↦ absurd (none vs here.0) ])

@@ -1,7 +1,7 @@
 -- Active rows: one row more, their values, and what references see by them.
-use Rattle.std.proofs.Common.{◌≡◌, ◌↔◌, ◌⊎◌, ◌≤ℤ◌, ◌<ℤ◌, ◌<◌, ◌≤◌, ℕ, ℤ, List, [], ◌∷◌, ◌++◌, length, get_or, Bor, refl, sym, ◌∙◌, ap, subst, inl, inr, arith}
+use Rattle.std.proofs.Common.{◌≡◌, ◌↔◌, ◌⊎◌, ◌≤ℤ◌, ◌<ℤ◌, ◌<◌, ◌≤◌, ℕ, ℤ, List, [], ◌∷◌, ◌++◌, length, get_or, Bor, refl, sym, ◌∙◌, ap, subst, inl, inr}
 use Rattle.std.specs.List.{Contains}
-use Rattle.std.proofs.lemmas.List.{get_or-map, get_or_past, length-map}
+use Rattle.std.proofs.lemmas.List.{get_or-map}
 use Rattle.std.proofs.lemmas.List.Elements.{Contains-append_left, Contains-push, Contains-push_cases}
 use Rattle.period_core.specs.declared.row.PeriodRow.{PeriodRow}
 use Rattle.period_core.specs.declared.value.Value.{Value}
@@ -102,9 +102,6 @@ AreActive-skip rows active day row none are other = (
 
 -- ---- their values
 
-pub InActive-none : (values : List Value) → InActive [] values → ⊥
-InActive-none values (r, c, is) = Contains-nil r c
-
 -- one more row's values
 pub InActive-more :
     (set : List (List Value)) (active : RowReferences) (r : Bor PeriodRow)
@@ -139,11 +136,6 @@ pub active_at :
     → sweep.active.items ≡ get_or (active_lists seen) place []
 active_at seen place sweep inside is =
     ap (λ (s : Sweep). s.active.items) is ∙ sym (get_or-map (λ (s : Sweep). s.active.items) seen place sweep [] inside)
-
-pub active_past : (seen : List Sweep) (place : ℕ) → length seen ≤ place → [] ≡ get_or (active_lists seen) place []
-active_past seen place past =
-    let same = length-map seen (λ (s : Sweep). s.active.items) in
-    sym (get_or_past (active_lists seen) place [] (omega arith))
 
 -- each reference sees by the active rows of a day what it sees on the day
 pub seen_alike :

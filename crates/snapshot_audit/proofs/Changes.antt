@@ -63,15 +63,6 @@ HasEnds-more old rows days row has day = (
 abbrev pub HasEndsAmong : List ℤ → List (List PeriodRow) → List ℤ → Type 0
 HasEndsAmong old lists days = (day : ℤ) → (Contains days day ↔ (Contains old day ⊎ EndsAmong lists day))
 
-no_ends_among : (day : ℤ) → EndsAmong [] day → ⊥
-no_ends_among day (rows, c, ends) = Contains-nil rows c
-
-pub HasEndsAmong-none : (old : List ℤ) → HasEndsAmong old [] old
-HasEndsAmong-none old day = (
-  λ h. inl h,
-  λ h. elim h [ inl k ↦ k | inr ends ↦ absurd (no_ends_among day ends) ],
-)
-
 -- more lists
 pub HasEndsAmong-both :
     (old : List ℤ) (left right : List (List PeriodRow)) (days more : List ℤ) → HasEndsAmong old left days

@@ -180,14 +180,6 @@ rest_done Sees select front old rows step row =
       λ h. (step row).1 (elim h [ inl was ↦ inl was | inr its ↦ inr (both.1 its) ]),
     )
 
--- where its list is not there a reference sees nothing
-pub rest_lacking :
-    (seen : List Sweep) (select : Select) (reference : QueryReference) (more : List QueryReference) (front : List Value)
-    (old : List (List Value)) → [] ≡ active_for seen reference → (row : List Value)
-    → (Contains old row ↔ (Contains old row ⊎ InRest (ActiveSights seen) select (reference ∷ more) front row))
-rest_lacking seen select reference more front old none row =
-    HasRests-all seen select reference more front old old (subst (λ l. HasRests seen select more front old l old) none (HasRests-none seen select more front old)) row
-
 -- of all references, from no values on
 pub selected_all :
     (seen : List Sweep) (select : Select) (old rows : List (List Value)) → old ≡ []

@@ -3,7 +3,7 @@ use Rattle.std.proofs.Common.{◌≡◌, ℕ, zero, suc, ◌≤◌, ◌<◌, Boo
 use Rattle.period_core.proofs.OptionFacts.{bind_some, if_some, none_some, some_is}
 use Rattle.sql_front.proofs.First.{Apart, Starts, starts_preceded, begins_apart}
 use Rattle.sql_statements.specs.Lexemes.{Lexeme}
-use Rattle.sql_front.specs.Language.{OneToken, Fixed, Sequence, Built, Choice, Repetition, Optional, Preceded, PrecededOrNot, Related, StandsFor, Separated, Enclosed, symbol}
+use Rattle.sql_front.specs.Language.{OneToken, Fixed, Sequence, Built, Choice, Repetition, Optional, Preceded, PrecededOrNot, StandsFor, Separated, Enclosed, symbol}
 use Rattle.period_core.specs.TextReading.{◌>>=◌}
 use Rattle.sql_front.specs.reading.Reading.{Reader, one_read, fixed_read, sequence_read, built_read, begins, choice_read, bounded_read, repetition_read, optional_read, preceded_read, preceded_or_not_read, stands_read, separated_read, enclosed_read}
 
@@ -194,16 +194,6 @@ reads_preceded_or_not {A} {test} {other} {L} {F} {p} s apart r =
 -- a token that stands for a value
 pub reads_stands : {A : Type 0} (a : A) (test : Lexeme → Bool) → Reads (StandsFor a test) Any (stands_read a test)
 reads_stands a test = reads_built (λ (nothing : Unit {0}). a) (reads_fixed test)
-
--- what a function gives stands in the relation, and nothing else does
-pub reads_related : {A B : Type 0} (R : A → B → Type 0) (f : A → B) {L : List Lexeme → A → Type 0} {F : List Lexeme → Type 0} {p : Reader A} → ((a : A) → R a (f a)) → ((a : A) (b : B) → R a b → b ≡ f a) → Reads L F p → Reads (Related R L) F (built_read f p)
-reads_related {A} {B} R f {L} {F} {p} holds only r = record {
-  found = λ ts v e.
-      let a = bind_some (p ts) (λ x. Some (f x.0, x.1)) v e in
-      let h = r.found ts a.0 a.1 in
-      subst (λ (w : B × List Lexeme). (front : List Lexeme) × (ts ≡ front ++ w.1) × Related R L front w.0) (some_is (f a.0.0, a.0.1) v a.2) (h.0, h.1, (a.0.0, holds a.0.0, h.2));
-  again = λ front v rest h follow. rw (r.again front h.0 rest h.2 follow, only h.0 v h.1) refl;
-}
 
 -- what is enclosed may be followed by the closing one
 pub reads_enclosed : {A : Type 0} {L : List Lexeme → A → Type 0} {F : List Lexeme → Type 0} {p : Reader A} → Reads L F p → ((y : List Lexeme) → begins (symbol (codes ")")) y ≡ true → F y) → Reads (Enclosed L) Any (enclosed_read p)

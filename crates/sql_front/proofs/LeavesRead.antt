@@ -21,18 +21,12 @@ pub reads_moment : Reads IsMoment Any moment_read
 unfolding moment_read
 reads_moment = reads_preceded (keyword (codes "TIMESTAMP")) (reads_built moment_value (reads_one text))
 
-pub starts_moment : Starts (any_of (word (codes "TIMESTAMP") ∷ [])) IsMoment
-starts_moment = starts_preceded (keyword (codes "TIMESTAMP")) (Built moment_value (OneToken text))
-
 pub level_moment : (k : ℕ) → Level k IsMoment IsMoment
 level_moment k = level_preceded (plain_keyword (codes "TIMESTAMP")) (level_built moment_value (level_one k plain_text))
 
 pub reads_clock_moment : Reads IsClockMoment Any clock_moment_read
 unfolding clock_moment_read
 reads_clock_moment = reads_preceded (keyword (codes "TIMESTAMP")) (reads_built clock_value (reads_one text))
-
-pub starts_clock_moment : Starts (any_of (word (codes "TIMESTAMP") ∷ [])) IsClockMoment
-starts_clock_moment = starts_preceded (keyword (codes "TIMESTAMP")) (Built clock_value (OneToken text))
 
 pub level_clock_moment : (k : ℕ) → Level k IsClockMoment IsClockMoment
 level_clock_moment k = level_preceded (plain_keyword (codes "TIMESTAMP")) (level_built clock_value (level_one k plain_text))
@@ -142,9 +136,6 @@ unfolding tuple_read
 reads_tuple =
     reads_enclosed_next (sign (codes ")") ∷ []) refl
     (reads_separated_next (sign (codes ",")) (sign (codes ")") ∷ []) (sign (codes ")") ∷ sign (codes ",") ∷ []) refl refl refl (reads_next (sign (codes ")") ∷ sign (codes ",") ∷ []) reads_literal))
-
-pub starts_tuple : Starts (any_of (sign (codes "(") ∷ [])) IsTuple
-starts_tuple = starts_preceded (symbol (codes "(")) _
 
 pub level_tuple : (k : ℕ) → Level k IsTuple IsTuple
 level_tuple k = level_enclosed_same k (λ j. level_separated plain_comma (level_literal j))

@@ -3,7 +3,7 @@ use Rattle.std.proofs.Common.{◌≡◌, ℕ, zero, suc, Bool, true, false, List
 use Rattle.std.specs.Str.{bytes_eq}
 use Rattle.std.proofs.lemmas.Bool.{cases_Bool}
 use Rattle.sql_statements.specs.Lexemes.{Lexeme}
-use Rattle.sql_front.specs.Language.{keyword, symbol, number, text, OneToken, Fixed, Sequence, Built, Related, StandsFor, Choice, Repetition, Optional, Preceded, PrecededOrNot, Separated, Enclosed}
+use Rattle.sql_front.specs.Language.{keyword, symbol, number, text, OneToken, Fixed, Sequence, Built, StandsFor, Choice, Repetition, Optional, Preceded, PrecededOrNot, Separated, Enclosed}
 use Rattle.sql_front.specs.Grammar.{name}
 use Rattle.sql_front.specs.Depth.{opens, closes, room}
 use Rattle.period_core.specs.TextReading.{◌>>=◌}
@@ -159,13 +159,6 @@ plain_symbol s e f = record { opening = symbols_apart s (codes "(") e; closing =
 
 pub level_stands : {A : Type 0} (k : ℕ) (a : A) {test : Lexeme → Bool} → Plain test → Level k (StandsFor a test) (StandsFor a test)
 level_stands k a p = level_built (λ (nothing : Unit {0}). a) (level_fixed k p)
-
-pub level_related : {A B : Type 0} {k : ℕ} (R : A → B → Type 0) {L M : List Lexeme → A → Type 0} → Level k L M → Level k (Related R L) (Related R M)
-level_related R r = record {
-  keeps = λ x b j h e.
-      let inner = r.keeps x h.0 j h.2 e in
-      (inner.0, (h.0, h.1, inner.1));
-}
 
 -- what opens no parentheses of its own, in parentheses
 pub level_enclosed_same : {A : Type 0} {L : List Lexeme → A → Type 0} (k : ℕ) → ((j : ℕ) → Level j L L) → Level k (Enclosed L) (Enclosed L)

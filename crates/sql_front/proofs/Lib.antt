@@ -32,7 +32,6 @@ pub mod Parsing
 pub mod PeriodsRead
 pub mod PieceFaults
 pub mod PiecesFacts
-pub mod PiecesOnce
 pub mod PlainExamples
 pub mod PredicateExamples
 pub mod PredicatesRead
@@ -44,7 +43,6 @@ pub mod Quotes
 pub mod ReadGrammar
 pub mod Readings
 pub mod Regroup
-pub mod Shapes
 pub mod Sorts
 pub mod Spelling
 pub mod SplitLast
@@ -53,7 +51,6 @@ pub mod StatementsRead
 pub mod TableElements
 pub mod TokenFacts
 pub mod TokenLists
-pub mod TokenShapes
 pub mod ValueExamples
 pub mod Whole
 pub mod WindowExamples

@@ -42,14 +42,6 @@ pub untold : {D : Type 0} (told : Bool) → told ≡ false → (D → IsTrue tol
 untold true e tells d = absurd cc
 untold false e tells d = let holds : IsTrue false = tells d in cc
 
-least_deep : (ls : List Lexeme) → IsTooDeep ls → (other : Refusal) → PieceApplies ls other → code_of TooDeep ≤ code_of other
-least_deep ls deep Syntax h = absurd (h.0 deep)
-least_deep ls deep TooDeep h = lit≤ tt
-least_deep ls deep BadDate h = lit≤ tt
-least_deep ls deep BadMoment h = lit≤ tt
-least_deep ls deep NumberRange h = lit≤ tt
-least_deep ls deep other h = absurd h
-
 least_syntax : (ls : List Lexeme) (other : Refusal) → PieceApplies ls other → code_of Syntax ≤ code_of other
 least_syntax ls Syntax h = lit≤ tt
 least_syntax ls TooDeep h = lit≤ tt
@@ -57,9 +49,6 @@ least_syntax ls BadDate h = lit≤ tt
 least_syntax ls BadMoment h = lit≤ tt
 least_syntax ls NumberRange h = lit≤ tt
 least_syntax ls other h = absurd h
-
-pub too_deep : (ls : List Lexeme) → IsTooDeep ls → MayAnswer (PieceApplies ls) TooDeep
-too_deep ls deep = inl (record { applies = deep; least = least_deep ls deep })
 
 pub no_statement : (ls : List Lexeme) → (IsTooDeep ls → ⊥) → SpellsNone ls → MayAnswer (PieceApplies ls) Syntax
 no_statement ls shallow none = inl (record { applies = (shallow, none); least = least_syntax ls })

@@ -10,16 +10,16 @@ use Rattle.sql_statements.specs.declared.statement.StoredTest.{StoredTest}
 use Rattle.sql_statements.specs.declared.statement.StoredTest.TheVariants.{Values}
 use Rattle.sql_statements.specs.Lexemes.{Lexeme}
 use Rattle.sql_front.specs.Language.{Language, keyword, Built, Choice, Optional, Preceded, Sequence}
-use Rattle.sql_front.specs.Grammar.{name, ConditionBelow, IsWhere}
+use Rattle.sql_front.specs.Grammar.{name, IsWhere}
 use Rattle.sql_front.proofs.ReadGrammar.{IsColumn, IsCompare, IsDate, IsName, IsOperand, IsPeriodOperand, IsPredicate, IsRelation, IsStoredTest}
 use Rattle.sql_front.specs.reading.Reading.{begins}
-use Rattle.sql_front.specs.reading.ConditionReaders.{condition_read, where_read}
+use Rattle.sql_front.specs.reading.ConditionReaders.{where_read}
 use Rattle.sql_front.specs.reading.PredicateReaders.{Said, begins_contains_date, contains_day, predicate_ahead, predicate_read, related, relation_behind_column, relation_word, said_of, said_read, stored_test_read}
 use Rattle.sql_front.proofs.First.{Starts, begins_apart, starts_built, starts_preceded, starts_sequence}
 use Rattle.sql_front.proofs.Laws.{Reads, reads_both, reads_built, reads_decided, reads_preceded, reads_weaken}
 use Rattle.sql_front.proofs.LeavesRead.{reads_date, starts_date, starts_literal}
 use Rattle.sql_front.proofs.Sorts.{Next, Sort, a_name, all_differ, any_of, apart_lists, included, leads_starts, next_begins, reads_both_next, reads_next, sign, word}
-use Rattle.sql_front.proofs.ConditionsRead.{comparison_firsts, condition_ends, dot, literal_firsts, operand_firsts, reads_compare_next, reads_condition_at, reads_where, starts_column, starts_compare, starts_comparison, test_ends, where_ends}
+use Rattle.sql_front.proofs.ConditionsRead.{comparison_firsts, dot, literal_firsts, operand_firsts, reads_compare_next, reads_where, starts_column, starts_compare, starts_comparison, test_ends, where_ends}
 use Rattle.sql_front.proofs.PeriodsRead.{next_to_firsts, period_firsts, reads_period_operand, reads_relation, relation_firsts, starts_dates, starts_next_to, starts_period_operand, starts_relation, starts_word}
 
 -- ---- what is said of a period
@@ -209,9 +209,6 @@ starts_stored_test = record {
 }
 
 -- ---- conditions over these tests
-
-pub reads_stored_condition : (n : ℕ) → Reads (ConditionBelow IsStoredTest (suc n)) (Next condition_ends) (condition_read stored_test_read n)
-reads_stored_condition = reads_condition_at stored_test_firsts refl refl starts_stored_test reads_stored_test
 
 pub reads_stored_where : (n : ℕ) → Reads (IsWhere IsStoredTest (suc n)) (Next where_ends) (where_read stored_test_read n)
 reads_stored_where = reads_where stored_test_firsts refl refl starts_stored_test reads_stored_test

@@ -17,7 +17,7 @@ use Rattle.period_core.proofs.OptionFacts.{none_some}
 use Rattle.sql_front.proofs.Laws.{Any, Reads, reads_both, reads_built, reads_preceded, reads_preceded_or_not, reads_stands}
 use Rattle.sql_front.proofs.NamesRead.{reads_name, starts_name}
 use Rattle.sql_front.proofs.Sorts.{a_name, all_differ, any_of, apart_lists, leads_optional, leads_repetition, leads_starts, Next, reads_both_next, reads_choice_next, reads_enclosed_next, reads_less, reads_next, reads_optional_next, reads_repetition_next, reads_separated_next, sign, Sort, word}
-use Rattle.sql_front.proofs.ConditionsRead.{condition_ends, reads_column_next, reads_compare_condition, reads_compare_where, starts_column, starts_where, where_ends}
+use Rattle.sql_front.proofs.ConditionsRead.{condition_ends, reads_column_next, reads_compare_condition, reads_compare_where, starts_where, where_ends}
 use Rattle.sql_front.proofs.WindowsRead.{reads_for_window}
 
 -- ---- what may follow
@@ -58,9 +58,6 @@ reads_new_name ends e =
     reads_optional_next new_name_firsts ends e starts_new_name
     (reads_next ends (reads_preceded_or_not starts_name (apart_lists (a_name ∷ []) (word (codes "AS") ∷ []) refl) reads_name))
 
-pub starts_reference : Starts (any_of (a_name ∷ [])) IsReference
-starts_reference = starts_built table_reference_of (starts_sequence _ starts_name)
-
 pub reads_reference : Reads IsReference (Next reference_ends) reference_read
 unfolding reference_read
 reads_reference =
@@ -68,9 +65,6 @@ reads_reference =
     reads_built table_reference_of (reads_both reads_name
     (reads_both_next (reads_for_window named_ends refl) (reads_new_name reference_ends refl)
     (leads_optional new_name_firsts named_ends reference_ends refl refl starts_new_name)))
-
-pub starts_item : Starts (any_of (a_name ∷ [])) IsItem
-starts_item = starts_built item_of (starts_sequence (Optional IsNewName) starts_column)
 
 pub reads_item : Reads IsItem (Next item_ends) item_read
 unfolding item_read
@@ -99,9 +93,6 @@ reads_join n =
 reads_joins : (n : ℕ) → Reads (Repetition (IsJoin (suc n))) (Next chain_ends) (joins_read n)
 unfolding joins_read
 reads_joins n = reads_repetition_next join_firsts chain_ends join_ends refl refl refl (starts_join (suc n)) (reads_join n)
-
-pub starts_chain : (n : ℕ) → Starts (any_of (a_name ∷ [])) (IsChain n)
-starts_chain n = starts_built chain_of (starts_sequence (Repetition (IsJoin n)) starts_reference)
 
 pub reads_chain : (n : ℕ) → Reads (IsChain (suc n)) (Next chain_ends) (chain_read n)
 unfolding chain_read

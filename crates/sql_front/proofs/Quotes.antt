@@ -1,5 +1,5 @@
 -- Texts with quotes.
-use Rattle.std.proofs.Common.{◌≡◌, ℕ, suc, lit<, ◌<◌, false, List, [], ◌∷◌, ◌++◌, length, get_or, refl, sym, ap, ◌∙◌, arith, Some, None, length-append}
+use Rattle.std.proofs.Common.{◌≡◌, ℕ, suc, lit<, ◌<◌, false, List, [], ◌∷◌, ◌++◌, length, get_or, refl, sym, ap, ◌∙◌, arith, Some, None}
 use Rattle.std.specs.Prelude.{◌≢◌}
 use Rattle.std.specs.Borrow.{Bor}
 use Rattle.std.proofs.lemmas.Bool.Decides.{nat_tests}
@@ -71,12 +71,6 @@ doubled_cut s x y h k none =
     let q = split_parts 39 x.1.now (Some y) k (lit< tt) in
     let quote : x.1.now ≡ 39 ∷ y.1.now = q.0 ∙ ap (λ (z : List ℕ). z ++ 39 ∷ y.1.now) (empty_is y.0.now none) in
     ap unquoted p.0 ∙ unquoted_cut x.0.now x.1.now p.1 ∙ ap (λ (z : List ℕ). x.0.now ++ after_quote z) quote
-
-pub doubled_shorter : (s : List ℕ) (x y : Bor (List ℕ) × Bor (List ℕ)) → IsSplitOnceResult 39 s (Some x) → IsSplitOnceResult 39 x.1.now (Some y) → length y.1.now < length s
-doubled_shorter s x y h k =
-    let p = split_parts 39 s (Some x) h (lit< tt) in
-    let q = split_parts 39 x.1.now (Some y) k (lit< tt) in
-    omega (arith, ap length p.0, ap length q.0, length-append x.0.now (39 ∷ x.1.now), length-append y.0.now (39 ∷ y.1.now))
 
 pub behind_none : (s : List ℕ) → IsSplitOnceResult 39 s None → behind_quote s ≡ []
 behind_none s h = behind_plain s (split_parts 39 s None h (lit< tt))

@@ -143,9 +143,6 @@ IsStep = grammar.IsStep stand_in
 abbrev pub IsQuery : ℕ → Language Query → Language Query
 IsQuery = grammar.IsQuery stand_in
 
-abbrev pub QueryBelow : ℕ → Language Query
-QueryBelow = grammar.QueryBelow stand_in
-
 abbrev pub IsSequenced : ℕ → Language Query
 IsSequenced = grammar.IsSequenced stand_in
 

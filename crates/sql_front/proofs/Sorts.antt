@@ -71,9 +71,6 @@ not_true : (b : Bool) → not b ≡ true → b ≡ false
 not_true true e = sym e
 not_true false e = refl
 
-never : {b : Bool} → false ≡ true → b ≡ true
-never e = absurd cc
-
 sorts_apart : (a b : Sort) → differ a b ≡ true → Apart (is a) (is b)
 sorts_apart (word v) (word w) e = keywords_apart v w (not_true (bytes_eq (folded v) (folded w)) e)
 sorts_apart (word v) a_name e = keyword_not_name v e

@@ -1,10 +1,10 @@
 -- What holds of the tokens of a script, and of any run of them.
 use Rattle.std.proofs.Common.{◌≡◌, ℕ, ◌+◌, ◌-◌, ◌≤◌, List, ◌∷◌, length, take, drop, refl, sym, ap, subst, ◌∙◌, arith, length-drop, Result, Ok, Err, Vec, Global}
 use Rattle.std.specs.Prelude.{IfOk}
-use Rattle.std.specs.List.{All, slice_range}
+use Rattle.std.specs.List.{All}
 use Rattle.std.specs.Str.{IsUtf8, IsCharBoundary}
 use Rattle.std.proofs.lemmas.List.{drop-drop}
-use Rattle.std.proofs.lemmas.List.Elements.{All-nil, All-cons, All-take, All-drop}
+use Rattle.std.proofs.lemmas.List.Elements.{All-nil, All-cons}
 use Rattle.std.proofs.lemmas.Str.{IsUtf8-drop}
 use Rattle.sql_statements.specs.declared.token.TokenKind.{TokenKind}
 use Rattle.sql_statements.specs.declared.lexeme.Front.{Front}
@@ -36,20 +36,6 @@ behind_token at bytes ts k n e (lexis.TokensFrom.token {more = more} j m f rest)
     let kinds : j ≡ k = cc in
     let sizes : m ≡ n = cc in
     (more, cc, subst (λ (i : ℕ). TokensFrom (at + i) (drop i bytes) more) sizes rest)
-
-pub one_list : (at : ℕ) (bytes : List ℕ) (a b : List Lexeme) → TokensFrom at bytes a → TokensFrom at bytes b → a ≡ b
-unfolding first_lexeme
-one_list at bytes a b lexis.TokensFrom.ended lexis.TokensFrom.ended = refl
-one_list at bytes a b lexis.TokensFrom.ended (lexis.TokensFrom.blank n e rest) = absurd cc
-one_list at bytes a b lexis.TokensFrom.ended (lexis.TokensFrom.token k n e rest) = absurd cc
-one_list at bytes a b (lexis.TokensFrom.blank n e rest) other = one_list (at + n) (drop n bytes) a b rest (behind_blank at bytes b n e other)
-one_list at bytes a b (lexis.TokensFrom.token {more = more} k n e rest) other =
-    let t = behind_token at bytes b k n e other in
-    ap (λ (ts : List Lexeme). record { kind = k; text = take n bytes; start = at; end = at + n } ∷ ts) (one_list (at + n) (drop n bytes) more t.0 rest t.2) ∙ sym t.1
-
--- the tokens of a script are one list
-pub one_list_of : (script : List ℕ) (a b : List Lexeme) → TokensOf script a → TokensOf script b → a ≡ b
-one_list_of script a b = one_list (byte_order_mark_size script) (drop (byte_order_mark_size script) script) a b
 
 none_fits : (at b : ℕ) (rest bytes : List ℕ) (ts : List Lexeme) → bytes ≡ b ∷ rest → first_lexeme bytes ≡ front.Bad → TokensFrom at bytes ts → ⊥
 none_fits at b rest bytes ts is e lexis.TokensFrom.ended = cc
@@ -99,10 +85,6 @@ pub tokens_at : (script : List ℕ) (ts : List Lexeme) → IsUtf8 script → Tok
 tokens_at script ts utf8 tokens =
     let boundary : IsCharBoundary script (byte_order_mark_size script) = mark_boundary script utf8 in
     tokens_from script (byte_order_mark_size script) (drop (byte_order_mark_size script) script) ts (IsUtf8-drop script (byte_order_mark_size script) utf8 boundary) boundary.0 refl tokens
-
--- what holds of each token holds of each of a run
-pub run_at : (script : List ℕ) (ts : List Lexeme) (from to : ℕ) → All (IsTokenAt script) ts → All (IsTokenAt script) (slice_range ts from to)
-run_at script ts from to h = All-take (IsTokenAt script) (to - from) (drop from ts) (All-drop (IsTokenAt script) from ts h)
 
 pub ok_tokens_at : (script : List ℕ) (r : Result (Vec Token Global) LexFault) → IsUtf8 script → IfOk r (λ v. TokensOf script (lexemes v.items))
     → IfOk r (λ v. All (IsTokenAt script) (lexemes v.items))

@@ -34,9 +34,6 @@ from_2 = words_2 ++ from_3
 abbrev from_1 : List (List ℕ)
 from_1 = words_1 ++ from_2
 
-abbrev from_0 : List (List ℕ)
-from_0 = words_0 ++ from_1
-
 -- a word is reserved where a group has it
 pub groups : (text : List ℕ) → is_reserved text ≡ is_in_group text
 unfolding is_reserved is_word_0 is_word_1 is_word_2 is_word_3 is_word_4 is_word_5 is_word_6 is_word_7

@@ -82,9 +82,6 @@ InSnapshot-start rows row c =
 pub Equivalent-refl : (xs : List PeriodRow) → Equivalent xs xs
 Equivalent-refl xs day vs = (λ h. h, λ h. h)
 
-pub Equivalent-sym : (xs ys : List PeriodRow) → Equivalent xs ys → Equivalent ys xs
-Equivalent-sym xs ys p day vs = ((p day vs).1, (p day vs).0)
-
 pub Equivalent-trans : (xs ys zs : List PeriodRow) → Equivalent xs ys → Equivalent ys zs → Equivalent xs zs
 Equivalent-trans xs ys zs p q day vs = (λ h. (q day vs).0 ((p day vs).0 h), λ h. (p day vs).1 ((q day vs).1 h))
 

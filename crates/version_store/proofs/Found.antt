@@ -1,8 +1,6 @@
 -- Version rows as the query shows them.
-use Rattle.std.proofs.Common.{◌≡◌, ℕ, ◌+◌, ◌==◌, List, [], ◌∷◌, map, filter, get_or, eqb-true, Bool, true, false, cond, refl, sym, ap, subst, subst₂, ◌∙◌, arith, Result, Ok, Err}
-use Rattle.std.specs.Prelude.{IfOk, IsSorted, Vec}
-use Rattle.std.specs.declared.alloc.Global.{Global}
-use Rattle.period_core.specs.declared.refusal.Refusal.{Refusal}
+use Rattle.std.proofs.Common.{◌≡◌, ℕ, ◌+◌, ◌==◌, List, [], ◌∷◌, map, filter, get_or, eqb-true, Bool, true, false, cond, refl, sym, ap, subst, subst₂, ◌∙◌, arith}
+use Rattle.std.specs.Prelude.{IsSorted}
 use Rattle.std.specs.List.{All, AllByRecursion}
 use Rattle.std.specs.List.Sorted.{IsPermutation}
 use Rattle.std.specs.Ordering.{int_cmp, is_lt, ordering_then}
@@ -13,7 +11,7 @@ use Rattle.sqlite.specs.Order.{Row}
 use Rattle.period_core.specs.Encoding.{IsColumnValue, encoded}
 use Rattle.period_core.proofs.EncodingOrder.{keeps_order, reads_back}
 use Rattle.period_core.specs.declared.version.VersionRow.{VersionRow}
-use Rattle.version_tables.specs.Represents.{AreOfTable, Records, Version, shown, version}
+use Rattle.version_tables.specs.Represents.{AreOfTable, Version, shown}
 use Rattle.version_tables.specs.Represents as raw
 use Rattle.version_store.specs.Contents.{AreRowsOf, Contents, HaveColumnValues, TableVersion, of_table, version_cmp, version_in}
 use Rattle.version_store.specs.Written.{written, written_version}
@@ -117,9 +115,3 @@ rows_are c table found rows held values same of =
       all = same_order (of_table table c.versions) ys hx hy (subst₂ IsPermutation (filter-map (λ (v : Version). v.table == table) written_version c.versions) is of.all);
       sorted = sorted_values ys hy (subst (IsSorted raw.version_cmp) is of.sorted);
     }
-
-pub rows_if : (c : Contents) (table n : ℕ) (found : List Version) (items : List Row) (r : Result (Vec VersionRow Global) Refusal) → n ≡ table → HaveColumnValues c.versions → items ≡ map shown found → AreOfTable (written c) n found
-    → IfOk r (λ versions. items ≡ map (λ (v : VersionRow). shown (written_version (version_in 0 v))) versions.items) → IfOk r (λ versions. AllByRecursion (λ (v : VersionRow). All IsColumnValue v.values) versions.items)
-    → IfOk r (λ rows. AreRowsOf c table rows.items)
-rows_if c table n found items (Err e) same held is of shown values = tt
-rows_if c table n found items (Ok rows) same held is of shown values = rows_are c table found rows.items held values (sym is ∙ shown) (subst (λ t. AreOfTable (written c) t found) same of)

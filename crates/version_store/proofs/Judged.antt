@@ -5,7 +5,7 @@ use Rattle.std.specs.List.{All, AllByRecursion}
 use Rattle.std.proofs.lemmas.Int.{ints}
 use Rattle.std.proofs.lemmas.List.{append-nil}
 use Rattle.period_core.proofs.EncodingOrder.{reads_back}
-use Rattle.period_core.specs.Encoding.{IsColumnValue, IsEncoding, encoded}
+use Rattle.period_core.specs.Encoding.{IsColumnValue, encoded}
 use Rattle.period_core.specs.declared.value.Value.{Value}
 use Rattle.catalog_core.proofs.lemmas.bytes.DefinitionSame.{reads_back as same_definition}
 use Rattle.catalog_core.specs.bytes.DefinitionEncoding.{IsDefinitionEncoding}
@@ -14,7 +14,7 @@ use Rattle.catalog_core.specs.declared.table.TableDef.{TableDef}
 use Rattle.sqlite.specs.Order.{Row}
 use Rattle.sqlite.specs.declared.types.Value.TheVariants.{Int, Blob}
 use Rattle.sqlite_value.specs.Order.{column}
-use Rattle.version_tables.specs.Good.{IsDefinition, IsGoodParts, IsKnown, SayClock}
+use Rattle.version_tables.specs.Good.{SayClock}
 use Rattle.version_tables.specs.Rows.{AreBytesAt, IsNumberAt}
 use Rattle.version_tables.specs.Good as raw
 use Rattle.version_tables.specs.Represents.{Version, meta_row, stored}
@@ -41,12 +41,6 @@ same_blob row n m a b e f =
 
 pub same_table : (before : List TableDef) (row : Row) (a b : TableDef) → IsTableRow before row a → IsTableRow before row b → a ≡ b
 same_table before row a b ra rb = same_written a b ra.readable rb.readable (same_blob row _ _ (written_table a) (written_table b) ra.spelled rb.spelled)
-
-pub as_many : (before : List TableDef) (rows : List Row) (ts : List TableDef) → AreTableRows before rows ts → length ts ≡ length rows
-as_many before [] [] all = refl
-as_many before [] (t ∷ ts) all = absurd all
-as_many before (row ∷ rows) [] all = absurd all
-as_many before (row ∷ rows) (t ∷ ts) all = ap suc (as_many (before ++ t ∷ []) rows ts all.1)
 
 -- the row behind those that were read
 pub at_place : (before : List TableDef) (rows : List Row) (i : ℕ) (xs ts : List TableDef) (e : Row) → AreTableRows before rows ts → AreTableRows before (take i rows) xs → i < length rows
@@ -82,20 +76,6 @@ stuck rows i xs ts row low is part none all =
     none found.0 (subst (λ (r : Row). IsTableRow xs r found.0) (sym is) found.1)
 
 -- ---- one row of a definition
-
-pub is_definition_by : (before : List TableDef) (row : Row) (d : TableDef) → IsTableRow before row d → IsDefinition (length before + 1) row
-is_definition_by before row d is = (written_table d, is.spelled)
-
-pub bytes_there : (n : ℕ) (row : Row) → IsDefinition n row → (b : List ℕ) × AreBytesAt row 1 b
-bytes_there n row (d, is) = (d, rw is (omega arith, refl))
-
--- the bytes that were read are those that the row spells
-pub spelled_by : (n : ℕ) (row : Row) (b : List ℕ) (d : TableDef) → IsDefinition n row → AreBytesAt row 1 b → written_table d ≡ b → row ≡ Int (pos n) ∷ Blob (written_table d) ∷ []
-spelled_by n row b d (a, is) at same =
-    let p = blob_of row (pos n) a is in
-    let q = at.1 in
-    let e : a ≡ b = cc in
-    is ∙ ap (λ (b : List ℕ). Int (pos n) ∷ Blob b ∷ []) (e ∙ sym same)
 
 pub bytes_of : (before : List TableDef) (row : Row) (b : List ℕ) (d : TableDef) → IsTableRow before row d → AreBytesAt row 1 b → written_table d ≡ b
 bytes_of before row b d is at =
@@ -143,10 +123,6 @@ same_pos n m e = cc
 pub number_is : (clock : ℤ) (tables : ℕ) (row : Row) (n : ℤ) (says : raw.SaysVersion clock tables row) → IsNumberAt row 0 n → n ≡ pos says.0.table
 number_is clock tables row n (v, is, good) at = same_number row n (pos v.table) at.1 (ap (λ (r : Row). column r 0) is)
 
--- the number is one of a table
-pub number_known : (clock : ℤ) (tables : ℕ) (row : Row) (n : ℤ) → raw.SaysVersion clock tables row → IsNumberAt row 0 n → IsKnown tables n
-number_known clock tables row n (v, is, good) at = subst (IsKnown tables) (sym (number_is clock tables row n (v, is, good) at)) good.known
-
 pub says_by : (tables : List TableDef) (clock : ℤ) (row : Row) (n : ℕ) (b : List ℕ) (definition : TableDef) (values : List Value) → raw.SaysVersion clock (length tables) row → IsNumberAt row 0 (pos n) → AreBytesAt row 1 b
     → table_of tables n ≡ Some definition → encoded values ≡ b → All IsColumnValue values → are_row_values definition values ≡ true → SaysVersion tables clock row
 says_by tables clock row n b definition values (v, is, good) number bytes table same held fits =
@@ -175,9 +151,6 @@ row_table tables clock row n (v, is, good) at = ap (table_of tables) (row_number
 
 pub row_bytes : (tables : List TableDef) (clock : ℤ) (row : Row) (b : List ℕ) (says : SaysVersion tables clock row) → AreBytesAt row 1 b → encoded says.0.values ≡ b
 row_bytes tables clock row b (v, is, good) at = same_bytes row (encoded v.values) b (ap (λ (r : Row). column r 1) is) at.1
-
-pub row_encodes : (tables : List TableDef) (clock : ℤ) (row : Row) (b : List ℕ) → SaysVersion tables clock row → AreBytesAt row 1 b → IsEncoding b
-row_encodes tables clock row b (v, is, good) at = (v.values, good.held, row_bytes tables clock row b (v, is, good) at)
 
 pub row_fits : (tables : List TableDef) (clock : ℤ) (row : Row) (n : ℕ) (b : List ℕ) (definition : TableDef) (values : List Value) → SaysVersion tables clock row → IsNumberAt row 0 (pos n) → AreBytesAt row 1 b
     → table_of tables n ≡ Some definition → encoded values ≡ b → All IsColumnValue values → are_row_values definition values ≡ true

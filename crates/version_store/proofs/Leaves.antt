@@ -39,12 +39,6 @@ and_turned true false = refl
 and_turned false true = refl
 and_turned false false = refl
 
-or_turned : (a b : Bool) → (a || b) ≡ (b || a)
-or_turned true true = refl
-or_turned true false = refl
-or_turned false true = refl
-or_turned false false = refl
-
 exchanged : {A : Type 0} (p q : A → Bool) (xs : List A) → filter p (filter q xs) ≡ filter q (filter p xs)
 exchanged p q xs = twice p q xs ∙ ap (λ t. filter t xs) (fun_ext (λ x. and_turned (q x) (p x))) ∙ sym (twice q p xs)
 

@@ -26,22 +26,6 @@ clock_columns row clock h =
     let same : row ≡ meta_row (pos 1) clock = let e = h.0 in cc in
     rw same (record { width = refl; id = (omega arith, refl); form = (omega arith, refl); at = (omega arith, refl); is_clock = h.1 })
 
-three : (row : Row) → length row ≡ 3 → row ≡ column row 0 ∷ column row 1 ∷ column row 2 ∷ []
-three [] h = absurd (omega arith)
-three (a ∷ []) h = absurd (omega arith)
-three (a ∷ b ∷ []) h = absurd (omega arith)
-three (a ∷ b ∷ c ∷ []) h = refl
-three (a ∷ b ∷ c ∷ d ∷ more) h = absurd (omega arith)
-
-pub say_clock : (row : Row) (clock : ℤ) → length row ≡ 3 → IsNumberAt row 0 (pos 1) → IsNumberAt row 1 (pos 1) → IsNumberAt row 2 clock → IsClock clock → SayClock (row ∷ []) clock
-say_clock row clock width id form at is =
-    let whole = three row width in
-    let a = id.1 in
-    let b = form.1 in
-    let c = at.1 in
-    let same : row ≡ meta_row (pos 1) clock = cc in
-    (cc, is)
-
 -- ---- a version
 
 six : (row : Row) → length row ≡ 6 → row ≡ column row 0 ∷ column row 1 ∷ column row 2 ∷ column row 3 ∷ column row 4 ∷ column row 5 ∷ []
@@ -116,19 +100,6 @@ good_parts clock tables row table start end from to a c d e f says =
     rw (p, q, r, s, t) has.good
 
 -- ---- a definition
-
-two : (row : Row) → length row ≡ 2 → row ≡ column row 0 ∷ column row 1 ∷ []
-two [] h = absurd (omega arith)
-two (a ∷ []) h = absurd (omega arith)
-two (a ∷ b ∷ []) h = refl
-two (a ∷ b ∷ c ∷ more) h = absurd (omega arith)
-
-pub definition : (row : Row) (id : ℕ) (d : List ℕ) → length row ≡ 2 → IsNumberAt row 0 (pos id) → AreBytesAt row 1 d → IsDefinition id row
-definition row id d width a b =
-    let whole = two row width in
-    let p = a.1 in
-    let q = b.1 in
-    (d, cc)
 
 pub record DefinitionColumns (row : Row) (id : ℕ) : Type 0 where
   pub width : length row ≡ 2

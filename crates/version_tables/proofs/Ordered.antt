@@ -44,12 +44,6 @@ defined_table n (d ∷ ds) = (defined_later n (n + 1) ds (omega arith), defined_
 
 -- ---- two lists of the same rows, both in the order of their rowids
 
-below_not_tied : (a b : Row) → by_rowid a b ≡ Less → tied a b ≡ false
-below_not_tied a b h = ap is_eq h
-
-above_not_tied : (a b : Row) → by_rowid a b ≡ Less → tied b a ≡ false
-above_not_tied a b h = tied_turned a b (ap is_eq h)
-
 others_stay : (x : Row) (xs : List Row) → AllByRecursion (λ r. by_rowid x r ≡ Less) xs → filter (λ r. not (tied x r)) (x ∷ xs) ≡ xs
 others_stay x xs later =
     let here = tied_itself value_cmp_total (rowid x) in
@@ -134,9 +128,6 @@ own_rowids tree ids same ints up =
       ascending_from_map (λ a b. tied a b ≡ false) rowid_shown tree (untied_along _ _ back (table_untied ids (rising_table ids up))),
       all_from_map (λ r. is_int (rowid r) ≡ true) rowid_shown tree (all-permutation (λ r. is_int (rowid r) ≡ true) _ _ back (all_by_place (λ r. is_int (rowid r) ≡ true) [] ids ints)),
     )
-
-pub number_is_int : (row : Row) (n : ℤ) → IsNumberAt row 0 n → is_int (rowid row) ≡ true
-number_is_int row n h = ap is_int h.1
 
 pub rises_by : (a b : Row) (m n : ℤ) → IsNumberAt a 0 m → IsNumberAt b 0 n → m <ℤ n → by_rowid a b ≡ Less
 rises_by a b m n p q less = rw (p.1, q.1) (value_cmp-Int m n ∙ int_less m n less)

@@ -1,20 +1,13 @@
 -- What the rows of a resolved change are: they have a value for each value column, and the empty ones decide the refusal.
-use Rattle.std.proofs.Common.{◌≡◌, ◌∷◌, ◌++◌, ◌||◌, ◌∙◌, ℕ, Bool, List, [], Option, Some, length, lit≤, map, refl, sym, ap}
-use Rattle.std.specs.List.{All, list_any}
+use Rattle.std.proofs.Common.{◌≡◌, ◌∷◌, ◌++◌, ◌||◌, ◌∙◌, ℕ, Bool, List, [], Option, Some, map, refl, sym, ap}
+use Rattle.std.specs.List.{list_any}
 use Rattle.std.specs.Option.{option_and_then}
-use Rattle.std.proofs.lemmas.List.{length-map}
-use Rattle.std.proofs.lemmas.List.Elements.{All-cons, All-nil}
-use Rattle.period_core.specs.Leasts.{IsLeast}
-use Rattle.period_core.specs.declared.refusal.Refusal.{Refusal}
-use Rattle.period_core.specs.declared.refusal.Refusal.TheVariants.{EmptyPeriod}
 use Rattle.period_core.specs.declared.value.Value.{Value}
 use Rattle.sql_statements.specs.declared.statement.InsertRows.{InsertRows}
-use Rattle.catalog_core.specs.change.Insertion.{gives_empty_row, gives_no_period, has_no_period, insert_conditions, is_no_period}
-use Rattle.catalog_core.proofs.lemmas.judged.Least.{least_stays, within}
-use Rattle.catalog_core.specs.Judged.{Holds}
+use Rattle.catalog_core.specs.change.Insertion.{gives_empty_row, gives_no_period, has_no_period, is_no_period}
 use Rattle.catalog_core.specs.table.Naming.{Name, passes}
 use Rattle.catalog_core.specs.change.Resolution.{ResolvesAction, ResolvesInsert, RowParts, has_empty_row, is_empty_row, row_parts, written_row}
-use Rattle.catalog_core.specs.table.TableWords.{number_of, table_of, table_of_name, value_count}
+use Rattle.catalog_core.specs.table.TableWords.{number_of, table_of, table_of_name}
 use Rattle.catalog_core.specs.declared.change.Action.{Action}
 use Rattle.catalog_core.specs.declared.change.Action.TheVariants.{Delete, Insert, Update}
 use Rattle.catalog_core.specs.declared.change.Change.{Change}
@@ -49,23 +42,3 @@ pub empty_change : (catalog : List TableDef) (i : InsertRows) (change : Change) 
 empty_change catalog i change resolved =
     ap (passes (λ (t : TableDef). has_no_period t i)) (table_named catalog i.table change.table resolved.definition resolved.number resolved.table)
     ∙ empty_action resolved.definition i change.action resolved.action
-
--- each given row has as many values as the table has value columns
-pub row_widths : (t : TableDef) (list : Option (List Name)) (rows : List (List Value)) (given : List GivenRow)
-    → map (written_row t list) rows ≡ map row_parts given → All (λ (g : GivenRow). length g.values ≡ value_count t) given
-row_widths t list [] [] same = All-nil (λ (g : GivenRow). length g.values ≡ value_count t)
-row_widths t list [] (g ∷ given) same = cc
-row_widths t list (row ∷ rows) [] same = cc
-row_widths t list (row ∷ rows) (g ∷ given) same =
-    let first : written_row t list row ≡ row_parts g = cc in
-    let later : map (written_row t list) rows ≡ map row_parts given = cc in
-    let values : map (λ (v : Value). Some v) g.values ≡ (written_row t list row).values = ap (λ (p : RowParts). p.values) (sym first) in
-    let width : length g.values ≡ value_count t = simp length-map at (ap length values) in
-    All-cons (λ (g : GivenRow). length g.values ≡ value_count t) g given width (row_widths t list rows given later)
-
--- the least refusal of a change stays the least beside an empty period, whether one is given or not
-pub change_least : (catalog : List TableDef) (i : InsertRows) (refusal : Refusal) → IsLeast (Holds (insert_conditions catalog i)) refusal
-    → IsLeast (Holds (insert_conditions catalog i ++ (EmptyPeriod, gives_empty_row catalog i) ∷ [])) refusal
-change_least catalog i refusal said =
-    least_stays (insert_conditions catalog i) (EmptyPeriod, gives_empty_row catalog i) refusal
-    (within 41 (insert_conditions catalog i) (lit≤ tt, (lit≤ tt, (lit≤ tt, (lit≤ tt, (lit≤ tt, (lit≤ tt, (lit≤ tt, (lit≤ tt, tt)))))))) refusal said.applies) said

@@ -1,5 +1,5 @@
 -- Faults, collected over a list: in a loop, of two lists, of a list's images.
-use Rattle.std.proofs.Common.{◌≡◌, ◌<◌, ◌≤◌, ◌+◌, ◌++◌, ◌∷◌, ◌||◌, ◌∙◌, ℕ, Bool, true, false, List, [], get_or, take, take_all, flat_map, length, map, refl, sym, ap}
+use Rattle.std.proofs.Common.{◌≡◌, ◌<◌, ◌≤◌, ◌+◌, ◌++◌, ◌∷◌, ◌||◌, ◌∙◌, ℕ, Bool, true, false, List, [], get_or, take, take_all, length, map, refl, sym, ap}
 use Rattle.std.specs.List.{list_any}
 use Rattle.std.proofs.lemmas.List.{take_more}
 use Rattle.catalog_core.specs.query.Faults.{either, faults_among, no_faults}
@@ -40,10 +40,6 @@ among_push f xs x = among_append f xs (x ∷ []) ∙ ap (either (faults_among f 
 pub among_map : {X Y : Type 0} (f : Y → Faults) (g : X → Y) (xs : List X) → faults_among f (map g xs) ≡ faults_among (λ x. f (g x)) xs
 among_map f g [] = refl
 among_map f g (x ∷ xs) = ap (either (f (g x))) (among_map f g xs)
-
-pub among_flat : {X Y : Type 0} (f : Y → Faults) (g : X → List Y) (xs : List X) → faults_among f (flat_map g xs) ≡ faults_among (λ x. faults_among f (g x)) xs
-among_flat f g [] = refl
-among_flat f g (x ∷ xs) = among_append f (g x) (flat_map g xs) ∙ ap (either (faults_among f (g x))) (among_flat f g xs)
 
 -- ---- in a loop, with the element in hand
 

@@ -144,12 +144,6 @@ module _ (f : Select × Select → Faults) where
 
 -- ---- the first select
 
-pub first_one : (s : SelectDistinct) → plain_select s ≡ first_select (plain_query (code.Select s))
-first_one s = sym (ap first_select (simple_view s))
-
-pub first_many : (first : Box Written) (steps : Vec Step) → first_select (plain_query first.value) ≡ first_select (plain_query (code.Combined first steps))
-first_many first steps = sym (ap first_select (combined_view first steps))
-
 -- the faults of a step, where the columns on its left are of these kinds
 abbrev pub side_by : List TableDef → List (Option ValueKind) → Step → Faults
 side_by catalog left step = either (kinds_faults left (side_kinds catalog (first_select (plain_query step.1)))) (sides_sum (operand_faults catalog) step.1)
