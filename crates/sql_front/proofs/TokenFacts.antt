@@ -1,5 +1,5 @@
 -- Which tokens name days and moments.
-use Rattle.std.proofs.Common.{◌≡◌, List, ◌↔◌, ℕ}
+use Rattle.std.proofs.Common.{List, ◌↔◌, ℕ}
 use Rattle.std.specs.Prelude.{◌<ℤ◌, IsSome}
 use Rattle.period_core.specs.Calendar.{IsDayText}
 use Rattle.period_core.specs.Moments.{IsMomentText, forever}
