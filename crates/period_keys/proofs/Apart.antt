@@ -1,5 +1,5 @@
 -- The periods of each key are apart where no two rows clash.
-use Rattle.std.proofs.Common.{◌≡◌, ◌≤ℤ◌, ◌<ℤ◌, ◌∙◌, ℕ, ℤ, Bool, true, false, cond, List, [], ◌∷◌, length, map, get_or, refl, sym, subst, inl, inr, arith}
+use Rattle.std.proofs.Common.{◌≡◌, ◌≤ℤ◌, ◌<ℤ◌, ◌∙◌, ◌++◌, ℕ, ℤ, Bool, true, false, cond, List, [], ◌∷◌, length, map, get_or, refl, sym, subst, inl, inr, arith}
 use Rattle.std.specs.List.{filter}
 use Rattle.std.proofs.lemmas.Int.{ints, by_lt_z}
 use Rattle.std.proofs.lemmas.List.{get_or_default, get_or-map, length-map}
@@ -13,7 +13,7 @@ use Rattle.period_keys.specs.Ordered.{AreApart, AreInOrder}
 use Rattle.period_keys.specs.Index.{AreAtKeys, has_key, periods_of_key}
 use Rattle.period_keys.proofs.Members.{from_filter}
 use Rattle.period_keys.proofs.Locality.{period_of}
-use Rattle.period_keys.proofs.Pairs.{SomePair-append, SomePair-cross, SomePair-nil, SomePair-one, SomePair-permutation, SomePair-right}
+use Rattle.period_keys.proofs.Pairs.{SomePair-append, SomePair-cross, SomePair-left, SomePair-nil, SomePair-one, SomePair-permutation, SomePair-right}
 
 -- a pair of a mapped list is one of the list
 pub pair_of_map : {X Y : Type 0} (R : Y → Y → Type 0) (f : X → Y) (xs : List X) → SomePair R (map f xs) → SomePair (λ a b. R (f a) (f b)) xs
@@ -62,12 +62,9 @@ no_pair positions rows key none day h =
     (λ x y p q both. (sym ((values_eq key (key_values positions x)).0 p) ∙ (values_eq key (key_values positions y)).0 q, both))
     rows (pair_of_map (BothHold day) period_of (filter test rows) h))
 
--- the periods of a key, which are in order, are apart where no two rows clash
-pub apart_at :
-    (positions : List ℕ) (rows : List PeriodRow) (at : List Value → List Period) → AreAtKeys positions rows at → HasNoClash positions rows
-    → (key : List Value) → AreInOrder (at key) → AreApart (at key)
-apart_at positions rows at is none key order = λ i j d lt below.
-    let xs : List Period = at key in
+-- periods in order are apart where no two share a day
+in_order_apart : (xs : List Period) → ((day : ℤ) → SomePair (BothHold day) xs → ⊥) → AreInOrder xs → AreApart xs
+in_order_apart xs none order = λ i j d lt below.
     let a : Period = get_or xs i d in
     let b : Period = get_or xs j d in
     by_lt_z {P = a.end ≤ℤ b.start} b.start a.end
@@ -77,5 +74,16 @@ apart_at positions rows at is none key order = λ i j d lt below.
     let both : BothHold b.start a b = ((upto, less), (omega (arith, ints), mine)) in
     let pair : SomePair (BothHold b.start) xs =
     (i, j, lt, below, λ e. subst (λ x. BothHold b.start x (get_or xs j e)) (get_or_default xs i d e (omega arith)) (subst (BothHold b.start a) (get_or_default xs j d e below) both)) in
-    absurd (no_pair positions rows key none b.start (SomePair-permutation (BothHold b.start) (BothHold-sym b.start) xs (periods_of_key positions rows key) (is key) pair)))
+    absurd (none b.start pair))
     (λ upto. upto)
+
+-- the periods of a key in two parts, each in order, are apart in each where no two rows clash
+pub apart_in_parts :
+    (positions : List ℕ) (rows : List PeriodRow) (at : List Value → List Period) → AreAtKeys positions rows at → HasNoClash positions rows
+    → (key : List Value) (first second : List Period) → first ++ second ≡ at key → (AreInOrder first → AreApart first) × (AreInOrder second → AreApart second)
+apart_in_parts positions rows at is none key first second parts =
+    let whole : (day : ℤ) → SomePair (BothHold day) (first ++ second) → ⊥ = λ day pair.
+    no_pair positions rows key none day (SomePair-permutation (BothHold day) (BothHold-sym day) (at key) (periods_of_key positions rows key) (is key) (subst (SomePair (BothHold day)) parts pair)) in (
+      in_order_apart first (λ day pair. whole day (SomePair-left (BothHold day) first second pair)),
+      in_order_apart second (λ day pair. whole day (SomePair-right (BothHold day) first second pair)),
+    )

@@ -1,5 +1,5 @@
 -- Periods in the order of their starts: one more at its place, and one less.
-use Rattle.std.proofs.Common.{◌≡◌, ◌≤ℤ◌, ◌<ℤ◌, ◌<◌, ◌≤◌, ◌+◌, ◌-◌, ◌++◌, ◌∷◌, [], ◌∙◌, ℕ, ℤ, Bool, true, false, cond, List, length, get_or, sym, ap, subst, inl, inr, arith}
+use Rattle.std.proofs.Common.{◌≡◌, ◌≤ℤ◌, ◌<ℤ◌, ◌<◌, ◌≤◌, ◌+◌, ◌-◌, ◌++◌, ◌∷◌, [], ◌∙◌, ℕ, ℤ, List, length, get_or, sym, ap, subst, inl, inr, arith}
 use Rattle.std.specs.List.{insert}
 use Rattle.std.specs.List.Sorted.{IsPermutation}
 use Rattle.std.proofs.lemmas.Int.{ints, by_lt_z}
@@ -66,11 +66,6 @@ pub inserted : {X : Type 0} (xs : List X) (i : ℕ) (x : X) → IsPermutation (i
 inserted xs i x =
     IsPermutation-trans (insert xs i x) (x ∷ xs) (xs ++ x ∷ [])
     (IsPermutation-sym (x ∷ xs) (insert xs i x) (IsPermutation-insert xs i x)) (IsPermutation-append_comm (x ∷ []) xs)
-
--- where a write could be refused, the old list is in order too
-pub either_in_order : (b : Bool) (new xs ys : List Period) → new ≡ cond b xs ys → AreInOrder xs → AreInOrder ys → AreInOrder new
-either_in_order true new xs ys e p q = subst AreInOrder (sym e) p
-either_in_order false new xs ys e p q = subst AreInOrder (sym e) q
 
 -- the step of a search: those up to one that starts by the day do so
 pub by_start :

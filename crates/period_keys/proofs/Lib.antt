@@ -6,6 +6,7 @@ pub mod SweepSteps
 pub mod InOrder
 pub mod Edited
 pub mod Loops
+pub mod Runs
 pub mod Grouped
 pub mod Neighbours
 pub mod Periods

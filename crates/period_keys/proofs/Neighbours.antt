@@ -53,6 +53,12 @@ none_past periods gone period i x order below is past none day (k, y, inside, at
       ]
     ]
 
+-- where all are passed there is none
+pub none_all :
+    (periods gone : List Period) (period : Period) (i : ℕ) → length periods ≤ i → NoneBelow periods gone period i
+    → (day : ℤ) → SharesDayOfKept periods gone period day → ⊥
+none_all periods gone period i all none day (k, y, inside, at, p) = none k y day (omega arith) (subst (Kept gone period day) (sym at) p)
+
 -- the first one that does, where they are apart
 pub found_least :
     (periods gone : List Period) (period : Period) (i : ℕ) (x : Period) (found : ℤ) → AreApart periods → i < length periods → x ≡ get_or periods i x

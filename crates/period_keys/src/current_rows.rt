@@ -18,8 +18,7 @@ use std::collections::{BTreeMap, btree_map};
 use std::marker::Model;
 
 /// The current version rows of one table, by the values of its key's columns. Contracts see the
-/// positions of these columns among a row's values, and all rows, in some order. The rows of a key
-/// are in the order of their periods' starts.
+/// positions of these columns among a row's values, and all rows, in some order.
 #[derive(Drop)]
 pub struct CurrentRows {
     positions: Items<usize>,
@@ -56,10 +55,9 @@ impl CurrentRows {
         self.positions.as_slice()
     }
 
-    /// The rows of a key, in the order of their periods' starts.
+    /// The rows of a key.
     pub fn of_key(&self, key: &Key) -> &[VersionRow]
-        ensures rows { result.now ≡ rows_of_key self.now key.now }
-        ensures ordered { AreInOrder (map period_of result.now) }
+        ensures { result.now ≡ rows_of_key self.now key.now }
     {
         match self.groups.get(key) {
             Some(group) => group.as_slice(),
@@ -67,14 +65,15 @@ impl CurrentRows {
         }
     }
 
-    /// Their periods.
-    pub fn periods_of_key(&self, key: &Key) -> &[Period]
-        ensures periods { result.now ≡ map period_of (rows_of_key self.now key.now) }
-        ensures ordered { AreInOrder result.now }
+    /// Their periods, in two lists, each in the order of their starts.
+    pub fn periods_of_key(&self, key: &Key) -> (&[Period], &[Period])
+        ensures periods { result.0.now ++ result.1.now ≡ map period_of (rows_of_key self.now key.now) }
+        ensures first { AreInOrder result.0.now }
+        ensures second { AreInOrder result.1.now }
     {
         match self.groups.get(key) {
-            Some(group) => group.periods(),
-            None => &[],
+            Some(group) => group.runs(),
+            None => (&[], &[]),
         }
     }
 

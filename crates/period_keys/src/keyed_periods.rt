@@ -1,6 +1,6 @@
 //! Periods by their keys.
 
-ghost use Rattle.std.specs.Prelude.{◌≡◌, ◌++◌, ◌∷◌, [], Contains, IsPermutation, List};
+ghost use Rattle.std.specs.Prelude.{◌≡◌, ◌++◌, ◌∷◌, [], Contains, IsPermutation, List, IsTrue, ◌↔◌};
 ghost use Rattle.std.specs.Prelude.{OnErr, OnOk, if◌then◌else◌};
 ghost use Rattle.std.specs.Bool.{OnFalse, OnTrue};
 ghost use Rattle.std.specs.Ordering.{eq_by_cmp};
@@ -8,7 +8,6 @@ ghost use Rattle.period_core.specs.Order.{values_cmp};
 ghost use Rattle.period_core.specs.declared.period.Period.{Period as PeriodModel};
 ghost use Rattle.period_core.specs.declared.value.Value.{Value as ColumnValue};
 ghost use Rattle.period_keys.specs.Index.{periods_at};
-ghost use Rattle.period_keys.specs.Ordered.{AreInOrder};
 
 use crate::key::Key;
 use crate::ordered_periods::OrderedPeriods;
@@ -16,7 +15,8 @@ use period_core::{Memory, Period};
 use std::alloc::Global;
 use std::collections::{BTreeMap, btree_map};
 
-/// For each key its periods, in the order of their starts. Contracts read them by `periods_at`.
+/// For each key its periods, nearly in the order of their starts. Contracts read them by
+/// `periods_at`.
 #[derive(Drop)]
 pub struct KeyedPeriods {
     entries: BTreeMap<Key, OrderedPeriods>,
@@ -34,12 +34,21 @@ impl KeyedPeriods {
 
     /// The periods of a key.
     pub fn of_key(&self, key: &Key) -> &[Period]
-        ensures value { result.now ≡ periods_at self.now key.now }
-        ensures ordered { AreInOrder result.now }
+        ensures { result.now ≡ periods_at self.now key.now }
     {
         match self.entries.get(key) {
             Some(periods) => periods.as_slice(),
             None => &[],
+        }
+    }
+
+    /// Whether such a period is among those of a key.
+    pub fn has(&self, key: &Key, period: &Period) -> bool
+        ensures { IsTrue result ↔ Contains (periods_at self.now key.now) period.now }
+    {
+        match self.entries.get(key) {
+            Some(periods) => periods.has(period),
+            None => false,
         }
     }
 

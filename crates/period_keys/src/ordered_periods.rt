@@ -1,20 +1,28 @@
-//! Periods in the order of their starts, so that a period meets its neighbours alone.
+//! Periods nearly in the order of their starts, so that a period meets its neighbours alone, and
+//! one that comes in moves few others.
 
-ghost use Rattle.std.specs.Prelude.{◌≡◌, ◌↔◌, ◌<◌, ◌≤◌, ◌<ℤ◌, ◌≤ℤ◌, ◌++◌, ◌∷◌, []};
+ghost use Rattle.std.specs.Prelude.{◌≡◌, ◌↔◌, ◌<◌, ◌≤◌, ◌<ℤ◌, ◌≤ℤ◌, ◌+◌, ◌++◌, ◌∷◌, []};
 ghost use Rattle.std.specs.Prelude.{Contains, IfOk, IsPermutation, IsTrue, MatchOption, OnErr, OnOk};
-ghost use Rattle.std.specs.Prelude.{length, slice_index_or, ℕ};
+ghost use Rattle.std.specs.Prelude.{drop, false, length, slice_index_or, take, ℕ};
 ghost use Rattle.std.specs.Bool.{OnFalse, OnTrue};
 ghost use Rattle.period_core.specs.declared.period.Period.{Period as PeriodModel};
-ghost use Rattle.period_keys.specs.Ordered.{AreInOrder};
+ghost use Rattle.period_keys.specs.Ordered.{AreInOrder, FitsAt};
 
 use period_core::{Day, Memory, Period};
 use std::alloc::Global;
 
-/// Periods in the order of their starts.
+// A period that comes in among the settled ones moves at most so many.
+const MOST_MOVED: usize = 512;
+
+/// Periods in two runs, each in the order of their starts. First come the settled ones, and behind
+/// them the late ones, which came in since and belong far before the last.
 #[derive(Drop)]
 pub struct OrderedPeriods {
     items: Vec<Period>,
-    pub ghost ordered: { AreInOrder items.items },
+    settled: usize,
+    pub ghost within: { settled ≤ length items.items },
+    pub ghost ordered: { AreInOrder (take settled items.items) },
+    pub ghost late: { AreInOrder (drop settled items.items) },
 }
 
 impl OrderedPeriods {
@@ -24,23 +32,24 @@ impl OrderedPeriods {
     {
         OrderedPeriods {
             items: Vec::new(alloc),
+            settled: 0,
         }
     }
 
-    /// A copy of periods that are in order. The only error is out of memory.
-    pub fn copy_of(alloc: Global, periods: &[Period]) -> Result<OrderedPeriods, Memory>
-        requires { AreInOrder periods.now }
-        ensures { IfOk result (λ copied. copied.items.items ≡ periods.now) }
+    /// These periods, sorted. The only error is out of memory.
+    pub fn sorted(alloc: Global, periods: &[Period]) -> Result<OrderedPeriods, Memory>
+        ensures { IfOk result (λ sorted. IsPermutation periods.now sorted.items.items) }
     {
         let mut items = Vec::new(alloc);
         items.extend_from_slice(periods)?;
-        Ok(OrderedPeriods { items })
+        items.sort_by_key(|period| period.start)?;
+        let settled = items.len();
+        Ok(OrderedPeriods { items, settled })
     }
 
     /// The periods.
     pub fn as_slice(&self) -> &[Period]
-        ensures value { result.now ≡ self.now.items.items }
-        ensures ordered { AreInOrder result.now }
+        ensures { result.now ≡ self.now.items.items }
     {
         self.items.as_slice()
     }
@@ -51,9 +60,23 @@ impl OrderedPeriods {
             (IsPermutation self.new.items.items (self.old.items.items ++ period ∷ [])) }
         ensures err { OnErr result (self.new.items.items ≡ self.old.items.items) }
     {
-        let place = place_after(self.items.as_slice(), period.start);
+        let (place, settles) = place_for(self.items.as_slice(), self.settled, period.start);
         self.items.insert(place, period)?;
+        if settles {
+            self.settled += 1;
+        } else if are_many(self.items.len() - self.settled, self.settled) {
+            self.settle();
+        }
         Ok(())
+    }
+
+    // Puts all periods in order, if there is memory for it.
+    fn settle(&mut self)
+        ensures { IsPermutation self.old.items.items self.new.items.items }
+    {
+        if let Ok(()) = self.items.sort_by_key(|period| period.start) {
+            self.settled = self.items.len();
+        }
     }
 
     /// Takes one such period out, and says whether it was there.
@@ -63,12 +86,62 @@ impl OrderedPeriods {
         ensures absent { OnFalse result (Contains self.old.items.items period.now → ⊥) }
         ensures kept { OnFalse result (self.new.items.items ≡ self.old.items.items) }
     {
-        let Some(place) = place_of(self.items.as_slice(), period) else {
+        let Some(place) = self.place_of(period) else {
             return false;
         };
         let _taken = self.items.remove(place);
+        if place < self.settled {
+            self.settled -= 1;
+        }
         true
     }
+
+    /// Whether such a period is there.
+    pub fn has(&self, period: &Period) -> bool
+        ensures { IsTrue result ↔ Contains self.now.items.items period.now }
+    {
+        self.place_of(period).is_some()
+    }
+
+    // The place of such a period, if there is one.
+    fn place_of(&self, period: &Period) -> Option<usize>
+        ensures { MatchOption result (Contains self.now.items.items period.now → ⊥)
+            (λ place. (place < length self.now.items.items)
+            × (slice_index_or self.now.items.items place period.now ≡ period.now)) }
+    {
+        let (settled, late) = self.items.as_slice().split_at(self.settled);
+        let place = place_of(settled, period);
+        if place.is_some() {
+            return place;
+        }
+        let place = place_of(late, period)?;
+        Some(self.settled + place)
+    }
+}
+
+/// The place among periods in two runs of one that starts on the day, and whether it is settled
+/// there: else it is late.
+pub fn place_for(periods: &[Period], settled: usize, day: Day) -> (usize, bool)
+    requires within { settled ≤ length periods.now }
+    requires ordered { AreInOrder (take settled periods.now) }
+    requires late { AreInOrder (drop settled periods.now) }
+    ensures settles { IsTrue result.1 → (drop settled periods.now ≡ [])
+        × FitsAt day (take settled periods.now) result.0 }
+    ensures late { result.1 ≡ false → (place : ℕ) × (result.0 ≡ settled + place)
+        × FitsAt day (drop settled periods.now) place }
+{
+    let (first, second) = periods.split_at(settled);
+    let place = place_after(first, day);
+    if second.is_empty() && first.len() - place <= MOST_MOVED {
+        return (place, true);
+    }
+    (settled + place_after(second, day), false)
+}
+
+/// Whether so many late periods are enough to be settled. Each settled one moves then, so they are
+/// as many as the square root of these at least.
+pub fn are_many(late: usize, settled: usize) -> bool {
+    late >= MOST_MOVED && late >= settled / late
 }
 
 /// How many of the periods start by the day: those of periods in order come first.
@@ -100,9 +173,9 @@ fn starts_by(period: &Period, day: Day) -> bool
     period.start <= day
 }
 
-/// The place of the period among periods in order, if it is there. Those that start on another day
-/// are passed over.
-pub fn place_of(periods: &[Period], period: &Period) -> Option<usize>
+// The place of the period among periods in order, if it is there. Those that start on another day
+// are passed over.
+fn place_of(periods: &[Period], period: &Period) -> Option<usize>
     requires { AreInOrder periods.now }
     ensures { MatchOption result (Contains periods.now period.now → ⊥)
         (λ place. (place < length periods.now)

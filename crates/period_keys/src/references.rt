@@ -8,7 +8,6 @@ ghost use Rattle.period_core.specs.declared.row.PeriodRow.{PeriodRow as Row};
 ghost use Rattle.period_keys.specs.Keys.{IsEachCovered, IsLeastOf, IsUncovered};
 ghost use Rattle.period_keys.specs.Index.{IsIndexOf};
 ghost use Rattle.period_keys.specs.Gaps.{IsGap, LacksKeyOf};
-ghost use Rattle.period_keys.specs.Ordered.{AreInOrder};
 
 use crate::clashes::index_of;
 use crate::gaps::first_gap;
@@ -125,12 +124,11 @@ fn there_after(
     gone: &[Period],
     new: &[Period],
 ) -> Result<OrderedPeriods, Memory>
-    requires { AreInOrder periods.now }
     ensures { IfOk result (λ there. (stay : List PeriodModel)
         → IsPermutation periods.now (gone.now ++ stay)
         → IsPermutation there.items.items (stay ++ new.now)) }
 {
-    let mut there = OrderedPeriods::copy_of(alloc, periods)?;
+    let mut there = OrderedPeriods::sorted(alloc, periods)?;
     for going in gone {
         let _taken = there.take_one(going);
     }

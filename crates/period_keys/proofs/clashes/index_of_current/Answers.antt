@@ -24,7 +24,7 @@ loop-group-preserved c =
     let left : rows_of_lists c.loop-group.group-iterator ≡ rows ++ rows_of_lists c.next.new.self = ap rows_of_lists c.in-Some.ensures.steps in
     let more : IsIndexOf c.args.positions.now (map row_of done ++ map row_of c.as_slice.result.now) c.add_versions.new.index = c.in_ok-add_versions.ensures (map row_of done) indexed in
     let same : map row_of done ++ map row_of c.as_slice.result.now ≡ map row_of (done ++ rows) =
-    ap (λ (list : List VersionRow). map row_of done ++ map row_of list) c.as_slice.ensures.value ∙ sym (map-append row_of done rows) in (
+    ap (λ (list : List VersionRow). map row_of done ++ map row_of list) c.as_slice.ensures ∙ sym (map-append row_of done rows) in (
       done ++ rows,
       split ∙ ap (λ (xs : List VersionRow). done ++ xs) left ∙ sym (append_assoc done rows (rows_of_lists c.next.new.self)),
       subst (λ (list : List PeriodRow). IsIndexOf c.args.positions.now list c.add_versions.new.index) same more,

@@ -17,7 +17,7 @@ loop-group-preserved c =
       done ++ group,
       split ∙ ap (λ (xs : List VersionRow). done ++ xs) left ∙ sym (append_assoc done group (rows_of_lists c.next.new.self)),
       c.in_ok-push_rows.ensures ∙ ap (λ (xs : List PeriodRow). xs ++ map row_of c.as_slice.result.now) made
-          ∙ ap (λ (xs : List VersionRow). map row_of done ++ map row_of xs) c.as_slice.ensures.value ∙ sym (map-append row_of done group),
+          ∙ ap (λ (xs : List VersionRow). map row_of done ++ map row_of xs) c.as_slice.ensures ∙ sym (map-append row_of done group),
     )
 
 pub returns : goal.returns

@@ -13,15 +13,15 @@ loop-place-init c =
     record {
       inside = omega (arith, c.place_after-place.ensures.bound);
       before = c.place_after-place.ensures.before;
-      passed = passed_later rows c.args.periods.now (recorded c.args.values.now c.args.period c.args.from c.args.to) c.place_after-place.result c.requires.aligned c.place_after-place.ensures.after size;
+      passed = passed_later rows c.args.periods.now (recorded c.args.values.now c.args.period.now c.args.from c.args.to) c.place_after-place.result c.requires.aligned c.place_after-place.ensures.after size;
     }
 
 pub returns-then-lt : goal.returns-then-lt
 returns-then-lt c =
     let rows : List VersionRow = c.args.rows.now in
-    let row : VersionRow = recorded c.args.values.now c.args.period c.args.from c.args.to in
+    let row : VersionRow = recorded c.args.values.now c.args.period.now c.args.from c.args.to in
     let place : ℕ = c.loop-place.place - 1 in
     let more : place + 1 ≡ c.loop-place.place = omega arith in
     absent rows c.args.periods.now row place c.index-periods-place.result c.requires.aligned c.requires.ordered (omega (arith, c.loop-place.invariant.inside))
-    c.index-periods-place.is (subst (λ (p : Period). p.start <ℤ c.args.period.start) (sym c.index-periods-place.is)
-    (earlier_day (get_or c.args.periods.now place c.index-periods-place.result).start c.args.period.start c.if-lt.ensures)) (subst (IsPassed rows row) (sym more) c.loop-place.invariant.passed)
+    c.index-periods-place.is (subst (λ (p : Period). p.start <ℤ c.args.period.now.start) (sym c.index-periods-place.is)
+    (earlier_day (get_or c.args.periods.now place c.index-periods-place.result).start c.args.period.now.start c.if-lt.ensures)) (subst (IsPassed rows row) (sym more) c.loop-place.invariant.passed)

@@ -29,4 +29,4 @@ returns-in-Ok-Some-clause-plan c =
     (subst (λ (o : Option (List Value)). IfSome o (FixesKey c.in-Some.condition.now c.positions.result.now)) c.in-Ok-Some.field-0-is c.in-Ok-Some.ensures) in
     if_ok c.plan_over.result (λ plan. Plans action c.of_key.result.now plan) (λ plan. IsPlanOf action rows plan)
     (λ plan plans. plan_of_passing action (is_of_key positions key) rows plan (of_fixed action c.in-Some.condition.now positions key fixes c.in-Some.ensures.met)
-    (subst (λ (xs : List VersionRow). Plans action xs plan) c.of_key.ensures.rows plans)) c.plan_over.ensures.plan
+    (subst (λ (xs : List VersionRow). Plans action xs plan) c.of_key.ensures plans)) c.plan_over.ensures.plan

@@ -10,7 +10,9 @@ use Rattle.period_keys.proofs.Indexes.{drop_all}
 use Rattle.period_keys.proofs.references.there_after.Goals as goal
 
 pub loop-going-init : goal.loop-going-init
-loop-going-init c = λ stay moved. subst (λ (list : List Period). IsPermutation list (c.args.gone.now ++ stay)) (sym c.in_ok-there.ensures) moved
+loop-going-init c = λ stay moved.
+    let sorted : List Period = c.in_ok-there.there.items.items in
+    IsPermutation-trans sorted c.args.periods.now (c.args.gone.now ++ stay) (IsPermutation-sym c.args.periods.now sorted c.in_ok-there.ensures) moved
 
 -- one that is there was taken out
 less : (r : Bool) (old new rest : List Period) (p : Period) → OnTrue r (IsPermutation old (p ∷ new)) → OnFalse r (Contains old p → ⊥) → IsPermutation old (p ∷ rest) → IsPermutation new rest

@@ -12,7 +12,7 @@ use Rattle.period_keys.proofs.references.uncovered_by_children.Goals as goal
 pub loop-child-preserved : goal.loop-child-preserved
 loop-child-preserved c =
     let child : PeriodRow = c.child-item.result in
-    let at_key : c.of_key.result.now ≡ periods_at c.args.parents.now (key_values c.args.own.now child) = c.of_key.ensures.value ∙ ap (periods_at c.args.parents.now) c.in_ok-key.ensures in
+    let at_key : c.of_key.result.now ≡ periods_at c.args.parents.now (key_values c.args.own.now child) = c.of_key.ensures ∙ ap (periods_at c.args.parents.now) c.in_ok-key.ensures in
     least_more (λ (child : PeriodRow) day. IsGap (periods_at c.args.parents.now (key_values c.args.own.now child)) child.period day) c.args.added.now c.loop-child.child-index child c.loop-child.found c.first_gap.result c.earlier-found.result
     (omega arith) c.child-item.is c.loop-child.invariant (subst (λ (periods : List Period). IsLeastOf (IsGap periods child.period) c.first_gap.result) at_key c.first_gap.ensures) c.earlier-found.ensures
 

@@ -41,10 +41,10 @@ loop-key-preserved c =
           let moved_there : IsPermutation there after =
           there_afterwards keys c.args.parents.now c.args.gone.now c.args.new.now before ended stay added key there is moved gone_is new_is
           (of_indexes c.args.parents.now c.args.gone.now c.args.new.now key c.of_key.result.now c.of_key-in-loop-key.result.now c.of_key-in-loop-key-2.result.now c.in_ok-there.there.items.items there
-          c.of_key.ensures.value c.of_key-in-loop-key.ensures.value c.of_key-in-loop-key-2.ensures.value c.as_slice.ensures.value c.in_ok-there.ensures) in
+          c.of_key.ensures c.of_key-in-loop-key.ensures c.of_key-in-loop-key-2.ensures c.as_slice.ensures c.in_ok-there.ensures) in
           least_one_more (λ key day. LosesParent (periods_of_key keys (stay ++ added)) c.args.children.now key day) done key c.loop-key.found c.first_gap_of_some.result c.earlier-found.result
           (least keys before ended stay added is gone_is new_is moved)
-          (lost_least there after c.of_key-in-loop-key-3.result.now c.args.children.now key c.first_gap_of_some.result c.of_key-in-loop-key-3.ensures.value moved_there c.first_gap_of_some.ensures)
+          (lost_least there after c.of_key-in-loop-key-3.result.now c.args.children.now key c.first_gap_of_some.result c.of_key-in-loop-key-3.ensures moved_there c.first_gap_of_some.ensures)
           c.earlier-found.ensures,
     )
 

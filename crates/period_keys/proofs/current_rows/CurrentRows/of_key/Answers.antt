@@ -6,12 +6,12 @@ use Rattle.period_keys.specs.Rows.{RowsByKey, rows_of_key}
 use Rattle.period_keys.proofs.Grouped.{group_of_key, rows_in}
 use Rattle.period_keys.proofs.current_rows.CurrentRows.of_key.Goals as goal
 
-pub returns-in-Some-clause-rows : goal.returns-in-Some-clause-rows
-returns-in-Some-clause-rows c =
-    c.as_slice.ensures.value ∙ ap (λ (o : Option KeyRows). option_map_or rows_in o []) c.in-Some.ensures.value
+pub returns-in-Some : goal.returns-in-Some
+returns-in-Some c =
+    c.as_slice.ensures ∙ ap (λ (o : Option KeyRows). option_map_or rows_in o []) c.in-Some.ensures.value
     ∙ sym (group_of_key c.self.inside.positions c.args.key.now c.self.inside.groups c.self.invariant) ∙ ap (λ (t : RowsByKey). rows_of_key t c.args.key.now) c.self.view_is
 
-pub returns-in-None-clause-rows : goal.returns-in-None-clause-rows
-returns-in-None-clause-rows c =
+pub returns-in-None : goal.returns-in-None
+returns-in-None c =
     ap (λ (o : Option KeyRows). option_map_or rows_in o []) c.in-None.ensures.value
     ∙ sym (group_of_key c.self.inside.positions c.args.key.now c.self.inside.groups c.self.invariant) ∙ ap (λ (t : RowsByKey). rows_of_key t c.args.key.now) c.self.view_is

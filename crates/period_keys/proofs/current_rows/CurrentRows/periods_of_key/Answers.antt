@@ -9,7 +9,7 @@ use Rattle.period_keys.proofs.current_rows.CurrentRows.periods_of_key.Goals as g
 
 pub returns-in-Some-clause-periods : goal.returns-in-Some-clause-periods
 returns-in-Some-clause-periods c =
-    c.periods.ensures.value ∙ ap (map period_of) (ap (λ (o : Option KeyRows). option_map_or rows_in o []) c.in-Some.ensures.value
+    c.runs.ensures.value ∙ ap (map period_of) (ap (λ (o : Option KeyRows). option_map_or rows_in o []) c.in-Some.ensures.value
     ∙ sym (group_of_key c.self.inside.positions c.args.key.now c.self.inside.groups c.self.invariant) ∙ ap (λ (t : RowsByKey). rows_of_key t c.args.key.now) c.self.view_is)
 
 pub returns-in-None-clause-periods : goal.returns-in-None-clause-periods

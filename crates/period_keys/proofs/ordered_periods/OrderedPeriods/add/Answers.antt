@@ -1,24 +1,50 @@
-use Rattle.std.proofs.Common.{◌≤◌, ◌<◌, ◌≤ℤ◌, ◌<ℤ◌, ◌++◌, ◌∷◌, [], ℕ, List, length, get_or, sym, subst}
+use Rattle.std.proofs.Common.{◌≡◌, ◌+◌, ◌++◌, ◌∷◌, [], ℕ, List, sym, subst}
 use Rattle.std.specs.List.{insert}
 use Rattle.std.specs.List.Sorted.{IsPermutation}
-use Rattle.std.specs.Result.{is_ok}
+use Rattle.std.proofs.lemmas.List.Sorted.{IsPermutation-sym, IsPermutation-trans}
 use Rattle.period_core.specs.declared.period.Period.{Period}
-use Rattle.period_keys.proofs.InOrder.{either_in_order, insert_in_order, inserted}
+use Rattle.period_keys.proofs.InOrder.{inserted}
+use Rattle.period_keys.proofs.Runs.{AreRuns, ComesIn, comes_late, settles}
 use Rattle.period_keys.proofs.ordered_periods.OrderedPeriods.add.Goals as goal
 
-pub invariant_of-self : goal.invariant_of-self
-invariant_of-self c =
-    let old : List Period = c.args.self.now.items.items in
-    let place : ℕ = c.place_after-place.result in
+pub invariant_of-self-then-settles : goal.invariant_of-self-then-settles
+invariant_of-self-then-settles c =
+    let own = c.args.self.now in
     let x : Period = c.args.period in
-    let Fits : List Period → Type 0 = λ xs. (place ≤ length xs) × ((k : ℕ) (d : Period) → k < place → (get_or xs k d).start ≤ℤ x.start) × ((k : ℕ) (d : Period) → place ≤ k → k < length xs → x.start <ℤ (get_or xs k d).start) in
-    let fits : Fits old = subst Fits c.as_slice.ensures.value (c.place_after-place.ensures.bound, c.place_after-place.ensures.before, c.place_after-place.ensures.after) in
-    record {
-      ordered = either_in_order (is_ok c.insert.result) c.insert.new.self.items (insert old place x) old c.insert.ensures.items
-          (insert_in_order old place x fits.0 c.args.self.now.ordered fits.1 fits.2) c.args.self.now.ordered;
-    }
+    let place : ℕ = c.place_for-place.result.0 in
+    let put : c.insert.new.self.items ≡ insert own.items.items place x = c.in_ok-insert.ensures.items in
+    let runs : AreRuns own.settled own.items.items = record { within = own.within; ordered = own.ordered; late = own.late } in
+    let comes : ComesIn x.start own.settled own.items.items place c.place_for-place.result.1 =
+    subst (λ (ps : List Period). ComesIn x.start own.settled ps place c.place_for-place.result.1) c.as_slice.ensures.value (c.place_for-place.ensures.settles, c.place_for-place.ensures.late) in
+    let fits = comes.0 c.if-settles.true in
+    let left : AreRuns (own.settled + 1) c.insert.new.self.items = subst (AreRuns (own.settled + 1)) (sym put) (settles own.settled place own.items.items x runs fits.0 fits.1) in
+    record { within = left.within; ordered = left.ordered; late = left.late }
 
-pub returns-clause-ok : goal.returns-clause-ok
-returns-clause-ok c =
-    let old : List Period = c.args.self.now.items.items in
-    subst (λ (xs : List Period). IsPermutation xs (old ++ c.args.period ∷ [])) (sym c.in_ok-insert.ensures.items) (inserted old c.place_after-place.result c.args.period)
+pub invariant_of-self-else-settles : goal.invariant_of-self-else-settles
+invariant_of-self-else-settles c =
+    let own = c.args.self.now in
+    let x : Period = c.args.period in
+    let place : ℕ = c.place_for-place.result.0 in
+    let put : c.insert.new.self.items ≡ insert own.items.items place x = c.in_ok-insert.ensures.items in
+    let runs : AreRuns own.settled own.items.items = record { within = own.within; ordered = own.ordered; late = own.late } in
+    let comes : ComesIn x.start own.settled own.items.items place c.place_for-place.result.1 =
+    subst (λ (ps : List Period). ComesIn x.start own.settled ps place c.place_for-place.result.1) c.as_slice.ensures.value (c.place_for-place.ensures.settles, c.place_for-place.ensures.late) in
+    let (p, is, fits) = comes.1 c.if-settles.false in
+    let left : AreRuns own.settled c.insert.new.self.items = subst (AreRuns own.settled) (sym put) (comes_late own.settled place p own.items.items x runs is fits) in
+    record { within = left.within; ordered = left.ordered; late = left.late }
+
+-- with the period at its place
+more : (old new : List Period) (place : ℕ) (x : Period) → new ≡ insert old place x → IsPermutation new (old ++ x ∷ [])
+more old new place x put = subst (λ (xs : List Period). IsPermutation xs (old ++ x ∷ [])) (sym put) (inserted old place x)
+
+pub returns-then-settles-clause-ok : goal.returns-then-settles-clause-ok
+returns-then-settles-clause-ok c = more c.args.self.now.items.items c.insert.new.self.items c.place_for-place.result.0 c.args.period c.in_ok-insert.ensures.items
+
+pub returns-then-are_many-clause-ok : goal.returns-then-are_many-clause-ok
+returns-then-are_many-clause-ok c =
+    IsPermutation-trans c.settle.new.self.items.items c.insert.new.self.items (c.args.self.now.items.items ++ c.args.period ∷ [])
+    (IsPermutation-sym c.insert.new.self.items c.settle.new.self.items.items c.settle.ensures)
+    (more c.args.self.now.items.items c.insert.new.self.items c.place_for-place.result.0 c.args.period c.in_ok-insert.ensures.items)
+
+pub returns-else-are_many-clause-ok : goal.returns-else-are_many-clause-ok
+returns-else-are_many-clause-ok c = more c.args.self.now.items.items c.insert.new.self.items c.place_for-place.result.0 c.args.period c.in_ok-insert.ensures.items

@@ -1,17 +1,34 @@
-use Rattle.std.proofs.Common.{◌≡◌, ◌<◌, ◌∷◌, length, ◌∙◌, List, sym, subst, get_or}
+use Rattle.std.proofs.Common.{◌≡◌, ◌<◌, ◌-◌, ◌∷◌, ℕ, List, length, get_or, sym, subst, arith}
+use Rattle.std.specs.List.{remove}
 use Rattle.std.specs.List.Sorted.{IsPermutation}
-use Rattle.std.proofs.lemmas.List.{get_or_default}
 use Rattle.std.proofs.lemmas.List.Sorted.{IsPermutation-remove}
 use Rattle.period_core.specs.declared.period.Period.{Period}
+use Rattle.period_keys.proofs.Runs.{AreRuns, late_gone, settled_gone}
 use Rattle.period_keys.proofs.ordered_periods.OrderedPeriods.take_one.Goals as goal
 
-pub returns-clause-taken : goal.returns-clause-taken
-returns-clause-taken c =
-    let old : List Period = c.args.self.now.items.items in
-    let place = c.in-Some.place in
-    let taken : Period = c.remove-taken.result in
-    let there : (place < length old) × (get_or old place c.args.period.now ≡ c.args.period.now) = subst (λ (xs : List Period). (place < length xs) × (get_or xs place c.args.period.now ≡ c.args.period.now)) c.as_slice.ensures.value c.in-Some.ensures in
-    let same : taken ≡ c.args.period.now = c.remove-taken.ensures.value ∙ get_or_default old place taken c.args.period.now there.0 ∙ there.1 in
-    let moved : IsPermutation old (taken ∷ c.remove-taken.new.self.items) =
-    subst (λ rest. IsPermutation old (taken ∷ rest)) (sym c.remove-taken.ensures.items) (IsPermutation-remove old place taken there.0 c.remove-taken.ensures.value) in
-    subst (λ x. IsPermutation old (x ∷ c.remove-taken.new.self.items)) same moved
+pub invariant_of-self : goal.invariant_of-self
+invariant_of-self c =
+    let own = c.args.self.now in
+    let runs : AreRuns own.settled own.items.items = record { within = own.within; ordered = own.ordered; late = own.late } in
+    let left : AreRuns (own.settled - 1) c.remove-taken.new.self.items =
+    subst (AreRuns (own.settled - 1)) (sym c.remove-taken.ensures.items) (settled_gone own.settled c.in-Some.place own.items.items runs c.if-place-self.true) in
+    record { within = left.within; ordered = left.ordered; late = left.late }
+
+pub invariant_of-self-else-place-self : goal.invariant_of-self-else-place-self
+invariant_of-self-else-place-self c =
+    let own = c.args.self.now in
+    let there : c.in-Some.place < length own.items.items = c.in-Some.ensures.0 in
+    let runs : AreRuns own.settled own.items.items = record { within = own.within; ordered = own.ordered; late = own.late } in
+    let left : AreRuns own.settled c.remove-taken.new.self.items =
+    subst (AreRuns own.settled) (sym c.remove-taken.ensures.items) (late_gone own.settled c.in-Some.place own.items.items runs (omega (arith, c.if-place-self.false)) there) in
+    record { within = left.within; ordered = left.ordered; late = left.late }
+
+-- without the one at the place
+less : (old new : List Period) (place : ℕ) (x : Period) → new ≡ remove old place → (place < length old) × (get_or old place x ≡ x) → IsPermutation old (x ∷ new)
+less old new place x gone there = subst (λ rest. IsPermutation old (x ∷ rest)) (sym gone) (IsPermutation-remove old place x there.0 (sym there.1))
+
+pub returns-then-place-self-clause-taken : goal.returns-then-place-self-clause-taken
+returns-then-place-self-clause-taken c = less c.args.self.now.items.items c.remove-taken.new.self.items c.in-Some.place c.args.period.now c.remove-taken.ensures.items c.in-Some.ensures
+
+pub returns-else-place-self-clause-taken : goal.returns-else-place-self-clause-taken
+returns-else-place-self-clause-taken c = less c.args.self.now.items.items c.remove-taken.new.self.items c.in-Some.place c.args.period.now c.remove-taken.ensures.items c.in-Some.ensures
