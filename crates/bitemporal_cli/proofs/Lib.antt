@@ -1,5 +1,0 @@
-pub mod ReadFacts
-pub mod LineFacts
-pub mod ProgramExamples
-pub mod CommandLines
-pub mod ProgramFacts

@@ -1,0 +1,68 @@
+-- How runs of the program end.
+use Rattle.std.proofs.Common.{◌≡◌, ◌≤◌, ◌⊎◌, ◌∙◌, ℕ, Bool, List, Option, None, Some, Result, Ok, Err, MatchResult, true, false, arith, inl, inr, refl, subst, sym}
+use Rattle.std.specs.Io.KnownBytes.{Keeps}
+use Rattle.command_tool.specs.Lines.{IsTold, MayBeToldAs, fault_line}
+use Rattle.command_tool.specs.Program.{EndsInFault, EndsInReport, EndsRefused, EndsWell, MayEndIn, MayEndSilently, ProgramRun}
+use Rattle.clap.specs.declared.error.Error.{Error}
+use Rattle.command_arguments.specs.declared.command.CommandFault.TheVariants.{Clap, Memory as OutOfMemory}
+use Rattle.command_arguments.specs.declared.command.Mode.{Mode}
+use Rattle.command_tool.specs.declared.fault.RunFault.{RunFault}
+use Rattle.command_tool.specs.declared.fault.RunFault.TheVariants.{Script, Memory, Words, Read, Write}
+
+pub keeps_itself : (known : Option (List ℕ)) → Keeps known known
+keeps_itself None = tt
+keeps_itself (Some bytes) = refl
+
+-- out of memory may come in the place of any fault
+memory_instead : (mode : Mode) (script : Option (List ℕ)) (read_failed : Bool) (old new : Option (List ℕ)) (fault : RunFault)
+    → MayEndIn mode script read_failed old new fault → MayEndIn mode script read_failed old new Memory
+memory_instead mode script read_failed old new fault (inl silent) = inl (tt, silent.1)
+memory_instead mode script read_failed old new fault (inr failed) = inr (failed.0, inl refl)
+
+-- the line that is told is that of a fault in which the run may end
+pub line_told : (mode : Mode) (script : Option (List ℕ)) (read_failed : Bool) (old new before after : Option (List ℕ)) (err_failed : Bool) (fault : RunFault)
+    → MayEndIn mode script read_failed old new fault → (told : RunFault) × MayBeToldAs fault told × IsTold err_failed before after (fault_line told)
+    → (told : RunFault) × MayEndIn mode script read_failed old new told × IsTold err_failed before after (fault_line told)
+line_told mode script read_failed old new before after err_failed fault ended (told, inl same, line) =
+    (told, subst (MayEndIn mode script read_failed old new) (sym same) ended, line)
+line_told mode script read_failed old new before after err_failed fault ended (told, inr memory, line) =
+    (told, subst (MayEndIn mode script read_failed old new) (sym memory.1) (memory_instead mode script read_failed old new fault ended), line)
+
+-- a run that ends in a fault before its script gave anything
+pub ends_silently : (r : ProgramRun) (fault : RunFault) → r.status ≡ 2 → MayEndSilently r.mode r.script r.read_failed fault → Keeps r.out_before r.out_after
+    → (told : RunFault) × MayBeToldAs fault told × IsTold r.err_failed r.err_before r.err_after (fault_line told) → EndsWell r
+ends_silently r fault status silent kept told =
+    let bound : r.status ≤ 3 = omega (arith, status) in
+    (bound, (λ other. absurd (other status)), (λ _. line_told r.mode r.script r.read_failed r.out_before r.out_after r.err_before r.err_after r.err_failed fault (inl (silent, kept)) told), (λ _. (status, kept)))
+
+silent_if_failed : (mode : Mode) (script : Option (List ℕ)) (read_failed : Bool) (fault : RunFault) → MayEndSilently mode script read_failed fault → MayEndSilently mode script true fault
+silent_if_failed mode script read_failed (Script refusal) may = may
+silent_if_failed mode script read_failed Memory may = may
+silent_if_failed mode script read_failed Words may = may
+silent_if_failed mode script read_failed Read may = refl
+silent_if_failed mode script read_failed Write may = may
+
+-- a run ends well whatever is known of its reader
+pub ends_if_failed : (r : ProgramRun) → EndsWell r → EndsWell (record r { read_failed = true })
+ends_if_failed r (bound, reported, faulty, refused) = (bound, reported, (λ status. go (faulty status)), refused)
+  where
+    go : (fault : RunFault) × MayEndIn r.mode r.script r.read_failed r.out_before r.out_after fault × IsTold r.err_failed r.err_before r.err_after (fault_line fault)
+        → (fault : RunFault) × MayEndIn r.mode r.script true r.out_before r.out_after fault × IsTold r.err_failed r.err_before r.err_after (fault_line fault)
+    go (fault, inl silent, line) = (fault, inl (silent_if_failed r.mode r.script r.read_failed fault silent.0, silent.1), line)
+    go (fault, inr failed, line) = (fault, inr failed, line)
+
+-- a run over a script of these bytes
+pub ends_over : (r : ProgramRun) (script : Option (List ℕ)) → r.script ≡ script → EndsWell r → EndsWell (record r { script = script; read_failed = true })
+ends_over r script is ends = subst (λ (s : Option (List ℕ)). EndsWell (record r { script = s; read_failed = true })) is (ends_if_failed r ends)
+
+pub is_no_memory : (fault : Error) → Clap fault ≡ OutOfMemory → ⊥
+is_no_memory fault same = cc
+
+-- what a result is known to be
+pub at_ok : {T E : Type 0} (r : Result T E) (x : T) (P : T → Type 0) (Q : E → Type 0) → r ≡ Ok x → MatchResult r P Q → P x
+at_ok (Ok y) x P Q is holds = subst (λ r. MatchResult r P Q) is holds
+at_ok (Err e) x P Q is holds = subst (λ r. MatchResult r P Q) is holds
+
+pub at_err : {T E : Type 0} (r : Result T E) (e : E) (P : T → Type 0) (Q : E → Type 0) → r ≡ Err e → MatchResult r P Q → Q e
+at_err (Ok y) e P Q is holds = subst (λ r. MatchResult r P Q) is holds
+at_err (Err y) e P Q is holds = subst (λ r. MatchResult r P Q) is holds

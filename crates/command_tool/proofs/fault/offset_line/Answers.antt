@@ -1,0 +1,14 @@
+use Rattle.std.proofs.Common.{◌≡◌, ◌++◌, ◌∙◌, Some, string_bytes}
+use Rattle.std.specs.Prelude.{codes, decimal}
+use Rattle.std.proofs.lemmas.Result.{IfOk-weaker}
+use Rattle.command_tool.specs.Lines.{detail_of, line_of}
+use Rattle.command_tool.proofs.LineFacts.{joined}
+use Rattle.command_tool.proofs.fault.offset_line.Goals as goal
+
+pub returns : goal.returns
+returns c =
+    let code = decimal c.args.code in
+    let name = c.args.name.now in
+    let offset = decimal c.args.offset in
+    let text : codes "bitemporal: " ++ (code ++ (codes " " ++ (name ++ (codes " " ++ (offset ++ codes "\n"))))) ≡ line_of c.args.code name (detail_of (Some c.args.offset)) = joined (codes "bitemporal: ") code (codes " ") name (codes " ") offset (codes "\n") in
+    IfOk-weaker c.format.result (λ s. string_bytes s ≡ codes "bitemporal: " ++ (code ++ (codes " " ++ (name ++ (codes " " ++ (offset ++ codes "\n")))))) (λ s. string_bytes s ≡ line_of c.args.code name (detail_of (Some c.args.offset))) (λ s wrote. wrote ∙ text) c.format.ensures.ok

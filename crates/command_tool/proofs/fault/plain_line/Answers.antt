@@ -1,0 +1,12 @@
+use Rattle.std.proofs.Common.{◌≡◌, ◌++◌, ◌∙◌, [], string_bytes, append_assoc}
+use Rattle.std.specs.Prelude.{codes, decimal}
+use Rattle.std.proofs.lemmas.Result.{IfOk-weaker}
+use Rattle.command_tool.specs.Lines.{line_of}
+use Rattle.command_tool.proofs.fault.plain_line.Goals as goal
+
+pub returns : goal.returns
+returns c =
+    let code = decimal c.args.code in
+    let name = c.args.name.now in
+    let text : codes "bitemporal: " ++ (code ++ (codes " " ++ (name ++ codes "\n"))) ≡ line_of c.args.code name [] = simp append_assoc in
+    IfOk-weaker c.format.result (λ s. string_bytes s ≡ codes "bitemporal: " ++ (code ++ (codes " " ++ (name ++ codes "\n")))) (λ s. string_bytes s ≡ line_of c.args.code name []) (λ s wrote. wrote ∙ text) c.format.ensures.ok

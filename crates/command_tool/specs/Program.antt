@@ -1,0 +1,157 @@
+-- What a run of the program gives: its exit status, its report, and its line on standard error.
+use Rattle.std.specs.Prelude.{◌≡◌, ◌≢◌, ◌≤◌, ◌⊎◌, ◌+◌, ℕ, Bool, List, Option, None, Some, Result}
+use Rattle.std.specs.Prelude.{Ok, Err, IfSome, length, take, false, true, is_err}
+use Rattle.std.specs.Prelude.{if◌then◌else◌, ⊤}
+use Rattle.std.specs.List.{list_any}
+use Rattle.std.specs.Io.KnownBytes.{Appends, Consumes, Keeps}
+use Rattle.period_core.specs.declared.refusal.Refusal.{Refusal}
+use Rattle.snapshot_audit.specs.declared.verdict.Verdict.{Verdict}
+use Rattle.snapshot_audit.specs.declared.verdict.Verdict.TheVariants.{Agrees, Differs, BadWitness}
+use Rattle.script_engine.specs.declared.entry.Entry.{Entry}
+use Rattle.script_engine.specs.script.AuditedRuns.{IsAuditedRunOf}
+use Rattle.script_engine.specs.script.Check.{IsCheckOf}
+use Rattle.script_engine.specs.report.AuditedReport.{audited_report}
+use Rattle.script_engine.specs.report.CheckReport.{check_text}
+use Rattle.script_engine.specs.report.Report.{report}
+use Rattle.script_engine.specs.script.Script.{IsRunOf, MayRefuseRun, MayRefuseScript}
+use Rattle.script_engine.specs.script.Script.{ScriptApplies, most_bytes}
+use Rattle.command_tool.specs.Lines.{IsTold, fault_line}
+use Rattle.command_arguments.specs.declared.command.Mode.{Mode}
+use Rattle.command_arguments.specs.declared.command.Mode.TheVariants.{Run, RunAudited, Check}
+use Rattle.command_tool.specs.declared.fault.RunFault.{RunFault}
+use Rattle.command_tool.specs.declared.fault.RunFault.TheVariants.{Script, Memory, Words, Read}
+use Rattle.command_tool.specs.declared.fault.RunFault.TheVariants.{Write}
+
+-- the most bytes that are read: one more than a script may have
+abbrev pub read_limit : ℕ
+read_limit = most_bytes + 1
+
+-- the bytes that are read
+abbrev pub read_of : List ℕ → List ℕ
+read_of all = take read_limit all
+
+-- of known bytes at most so many are taken, from the front
+abbrev pub TakesAtMost : ℕ → Option (List ℕ) → Option (List ℕ) → Type 0
+TakesAtMost most old new = (bytes : List ℕ) × Consumes old new bytes × (length bytes ≤ most)
+
+-- 1 where a statement was refused, else 0
+abbrev pub status_of : {T : Type 0} → List (Result T Refusal) → ℕ
+status_of results = if list_any is_err results then 1 else 0
+
+-- an audit was made, and it did not agree or was refused
+abbrev pub fails_audit : Option (Result Verdict Refusal) → Bool
+fails_audit None = false
+fails_audit (Some (Ok (Agrees days))) = false
+fails_audit (Some (Ok (Differs day))) = true
+fails_audit (Some (Ok (BadWitness row))) = true
+fails_audit (Some (Err refusal)) = true
+
+-- 3 where an audit did not agree or was refused; else 1 where a statement was refused, else 0
+abbrev pub audited_status : List Entry → ℕ
+audited_status entries =
+    if list_any (λ (entry : Entry). fails_audit entry.audit) entries then 3
+    else (if list_any (λ (entry : Entry). is_err entry.result) entries then 1 else 0)
+
+-- the status of a report: 2 is that of a fault
+abbrev pub IsOfReport : ℕ → Type 0
+IsOfReport status = (status ≤ 3) × (status ≢ 2)
+
+-- the results are of this kind for the script that the reader has, where its bytes are known
+abbrev pub AreOfReader :
+    {R : Type 0} → (List ℕ → List R → Type 0) → Option (List ℕ) → List R → Type 0
+AreOfReader IsOf input results = IfSome input (λ all. IsOf (read_of all) results)
+
+-- results of this kind have this status, and their text was written, and nothing else
+abbrev pub ReportsText :
+    {R : Type 0} → (List ℕ → List R → Type 0) → (List R → List ℕ) → (List R → ℕ)
+    → Option (List ℕ) → Option (List ℕ) → Option (List ℕ) → ℕ → Type 0
+ReportsText {R} IsOf text_of status_for input old new status =
+    (results : List R) × AreOfReader IsOf input results
+    × Appends old new (text_of results) × (status ≡ status_for results)
+
+-- a run of the script is reported, a run with its audits, or the script's check
+abbrev pub Reports : Mode → Option (List ℕ) → Option (List ℕ) → Option (List ℕ) → ℕ → Type 0
+Reports Run = ReportsText IsRunOf report status_of
+Reports RunAudited = ReportsText IsAuditedRunOf audited_report audited_status
+Reports Check = ReportsText IsCheckOf check_text status_of
+
+-- which refusals a whole script may get: only a run opens a store
+abbrev pub MayRefuseIn : Mode → List ℕ → Refusal → Type 0
+MayRefuseIn Run = MayRefuseRun
+MayRefuseIn RunAudited = MayRefuseRun
+MayRefuseIn Check = MayRefuseScript
+
+-- a fault of a script that gave no results; its reader is at fault only if a read failed
+abbrev pub MayEndSilently : Mode → Option (List ℕ) → Bool → RunFault → Type 0
+MayEndSilently mode input read_failed (Script refusal) =
+    IfSome input (λ all. MayRefuseIn mode (read_of all) refusal)
+MayEndSilently mode input read_failed Memory = ⊤
+MayEndSilently mode input read_failed Words = ⊥
+MayEndSilently mode input read_failed Read = read_failed ≡ true
+MayEndSilently mode input read_failed Write = ⊥
+
+-- the script that the reader has gives results of this kind
+abbrev pub GivesResults : {R : Type 0} → (List ℕ → List R → Type 0) → Option (List ℕ) → Type 0
+GivesResults {R} IsOf input = (results : List R) × AreOfReader IsOf input results
+
+-- the script gives results of a run, with audits or without, or of a check
+abbrev pub HasResults : Mode → Option (List ℕ) → Type 0
+HasResults Run = GivesResults IsRunOf
+HasResults RunAudited = GivesResults IsAuditedRunOf
+HasResults Check = GivesResults IsCheckOf
+
+-- a fault that the program may end in: the output got nothing; or the script has results, and
+-- memory or the writer failed as their report was written
+abbrev pub MayEndIn :
+    Mode → Option (List ℕ) → Bool → Option (List ℕ) → Option (List ℕ) → RunFault → Type 0
+MayEndIn mode input read_failed old new fault =
+    (MayEndSilently mode input read_failed fault × Keeps old new)
+    ⊎ (HasResults mode input × ((fault ≡ Memory) ⊎ (fault ≡ Write)))
+
+-- the script that the reader has, where its bytes are known, is refused as a whole
+abbrev pub IsRefusedWhole : Option (List ℕ) → Type 0
+IsRefusedWhole None = ⊥
+IsRefusedWhole (Some all) = (refusal : Refusal) × ScriptApplies (read_of all) refusal
+
+-- a run of the program over a script: its mode, what is known of the script, of the output and of
+-- standard error before and after, whether a read or a write to standard error failed, the status
+pub record ProgramRun : Type 0 where
+  pub mode : Mode
+  pub script : Option (List ℕ)
+  pub read_failed : Bool
+  pub out_before : Option (List ℕ)
+  pub out_after : Option (List ℕ)
+  pub err_before : Option (List ℕ)
+  pub err_after : Option (List ℕ)
+  pub err_failed : Bool
+  pub status : ℕ
+
+-- with another status than 2 the output got the report, and standard error nothing
+abbrev pub EndsInReport : ProgramRun → Type 0
+EndsInReport r = r.status ≢ 2
+    → Reports r.mode r.script r.out_before r.out_after r.status × Keeps r.err_before r.err_after
+
+-- with status 2 there is a fault, and standard error got its line
+abbrev pub EndsInFault : ProgramRun → Type 0
+EndsInFault r = r.status ≡ 2 → (fault : RunFault)
+    × MayEndIn r.mode r.script r.read_failed r.out_before r.out_after fault
+    × IsTold r.err_failed r.err_before r.err_after (fault_line fault)
+
+-- a script that is refused as a whole ends with status 2, and the output got nothing
+abbrev pub EndsRefused : ProgramRun → Type 0
+EndsRefused r = IsRefusedWhole r.script → (r.status ≡ 2) × Keeps r.out_before r.out_after
+
+-- how each run ends
+abbrev pub EndsWell : ProgramRun → Type 0
+EndsWell r = (r.status ≤ 3) × EndsInReport r × EndsInFault r × EndsRefused r
+
+-- the bytes of the script: those of the file that is named, or else of the reader
+abbrev pub script_of :
+    (List ℕ → Option (List ℕ)) → Option (List ℕ) → Option (List ℕ) → Option (List ℕ)
+script_of content_of input None = input
+script_of content_of input (Some name) = content_of name
+
+-- whether the script may not be read: a named file may not open, the reader has failed or not
+abbrev pub may_fail : Bool → Option (List ℕ) → Bool
+may_fail read_failed None = read_failed
+may_fail read_failed (Some name) = true

@@ -1,0 +1,144 @@
+//! Why the program ends with status 2, and the line that it then writes to standard error.
+
+ghost use Rattle.std.specs.Prelude.{◌≡◌, ◌⊎◌, [], IfOk, Some};
+ghost use Rattle.std.specs.String.{string_bytes};
+ghost use Rattle.std.specs.IoError.{error_kind};
+ghost use Rattle.command_tool.specs.Lines.{IsTold, MayBeToldAs, detail_of, fault_line, line_of};
+ghost use Rattle.command_tool.specs.Lines.{offset_of, refusal_line, words_fault};
+
+use crate::tracked::Tracked;
+use period_core::Refusal;
+use script_engine::ReportFault;
+use std::alloc::{AllocError, Global};
+use std::io;
+use std::io::{ErrorKind, Write};
+
+/// Why the program gave no whole report, where its words ask for one.
+#[derive(Clone, Copy, Debug, PartialEq, Eq)]
+pub enum RunFault {
+    /// The whole script was refused.
+    Script(Refusal),
+    /// Out of memory outside the script's statements.
+    Memory,
+    /// A word of the command line is not UTF-8.
+    Words,
+    /// The script's file did not open, or its reader failed.
+    Read,
+    /// The writer of the report failed.
+    Write,
+}
+
+impl RunFault {
+    /// Why the system did not give the words of the command line: out of memory, where no word is
+    /// said not to be UTF-8.
+    pub fn of_words(error: &io::Error) -> RunFault
+        ensures { result ≡ words_fault (error_kind error.now) }
+    {
+        match error.kind() {
+            ErrorKind::InvalidData => RunFault::Words,
+            _ => RunFault::Memory,
+        }
+    }
+}
+
+impl From<ReportFault> for RunFault {
+    ghost use Rattle.std.specs.Prelude.{◌≡◌};
+    ghost use Rattle.command_tool.specs.Lines.{fault_of};
+
+    ghost from_gives = { λ report fault. fault ≡ fault_of report };
+
+    fn from(fault: ReportFault) -> RunFault {
+        match fault {
+            ReportFault::Memory => RunFault::Memory,
+            ReportFault::Write => RunFault::Write,
+        }
+    }
+}
+
+const MEMORY_LINE: &[u8] = b"bitemporal: 61 Memory\n";
+
+const WORDS_LINE: &[u8] = b"bitemporal: a word of the command line is not UTF-8\n";
+
+const READ_LINE: &[u8] = b"bitemporal: cannot read the script\n";
+
+const WRITE_LINE: &[u8] = b"bitemporal: cannot write the report\n";
+
+// The byte that a refusal names.
+fn bad_offset(refusal: &Refusal) -> Option<usize>
+    ensures { result ≡ offset_of refusal.now }
+{
+    match refusal {
+        Refusal::BadToken(offset) => Some(*offset),
+        _ => None,
+    }
+}
+
+/// The line of a refusal: its number, its name, and the byte that it names, if it does.
+pub fn line_of_refusal(alloc: Global, refusal: &Refusal) -> Result<String, AllocError>
+    ensures { IfOk result (λ line. string_bytes line ≡ refusal_line refusal.now) }
+{
+    let code = refusal.code();
+    let name = refusal.name();
+    match bad_offset(refusal) {
+        Some(offset) => offset_line(alloc, code, name, offset),
+        None => plain_line(alloc, code, name),
+    }
+}
+
+fn plain_line(alloc: Global, code: u8, name: &str) -> Result<String, AllocError>
+    ensures { IfOk result (λ line. string_bytes line ≡ line_of code name.now []) }
+{
+    format!(in alloc; "bitemporal: {code} {name}\n")
+}
+
+fn offset_line(alloc: Global, code: u8, name: &str, offset: usize) -> Result<String, AllocError>
+    ensures { IfOk result
+        (λ line. string_bytes line ≡ line_of code name.now (detail_of (Some offset))) }
+{
+    format!(in alloc; "bitemporal: {code} {name} {offset}\n")
+}
+
+// Writes the line of a fault: the whole line, unless a write failed. Where there is no memory for
+// the line of a refusal, it is the line of out of memory.
+fn tell<W: Write>(alloc: Global, err: &mut Tracked<W>, fault: RunFault)
+    ensures { (told : RunFault) × MayBeToldAs fault told
+        × IsTold err.new.has_failed (W.contents err.old.inner) (W.contents err.new.inner)
+        (fault_line told) }
+{
+    match fault {
+        RunFault::Script(refusal) => match line_of_refusal(alloc, &refusal) {
+            Ok(line) => write_line(err, line.as_bytes()),
+            Err(_) => write_line(err, MEMORY_LINE),
+        },
+        RunFault::Memory => write_line(err, MEMORY_LINE),
+        RunFault::Words => write_line(err, WORDS_LINE),
+        RunFault::Read => write_line(err, READ_LINE),
+        RunFault::Write => write_line(err, WRITE_LINE),
+    }
+}
+
+/// Ends the program in a fault: writes its line, and gives the exit status.
+pub fn end_in<W: Write>(alloc: Global, err: &mut Tracked<W>, fault: RunFault) -> u8
+    ensures status { result ≡ 2 }
+    ensures told { (told : RunFault) × MayBeToldAs fault told
+        × IsTold err.new.has_failed (W.contents err.old.inner) (W.contents err.new.inner)
+        (fault_line told) }
+{
+    tell(alloc, err, fault);
+    2
+}
+
+// Writes the line, or as much of it as the writer takes before it fails.
+fn write_line<W: Write>(err: &mut Tracked<W>, line: &[u8])
+    ensures { IsTold err.new.has_failed
+        (W.contents err.old.inner) (W.contents err.new.inner) line.now }
+{
+    let mut written = 0;
+    'writes: while written < line.len() {
+        match err.write(&line[written..]) {
+            Ok(0) => return,
+            Ok(count) => written += count,
+            Err(_) => return,
+        }
+    }
+}

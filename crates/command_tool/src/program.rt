@@ -1,0 +1,97 @@
+//! The program: the words of its command line, the script that they name, its exit status.
+
+ghost use Rattle.std.specs.Prelude.{◌≡◌, ◌≤◌, ℕ, List, Option, IfErr, IfOk, IsOk, OnOk, map};
+ghost use Rattle.std.specs.String.{string_bytes};
+ghost use Rattle.std.specs.Io.KnownBytes.{Keeps};
+ghost use Rattle.std.specs.IoError.{error_kind};
+ghost use Rattle.command_arguments.specs.CommandLine.{AsksFor};
+ghost use Rattle.command_tool.specs.Lines.{IsTold, fault_line, words_fault};
+ghost use Rattle.command_tool.specs.Program.{EndsWell, may_fail, script_of};
+
+use crate::fault::{RunFault, end_in};
+use crate::scripts::Scripts;
+use crate::tool::run_tool;
+use crate::tracked::Tracked;
+use command_arguments::{CommandFault, command_line};
+use std::alloc::Global;
+use std::env::Args;
+use std::io;
+use std::io::{Read, Write};
+
+/// The words of the command line, or why there are none: out of memory, or what the system says.
+pub fn words_of(alloc: Global, args: io::Result<Args>) -> Result<Vec<String>, RunFault>
+    ensures given { OnOk result (IsOk args) }
+    ensures memory { IfOk args (λ _. IfErr result (λ fault. fault ≡ RunFault.Memory)) }
+    ensures refused { IfErr args
+        (λ error. IfErr result (λ fault. fault ≡ words_fault (error_kind error))) }
+{
+    match args {
+        Ok(args) => match args.collect(alloc) {
+            Ok(words) => Ok(words),
+            Err(_) => Err(RunFault::Memory),
+        },
+        Err(error) => Err(RunFault::of_words(&error)),
+    }
+}
+
+/// Does what the words ask for: a run or a check of the script in a file, or in `input` where they
+/// name none; help; or the version. Gives the exit status: of a run or a check as `run_tool` says,
+/// 0 for help and the version, else 2, and then `err` gets a text that says why.
+pub fn run_program<S: Scripts, R: Read, W: Write, E: Write>(
+    alloc: Global,
+    words: Result<Vec<String>, RunFault>,
+    scripts: &S,
+    input: &mut Tracked<R>,
+    out: &mut W,
+    err: &mut Tracked<E>,
+) -> u8
+    ensures status { result ≤ 3 }
+    ensures lost { IfErr words (λ _. (result ≡ 2)
+        × Keeps (W.contents out.old) (W.contents out.new)) }
+    ensures runs { IfOk words (λ said. (mode : Mode) (file : Option (List ℕ))
+        → AsksFor (map string_bytes said.items) mode file
+        → EndsWell (record {
+          mode = mode;
+          script = script_of (S.content scripts.now) (R.remaining input.old.inner) file;
+          read_failed = may_fail input.new.has_failed file;
+          out_before = W.contents out.old;
+          out_after = W.contents out.new;
+          err_before = E.contents err.old.inner;
+          err_after = E.contents err.new.inner;
+          err_failed = err.new.has_failed;
+          status = result;
+        })) }
+{
+    let asked = match words {
+        Ok(words) => command_line(alloc, words.as_slice()),
+        Err(fault) => return end_in(alloc, err, fault),
+    };
+    match asked {
+        Ok((mode, None)) => run_tool(alloc, mode, input, out, err),
+        Ok((mode, Some(name))) => match scripts.open_script(name.as_str()) {
+            Ok(script) => run_tool(alloc, mode, &mut Tracked::new(script), out, err),
+            Err(_) => end_in(alloc, err, RunFault::Read),
+        },
+        Err(CommandFault::Clap(fault)) => show(alloc, &fault, out, err),
+        Err(CommandFault::Memory) => end_in(alloc, err, RunFault::Memory),
+    }
+}
+
+// Shows clap's text, a mistake on standard error, and else help or the version on the output.
+fn show<W: Write, E: Write>(
+    alloc: Global,
+    fault: &clap::Error,
+    out: &mut W,
+    err: &mut Tracked<E>,
+) -> u8
+    ensures status { result ≤ 2 }
+{
+    if fault.use_stderr() {
+        let _ = write!(err, "{fault}");
+        return 2;
+    }
+    match write!(out, "{fault}") {
+        Ok(()) => 0,
+        Err(_) => end_in(alloc, err, RunFault::Write),
+    }
+}

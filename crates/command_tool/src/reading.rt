@@ -1,0 +1,43 @@
+//! The script as its reader gives it.
+
+ghost use Rattle.std.specs.Prelude.{◌≡◌, ◌⊎◌, ◌≤◌, length, true, IfOk, IfErr, IfSome};
+ghost use Rattle.command_tool.specs.Program.{TakesAtMost, read_limit, read_of};
+
+use crate::fault::RunFault;
+use crate::tracked::Tracked;
+use script_engine::MOST_BYTES;
+use std::alloc::Global;
+use std::io::Read;
+
+/// One byte more than a script may have.
+pub const MOST: usize = MOST_BYTES + 1;
+
+const CHUNK: usize = 4096;
+
+/// Reads the script, but at most one byte more than it may have. An interrupted read is a fault.
+pub fn read_script<R: Read>(alloc: Global, input: &mut Tracked<R>) -> Result<Vec<u8>, RunFault>
+    ensures bytes { IfOk result
+        (λ text. IfSome (R.remaining input.old.inner) (λ all. text.items ≡ read_of all)) }
+    ensures bounded { IfOk result (λ text. length text.items ≤ MOST) }
+    ensures taken { TakesAtMost read_limit
+        (R.remaining input.old.inner) (R.remaining input.new.inner) }
+    ensures refused { IfErr result (λ fault. (fault ≡ RunFault.Memory)
+        ⊎ ((fault ≡ RunFault.Read) × (input.new.has_failed ≡ true))) }
+{
+    let mut text = Vec::new(alloc);
+    let mut buffer = [0u8; CHUNK];
+    while text.len() < MOST {
+        let room = CHUNK.min(MOST - text.len());
+        let count = match input.read(&mut buffer[..room]) {
+            Ok(count) => count,
+            Err(_) => return Err(RunFault::Read),
+        };
+        if count == 0 {
+            return Ok(text);
+        }
+        if text.extend_from_slice(&buffer[..count]).is_err() {
+            return Err(RunFault::Memory);
+        }
+    }
+    Ok(text)
+}
