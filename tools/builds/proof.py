@@ -19,15 +19,15 @@ ROOMS = sums.ROOT / 'out/rooms'
 # What `rt` makes in a crate's out/: what it keeps for its next run, and what it built.
 KEPT = 'incremental'
 BUILT = ('rlib', sums.PROGRAM, f'{sums.PROGRAM}.o', f'{sums.PROGRAM}.stamp')
-# The most memory that one run takes, in bytes.
-MEMORY_OF_A_RUN = 5_000_000_000
+# The most memory that a process of a proof takes, in bytes.
+MEMORY_OF_A_PROCESS = 2_500_000_000
 
 
 class Room:
     """A crate that is being proved."""
 
-    def __init__(self, crates, name, jobs, priority):
-        self.name, self.priority, self.begun = name, priority, time.monotonic()
+    def __init__(self, crates, name, jobs):
+        self.name, self.jobs, self.begun = name, jobs, time.monotonic()
         self.folder = ROOMS / name
         self.out = self.folder / 'crates' / name / 'out'
         self.fill(crates)
@@ -36,11 +36,10 @@ class Room:
         words = ['rt', 'run' if is_program else 'lib', '--jobs', str(jobs)]
         words += ['--', '--help'] if is_program else []
         with open(self.folder / 'said', 'wb') as said:
-            # (A group of its own, so that a proof that is interrupted ends whole. Not a session of
-            # its own: the system would share out the time by sessions, and not by priority.)
+            # (a group of its own, so that a proof that is interrupted ends whole)
             self.process = subprocess.Popen(
-                ['nice', '-n', str(priority), *words], cwd=self.folder / 'crates' / name,
-                stdin=subprocess.DEVNULL, stdout=said, stderr=said, preexec_fn=os.setpgrp)
+                words, cwd=self.folder / 'crates' / name, stdin=subprocess.DEVNULL,
+                stdout=said, stderr=said, start_new_session=True)
 
     def fill(self, crates):
         needed = sums.crates_below(crates, self.name) | {self.name}
@@ -94,18 +93,24 @@ def link(source, target):
         os.link(source, target)
 
 
-def runs_at_once():
-    """How many crates the processors and the free memory allow at one time."""
-    free = MEMORY_OF_A_RUN
+def processes_at_once():
+    """How many processes the processors and the free memory allow."""
+    free = MEMORY_OF_A_PROCESS
     with open('/proc/meminfo', encoding='utf-8') as file:
         for line in file:
             if line.startswith('MemAvailable:'):
                 free = 1024 * int(line.split()[1])
-    return max(1, min((processors() + 2) // 2, free // MEMORY_OF_A_RUN))
+    return max(1, min(len(os.sched_getaffinity(0)), free // MEMORY_OF_A_PROCESS))
 
 
-def processors():
-    return len(os.sched_getaffinity(0))
+def jobs_of(place, ready, idle):
+    """How many processes the crate at this place of the ready ones gets, where so many are idle.
+
+    Two prove a crate in two thirds of the time of one, four in half of it or a little less, with a
+    seventh and two fifths more of a processor's time. So the first, which has the longest chain of
+    crates above it, gets two at least, and the others one while there are more of them.
+    """
+    return min(4, max(idle // (ready - place), 2 if place == 0 else 1))
 
 
 def lines_of(name):
@@ -146,15 +151,15 @@ def build(tell):
 
 def prove(crates, waiting, tell):
     begun, total, done, running = time.monotonic(), len(waiting), set(), []
-    most = runs_at_once()
+    most = processes_at_once()
     try:
         while waiting or running:
             ready = [it for it in waiting if sums.crates_below(crates, it) <= done]
-            for name in ready[:most - len(running)]:
-                waiting.remove(name)
-                # The first of the longest chain: the others take the time that it leaves.
-                beside = 0 if all(room.priority for room in running) else 10
-                running.append(Room(crates, name, processors(), beside))
+            for place, name in enumerate(ready):
+                idle = most - sum(room.jobs for room in running)
+                if idle > 0:
+                    waiting.remove(name)
+                    running.append(Room(crates, name, jobs_of(place, len(ready), idle)))
             time.sleep(0.2)
             for room in [it for it in running if it.has_ended()]:
                 running.remove(room)
