@@ -6,11 +6,14 @@ takes seconds for each run, so tests/laid_main.rs runs all scripts. A build take
 """
 import pathlib
 import re
-import shutil
 import subprocess
+import sys
 import tempfile
 
 ROOT = pathlib.Path(__file__).resolve().parent.parent
+sys.path.append(str(ROOT / 'tools'))
+from builds.sums import lay_copy  # noqa: E402
+
 MAIN = ROOT / 'tests/laid_main.rs'
 CRATE = 'crates/bitemporal_cli'
 AT_ONCE = 20  # so many scripts: `rt try` takes no more than 1 MiB of their reports
@@ -19,10 +22,7 @@ AT_ONCE = 20  # so many scripts: `rt try` takes no more than 1 MiB of their repo
 def lay(copy, edits):
     """Copies what a build reads, and not what earlier builds made, and makes the edits: files, each
     with pairs of an old text, which has to stand there just once, and a new one."""
-    shutil.copytree(ROOT / 'crates', copy / 'crates', ignore=shutil.ignore_patterns('out'))
-    for name in 'crates.txt', 'HANDLES':
-        shutil.copy(ROOT / name, copy)
-    shutil.copy(MAIN, copy / CRATE / 'src/main.rt')
+    lay_copy(copy, MAIN)
     for name, pairs in edits.items():
         text = (copy / name).read_text(encoding='utf-8')
         for old, new in pairs:

@@ -4,14 +4,14 @@ import pathlib
 import subprocess
 
 ROOT = pathlib.Path(__file__).resolve().parent.parent
-# Another program may be named by BITEMPORAL, in place of the one that ./bitemporal builds.
+# Another program may be named by BITEMPORAL, in place of the proved one.
 PROGRAM = os.environ.get('BITEMPORAL', ROOT / 'crates/bitemporal_cli/out/bitemporal_cli')
 
 
 def build():
-    """Builds the program where it is older than its sources."""
+    """Proves and builds the program where it is not of the sources as they are."""
     if 'BITEMPORAL' not in os.environ:
-        subprocess.run([ROOT / 'bitemporal', '--help'], stdout=subprocess.DEVNULL, check=True)
+        subprocess.run([ROOT / 'bitemporal', '--prove'], check=True)
 
 
 def got(words, given=b'', **how):
