@@ -15,6 +15,7 @@ sys.path.append(str(ROOT / 'tools'))
 from builds.sums import lay_copy  # noqa: E402
 
 MAIN = ROOT / 'tests/laid_main.rs'
+USES = ['command_arguments', 'script_engine', 'sqlite']
 CRATE = 'crates/bitemporal_cli'
 AT_ONCE = 20  # so many scripts: `rt try` takes no more than 1 MiB of their reports
 
@@ -22,7 +23,7 @@ AT_ONCE = 20  # so many scripts: `rt try` takes no more than 1 MiB of their repo
 def lay(copy, edits):
     """Copies what a build reads, and not what earlier builds made, and makes the edits: files, each
     with pairs of an old text, which has to stand there just once, and a new one."""
-    lay_copy(copy, MAIN)
+    lay_copy(copy, MAIN, USES)
     for name, pairs in edits.items():
         text = (copy / name).read_text(encoding='utf-8')
         for old, new in pairs:

@@ -8,18 +8,8 @@
 //! the store is no good one.
 #![tactic(auto)]
 
-mod command;
-mod fault;
-mod help;
-mod program;
-mod reading;
-mod scripts;
-mod tool;
-mod tracked;
-
-use self::command::Mode;
-use self::tool::run_tool;
-use self::tracked::Tracked;
+use command_arguments::Mode;
+use command_tool::{Tracked, run_tool};
 use script_engine::{run_script, write_report};
 use sqlite::Connection;
 use std::io::{Read, Write};

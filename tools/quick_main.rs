@@ -5,17 +5,7 @@
 //! otherwise since no crate of the repository has it.
 #![tactic(auto)]
 
-mod command;
-mod fault;
-mod help;
-mod program;
-mod reading;
-mod scripts;
-mod tool;
-mod tracked;
-
-use self::program::{run_program, words_of};
-use self::tracked::Tracked;
+use command_tool::{Tracked, run_program, words_of};
 use std::env;
 use std::fs;
 use std::process::ExitCode;

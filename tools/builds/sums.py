@@ -118,11 +118,15 @@ def sum_of(parts):
     return found.hexdigest()
 
 
-def lay_copy(copy, main):
-    """Copies what a build without a proof reads, with another file as the program's main."""
+def lay_copy(copy, main, uses=()):
+    """Copies what a build without a proof reads, with another file as the program's main, which may
+    use further crates."""
     copy.mkdir(parents=True, exist_ok=True)
-    for name in repository_crates():
+    crates = repository_crates()
+    for name in crates:
         shutil.copytree(ROOT / 'crates' / name / 'src', copy / 'crates' / name / 'src')
-    for name in 'crates.txt', 'HANDLES':
-        shutil.copy(ROOT / name, copy)
+    crates[PROGRAM] += uses
+    lines = ''.join(f"{name}: {' '.join(words)}\n" for name, words in crates.items())
+    (copy / 'crates.txt').write_text(lines, encoding='utf-8')
+    shutil.copy(ROOT / 'HANDLES', copy)
     shutil.copy(main, copy / 'crates' / PROGRAM / 'src/main.rt')

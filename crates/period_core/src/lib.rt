@@ -2,7 +2,7 @@
 //! refusals. What to touch in order to add
 //!
 //! - a refusal: `Refusal` in `refusal.rt`, its number and name there and in `specs/Codes`, the list
-//!   in `help.rt` of command_arguments, the table in docs/PROFILE.md, and tools/explain;
+//!   in `help.rt` of bitemporal_cli, the table in docs/PROFILE.md, and tools/explain;
 //! - a period predicate: its call in `relations.rt`, its table in `specs/PeriodPredicates`, what it
 //!   says of the days in `specs/DaySets`, its word in sql_statements, and `relates` of catalog_core;
 //! - a column type: `Value` in `value.rt`, its order in `specs/Order` and `specs/OrderLaws`, its
