@@ -7,6 +7,7 @@ and what `rt` made there is then moved to crates/NAME/out. What earlier runs kep
 """
 import os
 import pathlib
+import re
 import shutil
 import signal
 import subprocess
@@ -75,9 +76,12 @@ class Room:
                     shutil.rmtree(kept / part)
                 os.replace(self.out / part, kept / part)
 
-    def last_words(self):
+    def refusal(self):
+        """What `rt` said of what it didn't prove, and its last lines."""
         said = (self.folder / 'said').read_text(encoding='utf-8', errors='replace')
-        return ''.join(said.splitlines(keepends=True)[-40:])
+        lines = said.splitlines(keepends=True)
+        errors = [line for line in lines[:-8] if re.search(r'error|not proved|no proof', line)]
+        return ''.join([*errors[:30], *lines[-8:]])
 
     def stop(self):
         os.killpg(self.process.pid, signal.SIGTERM)
@@ -165,7 +169,7 @@ def prove(crates, waiting, tell):
                 running.remove(room)
                 room.take_over(room.status == 0)
                 if room.status != 0:
-                    return f'{room.last_words()}{room.name} is not proved\n'
+                    return f'{room.refusal()}{room.name} is not proved\n'
                 done.add(room.name)
                 tell(f'proved {len(done)} of {total}: {room.name}, in {minutes(room.begun)} '
                      f'({room.seconds:.0f} s of a processor); {minutes(begun)} so far')
