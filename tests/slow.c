@@ -1,8 +1,8 @@
 /* Reads of standard input and writes of standard output go by so many bytes at most, and fail:
 
    READ_MOST N            a read gives at most N bytes
-   READ_FAILS_AFTER N     each read fails once N bytes were given, by EIO,
-   READ_IS_INTERRUPTED 1  or by EINTR
+   READ_FAILS_AFTER N     each read fails once N bytes were given, by EIO;
+   READ_IS_INTERRUPTED N  or the next N reads, by EINTR, and then no more
    WRITE_MOST N           a write takes at most N bytes, one of standard error too
    WRITE_FAILS_AFTER N    each write of standard output fails once N succeeded, by EIO
 
@@ -24,11 +24,12 @@ static size_t at_most(const char *name, size_t count) {
 }
 
 ssize_t read(int file, void *bytes, size_t count) {
-  static long given = 0;
+  static long given = 0, interrupted = 0;
   if (file == 0) {
-    long most = number("READ_FAILS_AFTER");
-    if (most >= 0 && given >= most) {
-      errno = number("READ_IS_INTERRUPTED") > 0 ? EINTR : EIO;
+    long most = number("READ_FAILS_AFTER"), times = number("READ_IS_INTERRUPTED");
+    if (most >= 0 && given >= most && (times < 0 || interrupted < times)) {
+      if (times >= 0) interrupted++;
+      errno = times < 0 ? EIO : EINTR;
       return -1;
     }
     count = at_most("READ_MOST", count);

@@ -12,7 +12,7 @@ use crate::fault::{RunFault, end_in};
 use crate::scripts::Scripts;
 use crate::tool::run_tool;
 use crate::tracked::Tracked;
-use command_arguments::{CommandFault, command_line};
+use command_arguments::{CommandFault, Mode, command_line};
 use std::alloc::Global;
 use std::env::Args;
 use std::io;

@@ -7,14 +7,18 @@ use crate::fault::RunFault;
 use crate::tracked::Tracked;
 use script_engine::MOST_BYTES;
 use std::alloc::Global;
-use std::io::Read;
+use std::io::{ErrorKind, Read};
 
 /// One byte more than a script may have.
 pub const MOST: usize = MOST_BYTES + 1;
 
 const CHUNK: usize = 4096;
 
-/// Reads the script, but at most one byte more than it may have. An interrupted read is a fault.
+// How many interrupted reads of one script are tried again.
+const MOST_RETRIES: usize = 1000;
+
+/// Reads the script, but at most one byte more than it may have. A read that is interrupted is tried
+/// again, up to 1,000 times in all; any other fault of the reader ends this.
 pub fn read_script<R: Read>(alloc: Global, input: &mut Tracked<R>) -> Result<Vec<u8>, RunFault>
     ensures bytes { IfOk result
         (λ text. IfSome (R.remaining input.old.inner) (λ all. text.items ≡ read_of all)) }
@@ -26,11 +30,18 @@ pub fn read_script<R: Read>(alloc: Global, input: &mut Tracked<R>) -> Result<Vec
 {
     let mut text = Vec::new(alloc);
     let mut buffer = [0u8; CHUNK];
+    let mut retries = MOST_RETRIES;
     while text.len() < MOST {
         let room = CHUNK.min(MOST - text.len());
         let count = match input.read(&mut buffer[..room]) {
             Ok(count) => count,
-            Err(_) => return Err(RunFault::Read),
+            Err(error) => {
+                if retries == 0 || error.kind() != ErrorKind::Interrupted {
+                    return Err(RunFault::Read);
+                }
+                retries -= 1;
+                continue;
+            }
         };
         if count == 0 {
             return Ok(text);

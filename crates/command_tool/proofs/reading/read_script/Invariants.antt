@@ -1,4 +1,4 @@
-use Rattle.std.proofs.Common.{◌≤◌, ◌-◌, vec_len}
+use Rattle.std.proofs.Common.{◌≤◌, ◌+◌, ◌-◌, vec_len}
 use Rattle.std.specs.Io.KnownBytes.{Consumes}
 use Rattle.command_tool.specs.Program.{read_limit}
 use Rattle.command_tool.proofs.reading.read_script.Given as goal
@@ -10,4 +10,4 @@ invariant-loop-buffer g l = record {
 }
 
 abbrev pub decreases-loop-buffer : goal.decreases-loop-buffer
-decreases-loop-buffer g l = read_limit - vec_len l.text
+decreases-loop-buffer g l = read_limit - vec_len l.text + l.retries
