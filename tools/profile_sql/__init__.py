@@ -10,7 +10,8 @@ script alone decides (1 to 3, 10 to 14, 21 to 31, 40 and 41).
     catalog      the tables and the clock after some statements
     scope, definitions, changes, queries    what is wrong with the names and values of a statement
     script       a whole script, judged statement by statement
+    current_rows the current rows after some statements: what 42 and 43 are about
 
-For a script's text `script.judge` gives its statements, each with its tree and its faults. The tools'
-test compares all of this with the program on random scripts.
+For a script's text `script.judge` gives its statements, each with its tree and its faults.
+tools/profile_sql_test compares all of this with the program on random scripts.
 """

@@ -93,13 +93,13 @@ class Definition:
             if count == 0:
                 yield self.wrong(create.name, f'The table has no {what}: add {element}.')
             elif count > 1:
-                yield self.wrong(create.name, f'The table has {count} of: {what}. It has to be one.')
+                yield self.wrong(create.name, f'The table has {count} of: {what}. It may have one.')
 
     def faults_of_types(self):
         for column in self.create.columns:
             if column.kind == 'TIMESTAMP' and not column.generated:
-                yield self.wrong(column.name, f'{column.name} is a TIMESTAMP and not generated: only'
-                                              ' the two system columns are TIMESTAMPs.')
+                yield self.wrong(column.name, f'{column.name} is a TIMESTAMP and not generated.'
+                                              ' Only the two system columns are TIMESTAMPs.')
             if column.kind != 'TIMESTAMP' and column.generated:
                 yield self.wrong(column.name, f'{column.name} is generated and {type_of(column)}: a'
                                               ' system column is a TIMESTAMP.')

@@ -43,7 +43,7 @@ def decoded(script):
     try:
         return script.decode('utf-8')
     except UnicodeDecodeError as error:
-        raise Refused(1, None, error.start) from None
+        raise Refused(1, byte=error.start) from None
 
 
 def lexed(text):

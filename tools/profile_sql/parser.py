@@ -156,8 +156,8 @@ def too_deep(tokens):
 def parsed(tokens, has_intersect=HAS_INTERSECT):
     """What the piece of these tokens is."""
     if len(tokens) > MOST_TOKENS:
-        fault = Fault(21, tokens[MOST_TOKENS].offset,
-                      f'The statement has {len(tokens):,} tokens, and {MOST_TOKENS:,} are the most.')
+        fault = Fault(21, tokens[MOST_TOKENS].offset, f'The statement has {len(tokens):,} tokens,'
+                                                      f' and {MOST_TOKENS:,} are the most.')
         return Parsed(None, [fault], None, [])
     deep = too_deep(tokens)
     if deep:

@@ -39,8 +39,8 @@ def faults_of_numbers(query, found):
     for select in found:
         items, tables = len(select.items), len(select.references)
         if items > MOST_ITEMS:
-            yield Fault(21, select.offset, f'The select list has {items} items, and {MOST_ITEMS} are'
-                                           ' the most.')
+            yield Fault(21, select.offset, f'The select list has {items} items, and {MOST_ITEMS}'
+                                           ' are the most.')
         if tables > MOST_TABLES_OF_A_SELECT:
             yield Fault(21, select.offset, f'The SELECT has {tables} tables, and'
                                            f' {MOST_TABLES_OF_A_SELECT} are the most.')

@@ -20,8 +20,8 @@ Fault = collections.namedtuple('Fault', 'number offset why')
 
 
 class Refused(Exception):
-    """A refusal of a whole script (1 to 3), with the offset of the byte and of the character where a
-    token is bad."""
+    """A refusal of a whole script (1 to 3). That by 3 has the offset of the byte and that of the
+    character at which no token begins; that by 1 the offset of the byte that is no UTF-8."""
 
     def __init__(self, number, byte=None, offset=None):
         super().__init__(number)
@@ -29,5 +29,5 @@ class Refused(Exception):
 
     def __str__(self):
         """What the program says of it, after its own name and a colon."""
-        words = [self.number, NAMES[self.number], *([] if self.byte is None else [self.byte])]
+        words = [self.number, NAMES[self.number], *([self.byte] if self.number == 3 else [])]
         return ' '.join(map(str, words))

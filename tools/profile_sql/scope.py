@@ -142,7 +142,8 @@ class Scope:
             return
         [(known, table)] = self.tables
         if span.qualifier not in (None, known):
-            yield Fault(24, span.qualifier.offset, f'{span.qualifier} is no table here: {known} is.')
+            yield Fault(24, span.qualifier.offset,
+                        f'{span.qualifier} is no table here: {known} is.')
         elif span.name != table.period.name:
-            yield Fault(24, span.name.offset, f'{span.name} is no period of {table.name}: its period'
-                                              f' is {table.period.name}.')
+            yield Fault(24, span.name.offset, f'{span.name} is no period of {table.name}: its'
+                                              f' period is {table.period.name}.')

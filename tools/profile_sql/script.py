@@ -14,9 +14,9 @@ JUDGES = {At: faults_of_at, Create: faults_of_create, Insert: faults_of_insert,
 
 
 class Statement:
-    """A statement of a script: its number, its tokens, its tree (None where the syntax is wrong) and
-    all faults that the script alone decides. Of a piece that is refused by 10 `stop` is the place of
-    the first token that no statement can have there, and `expected` is what could be there."""
+    """A statement of a script: its number, its tokens, its tree (None where the syntax is wrong)
+    and all faults that the script alone decides. Of a piece that is refused by 10 `stop` is the
+    place of the first token that no statement can have there, and `expected` is what could be."""
 
     def __init__(self, number, tokens, has_intersect=HAS_INTERSECT):
         self.number, self.tokens = number, tokens
