@@ -1,7 +1,7 @@
 """What is wrong with the names and values of AT, INSERT, UPDATE and DELETE."""
 from .refusals import Fault
-from .scope import (Scope, empty_period, guess, is_no_period, listed, repeated, spelled,
-                    unknown_table)
+from .scope import (Scope, empty_period, guess, is_no_period, listed, mend_of_type, repeated,
+                    spelled, unknown_table)
 from .tree import Update
 
 
@@ -58,7 +58,8 @@ def faults_of_row(row, number, names, table):
 def faults_of_value(column, literal, where):
     if literal.kind != column.kind:
         yield Fault(30, literal.offset, f'{where}{column.name} is {type_of(column)}, and'
-                                        f' {spelled(literal)} is not.')
+                                        f' {spelled(literal)} is not.'
+                                        f'{mend_of_type(column.kind, literal)}')
     elif column.kind == 'VARCHAR' and len(literal.value) > column.number:
         yield Fault(31, literal.offset, f'{where}the text has {len(literal.value)} characters, and'
                                         f' {column.name} is {type_of(column)}.')

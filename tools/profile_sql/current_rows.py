@@ -15,7 +15,8 @@ SIGNS = {'=': operator.eq, '<>': operator.ne, '<': operator.lt, '<=': operator.l
 
 # The values of the value columns, the period, and the offset of the row in the script.
 CurrentRow = collections.namedtuple('CurrentRow', 'values start end offset')
-# Two rows of one key on a day, or (where `other` is None) a child row without a parent by a reference.
+# Two rows of one key on a day, or (where `other` is None) a child row without a parent row by a
+# reference.
 Clash = collections.namedtuple('Clash', 'number day table row other reference')
 
 

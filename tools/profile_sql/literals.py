@@ -1,4 +1,5 @@
 """Which texts are dates and moments, and which numbers fit into 64 bits with a sign."""
+import calendar
 import datetime
 import re
 
@@ -15,6 +16,29 @@ def date_of(text):
         return datetime.date(*map(int, found.groups())) if found else None
     except ValueError:
         return None
+
+
+def why_no_date(text):
+    """A sentence on a text that names no date."""
+    found = re.fullmatch('([0-9]{4})-([0-9]{1,2})-([0-9]{1,2})', text)
+    year, month, day = map(int, found.groups()) if found else (0, 0, 0)
+    if year and 1 <= month <= 12:
+        days = calendar.monthrange(year, month)[1]
+        if not 1 <= day <= days:
+            return f"'{text}' is no date: month {month} of {year:04} has {days} days."
+        return f"'{text}' is no date: write DATE '{year:04}-{month:02}-{day:02}'."
+    return f"'{text}' is no date."
+
+
+def why_no_moment(text):
+    """A sentence on a text that names no moment."""
+    date = date_of(text[:10])
+    if date and not text[10:]:
+        return f"'{text}' is no moment: write TIMESTAMP '{text} 00:00:00'."
+    moment = f'{text[:10]} {text[11:19]}' + ':00' * (len(text) == 16)
+    if date and is_moment(moment):
+        return f"'{text}' is no moment: write TIMESTAMP '{moment}'."
+    return f"'{text}' is no moment."
 
 
 def is_moment(text):

@@ -5,7 +5,8 @@ what was tested there. Every token before it fits, since a reader only gets past
 has. So where a piece is no statement, its token at `furthest` is the first that no statement can
 have there, and each statement that begins alike goes on with one of `expected`.
 """
-from .literals import FOREVER, date_of, is_moment, number_of, text_of
+from .literals import (FOREVER, date_of, is_moment, number_of, text_of, why_no_date,
+                       why_no_moment)
 from .refusals import Fault
 from .tree import Literal, Name
 
@@ -105,7 +106,7 @@ class Reader:
         token = self.needs_kind('text')
         date = date_of(text_of(token))
         if date is None:
-            self.faults.append(Fault(12, token.offset, f'{token.text} is no date.'))
+            self.faults.append(Fault(12, token.offset, why_no_date(text_of(token))))
         return Literal('DATE', date, token.offset)
 
     def moment(self, is_below_forever=False):
@@ -113,7 +114,7 @@ class Reader:
         token = self.needs_kind('text')
         text = text_of(token)
         if not is_moment(text):
-            self.faults.append(Fault(13, token.offset, f'{token.text} is no moment.'))
+            self.faults.append(Fault(13, token.offset, why_no_moment(text)))
             text = None
         elif is_below_forever and text == FOREVER:
             self.faults.append(Fault(13, token.offset, f'{token.text} is the open end, which AT and'

@@ -1,6 +1,8 @@
 """The names and types of a condition or a select list: refusals 24, 25, 27, 30 and 41 there."""
 import difflib
+import re
 
+from .literals import date_of
 from .refusals import Fault
 from .tree import (And, ColumnReference, Comparison, ContainsDay, Literal, Not, Or, Predicate, Span)
 
@@ -47,6 +49,18 @@ def spelled(literal):
     if literal.kind == 'INTEGER':
         return f'the number {text}'
     return f"DATE '{text}'" if literal.kind == 'DATE' else f"the text '{text}'"
+
+
+def mend_of_type(kind, literal):
+    """How a literal might become one of another type."""
+    if literal.kind == 'VARCHAR' and kind == 'DATE' and date_of(literal.value):
+        return ' Write DATE before it.'
+    if literal.kind == 'VARCHAR' and kind == 'INTEGER' and \
+            re.fullmatch('[-+]?[0-9]{1,18}', literal.value):
+        return ' Leave out the quotes.'
+    if literal.kind == 'INTEGER' and kind == 'VARCHAR':
+        return ' Put it in single quotes.'
+    return ' Leave out DATE.' if (literal.kind, kind) == ('DATE', 'VARCHAR') else ''
 
 
 class Scope:
@@ -126,7 +140,9 @@ class Scope:
                 yield from self.faults_of_column(side)
         if len({self.kind(side) for side in sides} - {None}) > 1:
             said = ' and '.join(self.said(side) for side in sides)
-            yield Fault(30, comparison.offset, f'Two types are compared: {said}.')
+            mends = [mend_of_type(self.kind(other), side) for side, other in (sides, sides[::-1])
+                     if isinstance(side, Literal) and isinstance(other, ColumnReference)]
+            yield Fault(30, comparison.offset, f'Two types are compared: {said}.{"".join(mends)}')
 
     def said(self, operand):
         """A side of a comparison with its type."""
