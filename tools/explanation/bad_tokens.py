@@ -48,7 +48,10 @@ ODDITIES = [Oddity(re.compile(pattern), cause, mend) for pattern, cause, mend in
     (r'\?', '? is a parameter.', NO_PARAMETERS),
     (r'#([^\n]*)', '# begins no comment here.', 'Write --{1} for it.'),
     (r'\[(\w+)\]', 'Names in brackets are not known.', 'Write {1} without the brackets.'),
-    (r'[/%^&|~]', 'There is no operator {0}.',
+    (r'\{(?:d|ts?)\b', '{0} begins a literal of ODBC.',
+     "Leave out {0} and the brace at its end. A date is written DATE '2024-01-01'."),
+    (r'~', 'There is no operator {0}.', 'Compare by =, <>, <, <=, > or >=.'),
+    (r'[/%^&|]', 'There is no operator {0}.',
      'Leave out the calculation: conditions compare columns and literals alone.'),
     (r'[^\W\d_A-Za-z]+', '{0} is no ASCII letter, and names have ASCII letters alone.',
      'Choose a name of ASCII letters, digits and _, as ue for \u00fc, or put a text in single'

@@ -15,6 +15,8 @@ CAUSES = {
     62: "The database refused the statement, for a cause other than memory.",
 }
 
+NO_STATEMENT = ("Begin with CREATE, INSERT, VALIDTIME, AT, UPDATE, DELETE or SELECT: no other"
+                " statement is in the grammar.")
 WHAT_TO_DO = {
     10: "Compare it with the grammar in docs/PROFILE.md, section 4.",
     11: "Close parentheses earlier, or leave out those that change nothing.",

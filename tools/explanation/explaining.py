@@ -4,7 +4,7 @@ from profile_sql.refusals import NAMES, Refused
 from profile_sql.script import Statement
 
 from . import bad_tokens, clashes
-from .causes import CAUSES, WHAT_TO_DO
+from .causes import CAUSES, NO_STATEMENT, WHAT_TO_DO
 from .mends import Mending
 from .report import NotOfScript, Report
 from .texts import shown, wrapped
@@ -41,7 +41,7 @@ class Explainer:
         for place, sentence in advice:
             yield f'What to do at {self.places.shown(place)}: {sentence}'
         if not advice:
-            yield f'What to do: {WHAT_TO_DO[10]}'
+            yield f'What to do: {WHAT_TO_DO[10] if mending.stop else NO_STATEMENT}'
 
     def cause_lines(self, refusal):
         statement, code = refusal.statement, refusal.code

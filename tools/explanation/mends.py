@@ -16,8 +16,8 @@ LIKE = 0.7  # how alike a word and a misspelled one are
 KINDS = {'number': '0', 'text': "'"}
 
 # What is put in the place of the tokens from `start` on and before `end`, and the sentence; where
-# `put` is None nothing is tried.
-Edit = collections.namedtuple('Edit', 'start end put what')
+# `put` is None nothing is tried. Where no slip names the edit, it has to reach as many tokens more.
+Edit = collections.namedtuple('Edit', 'start end put what further', defaults=[FURTHER])
 # A sentence, and the offset of the place that it is about.
 Advice = collections.namedtuple('Advice', 'offset what')
 
@@ -113,7 +113,7 @@ class Mending:
                     return edit
                 continue
             is_right, rest = self.reached(edit)
-            if is_right or rest <= left and edit.put != CUT:
+            if is_right or edit.put != CUT and (rest < left or rest == left and edit.put):
                 return edit
         return None
 
@@ -149,7 +149,7 @@ class Mending:
         """The edit of a token or two that reaches the furthest."""
         found = [(self.reached(edit), number, edit) for number, edit in enumerate(self.guesses())]
         found = [((not is_right, rest, number), edit) for (is_right, rest), number, edit in found
-                 if is_right or rest <= len(self.tokens) - self.stop - FURTHER]
+                 if is_right or rest <= len(self.tokens) - self.stop - edit.further]
         return min(found, default=(None, None), key=lambda it: it[0])[1]
 
     def guesses(self):
@@ -162,11 +162,11 @@ class Mending:
                 yield Edit(stop, stop + 1, word, f'Write {word} for {found}.')
         if stop and self.tokens[stop - 1].is_name:
             before = self.tokens[stop - 1]
-            for word in difflib.get_close_matches(before.word, RESERVED, 1, LIKE):
+            for word in difflib.get_close_matches(before.word, RESERVED, 3, LIKE):
                 yield Edit(stop - 1, stop, word, f'Write {word} for {before.text}.')
         if token and token.word in RESERVED and A_NAME in expected:
             yield Edit(stop, stop + 1, f'{found}_', f'{found} is a reserved word and no name:'
-                                                    f' choose another name, such as {found}_.')
+                                                    f' choose another name, such as {found}_.', 2)
         where = f'before {shown(found)}' if token else 'at the end'
         for word in words:
             yield Edit(stop, stop, word, f'Write {word} {where}.')

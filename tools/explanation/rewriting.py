@@ -16,6 +16,15 @@ def columns_of_star(groups, tables):
     return front + ', '.join(table.value_names)
 
 
+def columns_of_first(groups, tables):
+    """The value columns of the first of several tables, with its name before them."""
+    table, front = tables.get(groups['table'].upper()), 'VALIDTIME SELECT DISTINCT '
+    name = groups['new'] or groups['table']
+    if not table:
+        return front + 'A', front + '..'
+    return front + ', '.join(f'{name}.{column}' for column in table.value_names)
+
+
 def meant(groups, tables):
     """A comparison with a value that might mean what is not known."""
     name = groups['left'].split('.')[-1].strip().upper()

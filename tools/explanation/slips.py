@@ -54,9 +54,9 @@ BEGINNINGS = [
      rewriting.columns_of_star,
      "Write DISTINCT and the value columns: {put} FROM {table}. (* is for SELECT * FROM table"
      " alone, without VALIDTIME.)"),
-    (rf"^(?P<out>SELECT \* )FROM (?P<table>\w+) (?:{WINDOW})?(?:(?:AS )?{NAME} )?"
-     r"@ (?:(?:AS )?\w+ )?(?:JOIN|INNER|LEFT|RIGHT|FULL|CROSS|,|UNION|EXCEPT|INTERSECT) ",
-     rewriting.columns_of_star,
+    (rf"^(?P<out>SELECT \* )FROM (?P<table>\w+) (?:{WINDOW})?"
+     r"@ (?:(?:AS )?(?P<new>(?!LEFT|RIGHT|FULL|CROSS|INNER|JOIN)[A-Z_]\w*) )?"
+     r"(?:JOIN|INNER|LEFT|RIGHT|FULL|CROSS|,|UNION|EXCEPT|INTERSECT) ", rewriting.columns_of_first,
      "SELECT * is of one table alone. Write VALIDTIME SELECT DISTINCT and the value columns: {put}"
      " FROM {table} .."),
     (r"^(?P<out>SELECT @ (?:DISTINCT |ALL )?)", "VALIDTIME SELECT DISTINCT",
@@ -166,7 +166,7 @@ QUERIES = [
      "There is no {word}: a select list has columns alone. Ask for them, and count outside."),
     (r"(?P<out>(?P<word>COUNT|SUM|MIN|MAX|AVG) @ \( (?:DISTINCT )?(?P<of>[^()]*)\) )", "{of}",
      "There is no {word}: a select list has columns alone. Ask for {of}, and do the rest outside."),
-    (rf"(?P<out>(?P<word>(?!IN |VALUES ){NAME}) @ \( (?P<of>[^()]*)\) )", "A",
+    (rf"(?P<out>(?P<word>(?!IN |VALUES |EXISTS ){NAME}) @ \( (?P<of>[^()]*)\) )", "A",
      "There is no {word}: columns and literals are compared as they are. The days of a year are"
      " those from DATE '2024-01-01' on and before DATE '2025-01-01'.", "."),
     (r"(?:DISTINCT|,) @ (?P<out>(?:[-+] )?0 |' |DATE ' )", "A",
@@ -189,11 +189,10 @@ QUERIES = [
     (r"^(?P<out>VALIDTIME (?P<one>SELECT (?:(?!UNION|EXCEPT|INTERSECT)\S+ )*)@ INTERSECT "
      r"(?:DISTINCT )?(?P<two>SELECT (?:(?!UNION|EXCEPT|INTERSECT)\S+ )*))$",
      "VALIDTIME {one} EXCEPT ({one} EXCEPT {two})",
-     "There is no INTERSECT yet. What is in both is left of the one by what it has beside the"
-     " other: {put}."),
+     "There is no INTERSECT yet. A EXCEPT (A EXCEPT B) gives the same rows: {put}."),
     (r"@ (?P<out>INTERSECT )", "EXCEPT",
-     "There is no INTERSECT yet: write A EXCEPT (A EXCEPT B) for A INTERSECT B, A and B the two"
-     " queries."),
+     "There is no INTERSECT yet: A EXCEPT (A EXCEPT B) gives the same rows as A INTERSECT B, A and B"
+     " two queries."),
     (r"(?:UNION|EXCEPT) @ (?P<out>ALL )", "", "Leave out ALL: an answer has no duplicates."),
     (r"(?P<out>AS @ OF |@ AS OF )", "FOR SYSTEM_TIME AS OF", "Write FOR SYSTEM_TIME before AS OF."),
     (r"FOR SYSTEM_TIME @ (?P<out>ALL )",
@@ -216,6 +215,10 @@ QUERIES = [
 CONDITIONS = [
     (rf"(?P<out>(?P<left>{COLUMN})@ (?P<no>NOT )?IN \( (?P<items>(?:{LITERAL}|, )+)\) )",
      rewriting.comparisons, "There is no IN: write {put}."),
+    (rf"^(?P<out>(?P<query>VALIDTIME SELECT DISTINCT (?P<left>{COLUMN})FROM {NAME} )"
+     rf"WHERE {COLUMN}@ NOT IN \( SELECT (?:DISTINCT )?(?P<inner>[^()]*)\) )$",
+     "{query} EXCEPT SELECT DISTINCT {inner}",
+     "There are no subqueries. EXCEPT takes away, on each day by itself: {put}."),
     (rf"(?P<out>(?P<left>{COLUMN})@ (?P<no>NOT )?IN \( (?:SELECT|VALIDTIME|\() .*\) )", "A = A",
      NO_SUBQUERY),
     (r"(?P<out>EXISTS @ \( (?:SELECT|VALIDTIME) .*\) )", "A = A", NO_SUBQUERY),

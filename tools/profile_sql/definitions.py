@@ -82,18 +82,28 @@ class Definition:
         """There has to be one of each."""
         create = self.create
         generated = [column.generated for column in create.columns]
+        start, end = self.system_columns()
+        values = [name for name in self.names
+                  if name not in self.bounds and not self.is_generated(name)]
+        key = f'{(values + ["ENO"])[0]}, {(self.periods + ["EP"])[0]}'
         for count, what, element in (
                 (len(create.periods), 'application-time period', 'PERIOD FOR EP (S, E)'),
-                (len(create.systems), 'period SYSTEM_TIME', 'PERIOD FOR SYSTEM_TIME (SS, SE)'),
+                (len(create.systems), 'period SYSTEM_TIME',
+                 f'PERIOD FOR SYSTEM_TIME ({start}, {end})'),
                 (generated.count('START'), 'ROW START column',
-                 'SS TIMESTAMP GENERATED ALWAYS AS ROW START'),
+                 f'{start} TIMESTAMP GENERATED ALWAYS AS ROW START'),
                 (generated.count('END'), 'ROW END column',
-                 'SE TIMESTAMP GENERATED ALWAYS AS ROW END'),
-                (len(create.keys), 'PRIMARY KEY', 'PRIMARY KEY (ENO, EP WITHOUT OVERLAPS)')):
+                 f'{end} TIMESTAMP GENERATED ALWAYS AS ROW END'),
+                (len(create.keys), 'PRIMARY KEY', f'PRIMARY KEY ({key} WITHOUT OVERLAPS)')):
             if count == 0:
                 yield self.wrong(create.name, f'The table has no {what}: add {element}.')
             elif count > 1:
                 yield self.wrong(create.name, f'The table has {count} of: {what}. It may have one.')
+
+    def system_columns(self):
+        """The names of the ROW START and the ROW END column, or what they might be."""
+        found = {column.generated: column.name for column in self.create.columns}
+        return found.get('START', 'SS'), found.get('END', 'SE')
 
     def faults_of_types(self):
         for column in self.create.columns:
@@ -121,8 +131,9 @@ class Definition:
         for period in self.create.systems:
             for name, word in ((period.start, 'START'), (period.end, 'END')):
                 if self.generated.get(name, word) != word:
+                    both = ', '.join(self.system_columns())
                     yield self.wrong(name, f'{name} is not the ROW {word} column: write PERIOD FOR'
-                                           ' SYSTEM_TIME (ROW START column, ROW END column).')
+                                           f' SYSTEM_TIME ({both}).')
         for period in self.own_periods:
             if self.periods and period != self.periods[0]:
                 yield self.wrong(period, f'{period} is not the application-time period.')

@@ -7,6 +7,10 @@ from .refusals import Fault
 from .tree import (And, ColumnReference, Comparison, ContainsDay, Literal, Not, Or, Predicate, Span)
 
 
+# Words of joins that are not in the grammar: each is a name, so `A LEFT JOIN B` joins A, called LEFT.
+NO_JOINS = ('LEFT', 'RIGHT', 'FULL', 'CROSS', 'NATURAL')
+
+
 def listed(names):
     """Names for a sentence."""
     names = list(names)
@@ -104,6 +108,9 @@ class Scope:
                 if table.name == column.qualifier:
                     why = f'{table.name} goes by its new name {name} here: write' \
                           f' {name}.{column.name}.'
+                if table.name == column.qualifier and name in NO_JOINS:
+                    why = f'{name} is read as a new name of {table.name}: there are no such' \
+                          f' joins. Leave out {name}.'
             return Fault(24, column.qualifier.offset, why)
         tables = [(name, table) for name, table in self.tables
                   if column.qualifier in (None, name)]
