@@ -191,8 +191,8 @@ QUERIES = [
      "VALIDTIME {one} EXCEPT ({one} EXCEPT {two})",
      "There is no INTERSECT yet. A EXCEPT (A EXCEPT B) gives the same rows: {put}."),
     (r"@ (?P<out>INTERSECT )", "EXCEPT",
-     "There is no INTERSECT yet: A EXCEPT (A EXCEPT B) gives the same rows as A INTERSECT B, A and B"
-     " two queries."),
+     "There is no INTERSECT yet: A EXCEPT (A EXCEPT B) gives the same rows as A INTERSECT B, A and"
+     " B two queries."),
     (r"(?:UNION|EXCEPT) @ (?P<out>ALL )", "", "Leave out ALL: an answer has no duplicates."),
     (r"(?P<out>AS @ OF |@ AS OF )", "FOR SYSTEM_TIME AS OF", "Write FOR SYSTEM_TIME before AS OF."),
     (r"FOR SYSTEM_TIME @ (?P<out>ALL )",
