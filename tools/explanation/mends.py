@@ -14,6 +14,9 @@ MOST_ROUNDS, MOST_SHOWN = 8, 400
 FURTHER = 3  # how many tokens more a mend that no slip names has to reach
 LIKE = 0.7  # how alike a word and a misspelled one are
 KINDS = {'number': '0', 'text': "'"}
+# What nobody leaves out by mistake, and names and values, which have a guess of their own.
+NO_GUESS = {A_NAME, A_NUMBER, A_TEXT, THE_END, 'NOT', '+', '-', '.', '<', '<=', '<>', '>', '>=',
+            'CONTAINS', 'EQUALS', 'IMMEDIATELY', 'OVERLAPS', 'PRECEDES', 'SUCCEEDS'}
 
 # What is put in the place of the tokens from `start` on and before `end`, and the sentence; where
 # `put` is None nothing is tried. Where no slip names the edit, it has to reach as many tokens more.
@@ -156,7 +159,7 @@ class Mending:
         stop, expected = self.stop, self.parsed.expected
         token = self.tokens[stop] if stop < len(self.tokens) else None
         found = token.text if token else ''
-        words = [word for word in expected if word not in (A_NAME, A_NUMBER, A_TEXT, THE_END)]
+        words = [word for word in expected if word not in NO_GUESS]
         if token and token.kind == 'word':
             for word in difflib.get_close_matches(token.word, words, 1, LIKE):
                 yield Edit(stop, stop + 1, word, f'Write {word} for {found}.')
@@ -174,7 +177,8 @@ class Mending:
             for word in words:
                 yield Edit(stop, stop + 1, word, f'Write {word} for {found}.')
         if token:
-            yield Edit(stop, stop + 1, '', f'Leave out {shown(found)}.')
+            what = 'the comma' if found == ',' else shown(found)
+            yield Edit(stop, stop + 1, '', f'Leave out {what}.')
         for what, put in (A_NAME, 'A'), (A_NUMBER, '0'):
             if what in expected:
                 what = 'a value' if A_TEXT in expected and A_NAME not in expected else what
