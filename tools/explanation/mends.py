@@ -10,7 +10,7 @@ from profile_sql.reader import A_NAME, A_NUMBER, A_TEXT, THE_END
 from .slips import CUT, SLIPS
 from .texts import alternatives, joined, shown
 
-MOST_ROUNDS, MOST_SHOWN = 8, 400
+MOST_ROUNDS, MOST_SHOWN = 16, 400
 FURTHER = 3  # how many tokens more a mend that no slip names has to reach
 LIKE = 0.7  # how alike a word and a misspelled one are
 KINDS = {'number': '0', 'text': "'"}
@@ -48,14 +48,14 @@ class Mending:
 
     def advice(self):
         """What to do at each place in turn; last, where no mend is known, what is wrong there."""
-        while self.stop is not None and self.rounds < MOST_ROUNDS:
-            self.rounds += 1
+        while self.stop is not None:
             edit = self.apostrophe() or self.slip() or self.guess()
-            if edit is None:
-                if self.rounds > 1:
+            if edit is None or self.rounds == MOST_ROUNDS:
+                if self.rounds:
                     place, what = self.where()
                     yield Advice(place, f'Look here again: with these mends, {what}.')
                 return
+            self.rounds += 1
             yield Advice(self.offsets[edit.start], edit.what)
             if edit.put in (None, CUT):
                 return

@@ -77,8 +77,8 @@ BEGINNINGS = [
 
 DEFINITIONS = [
     (r"^CREATE TABLE (?P<out>IF @ NOT EXISTS )", "", "Leave out IF NOT EXISTS."),
-    (rf"@ (?P<out>(?P<type>{INTEGER_TYPES})(?: \( 0 \))? )", "INTEGER", "Write INTEGER for {type}.",
-     "INTEGER"),
+    (rf"@ (?P<out>(?P<type>{INTEGER_TYPES})(?: \( 0 \))?(?: UNSIGNED)? )", "INTEGER",
+     "Write INTEGER for {type}.", "INTEGER"),
     (rf"@ (?P<out>(?P<type>{TEXT_TYPES}) \( (?P<n>0) \) )", "VARCHAR({n})",
      "Write {put} for {out}.", "INTEGER"),
     (rf"@ (?P<out>(?P<type>{TEXT_TYPES}) )", "VARCHAR(30)",
@@ -184,8 +184,6 @@ QUERIES = [
      " inner query into the outer one."),
     (r"AS @ (?P<out>' )", "A", "Write the new name without quotes.", "a name"),
     (r"(?P<out>MINUS @ )SELECT ", "EXCEPT", "Write EXCEPT for MINUS."),
-    (rf"JOIN {NAME} (?:(?:AS )?{NAME} )?@ (?P<out>WHERE )", "ON",
-     "Write ON for WHERE: each JOIN has its condition after ON.", "ON"),
     (r"FOR @ (?P<out>SYSTEM TIME )", "SYSTEM_TIME", "Write SYSTEM_TIME, one word."),
     (rf"^SELECT \* FROM (?P<table>\w+) (?P<out>@ (?:AS )?(?P<new>{NAME}) )(?=WHERE |$)", "",
      "Leave out {out}, also before columns: the table of SELECT * has no other name."),
@@ -206,6 +204,8 @@ QUERIES = [
     (r"(?P<out>CROSS JOIN (?P<table>\w+) @ )", ", {table}", "Write a comma for CROSS JOIN."),
     (rf"FROM (?P<one>{NAME}) (?:INNER )?JOIN (?P<two>{NAME}) (?P<out>USING @ \( (?P<by>\w+) \) )",
      "ON {one}.{by} = {two}.{by}", "Write {put} for {out}."),
+    (rf"JOIN {NAME} (?:(?:AS )?{NAME} )?@ (?P<out>WHERE )", "ON",
+     "Write ON for WHERE: each JOIN has its condition after ON.", "ON"),
     (r"^(?P<out>VALIDTIME (?P<one>SELECT (?:(?!UNION|EXCEPT|INTERSECT)\S+ )*)@ INTERSECT "
      r"(?:DISTINCT )?(?P<two>SELECT (?:(?!UNION|EXCEPT|INTERSECT)\S+ )*))$",
      "VALIDTIME {one} EXCEPT ({one} EXCEPT {two})",
