@@ -1,4 +1,6 @@
 """The text about each refused statement of a script, and about a script refused as a whole."""
+import collections
+
 from profile_sql.lexis import Places, decoded, lexed, pieces
 from profile_sql.refusals import NAMES, Refused
 from profile_sql.script import Statement
@@ -37,10 +39,15 @@ class Explainer:
         mending = Mending(refusal.statement.tokens, refusal.tables)
         offset, what = mending.where()
         yield f'At {self.places.shown(offset)}: {what}.'
-        advice = list(mending.advice())
-        for place, sentence in advice:
-            yield f'What to do at {self.places.shown(place)}: {sentence}'
-        if not advice:
+        said = collections.Counter()
+        for place, sentence in mending.advice():
+            said[sentence] += 1
+            if said[sentence] <= MOST_PLACES:
+                yield f'What to do at {self.places.shown(place)}: {sentence}'
+        more = sum(max(0, count - MOST_PLACES) for count in said.values())
+        if more:
+            yield f'And the same at {more} more.'
+        if not said:
             yield f'What to do: {WHAT_TO_DO[10] if mending.stop else NO_STATEMENT}'
 
     def cause_lines(self, refusal):
