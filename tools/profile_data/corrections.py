@@ -32,43 +32,48 @@ def overlaps(segments):
             last = segment
 
 
-def overridden(segments, new):
-    """The segments, sorted and apart, without the days of a new one, and with it where it has
-    values."""
-    starts = [segment.start for segment in segments]
-    first = max(0, bisect.bisect_right(starts, new.start) - 1)
-    last = bisect.bisect_left(starts, new.end)
-    kept = []
-    for segment in segments[first:last]:
-        if segment.start < new.start:
-            kept.append(segment._replace(end=min(segment.end, new.start)))
-    if new.values is not None:
-        kept.append(new)
-    for segment in segments[first:last]:
-        if segment.end > new.end:
-            kept.append(segment._replace(start=max(segment.start, new.end)))
-    return segments[:first] + kept + segments[last:]
+class KeyDays:
+    """What a key has: segments that are sorted and apart, and their starts."""
+
+    def __init__(self):
+        self.starts, self.segments = [], []
+
+    def override(self, new):
+        """Takes the days of a new segment from the others, and adds it where it has values."""
+        first = max(0, bisect.bisect_right(self.starts, new.start) - 1)
+        last = bisect.bisect_left(self.starts, new.end)
+        touched = self.segments[first:last]
+        kept = [segment._replace(end=min(segment.end, new.start))
+                for segment in touched if segment.start < new.start]
+        if new.values is not None:
+            kept.append(new)
+        kept += [segment._replace(start=max(segment.start, new.end))
+                 for segment in touched if segment.end > new.end]
+        self.segments[first:last] = kept
+        self.starts[first:last] = [segment.start for segment in kept]
 
 
 class Portions:
     """Each fact says something of its own days, and nothing of others."""
 
     def __init__(self):
-        self.known = {}
+        self.known = collections.defaultdict(KeyDays)
 
     def take(self, facts, clash):
         """What is known of the keys of these facts before them and after them: pairs of lists by
         key. Facts of one moment that share days are told to `clash`."""
         before, said = {}, collections.defaultdict(list)
         for fact in facts:
-            before.setdefault(fact.key, self.known.get(fact.key, []))
+            days = self.known[fact.key]
+            if fact.key not in before:
+                before[fact.key] = list(days.segments)
             segment = Segment(fact.start, fact.end, fact.values, fact.line)
             said[fact.key].append(segment)
-            self.known[fact.key] = overridden(self.known.get(fact.key, []), segment)
+            days.override(segment)
         for key, segments in said.items():
             for pair in overlaps(sorted(segments, key=lambda segment: segment.start)):
                 clash(key, *pair)
-        return {key: (segments, self.known[key]) for key, segments in before.items()}
+        return {key: (segments, self.known[key].segments) for key, segments in before.items()}
 
 
 class Records:
@@ -82,7 +87,8 @@ class Records:
         for fact in facts:
             old = self.states.pop(fact.record, None)
             for key in filter(None, (old and old.key, fact.key)):
-                before.setdefault(key, self.segments(key))
+                if key not in before:
+                    before[key] = self.segments(key)
             if old:
                 del self.keys[old.key][fact.record]
             if fact.record in seen:
@@ -107,12 +113,36 @@ def differing(old, new):
     return {place for place, (one, other) in enumerate(zip(old, new)) if one != other}
 
 
+def unlike(old, new):
+    """Two lists of segments without what they have alike at their beginnings and their ends."""
+    most = min(len(old), len(new))
+    # Most are the very same objects, which is quicker to see than that they are equal.
+    first = next((at for at in range(most)
+                  if old[at] is not new[at] and old[at] != new[at]), most)
+    last = next((at for at in range(most - first)
+                 if old[-1 - at] is not new[-1 - at] and old[-1 - at] != new[-1 - at]),
+                most - first)
+    return old[first:len(old) - last], new[first:len(new) - last]
+
+
+class Others:
+    """Segments that are sorted and apart, to be compared with one."""
+
+    def __init__(self, segments):
+        self.segments, self.ends = segments, [segment.end for segment in segments]
+
+    def meeting(self, segment):
+        """Those that share a day with it."""
+        for at in range(bisect.bisect_right(self.ends, segment.start), len(self.segments)):
+            if self.segments[at].start >= segment.end:
+                return
+            yield self.segments[at]
+
+
 def uncovered(segment, others):
-    """The days of a segment that no other has, as pairs. The others are sorted and apart."""
+    """The days of a segment that no other has, as pairs."""
     start = segment.start
-    for other in others:
-        if other.end <= start or other.start >= segment.end:
-            continue
+    for other in others.meeting(segment):
         if start < other.start:
             yield start, other.start
         start = other.end
@@ -134,9 +164,9 @@ def updates(segment, old):
     """The runs of days of a new segment that had other values before, each with the places that
     differ."""
     runs = []
-    for other in old:
+    for other in old.meeting(segment):
         start, end = max(segment.start, other.start), min(segment.end, other.end)
-        places = differing(other.values, segment.values) if start < end else None
+        places = differing(other.values, segment.values)
         if places:
             if runs and runs[-1][1] == start:
                 start, _, more = runs.pop()
@@ -147,11 +177,13 @@ def updates(segment, old):
 
 def changes(key, old, new):
     """The changes of a key's days from the old segments to the new ones."""
-    for start, end in joined(days for segment in old for days in uncovered(segment, new)):
+    old, new = unlike(old, new)
+    before, after = Others(old), Others(new)
+    for start, end in joined(days for segment in old for days in uncovered(segment, after)):
         yield Change('delete', key, start, end, None, ())
     for segment in new:
-        for start, end, places in updates(segment, old):
+        for start, end, places in updates(segment, before):
             yield Change('update', key, start, end, segment.values, sorted(places))
     for segment in new:
-        for start, end in uncovered(segment, old):
+        for start, end in uncovered(segment, before):
             yield Change('insert', key, start, end, segment.values, ())

@@ -10,7 +10,7 @@ from .report import Versions
 
 # How each database is called, the comment that says how, its types, and its limit for a name.
 POSTGRESQL, DUCKDB, SQLITE = 'postgresql', 'duckdb', 'sqlite3'
-COMMANDS = {POSTGRESQL: 'psql -f load.sql DATABASE', DUCKDB: 'duckdb DATABASE -init load.sql',
+COMMANDS = {POSTGRESQL: 'psql -f load.sql DATABASE', DUCKDB: 'duckdb DATABASE < load.sql',
             SQLITE: 'sqlite3 DATABASE < load.sql'}
 TYPES = {POSTGRESQL: {'INTEGER': 'bigint', 'DATE': 'date', 'TIMESTAMP': 'timestamp'},
          DUCKDB: {'INTEGER': 'BIGINT', 'DATE': 'DATE', 'TIMESTAMP': 'TIMESTAMP'},
