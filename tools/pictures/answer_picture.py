@@ -4,6 +4,8 @@ The dot at the start of a bar is the witness `held`, the first day; the ring bef
 witness `absent`, the day before. A triangle is an end that is open, or a start on the first of
 all days.
 """
+from profile_data.command_line import counted
+
 from .canvas import LABEL, MOST_LABEL, SMALL
 from .days_axis import FIRST, LAST, day_of
 from .text_room import cut, room
@@ -27,13 +29,9 @@ def labels_of(answer, most):
     return [', '.join(values) for values in list(lanes_of(answer))[:most]]
 
 
-def counted(count, one, several):
-    return f'{count} {one if count == 1 else several}'
-
-
 def draw(canvas, axis, answer, heading, most):
     """Draws the answer, at most so many lines of it."""
-    canvas.heading(heading, counted(len(answer.rows), 'row', 'rows'))
+    canvas.heading(heading, counted(len(answer.rows), 'row'))
     lanes = list(lanes_of(answer).items())
     top = canvas.y
     for values, rows in lanes[:most]:

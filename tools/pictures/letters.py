@@ -1,7 +1,8 @@
 """Answers as time lines in letters, for a terminal."""
+from profile_data.command_line import counted
 from profile_data.shown import for_terminal, width
 
-from .answer_picture import counted, lanes_of, periods_of
+from .answer_picture import lanes_of, periods_of
 from .days_axis import FIRST, LAST, DaysAxis, day_of
 
 WIDTH, MOST_LABEL = 72, 24
@@ -47,7 +48,7 @@ def drawn(answer, heading, most):
     lanes = list(lanes_of(answer).items())
     labels = [label_of(values) for values, _ in lanes[:most]]
     room = max(map(width, labels), default=0)
-    lines = [f'{for_terminal(heading)} ({counted(len(answer.rows), "row", "rows")})']
+    lines = [f'{for_terminal(heading)} ({counted(len(answer.rows), "row")})']
     lines += [label + ' ' * (room - width(label) + 2) + lane_of(axis, rows)
               for label, (_, rows) in zip(labels, lanes)]
     if lanes:

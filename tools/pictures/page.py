@@ -1,5 +1,6 @@
 """Pictures to a web page: one file, without any script, and nothing from elsewhere."""
 from profile_data.report import Answer, Versions
+from profile_sql.literals import FOREVER
 from profile_sql.tree import Sequenced, selects
 
 from . import answer_picture, version_picture
@@ -48,7 +49,7 @@ def picture(statements, most, by=None):
                       for moment in moments_of(statement)]
         else:
             periods += version_picture.periods_of(outcome)
-            labels.append('9999-12-31 23:59:59')
+            labels.append(FOREVER)  # as broad as a moment
     has_room = bool(marks) and any(isinstance(statement.outcome, Versions)
                                    for statement in statements)
     canvas = Canvas(left_of(labels, size=SMALL + 1), WIDTH - (100 if has_room else 50))

@@ -7,12 +7,13 @@ the query saw.
 """
 import collections
 
-from .answer_picture import counted
+from profile_data.command_line import counted
+from profile_sql.literals import FIRST_MOMENT, FOREVER
+
 from .canvas import SMALL
 from .days_axis import FIRST, LAST, day_of
 from .text_room import cut
 
-FOREVER, FIRST_MOMENT = '9999-12-31 23:59:59', '0001-01-01 00:00:00'
 BAND, LOW_BAND, MANY = 44, 26, 12
 
 Version = collections.namedtuple('Version', 'values start end since until')
@@ -45,7 +46,7 @@ def draw(canvas, axis, outcome, heading, most, by=None, marks=()):
     planes = {}
     for version in versions_of(outcome):
         planes.setdefault(version.values[place], []).append(version)
-    canvas.heading(heading, counted(len(outcome.rows), 'version', 'versions'))
+    canvas.heading(heading, counted(len(outcome.rows), 'version'))
     if not planes:
         canvas.note('no version')
     for number, (value, versions) in enumerate(planes.items()):
@@ -95,7 +96,7 @@ class Plane:
         canvas.y += self.height
         canvas.days(self.axis, self.top)
         if self.left_out:
-            canvas.note(f'and {counted(len(self.left_out), "earlier moment", "earlier moments")}')
+            canvas.note(f'and {counted(len(self.left_out), "earlier moment")}')
         return len(self.moments)
 
     def version(self, version):

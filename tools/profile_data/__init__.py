@@ -5,6 +5,10 @@
     what the tools do alike: files that are read and written, faults that end them shown
     texts for spreadsheets and terminals: formulas and control characters made harmless
 
+    answer_tables, answer_texts    answers as tables; tables as CSV, aligned text and a web page
+    databases      versions of rows as files that other databases load
+    foreign_answer the answer of another database as rows, and the queries that judge it
+
     csv_file       a CSV file with the line of each record
     guess          a first guess of a CREATE TABLE from a file's header and values
     cells          a cell of the file to a value of the language

@@ -1,6 +1,7 @@
 """A table of answers as CSV, as aligned text, and as a web page."""
 import html
 
+from .command_line import counted
 from .records import record
 from .shown import for_spreadsheet, for_terminal, width
 
@@ -19,9 +20,8 @@ def as_csv(table, is_raw=False):
 
 
 def heading(table):
-    count = len(table.rows)
     title = f'{table.number}: {table.title}' if table.title else str(table.number)
-    return f'{title} ({count} {"row" if count == 1 else "rows"})'
+    return f'{title} ({counted(len(table.rows), "row")})'
 
 
 def as_table(table, is_raw=False):

@@ -15,6 +15,11 @@ class Fault(Exception):
         self.status = status
 
 
+def counted(count, what):
+    """A count with its noun: 1 row, 2 rows."""
+    return f'{count} {what}' if count == 1 else f'{count} {what}s'
+
+
 def read_bytes(path):
     """The bytes of a file, or of standard input where there is no path or it is `-`."""
     try:

@@ -10,6 +10,7 @@ import os
 import re
 
 from . import cells
+from .command_line import Fault, counted
 from .mapping import name_of, names_of
 
 STARTS = frozenset('from start starts begin begins beginning since effective first'.split())
@@ -82,19 +83,20 @@ class Guess:
         for column in self.values:
             if column.kind == 'moment':
                 column.kind = f'VARCHAR({LENGTHS[2]})'
+        if not self.values:
+            raise Fault(f'{file.path} has no column beside those of days and moments', 1)
         self.key = self.find_key()
         self.is_inclusive = self.end is not None and self.ends_are_inclusive()
 
     def period(self):
         """The columns of the first day and of the end, or None."""
-        days = [column for column in self.columns if column.kind == 'DATE'
-                and not column.words & RECORDINGS]
+        days = [column for column in self.columns if column.kind == 'DATE' or not column.filled]
+        days = [column for column in days if not column.words & RECORDINGS]
         start = next((column for column in days if column.words & STARTS), None)
-        end = next((column for column in self.columns if column is not start and
-                    column.words & ENDS and (column.kind == 'DATE' or not column.filled)), None)
-        days = [column for column in days if column not in (start, end)]
-        start = start or (days.pop(0) if days else None)
-        return start, end or (days.pop(0) if days else None)
+        end = next((column for column in days if column is not start and column.words & ENDS), None)
+        rest = [column for column in days if column not in (start, end) and column.filled]
+        start = start or (rest.pop(0) if rest else None)
+        return start, end or (rest.pop(0) if rest else None)
 
     def recording(self):
         rest = [column for column in self.columns if column not in (self.start, self.end)
@@ -156,6 +158,8 @@ class Guess:
     def command(self):
         """The options that load the file into the table."""
         words = [f'--recorded {self.quoted(self.recorded.header)}'] if self.recorded else []
+        if self.recorded and any('.' in text for text in self.recorded.texts):
+            words.append('--whole-seconds')
         for option in ('delimiter', 'dates', 'decimal', 'encoding'):
             value = getattr(self.wanted, option)
             if value not in (',', cells.ISO, '.', 'utf-8-sig'):
@@ -164,7 +168,9 @@ class Guess:
                   if column.scale]
         if self.is_inclusive:
             words.append('--inclusive-to')
-        if self.end is None or self.end.has_empty:
+        if self.start is None:
+            words.append(f'--empty {self.free("S")}=0001-01-01' if self.end else '--always')
+        if self.end is None and self.start or self.end and self.end.has_empty:
             words.append('--open 9999-12-31')
         words += [f'--empty {column.name}=0' for column in self.values
                   if column.kind == 'INTEGER' and column.has_empty]
@@ -191,10 +197,10 @@ class Guess:
         name = self.wanted.name.upper() if self.wanted.name else name_of(stem)
         path = self.quoted(self.file.path)
         lines = [f'-- A first guess from {os.path.basename(self.file.path)},'
-                 f' {len(self.file.records)} rows. Edit what is wrong, then:',
+                 f' {counted(len(self.file.records), "row")}. Edit what is wrong, then:',
                  f'--   tools/load {path} --table FILE {self.command()}'.rstrip()]
         if not (self.start and self.end):
-            lines.append('-- The file has no two columns of dates: S and E are not in it.')
+            lines.append('-- The file has no two columns of dates: look at the period.')
         if not self.key:
             lines.append('-- No columns were found that can be the key: these are the first ones.')
         lines.append(f'CREATE TABLE {name} (')
