@@ -1,0 +1,61 @@
+"""Of each number that a statement can get what is to do, and the cause where no place tells it."""
+from profile_sql.literals import FOREVER
+
+CAUSES = {
+    10: "The grammar has no such statement.",
+    11: "More than 32 parentheses are open at one place.",
+    12: "The text of a DATE literal isn't YYYY-MM-DD, or isn't a date from 0001-01-01 to"
+        " 9999-12-31.",
+    13: "The text of a TIMESTAMP literal isn't YYYY-MM-DD HH:MM:SS, or isn't a moment from"
+        f" 0001-01-01 00:00:00 to {FOREVER}; or AT or AS OF names that last moment, which means"
+        " the open end.",
+    14: "A number, with its sign, is outside -9223372036854775808 to 9223372036854775807.",
+    61: "The system refused memory that the statement needed. Nothing is wrong with the"
+        " statement.",
+    62: "The database refused the statement, for a cause other than memory.",
+}
+
+NO_STATEMENT = ("Begin with CREATE, INSERT, VALIDTIME, AT, UPDATE, DELETE or SELECT: no other"
+                " statement is in the grammar.")
+WHAT_TO_DO = {
+    10: "Compare it with the grammar in docs/PROFILE.md, section 4.",
+    11: "Close parentheses earlier, or leave out those that change nothing.",
+    12: "Write four digits for the year, two for the month and two for the day, and a day that the"
+        " month has: DATE '2024-02-29'.",
+    13: "Write nineteen characters, with one space and without a fraction of a second or a time"
+        " zone: TIMESTAMP '2024-01-01 00:00:00'. After AT and AS OF name an earlier moment than"
+        f" {FOREVER}.",
+    14: "Write a number within these bounds, or keep its digits as a text in a VARCHAR column.",
+    21: "Split the statement: a long INSERT into several of fewer rows (999 rows of one number and"
+        " two dates are the most), a wide table into two.",
+    22: "Choose another name, or leave out this CREATE TABLE. Names ignore case: emp and EMP are"
+        " one table.",
+    23: "Check the spelling, and that its CREATE TABLE comes before this statement and wasn't"
+        " refused itself. A table cannot reference itself.",
+    24: "Write a name that is there. Where a column is meant, a period's name is unknown, and where"
+        " a period is meant, a column's name is.",
+    25: "In a query put the table's name before the column: X.ENO. In CREATE TABLE rename one of"
+        " the two columns of this name.",
+    26: "Rename one of the two, or name the column once. In a SELECT give one of the tables a new"
+        " name: EMP AS Y.",
+    27: "Leave it out. Each row of an answer has its days without being asked for them. A key"
+        " names the period, not its columns. INSERT gives the period columns and leaves out the"
+        " system columns.",
+    28: "Compare it with the example of CREATE TABLE in docs/PROFILE.md, section 4.",
+    29: "In INSERT give a value for each column but the two system columns. A column list names"
+        " each of these columns once.",
+    30: "Write a number for INTEGER, a text in single quotes for VARCHAR, and the word DATE before"
+        " the text for DATE: DATE '2024-01-01'. Without a column list the values of INSERT come in"
+        " the order of CREATE TABLE, the two system columns left out.",
+    31: "Shorten the text, or create the table with a larger n in VARCHAR(n), at most 1000.",
+    40: "Put the statements into the order of their moments. The same moment twice is allowed.",
+    41: "Write the start before the end. The end is the first day on which the row no longer"
+        " holds, so a row of one day ends on the next day. No row starts on 9999-12-31.",
+    42: "Let the earlier row end no later than the day on which the other starts, or give one of"
+        " them another key.",
+    43: "Insert parents before their children, over each day of the children. Delete or change a"
+        " parent only on days on which no child names it.",
+    61: "Run the script where there is more memory, or split it into scripts of fewer rows and"
+        " queries: rows and answers are kept until a script ends.",
+    62: "Run the script again, and report it where it happens again.",
+}

@@ -1,0 +1,41 @@
+"""Which rows 42 and 43 are about."""
+
+
+def cell(value):
+    """A value as a script has it."""
+    if isinstance(value, int):
+        return str(value)
+    if isinstance(value, str):
+        return "'" + value.replace("'", "''") + "'"
+    return f"DATE '{value}'"
+
+
+def named(row, table, names):
+    return ' and '.join(f'{name} = {cell(row.values[table.place(name)])}' for name in names)
+
+
+def period(row):
+    return f'from {row.start} to {row.end}'
+
+
+def causes(clash, places):
+    """Sentences about a clash, each with the offset of the row that it is about."""
+    table, row = clash.table, clash.row
+    if clash.number == 42:
+        other = clash.other
+        first, second = sorted((row, other), key=lambda it: it.offset)
+        yield second.offset, (f'This row of {table.name} with {named(second, table, table.key)}'
+                              f' would hold {period(second)}, and that of'
+                              f' {places.shown(first.offset)} with the same key {period(first)}.'
+                              f' The first day of both is {clash.day}.')
+        return
+    reference = clash.reference
+    yield row.offset, (f'This row of {table.name} with {named(row, table, reference.columns)} would'
+                       f' hold {period(row)}, and on {clash.day} no row of {reference.table}'
+                       f' would have {wanted(row, table, reference)}.')
+
+
+def wanted(row, table, reference):
+    """What a parent of the row would have."""
+    return ' and '.join(f'{other} = {cell(row.values[table.place(own)])}'
+                        for own, other in zip(reference.columns, reference.table_columns))

@@ -1,0 +1,89 @@
+"""The text about each refused statement of a script, and about a script refused as a whole."""
+import collections
+
+from profile_sql.lexis import Places, decoded, lexed, pieces
+from profile_sql.refusals import NAMES, Refused
+from profile_sql.script import Statement
+
+from . import bad_tokens, clashes
+from .causes import CAUSES, NO_STATEMENT, WHAT_TO_DO
+from .mends import Mending
+from .report import NotOfScript, Report
+from .texts import shown, wrapped
+
+MOST_PLACES, MOST_CAUSES = 3, 8  # of one kind, and of what a definition lacks
+
+
+def statements_of(text):
+    """The statements of a script's text, judged by their syntax."""
+    return [Statement(number, tokens) for number, tokens in enumerate(pieces(lexed(text)), 1)]
+
+
+class Explainer:
+    """What is said of a script, which goes by the name `path`."""
+
+    def __init__(self, path, text):
+        self.path, self.text, self.places = path, text, Places(text)
+
+    def explained(self, refusal):
+        """The text about a refused statement."""
+        statement, code = refusal.statement, refusal.code
+        lines = self.syntax_lines(refusal) if code == 10 else self.cause_lines(refusal)
+        first, last = statement.tokens[0], statement.tokens[-1]
+        line = self.text[first.offset:last.end].split('\n', maxsplit=1)[0]
+        return '\n'.join([f'{self.path}:{self.places.shown(first.offset)}: statement'
+                          f' {statement.number}: {code} {NAMES[code]}',
+                          '    ' + shown(line), *wrapped(lines)])
+
+    def syntax_lines(self, refusal):
+        mending = Mending(refusal.statement.tokens, refusal.tables)
+        offset, what = mending.where()
+        yield f'At {self.places.shown(offset)}: {what}.'
+        said = collections.Counter()
+        for place, sentence in mending.advice():
+            said[sentence] += 1
+            if said[sentence] <= MOST_PLACES:
+                yield f'What to do at {self.places.shown(place)}: {sentence}'
+        more = sum(max(0, count - MOST_PLACES) for count in said.values())
+        if more:
+            yield f'And the same at {more} more.'
+        if not said:
+            yield f'What to do: {WHAT_TO_DO[10] if mending.stop else NO_STATEMENT}'
+
+    def cause_lines(self, refusal):
+        statement, code = refusal.statement, refusal.code
+        causes = [(fault.offset, fault.why) for fault in statement.faults if fault.number == code]
+        if refusal.clash:
+            causes = list(clashes.causes(refusal.clash, self.places))
+        if code in CAUSES:
+            yield f'Cause: {CAUSES[code]}'
+        word = 'At' if code in CAUSES else 'Cause at'
+        most = MOST_CAUSES if code == 28 else MOST_PLACES
+        for offset, why in causes[:most]:
+            yield f'{word} {self.places.shown(offset)}: {why}'
+        if len(causes) > most:
+            yield f'And at {len(causes) - most} more.'
+        yield f'What to do: {WHAT_TO_DO[code]}'
+
+
+class Explanation:
+    """What is said of a script, given as bytes, and of its report: `texts`. `statements` are those
+    of the script, none where it is refused as a whole; `records` and `refusals` are those of the
+    report. `NotOfScript` where the report isn't that of the script."""
+
+    def __init__(self, path, script, report):
+        self.statements, self.records, self.refusals = [], [], []
+        try:
+            text = decoded(script)
+            self.statements = statements_of(text)
+        except Refused as refused:
+            if report:
+                why = 'is not UTF-8' if refused.number == 1 else f'is refused as a whole: {refused}'
+                raise NotOfScript('the report is not of this script, which has 0 statements, since'
+                                  f' it {why}') from None
+            self.texts = [bad_tokens.of_script(path, script, refused)]
+            return
+        read = Report(report, self.statements)
+        self.records, self.refusals = read.records, read.refusals()
+        explainer = Explainer(path, text)
+        self.texts = [explainer.explained(refusal) for refusal in self.refusals]

@@ -1,0 +1,193 @@
+"""Mends of a statement without the right syntax. Each is tried: it is told only where the statement
+with it goes on past its place. Then what is wrong next is looked for, in the mended statement."""
+import collections
+import difflib
+
+from profile_sql.lexis import RESERVED, lexed
+from profile_sql.parser import parsed
+from profile_sql.reader import A_NAME, A_NUMBER, A_TEXT, THE_END
+
+from .slips import CUT, SLIPS
+from .texts import alternatives, joined, shown
+
+MOST_ROUNDS, MOST_SHOWN = 16, 400
+FURTHER = 3  # how many tokens more a mend that no slip names has to reach
+LIKE = 0.7  # how alike a word and a misspelled one are
+KINDS = {'number': '0', 'text': "'"}
+# What nobody leaves out by mistake, and names and values, which have a guess of their own.
+NO_GUESS = {A_NAME, A_NUMBER, A_TEXT, THE_END, 'NOT', '+', '-', '.', '<', '<=', '<>', '>', '>=',
+            'CONTAINS', 'EQUALS', 'IMMEDIATELY', 'OVERLAPS', 'PRECEDES', 'SUCCEEDS'}
+
+# What is put in the place of the tokens from `start` on and before `end`, and the sentence; where
+# `put` is None nothing is tried. Where no slip names the edit, it has to reach as many tokens more.
+Edit = collections.namedtuple('Edit', 'start end put what further', defaults=[FURTHER])
+# A sentence, and the offset of the place that it is about.
+Advice = collections.namedtuple('Advice', 'offset what')
+
+
+class Mending:
+    """The tokens of a statement, and of each the offset in the script."""
+
+    def __init__(self, tokens, tables):
+        self.tokens, self.tables = tokens, tables
+        self.offsets = [token.offset for token in tokens] + [tokens[-1].end]
+        self.parsed, self.rounds = parsed(tokens), 0
+
+    @property
+    def stop(self):
+        return self.parsed.stop
+
+    def where(self):
+        """What is expected at the stop, and what is there."""
+        before = f'after {shown(self.tokens[self.stop - 1].text)} ' if self.stop else ''
+        found = shown(self.tokens[self.stop].text) if self.stop < len(self.tokens) else \
+            'the end of the statement'
+        expected = sorted(self.parsed.expected, key=lambda what: (what != ',', what))
+        return Advice(self.offsets[self.stop],
+                      f'{before}expected {alternatives(expected)}, found {found}')
+
+    def advice(self):
+        """What to do at each place in turn; last, where no mend is known, what is wrong there."""
+        while self.stop is not None:
+            edit = self.apostrophe() or self.slip() or self.guess()
+            if edit is None or self.rounds == MOST_ROUNDS:
+                if self.rounds:
+                    place, what = self.where()
+                    yield Advice(place, f'Look here again: with these mends, {what}.')
+                return
+            self.rounds += 1
+            yield Advice(self.offsets[edit.start], edit.what)
+            if edit.put in (None, CUT):
+                return
+            self.tokens, self.offsets = self.with_edit(edit)
+            self.parsed = parsed(self.tokens)
+
+    def with_edit(self, edit):
+        """The tokens with an edit, and their offsets. New tokens are far from all others."""
+        new = [token._replace(offset=token.offset + self.rounds * 10 ** 8)
+               for token in lexed(edit.put)]
+        tokens = [*self.tokens[:edit.start], *new, *self.tokens[edit.end:]]
+        offsets = [*self.offsets[:edit.start], *[self.offsets[edit.start]] * len(new),
+                   *self.offsets[edit.end:]]
+        return tokens, offsets
+
+    def reached(self, edit):
+        """How much is right with an edit: whether all of it, and how many tokens then are left."""
+        if edit.put == CUT:
+            found = parsed(self.tokens[:edit.start])
+            return found.tree is not None, len(self.tokens) - edit.start
+        tokens, _ = self.with_edit(edit)
+        if not tokens:
+            return False, 1
+        found = parsed(tokens)
+        if found.stop is None:
+            return found.tree is not None, 0
+        edited = edit.start + len(tokens) - len(self.tokens) + edit.end - edit.start
+        if found.stop < edited:
+            return False, len(tokens) + 1
+        is_next = THE_END in found.expected and begins_statement(tokens[found.stop:])
+        return is_next, len(tokens) - found.stop
+
+    # Slips.
+
+    def apostrophe(self):
+        """Where a text ends in the middle of a word."""
+        if 0 < self.stop < len(self.tokens):
+            before, token = self.tokens[self.stop - 1:self.stop + 1]
+            if before.kind == 'text' and token.kind in ('word', 'number') and \
+                    before.end == token.offset:
+                return Edit(self.stop - 1, self.stop, None,
+                            f"Double the apostrophe within a text: {before.text}'{token.text}")
+        return None
+
+    def slip(self):
+        """The first of the slips whose mend goes on."""
+        words = [KINDS.get(token.kind, token.word) for token in self.tokens]
+        words.insert(self.stop, '@')
+        text = ' '.join(words) + ' '
+        left = len(self.tokens) - self.stop
+        for slip in SLIPS:
+            if slip.expects and slip.expects not in self.parsed.expected:
+                continue
+            found = slip.pattern.search(text)
+            edit = self.edit_of(slip, found, text) if found else None
+            if edit is None or edit.put is None:
+                if edit:
+                    return edit
+                continue
+            is_right, rest = self.reached(edit)
+            if is_right or edit.put != CUT and (rest < left or rest == left and edit.put):
+                return edit
+        return None
+
+    def edit_of(self, slip, found, text):
+        spans = {name: self.span(*found.span(name), text)
+                 for name, group in found.groupdict().items() if group is not None}
+        groups = {name: joined(self.tokens[start:end]) for name, (start, end) in spans.items()}
+        groups = {**dict.fromkeys(found.groupdict(), ''), 'period': self.period(), **groups}
+        start, end = spans.get('out', (self.stop, self.stop))
+        put = slip.put(groups, self.tables) if callable(slip.put) else \
+            slip.put and slip.put.format(**groups)
+        put, shown_put = put if isinstance(put, tuple) else (put, put)
+        told = {name: group if len(group) < MOST_SHOWN else group[:MOST_SHOWN] + ' ..'
+                for name, group in {'out': '', **groups, 'put': shown_put or ''}.items()}
+        return Edit(start, end, put, slip.what.format(**told))
+
+    def span(self, start, end, text):
+        """The tokens of a part of the pattern's text."""
+        first = text.count(' ', 0, start)
+        last = text.count(' ', 0, end) + (end > start and text[end - 1] != ' ')
+        return first - (first > self.stop), last - (last > self.stop)
+
+    def period(self):
+        """The period that the statement declares, or EP."""
+        for one, two, name in zip(self.tokens, self.tokens[1:], self.tokens[2:]):
+            if (one.word, two.word) == ('PERIOD', 'FOR') and name.is_name:
+                return name.text
+        return 'EP'
+
+    # Mends that no slip names.
+
+    def guess(self):
+        """The edit of a token or two that reaches the furthest."""
+        found = [(self.reached(edit), number, edit) for number, edit in enumerate(self.guesses())]
+        found = [((not is_right, rest, number), edit) for (is_right, rest), number, edit in found
+                 if is_right or rest <= len(self.tokens) - self.stop - edit.further]
+        return min(found, default=(None, None), key=lambda it: it[0])[1]
+
+    def guesses(self):
+        stop, expected = self.stop, self.parsed.expected
+        token = self.tokens[stop] if stop < len(self.tokens) else None
+        found = token.text if token else ''
+        words = [word for word in expected if word not in NO_GUESS]
+        if token and token.kind == 'word':
+            for word in difflib.get_close_matches(token.word, words, 1, LIKE):
+                yield Edit(stop, stop + 1, word, f'Write {word} for {found}.')
+        if stop and self.tokens[stop - 1].is_name:
+            before = self.tokens[stop - 1]
+            for word in difflib.get_close_matches(before.word, RESERVED, 3, LIKE):
+                yield Edit(stop - 1, stop, word, f'Write {word} for {before.text}.')
+        if token and token.word in RESERVED and A_NAME in expected:
+            yield Edit(stop, stop + 1, f'{found}_', f'{found} is a reserved word and no name:'
+                                                    f' choose another name, such as {found}_.', 2)
+        where = f'before {shown(found)}' if token else 'at the end'
+        for word in words:
+            yield Edit(stop, stop, word, f'Write {word} {where}.')
+        if token and token.kind == 'symbol':
+            for word in words:
+                yield Edit(stop, stop + 1, word, f'Write {word} for {found}.')
+        if token:
+            what = 'the comma' if found == ',' else shown(found)
+            yield Edit(stop, stop + 1, '', f'Leave out {what}.')
+        for what, put in (A_NAME, 'A'), (A_NUMBER, '0'):
+            if what in expected:
+                what = 'a value' if A_TEXT in expected and A_NAME not in expected else what
+                yield Edit(stop, stop, put, f'Write {what} {where}.')
+
+
+def begins_statement(tokens):
+    """Whether another statement seems to begin here."""
+    words = [token.word for token in tokens[:2]]
+    return words[:1] in (['VALIDTIME'], ['AT']) or words in (
+        ['CREATE', 'TABLE'], ['INSERT', 'INTO'], ['DELETE', 'FROM'], ['SELECT', '*']) or \
+        words[:1] == ['UPDATE'] and len(words) == 2

@@ -1,0 +1,274 @@
+"""Common slips in statements without the right syntax.
+
+A pattern is over the tokens with a space after each: words in upper case, 0 for a number, ' for a
+text; and `@ ` is before the first token that no statement can have there. The group `out` (else
+nothing, at that place) is replaced by `put`, a template or a call of rewriting.py. In `put` and in
+what to do, {out} and the other groups are the statement's own tokens, {put} is what is put there,
+{period} the period that the statement declares or else EP. Where `put` is None nothing is put. A
+slip is told only where the statement with the mend goes on past it; `expects` is one of the tokens
+that could be there.
+"""
+import collections
+import re
+
+from . import rewriting
+
+Slip = collections.namedtuple('Slip', 'pattern put what expects')
+
+NAME = r"[A-Z_]\w*"
+COLUMN = rf"{NAME} (?:\. {NAME} )?"
+LITERAL = r"(?:[-+] )?0 |' |DATE ' "
+OPERAND = rf"(?:{LITERAL}|{COLUMN})"
+INTEGER_TYPES = "INT|INT2|INT4|INT8|BIGINT|SMALLINT|TINYINT|MEDIUMINT|SERIAL|BIGSERIAL"
+TEXT_TYPES = "TEXT|STRING|CHAR|NCHAR|NVARCHAR|VARCHAR2|CLOB|BPCHAR"
+NUMBER_TYPES = "NUMERIC|DECIMAL|DEC|NUMBER|FLOAT|REAL|DOUBLE PRECISION|DOUBLE|MONEY"
+OTHER_TYPES = "TIME|DATETIME|TIMESTAMPTZ|INTERVAL|UUID|JSON|JSONB|BLOB|BYTEA|VARBINARY|BINARY"
+WINDOW = (r"FOR SYSTEM_TIME (?:AS OF TIMESTAMP ' |FROM TIMESTAMP ' TO TIMESTAMP ' "
+          r"|BETWEEN TIMESTAMP ' AND TIMESTAMP ' )")
+SPAN = rf"(?:PERIOD \( DATE ' , DATE ' \) |{COLUMN})"
+PREDICATE = (rf"(?:CONTAINS (?:DATE ' |{SPAN})"
+             rf"|(?:OVERLAPS|EQUALS|(?:IMMEDIATELY )?(?:PRECEDES|SUCCEEDS)) {SPAN})")
+INNER = r"(?:[^()]|\([^()]*\))*?"  # with pairs of parentheses
+CUT = ";"  # in the place of `put`: the statement ends before what follows
+STATEMENT = (r"(?:CREATE TABLE|INSERT INTO|DELETE FROM|UPDATE \w+ (?:SET|FOR)|AT TIMESTAMP"
+             r"|VALIDTIME (?:SELECT|\()) ")
+NO_ARITHMETIC = ("Leave out {out}: there is no arithmetic; columns and literals are compared as"
+                 " they are.")
+A_DATE = "Write DATE before the text of a date: DATE {text}."
+CALENDAR = ("Leave out {out}: period predicates are for the WHERE of SELECT * FROM alone. Each row"
+            " of an answer has its days; for some days alone, join a table with one row that holds"
+            " on these days.")
+NO_SUBQUERY = ("Leave out {out}: there are no subqueries. Where the column is in the other query's"
+               " list, join the other table by =; to keep what is not there, write EXCEPT SELECT"
+               " DISTINCT .. FROM .., which applies on each day by itself.")
+
+BEGINNINGS = [
+    (r"^@ (?P<word>BEGIN|COMMIT|ROLLBACK|START|SAVEPOINT|END) ", None,
+     "Leave out {word}: each statement is a transaction of its own."),
+    (r"^@ (?P<word>DROP|TRUNCATE|ALTER) ", None,
+     "Leave out {word}: a script begins without tables, and nothing of it remains. DELETE FROM"
+     " takes out rows."),
+    (r"^@ (?P<out>)\( ", "VALIDTIME", "Begin a query in parentheses with VALIDTIME."),
+    (r"^CREATE @ (?!TABLE )(?P<word>\S+ )", None,
+     "Write TABLE after CREATE: there are no views, indexes and schemas."),
+    (r"^INSERT INTO \w+ (?:\( [^()]*\) )?@ (?:SELECT|VALIDTIME) ", None,
+     "Write the rows after VALUES: an INSERT takes no query."),
+    (r"^(?P<out>VALIDTIME SELECT (?:DISTINCT )?@ (?:ALL )?\* )FROM (?P<table>\w+) ",
+     rewriting.columns_of_star,
+     "Write DISTINCT and the value columns: {put} FROM {table}. (* is for SELECT * FROM table"
+     " alone, without VALIDTIME.)"),
+    (rf"^(?P<out>SELECT \* )FROM (?P<table>\w+) (?:{WINDOW})?"
+     r"@ (?:(?:AS )?(?P<new>(?!LEFT|RIGHT|FULL|CROSS|INNER|JOIN)[A-Z_]\w*) )?"
+     r"(?:JOIN|INNER|LEFT|RIGHT|FULL|CROSS|,|UNION|EXCEPT|INTERSECT) ", rewriting.columns_of_first,
+     "SELECT * is of one table alone. Write VALIDTIME SELECT DISTINCT and the value columns: {put}"
+     " FROM {table} .."),
+    (r"^(?P<out>SELECT @ (?:DISTINCT |ALL )?)", "VALIDTIME SELECT DISTINCT",
+     "Begin a query of columns with VALIDTIME SELECT DISTINCT. Without VALIDTIME there is"
+     " SELECT * FROM table alone."),
+    (r"(?:VALIDTIME|UNION|EXCEPT|INTERSECT|DISTINCT|\() SELECT @ (?P<out>(?:ALL )?)", "DISTINCT",
+     "Write DISTINCT after each SELECT of a sequenced query."),
+    (rf"^(?!@ )(?:\S+ )+@ (?P<word>{STATEMENT})", CUT,
+     "With {word} another statement begins: put a semicolon before it."),
+    (r"^AT @ (?=' )", "TIMESTAMP",
+     "Write a moment after AT: AT TIMESTAMP '2024-01-01 00:00:00'."),
+    (r"^AT @ (?P<out>(?:DATE ' |0 - 0 - 0 ))", "TIMESTAMP '2024-01-01 00:00:00'",
+     "Write a moment after AT: AT TIMESTAMP '2024-01-01 00:00:00'."),
+]
+
+DEFINITIONS = [
+    (r"^CREATE TABLE (?P<out>IF @ NOT EXISTS )", "", "Leave out IF NOT EXISTS."),
+    (rf"@ (?P<out>(?P<type>{INTEGER_TYPES})(?: \( 0 \))?(?: UNSIGNED)? )", "INTEGER",
+     "Write INTEGER for {type}.", "INTEGER"),
+    (rf"@ (?P<out>(?P<type>{TEXT_TYPES}) \( (?P<n>0) \) )", "VARCHAR({n})",
+     "Write {put} for {out}.", "INTEGER"),
+    (rf"@ (?P<out>(?P<type>{TEXT_TYPES}) )", "VARCHAR(30)",
+     "Write VARCHAR(n) for {type}, n from 1 to 1000.", "INTEGER"),
+    (rf"@ (?P<out>(?P<type>{NUMBER_TYPES})(?: \( 0(?: , 0)? \))? )", "INTEGER",
+     "Write INTEGER for {out}: numbers are whole. Money is kept in its smallest unit, such as"
+     " cents: 411700 for 4117.00.", "INTEGER"),
+    (r"@ (?P<out>(?P<type>BOOLEAN|BOOL|BIT) )", "INTEGER",
+     "There is no type {type}. Write INTEGER, and 1 and 0 for true and false.", "INTEGER"),
+    (rf"@ (?P<out>(?P<type>{OTHER_TYPES})(?: \( 0 \))? )", "DATE",
+     "There is no type {type}. A column is INTEGER, VARCHAR(n) or DATE, a system column"
+     " TIMESTAMP.", "INTEGER"),
+    (r"(?:VARCHAR|VARYING) @ ", "(30)", "Write the length: VARCHAR(30)."),
+    (r"CHARACTER @ \( ", "VARYING", "Write VARYING after CHARACTER: CHARACTER VARYING(30)."),
+    (r"CHARACTER @ ", "VARYING(30)",
+     "Write VARYING and the length after CHARACTER: CHARACTER VARYING(30)."),
+    (rf"(?P<column>{NAME}) (?:INTEGER|DATE|\)|NULL) @ (?P<out>PRIMARY KEY )", "",
+     "Write the key as an element of its own: PRIMARY KEY ({column}, {period} WITHOUT OVERLAPS)."),
+    (r"@ (?P<out>(?P<word>AUTO_INCREMENT|AUTOINCREMENT|UNIQUE|NULL) )", "", "Leave out {word}.",
+     "NOT"),
+    (rf"@ (?P<out>DEFAULT (?:{LITERAL}|NULL |{NAME} (?:\( \) )?))", "", "Leave out {out}.", "NOT"),
+    (r"@ (?P<out>CHECK \( (?:[^()]|\([^()]*\))*\) )", "",
+     "Leave out CHECK: no constraint but keys and references is checked.", ""),
+    (r"@ (?P<out>REFERENCES \w+ (?:\( \w+ \) )?)", "",
+     "Write a reference as an element of its own: FOREIGN KEY (DEPT, PERIOD {period}) REFERENCES"
+     " DEP (DNO, PERIOD DP).", "NOT"),
+    (r"(?P<out>NOT NULL @ GENERATED ALWAYS AS ROW (?P<word>START|END) )",
+     "GENERATED ALWAYS AS ROW {word} NOT NULL",
+     "Write NOT NULL after GENERATED ALWAYS AS ROW {word}."),
+    (r"(?P<out>CONSTRAINT @ \w+ )(?=PRIMARY|FOREIGN|UNIQUE|CHECK)", "",
+     "Leave out CONSTRAINT and its name."),
+    (r"(?P<out>, (?P<word>UNIQUE|CHECK) @ \( (?:[^()]|\([^()]*\))*\) )", "", "Leave out {word}."),
+    (r"(?P<out>, (?P<word>INDEX|KEY) (?:\w+ )?@ (?:\w+ )?\( [^()]*\) )", "",
+     "Leave out {word}: there are no indexes."),
+    (rf"PRIMARY KEY \( (?P<names>{NAME}(?: , {NAME})*) @ (?=\) )", rewriting.end_of_key,
+     "Write the key's columns and then its period: PRIMARY KEY ({names}{put})."),
+    (rf"PRIMARY KEY \( (?P<out>(?P<own>{NAME}) @ )WITHOUT ", "ENO, {own}",
+     "Write a column before the period: PRIMARY KEY (ENO, {own} WITHOUT OVERLAPS)."),
+    (rf"FOREIGN KEY \( (?P<names>{NAME}(?: , {NAME})*) @ (?=\) )", ", PERIOD {period}",
+     "Write the period after the columns: FOREIGN KEY ({names}, PERIOD {period})."),
+    (rf"REFERENCES (?P<table>\w+) \( (?P<names>{NAME}(?: , {NAME})*) @ (?=\) )", ", PERIOD P",
+     "Write the period of {table} after its columns: REFERENCES {table} ({names}, PERIOD ..)."),
+    (r"REFERENCES (?P<table>\w+) @ ", "(ENO, PERIOD EP)",
+     "Write the key's columns and the period of {table}: REFERENCES {table} (DNO, PERIOD DP)."),
+    (r"@ (?P<out>ON (?P<word>DELETE|UPDATE) "
+     r"(?:CASCADE |RESTRICT |NO ACTION |SET NULL |SET DEFAULT )?)", "",
+     "Leave out ON {word}: the only referential action is NO ACTION."),
+    (r"PERIOD FOR (?P<name>\w+) \( (?P<start>\w+) @ (?=\) )", ", E",
+     "Write the period's name and its two columns: PERIOD FOR {name} ({start}, E)."),
+    (r"^CREATE TABLE .*\) @ (?P<out>)$", "WITH SYSTEM VERSIONING",
+     "Write WITH SYSTEM VERSIONING after the last parenthesis of CREATE TABLE.", "WITH"),
+]
+
+CHANGES = [
+    (r"VALUES (?P<out>\( @ (?P<rows>\( .*\) )\) )$", "{rows}",
+     "Leave out the parentheses around all rows."),
+    (r"^DELETE @ (?P<out>\* )", "", "Leave out *."),
+    (r"(?:DATE|TIMESTAMP) @ (?P<out>0 - 0 - 0 )", "'{out}'", "Put {out} in single quotes.",
+     "a text"),
+    (r"VALUES @ (?P<out>(?P<row>[^(;]+))$", "({row})", "Write each row in parentheses."),
+    (r"@ (?P<out>NULL )", "DATE '9999-12-31'",
+     "Write a value for NULL: no column holds NULL. The end of a period that is open is DATE"
+     " '9999-12-31'.", "a number"),
+    (r"@ (?P<out>DEFAULT )", "0", "Leave out DEFAULT and its column, or write a value.",
+     "a number"),
+    (r"(?P<out>, @ TIMESTAMP ' )", "",
+     "Leave out the two system columns: a row gives them no value."),
+    (r"(?P<out>(?P<whole>0) @ \. (?P<part>0) )", rewriting.whole_number,
+     "Write a whole number: numbers have no fraction. Money is kept in its smallest unit, such as"
+     " cents: {put} for {out}."),
+    (r"\) @ (?=\( )", ",", "Write a comma between two rows.", ","),
+    (rf"SET (?:.* , )?{NAME} = @ (?P<out>(?!NULL )(?:{NAME} |\().*?)(?=, {NAME} = |WHERE |$)", "0",
+     "SET gives literals: write the new value in place of {out}, in an UPDATE for each old value."),
+    (rf"SET (?:.* , )?{NAME} = (?:0|') @ (?P<out>[-+*] (?:0|{COLUMN}))", "",
+     "SET gives literals: write the new value itself."),
+    (rf"(?:VALUES.*) @ (?P<out>{NAME} (?:\( [^()]*\) )?)(?=[,)])", "0",
+     "A value is a number, a text in single quotes or a date, DATE '2024-01-01'. {out} is none.",
+     "a number"),
+    (r"(?:FROM|TO) @ (?P<out>)(?P<text>' )", "DATE", A_DATE, "DATE"),
+    (r"@ (?P<out>(?:RETURNING|ON CONFLICT|ON DUPLICATE) .*)$", "", "Leave out {out}."),
+    (r"^(?:UPDATE|DELETE FROM) (?P<out>(?P<table>\w+) (?P<rest>(?:SET|WHERE) .*?)@ "
+     r"(?P<portion>FOR PORTION OF \w+ FROM DATE ' TO DATE ' ))", "{table} {portion} {rest}",
+     "Write {portion} right after the table's name."),
+    (r"^UPDATE .* @ (?P<out>(?P<where>WHERE .*?)(?P<set>SET .*))$", "{set} {where}",
+     "Write SET before WHERE."),
+    (rf"^(?:UPDATE|DELETE) .*?(?P<out>@ PERIOD \( DATE ' , DATE ' \) {PREDICATE}"
+     rf"|{COLUMN}@ {PREDICATE})", "A = A",
+     "Leave out {out}: the days of a change are named by FOR PORTION OF, after the table's name."),
+]
+
+QUERIES = [
+    (r"(?P<out>(?P<word>COUNT|SUM|MIN|MAX|AVG) @ \( (?:DISTINCT )?\* \) )", "ENO",
+     "There is no {word}: a select list has columns alone. Ask for them, and count outside."),
+    (r"(?P<out>(?P<word>COUNT|SUM|MIN|MAX|AVG) @ \( (?:DISTINCT )?(?P<of>[^()]*)\) )", "{of}",
+     "There is no {word}: a select list has columns alone. Ask for {of}, and do the rest outside."),
+    (r"(?P<out>(?P<word>YEAR|MONTH|DATE_PART|DATE_TRUNC|EXTRACT) @ \( (?P<of>[^()]*)\) )", "A",
+     "There is no {word}: columns and literals are compared as they are. The days of a year are"
+     " those from DATE '2024-01-01' on and before DATE '2025-01-01'.", "."),
+    (rf"(?P<out>(?P<word>(?!IN |VALUES |EXISTS |ALL |ANY |SOME ){NAME}) @ \( (?P<of>[^()]*)\) )",
+     "A", "There is no {word}: columns and literals are compared as they are.", "."),
+    (r"FROM @ \( (?:SELECT|VALIDTIME) ", None,
+     "Name a table after FROM: there are no subqueries. Write the tables and conditions of the"
+     " inner query into the outer one."),
+    (r"AS @ (?P<out>' )", "A", "Write the new name without quotes.", "a name"),
+    (r"(?P<out>MINUS @ )SELECT ", "EXCEPT", "Write EXCEPT for MINUS."),
+    (r"FOR @ (?P<out>SYSTEM TIME )", "SYSTEM_TIME", "Write SYSTEM_TIME, one word."),
+    (rf"^SELECT \* FROM (?P<table>\w+) (?P<out>@ (?:AS )?(?P<new>{NAME}) )(?=WHERE |$)", "",
+     "Leave out {out}, also before columns: the table of SELECT * has no other name."),
+    (r"(?:DISTINCT|,) @ (?P<out>(?:[-+] )?0 |' |DATE ' )", "A",
+     "A select list has columns alone: leave out {out}. Names are written without quotes.",
+     "a name"),
+    (rf"(?P<out>ORDER @ BY {INNER}|@ ORDER BY {INNER})(?=LIMIT|OFFSET|FETCH|\) |$)", "",
+     "Leave out ORDER BY: an answer is ordered by its values and then by first day."),
+    (rf"(?P<out>GROUP @ BY {INNER}|@ GROUP BY {INNER})(?=HAVING|ORDER|LIMIT|OFFSET|\) |$)", "",
+     "Leave out GROUP BY: it is not in the grammar."),
+    (rf"(?P<out>HAVING @ {INNER}|@ HAVING {INNER})(?=ORDER|LIMIT|OFFSET|\) |$)", "",
+     "Leave out HAVING: it is not in the grammar."),
+    (r"(?P<out>(?:TOP|LIMIT|OFFSET) @ 0 |@ (?:LIMIT|OFFSET) 0 )", "",
+     "Leave out {out}: an answer has all of its rows."),
+    (r"(?P<out>(?:@ )?(?:LEFT|RIGHT|FULL|NATURAL) (?:@ )?(?:OUTER )?)JOIN ", "",
+     "Leave out {out}: joins are inner. The rows without a partner come by UNION, as those that"
+     " EXCEPT leaves of all."),
+    (r"(?P<out>CROSS JOIN (?P<table>\w+) @ )", ", {table}", "Write a comma for CROSS JOIN."),
+    (rf"FROM (?P<one>{NAME}) (?:INNER )?JOIN (?P<two>{NAME}) (?P<out>USING @ \( (?P<by>\w+) \) )",
+     "ON {one}.{by} = {two}.{by}", "Write {put} for {out}."),
+    (rf"JOIN {NAME} (?:(?:AS )?{NAME} )?@ (?P<out>WHERE )", "ON",
+     "Write ON for WHERE: each JOIN has its condition after ON.", "ON"),
+    (r"^(?P<out>VALIDTIME (?P<one>SELECT (?:(?!UNION|EXCEPT|INTERSECT)\S+ )*)@ INTERSECT "
+     r"(?:DISTINCT )?(?P<two>SELECT (?:(?!UNION|EXCEPT|INTERSECT)\S+ )*))$",
+     "VALIDTIME {one} EXCEPT ({one} EXCEPT {two})",
+     "There is no INTERSECT yet. A EXCEPT (A EXCEPT B) gives the same rows: {put}."),
+    (r"@ (?P<out>INTERSECT )", "EXCEPT",
+     "There is no INTERSECT yet: A EXCEPT (A EXCEPT B) gives the same rows as A INTERSECT B, A and"
+     " B two queries."),
+    (r"(?:UNION|EXCEPT) @ (?P<out>ALL )", "", "Leave out ALL: an answer has no duplicates."),
+    (r"(?P<out>AS @ OF |@ AS OF )", "FOR SYSTEM_TIME AS OF", "Write FOR SYSTEM_TIME before AS OF."),
+    (r"FOR SYSTEM_TIME @ (?P<out>ALL )",
+     "FROM TIMESTAMP '0001-01-01 00:00:00' TO TIMESTAMP '9999-12-31 23:59:59'",
+     "Write {put} for ALL."),
+    (r"FOR SYSTEM_TIME @ (?P<out>)(?P<text>' |TIMESTAMP ' )", "AS OF",
+     "Write AS OF, FROM .. TO or BETWEEN .. AND after FOR SYSTEM_TIME."),
+    (r"@ (?=' )", "TIMESTAMP",
+     "Write TIMESTAMP before the text of a moment: TIMESTAMP '2024-01-01 00:00:00'.", "TIMESTAMP"),
+    (r"@ (?P<out>DATE ' )", "TIMESTAMP '2024-01-01 00:00:00'",
+     "Write a moment, with the time of the day: {put}.", "TIMESTAMP"),
+    (rf"FROM (?P<out>(?P<table>\w+) (?P<where>WHERE .*?)@ (?P<window>{WINDOW}))",
+     "{table} {window} {where}", "Write {window} right after the table's name, before WHERE."),
+    (rf"(?P<out>(?P<new>(?:AS )?{NAME} )@ (?P<window>{WINDOW}))", "{window} {new}",
+     "Write the new name after FOR SYSTEM_TIME: {put}."),
+    (rf"@ (?P<out>(?P<where>WHERE .*?)(?P<from>FROM {NAME} (?:(?:AS )?(?!UNION|EXCEPT){NAME} )?))",
+     "{from} {where}", "Write FROM before WHERE."),
+]
+
+CONDITIONS = [
+    (rf"(?P<out>(?P<left>{COLUMN})@ (?P<no>NOT )?IN \( (?P<items>(?:{LITERAL}|, )+)\) )",
+     rewriting.comparisons, "There is no IN: write {put}."),
+    (rf"^(?P<out>(?P<query>VALIDTIME SELECT DISTINCT (?P<left>{COLUMN})FROM {NAME} )"
+     rf"WHERE {COLUMN}@ NOT IN \( SELECT (?:DISTINCT )?(?P<inner>[^()]*)\) )$",
+     "{query} EXCEPT SELECT DISTINCT {inner}",
+     "There are no subqueries. EXCEPT takes away, on each day by itself: {put}."),
+    (rf"(?P<out>(?P<left>{COLUMN})@ (?P<no>NOT )?IN \( (?:SELECT|VALIDTIME|\() .*\) )", "A = A",
+     NO_SUBQUERY),
+    (r"(?P<out>EXISTS @ \( (?:SELECT|VALIDTIME) .*\) )", "A = A", NO_SUBQUERY),
+    (r"(?:=|<>|<|>|<=|>=) @ (?P<out>\( (?:SELECT|VALIDTIME) .*\) )", "A", NO_SUBQUERY),
+    (rf"(?P<out>(?P<left>{COLUMN})@ (?P<no>NOT )?"
+     rf"BETWEEN (?P<low>{OPERAND})AND (?P<high>{OPERAND}))", rewriting.between,
+     "BETWEEN is for FOR SYSTEM_TIME alone: write {put}."),
+    (rf"(?P<out>(?P<left>{COLUMN})@ (?P<no>NOT )?I?LIKE (?P<text>' ))", rewriting.like,
+     "There is no LIKE: compare by = and by <, such as {put}."),
+    (rf"(?P<out>(?P<left>{COLUMN})@ IS NULL )", rewriting.meant,
+     "No column holds NULL, so no row would meet {out}. Store a value that means it, such as '' or"
+     " DATE '9999-12-31', and compare with it: {put}."),
+    (rf"(?P<out>(?P<left>{COLUMN})@ IS NOT NULL )", "{left} = {left}",
+     "No column holds NULL, so each row meets {out}: leave it out, with its AND or WHERE."),
+    (r"(?:=|<>|<|>|<=|>=) @ (?P<out>NULL )", "''",
+     "No column holds NULL: store a value that means it, such as '' or DATE '9999-12-31', and"
+     " compare with it."),
+    (r"(?P<out>= @ = )", "=", "Write = for ==."),
+    (rf"VALIDTIME .*(?P<out>@ PERIOD \( DATE ' , DATE ' \) {PREDICATE}"
+     rf"|(?:(?<=WHERE )|(?<=AND )|(?<=OR )|(?<=NOT )|(?<=\( )|(?<=ON )){COLUMN}@ {PREDICATE})",
+     "A = A", CALENDAR),
+    (rf"@ (?P<out>[-+*] (?:0|'|{NAME}) )", "", NO_ARITHMETIC, "."),
+    (rf"@ (?P<out>[-+*] (?:0|'|{NAME}) )", "", NO_ARITHMETIC, "AND"),
+    (r"(?:=|<>|<|>|<=|>=) (?P<out>(?:ALL|ANY|SOME) @ \( .*\) )", "A", NO_SUBQUERY),
+    (r"(?P<out>(?P<word>AND|OR|WHERE|NOT) )@ $", "", "Leave out {word}, or write what follows."),
+    (r"(?P<out>, )@ (?:(?:\)|FROM|WHERE|WITH) |$)", "",
+     "Leave out the comma: a list doesn't end with one."),
+]
+
+# Each pattern begins with a token.
+SLIPS = [Slip(re.compile(rf"(?<![^ ])(?:{pattern})"), put, what, (*expects, "")[0])
+         for slips in (BEGINNINGS, DEFINITIONS, CHANGES, QUERIES, CONDITIONS)
+         for pattern, put, what, *expects in slips]

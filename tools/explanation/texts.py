@@ -1,0 +1,28 @@
+"""Sentences for a terminal."""
+import textwrap
+
+MOST_SHOWN = 96  # characters of a statement or of a token
+WRAP = textwrap.TextWrapper(100, initial_indent='    ', subsequent_indent='      ')
+
+
+def shown(text):
+    """The text for one line of a terminal."""
+    text = ''.join(it if it.isprintable() else ' ' for it in text[:MOST_SHOWN + 1]).rstrip()
+    return text if len(text) <= MOST_SHOWN else text[:MOST_SHOWN - 3] + ' ..'
+
+
+def wrapped(lines):
+    return [WRAP.fill(line) for line in lines]
+
+
+def joined(tokens):
+    """Tokens in one line: with a space where something was between them."""
+    line, end = '', None
+    for token in tokens:
+        line += token.text if token.offset == end or not line else ' ' + token.text
+        end = token.end
+    return line
+
+
+def alternatives(items):
+    return ' or '.join(items)

@@ -1,0 +1,174 @@
+"""The names and types of a condition or a select list: refusals 24, 25, 27, 30 and 41 there."""
+import difflib
+import re
+
+from .literals import date_of
+from .refusals import Fault
+from .tree import (And, ColumnReference, Comparison, ContainsDay, Literal, Not, Or, Predicate, Span)
+
+
+# Words of joins that are not in the grammar. Each is a name: `A LEFT JOIN B` joins A, called LEFT.
+NO_JOINS = ('LEFT', 'RIGHT', 'FULL', 'CROSS', 'NATURAL')
+
+
+def listed(names):
+    """Names for a sentence."""
+    names = list(names)
+    if len(names) < 2:
+        return ''.join(names)
+    return ', '.join(names[:-1]) + ' and ' + names[-1]
+
+
+def guess(name, known):
+    """A question whether one of the known names is meant, or nothing."""
+    close = difflib.get_close_matches(name, list(known), 1, 0.7)
+    return f' Is {close[0]} meant?' if close else ''
+
+
+def repeated(names):
+    """The names that were there before, in turn."""
+    return [name for place, name in enumerate(names) if name in names[:place]]
+
+
+def unknown_table(name, catalog):
+    there = f'The tables are {listed(catalog.tables)}.' if catalog.tables else 'There is no table.'
+    return Fault(23, name.offset,
+                 f'There is no table {name}. {there}{guess(name, catalog.tables)}')
+
+
+def is_no_period(start, end):
+    """Whether two literals are dates of which the first isn't before the second."""
+    return (start is not None and end is not None and start.kind == end.kind == 'DATE'
+            and start.value >= end.value)
+
+
+def empty_period(start, end):
+    return Fault(41, start.offset,
+                 f'The start {start.value} is not before the end {end.value}.')
+
+
+def spelled(literal):
+    """A literal as a sentence names it."""
+    text = str(literal.value)
+    if literal.kind == 'INTEGER':
+        return f'the number {text}'
+    return f"DATE '{text}'" if literal.kind == 'DATE' else f"the text '{text}'"
+
+
+def mend_of_type(kind, literal):
+    """How a literal might become one of another type."""
+    if literal.kind == 'VARCHAR' and kind == 'DATE' and date_of(literal.value):
+        return ' Write DATE before it.'
+    if literal.kind == 'VARCHAR' and kind == 'INTEGER' and \
+            re.fullmatch('[-+]?[0-9]{1,18}', literal.value):
+        return ' Leave out the quotes.'
+    if literal.kind == 'INTEGER' and kind == 'VARCHAR':
+        return ' Put it in single quotes.'
+    return ' Leave out DATE.' if (literal.kind, kind) == ('DATE', 'VARCHAR') else ''
+
+
+class Scope:
+    """The tables whose columns a name may match: pairs of the name by which each goes and it."""
+
+    def __init__(self, tables):
+        self.tables = tables
+
+    def found(self, column):
+        return [(place, table) for place, (known, table) in enumerate(self.tables)
+                if column.qualifier in (None, known) and column.name in table.by_name]
+
+    def kind(self, operand):
+        """The type of a literal or a column, or None where the column is unknown."""
+        if isinstance(operand, Literal):
+            return operand.kind
+        found = self.found(operand)
+        return found[0][1].by_name[operand.name].kind if found else None
+
+    def faults_of_column(self, column):
+        found = self.found(column)
+        if not found:
+            yield self.unknown(column)
+        if len(found) > 1:
+            names = [self.tables[place][0] for place, _ in found]
+            ways = ' or '.join(f'{name}.{column.name}' for name in names)
+            mend = 'give each a name of its own' if repeated(names) else f'write {ways}'
+            yield Fault(25, column.name.offset,
+                        f'{column.name} is a column of several tables: {mend}.')
+        for _, table in found:
+            if column.name not in table.value_names:
+                kind = 'system' if table.by_name[column.name].generated else 'period'
+                yield Fault(27, column.name.offset, f'{column.name} is a {kind} column of'
+                                                    f' {table.name}.')
+
+    def unknown(self, column):
+        """Why a name matches no column."""
+        known = [name for name, _ in self.tables]
+        if column.qualifier is not None and column.qualifier not in known:
+            why = f'{column.qualifier} is no table here: {listed(known)}' \
+                  f' {"is" if len(known) == 1 else "are"}.'
+            for name, table in self.tables:
+                if table.name == column.qualifier:
+                    why = f'{table.name} goes by its new name {name} here: write' \
+                          f' {name}.{column.name}.'
+                if table.name == column.qualifier and name in NO_JOINS:
+                    why = f'{name} is read as a new name of {table.name}: there are no such' \
+                          f' joins. Leave out {name}.'
+            return Fault(24, column.qualifier.offset, why)
+        tables = [(name, table) for name, table in self.tables
+                  if column.qualifier in (None, name)]
+        names = [name for _, table in tables for name in table.value_names]
+        for _, table in tables:
+            if column.name == table.period.name:
+                return Fault(24, column.name.offset, f'{column.name} is the period of {table.name}'
+                                                     f' and no column.')
+        has = ' '.join(f'The value columns of {table.name} are {listed(table.value_names)}.'
+                       for _, table in tables)
+        where = tables[0][1].name if len(tables) == 1 else 'None of the tables'
+        no = f'{where} has no column {column.name}.' if len(tables) == 1 else \
+            f'{where} has a column {column.name}.'
+        return Fault(24, column.name.offset, f'{no} {has}{guess(column.name, names)}')
+
+    def faults(self, condition):
+        if isinstance(condition, (Or, And)):
+            for inner in condition.conditions:
+                yield from self.faults(inner)
+        elif isinstance(condition, Not):
+            yield from self.faults(condition.condition)
+        elif isinstance(condition, Comparison):
+            yield from self.faults_of_comparison(condition)
+        elif isinstance(condition, ContainsDay):
+            yield from self.faults_of_span(condition.span)
+        elif isinstance(condition, Predicate):
+            yield from self.faults_of_span(condition.span)
+            yield from self.faults_of_span(condition.other)
+
+    def faults_of_comparison(self, comparison):
+        sides = comparison.left, comparison.right
+        for side in sides:
+            if isinstance(side, ColumnReference):
+                yield from self.faults_of_column(side)
+        if len({self.kind(side) for side in sides} - {None}) > 1:
+            said = ' and '.join(self.said(side) for side in sides)
+            mends = [mend_of_type(self.kind(other), side) for side, other in (sides, sides[::-1])
+                     if isinstance(side, Literal) and isinstance(other, ColumnReference)]
+            yield Fault(30, comparison.offset, f'Two types are compared: {said}.{"".join(mends)}')
+
+    def said(self, operand):
+        """A side of a comparison with its type."""
+        if isinstance(operand, Literal):
+            return spelled(operand)
+        name = f'{operand.qualifier}.{operand.name}' if operand.qualifier else operand.name
+        return f'the column {name}, {self.kind(operand)}'
+
+    def faults_of_span(self, span):
+        if isinstance(span, Span):
+            if is_no_period(*span):
+                yield empty_period(*span)
+            return
+        [(known, table)] = self.tables
+        if span.qualifier not in (None, known):
+            yield Fault(24, span.qualifier.offset,
+                        f'{span.qualifier} is no table here: {known} is.')
+        elif span.name != table.period.name:
+            yield Fault(24, span.name.offset, f'{span.name} is no period of {table.name}: its'
+                                              f' period is {table.period.name}.')
