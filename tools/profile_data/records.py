@@ -1,0 +1,41 @@
+"""CSV as docs/PROFILE.md section 9 has it: fields with commas between them, each record ended by
+one line feed, and quotes around a field that holds a comma, a quote, a carriage return or a line
+feed.
+
+Python's csv module isn't used for it: its writer with a line feed as the end of a line leaves a
+lone carriage return without quotes, and its reader refuses U+0000 before Python 3.11.
+"""
+import re
+
+SPECIAL = re.compile('[,"\r\n]')
+FIELD = re.compile('(?:"((?:[^"]+|"")*)"|([^,"\r\n]*))([,\n])')
+
+
+class BadRecord(Exception):
+    """A text that isn't such CSV, with the number of the record, from 1."""
+
+
+def quoted(text):
+    return '"' + text.replace('"', '""') + '"'
+
+
+def record(fields):
+    """The line of these texts."""
+    return ','.join(quoted(field) if SPECIAL.search(field) else field for field in fields) + '\n'
+
+
+def records(text):
+    """The records of a text, each a list of texts."""
+    at, fields, number = 0, [], 1
+    while at < len(text):
+        found = FIELD.match(text, at)
+        if not found:
+            raise BadRecord(number)
+        in_quotes, plain, end = found.groups()
+        fields.append(plain if in_quotes is None else in_quotes.replace('""', '"'))
+        at = found.end()
+        if end == '\n':
+            yield fields
+            fields, number = [], number + 1
+    if fields:
+        raise BadRecord(number)
