@@ -5,6 +5,7 @@ lines of the comment above it, its text, and an outcome: Done, Refused, Answer o
 that isn't that of the script is a Fault.
 """
 import collections
+import sys
 
 from profile_sql.catalog import Catalog
 from profile_sql.lexis import lexed, pieces
@@ -144,3 +145,14 @@ class Reader:
         if self.at < len(self.records):
             self.at += 1
             raise self.fault()
+
+
+def tell_refused(name, statements, script_path):
+    """Tells on standard error, after a tool's name, the statements that were refused. Gives the
+    exit status: 1 where there are any."""
+    refused = [statement for statement in statements if isinstance(statement.outcome, Refused)]
+    for statement in refused:
+        outcome = statement.outcome
+        print(f'{name}: statement {statement.number} of {script_path} was refused:'
+              f' {outcome.number} {outcome.name} {outcome.day}'.rstrip(), file=sys.stderr)
+    return 1 if refused else 0

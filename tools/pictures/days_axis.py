@@ -1,0 +1,68 @@
+"""Days to places on a line, and which of them get a mark.
+
+0001-01-01 as a start and 9999-12-31 as an end have no place of their own: what is open goes to the
+edge.
+"""
+import datetime
+import functools
+
+from .text_room import room
+
+FIRST, LAST = datetime.date.min, datetime.date.max
+MONTHS = (1, 2, 3, 6, *(12 * years for years in (
+    1, 2, 5, 10, 20, 50, 100, 200, 500, 1000, 2000, 5000)))
+GAP = 12
+
+
+def day_of(text):
+    return datetime.date.fromisoformat(text)
+
+
+def by_days(low, high, step):
+    return [datetime.date.fromordinal(at) for at in range(-(-low // step) * step, high + 1, step)]
+
+
+def by_months(low, high, step):
+    """The first days of every so many months between two days, both as numbers."""
+    low, high = map(datetime.date.fromordinal, (low, high))
+    first, last = (day.year * 12 + day.month - 1 for day in (low, high))
+    months = range(first // step * step, last + 1, step)
+    days = [datetime.date(at // 12, at % 12 + 1, 1) for at in months if at >= 12]
+    return [day for day in days if low <= day <= high]
+
+
+class DaysAxis:
+    """The line from place `left` to `right`, over all starts and ends and some days around them."""
+
+    def __init__(self, periods, left, right):
+        days = {day.toordinal() for period in periods for day in period} - {
+            FIRST.toordinal(), LAST.toordinal()}
+        low, high = min(days, default=738_886), max(days, default=739_252)
+        around = max(2, (high - low) // 16)
+        self.low = max(FIRST.toordinal(), low - around)
+        self.high = min(LAST.toordinal(), high + around)
+        self.left, self.right = left, right
+
+    def place(self, day):
+        part = (day.toordinal() - self.low) / (self.high - self.low)
+        return self.left + (self.right - self.left) * min(1, max(0, part))
+
+    def marks(self, size):
+        """Days with what is written at them in a font of this size: as many as there is room
+        for."""
+        for step in (1, 2, 7, 14):
+            found = [(day, day.isoformat()) for day in by_days(self.low, self.high, step)]
+            if self.fits(found, size):
+                return found
+        for step in MONTHS:
+            length = 4 if step >= 12 else 7
+            found = [(day, day.isoformat()[:length])
+                     for day in by_months(self.low, self.high, step)]
+            if self.fits(found, size):
+                return found
+        return []
+
+    def fits(self, marks, size):
+        """Whether marks are far enough apart."""
+        return all(self.place(other) - self.place(day) >= room(words, size) + GAP
+                   for (day, words), (other, _) in zip(marks, marks[1:]))
