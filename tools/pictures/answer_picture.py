@@ -33,7 +33,7 @@ def counted(count, one, several):
 
 def draw(canvas, axis, answer, heading, most):
     """Draws the answer, at most so many lines of it."""
-    canvas.heading(f'{heading} ({counted(len(answer.rows), "row", "rows")})')
+    canvas.heading(heading, counted(len(answer.rows), 'row', 'rows'))
     lanes = list(lanes_of(answer).items())
     top = canvas.y
     for values, rows in lanes[:most]:

@@ -3,10 +3,10 @@ import html
 
 from profile_data.shown import for_terminal
 
-from .text_room import room
+from .text_room import cut, room
 
 WIDTH, EDGE = 1040, 10
-LABEL, SMALL = 12, 11  # sizes of fonts
+LABEL, SMALL, BOLD = 12, 11, 13.5  # sizes of fonts; bold letters are broader
 MOST_LABEL = 300  # points for the texts at the left
 COLOURS = ('#0b6aa2', '#b34700', '#00785a', '#a0457b', '#7a5b00', '#4a56b0', '#6b2f77', '#555555')
 
@@ -57,9 +57,11 @@ class Canvas:
         self.parts.append(f'<path d="M{x:.1f} {y - 6:.1f} l{8 * towards} 6 l{-8 * towards} 6 z"'
                           ' class="open"/>')
 
-    def heading(self, words):
+    def heading(self, words, count):
+        """Some words in bold, cut to the picture's width, and a count behind them."""
         self.y += 18
-        self.text(EDGE, self.y, words, 'head')
+        space = WIDTH - 2 * EDGE - room(f' ({count})', BOLD)
+        self.text(EDGE, self.y, f'{cut(words, space, BOLD)} ({count})', 'head')
         self.y += 10
 
     def note(self, words):

@@ -48,19 +48,22 @@ class DaysAxis:
         return self.left + (self.right - self.left) * min(1, max(0, part))
 
     def marks(self, size):
-        """Days with what is written at them in a font of this size: as many as there is room
-        for."""
-        for step in (1, 2, 7, 14):
-            found = [(day, day.isoformat()) for day in by_days(self.low, self.high, step)]
-            if self.fits(found, size):
-                return found
-        for step in MONTHS:
-            length = 4 if step >= 12 else 7
-            found = [(day, day.isoformat()[:length])
-                     for day in by_months(self.low, self.high, step)]
-            if self.fits(found, size):
-                return found
+        """Days with what is written at them in a font of this size: as many as have room."""
+        for days, length, found in self.choices():
+            if room('0' * length, size) * (self.high - self.low) > days * (self.right - self.left):
+                continue  # there are too many, without a look at each
+            marks = [(day, day.isoformat()[:length]) for day in found()]
+            if self.fits(marks, size):
+                return marks
         return []
+
+    def choices(self):
+        """Distances of marks: some days, how much of a day is written, and what finds the days."""
+        for step in (1, 2, 7, 14):
+            yield step, 10, functools.partial(by_days, self.low, self.high, step)
+        for step in MONTHS:
+            yield step * 31, 4 if step >= 12 else 7, functools.partial(
+                by_months, self.low, self.high, step)
 
     def fits(self, marks, size):
         """Whether marks are far enough apart."""

@@ -45,7 +45,7 @@ def draw(canvas, axis, outcome, heading, most, by=None, marks=()):
     planes = {}
     for version in versions_of(outcome):
         planes.setdefault(version.values[place], []).append(version)
-    canvas.heading(f'{heading} ({counted(len(outcome.rows), "version", "versions")})')
+    canvas.heading(heading, counted(len(outcome.rows), 'version', 'versions'))
     if not planes:
         canvas.note('no version')
     for number, (value, versions) in enumerate(planes.items()):
