@@ -10,10 +10,13 @@ from profile_sql.reader import A_NAME, A_NUMBER, A_TEXT, THE_END
 from .slips import CUT, SLIPS
 from .texts import alternatives, joined, shown
 
-MOST_ROUNDS, MOST_SHOWN = 8, 400
+MOST_ROUNDS, MOST_SHOWN = 16, 400
 FURTHER = 3  # how many tokens more a mend that no slip names has to reach
 LIKE = 0.7  # how alike a word and a misspelled one are
 KINDS = {'number': '0', 'text': "'"}
+# What nobody leaves out by mistake, and names and values, which have a guess of their own.
+NO_GUESS = {A_NAME, A_NUMBER, A_TEXT, THE_END, 'NOT', '+', '-', '.', '<', '<=', '<>', '>', '>=',
+            'CONTAINS', 'EQUALS', 'IMMEDIATELY', 'OVERLAPS', 'PRECEDES', 'SUCCEEDS'}
 
 # What is put in the place of the tokens from `start` on and before `end`, and the sentence; where
 # `put` is None nothing is tried. Where no slip names the edit, it has to reach as many tokens more.
@@ -45,14 +48,14 @@ class Mending:
 
     def advice(self):
         """What to do at each place in turn; last, where no mend is known, what is wrong there."""
-        while self.stop is not None and self.rounds < MOST_ROUNDS:
-            self.rounds += 1
+        while self.stop is not None:
             edit = self.apostrophe() or self.slip() or self.guess()
-            if edit is None:
-                if self.rounds > 1:
+            if edit is None or self.rounds == MOST_ROUNDS:
+                if self.rounds:
                     place, what = self.where()
                     yield Advice(place, f'Look here again: with these mends, {what}.')
                 return
+            self.rounds += 1
             yield Advice(self.offsets[edit.start], edit.what)
             if edit.put in (None, CUT):
                 return
@@ -156,7 +159,7 @@ class Mending:
         stop, expected = self.stop, self.parsed.expected
         token = self.tokens[stop] if stop < len(self.tokens) else None
         found = token.text if token else ''
-        words = [word for word in expected if word not in (A_NAME, A_NUMBER, A_TEXT, THE_END)]
+        words = [word for word in expected if word not in NO_GUESS]
         if token and token.kind == 'word':
             for word in difflib.get_close_matches(token.word, words, 1, LIKE):
                 yield Edit(stop, stop + 1, word, f'Write {word} for {found}.')
@@ -174,7 +177,8 @@ class Mending:
             for word in words:
                 yield Edit(stop, stop + 1, word, f'Write {word} for {found}.')
         if token:
-            yield Edit(stop, stop + 1, '', f'Leave out {shown(found)}.')
+            what = 'the comma' if found == ',' else shown(found)
+            yield Edit(stop, stop + 1, '', f'Leave out {what}.')
         for what, put in (A_NAME, 'A'), (A_NUMBER, '0'):
             if what in expected:
                 what = 'a value' if A_TEXT in expected and A_NAME not in expected else what

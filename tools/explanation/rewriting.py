@@ -28,8 +28,8 @@ def columns_of_first(groups, tables):
 def meant(groups, tables):
     """A comparison with a value that might mean what is not known."""
     name = groups['left'].split('.')[-1].strip().upper()
-    kinds = {table.by_name[name].kind for table in tables.values() if name in table.by_name}
-    value = {'INTEGER': '0', 'DATE': "DATE '9999-12-31'"}.get(next(iter(kinds), ''), "''")
+    kinds = [table.by_name[name].kind for table in tables.values() if name in table.by_name]
+    value = {'INTEGER': '0', 'DATE': "DATE '9999-12-31'"}.get(''.join(kinds[:1]), "''")
     return f'{groups["left"]} = {value}'
 
 

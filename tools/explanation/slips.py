@@ -28,9 +28,12 @@ WINDOW = (r"FOR SYSTEM_TIME (?:AS OF TIMESTAMP ' |FROM TIMESTAMP ' TO TIMESTAMP 
 SPAN = rf"(?:PERIOD \( DATE ' , DATE ' \) |{COLUMN})"
 PREDICATE = (rf"(?:CONTAINS (?:DATE ' |{SPAN})"
              rf"|(?:OVERLAPS|EQUALS|(?:IMMEDIATELY )?(?:PRECEDES|SUCCEEDS)) {SPAN})")
+INNER = r"(?:[^()]|\([^()]*\))*?"  # with pairs of parentheses
 CUT = ";"  # in the place of `put`: the statement ends before what follows
 STATEMENT = (r"(?:CREATE TABLE|INSERT INTO|DELETE FROM|UPDATE \w+ (?:SET|FOR)|AT TIMESTAMP"
              r"|VALIDTIME (?:SELECT|\()) ")
+NO_ARITHMETIC = ("Leave out {out}: there is no arithmetic; columns and literals are compared as"
+                 " they are.")
 A_DATE = "Write DATE before the text of a date: DATE {text}."
 CALENDAR = ("Leave out {out}: period predicates are for the WHERE of SELECT * FROM alone. Each row"
             " of an answer has its days; for some days alone, join a table with one row that holds"
@@ -68,14 +71,14 @@ BEGINNINGS = [
      "With {word} another statement begins: put a semicolon before it."),
     (r"^AT @ (?=' )", "TIMESTAMP",
      "Write a moment after AT: AT TIMESTAMP '2024-01-01 00:00:00'."),
-    (r"^AT @ (?P<out>DATE ' )", "TIMESTAMP '2024-01-01 00:00:00'",
+    (r"^AT @ (?P<out>(?:DATE ' |0 - 0 - 0 ))", "TIMESTAMP '2024-01-01 00:00:00'",
      "Write a moment after AT: AT TIMESTAMP '2024-01-01 00:00:00'."),
 ]
 
 DEFINITIONS = [
     (r"^CREATE TABLE (?P<out>IF @ NOT EXISTS )", "", "Leave out IF NOT EXISTS."),
-    (rf"@ (?P<out>(?P<type>{INTEGER_TYPES})(?: \( 0 \))? )", "INTEGER", "Write INTEGER for {type}.",
-     "INTEGER"),
+    (rf"@ (?P<out>(?P<type>{INTEGER_TYPES})(?: \( 0 \))?(?: UNSIGNED)? )", "INTEGER",
+     "Write INTEGER for {type}.", "INTEGER"),
     (rf"@ (?P<out>(?P<type>{TEXT_TYPES}) \( (?P<n>0) \) )", "VARCHAR({n})",
      "Write {put} for {out}.", "INTEGER"),
     (rf"@ (?P<out>(?P<type>{TEXT_TYPES}) )", "VARCHAR(30)",
@@ -130,6 +133,11 @@ DEFINITIONS = [
 ]
 
 CHANGES = [
+    (r"VALUES (?P<out>\( @ (?P<rows>\( .*\) )\) )$", "{rows}",
+     "Leave out the parentheses around all rows."),
+    (r"^DELETE @ (?P<out>\* )", "", "Leave out *."),
+    (r"(?:DATE|TIMESTAMP) @ (?P<out>0 - 0 - 0 )", "'{out}'", "Put {out} in single quotes.",
+     "a text"),
     (r"VALUES @ (?P<out>(?P<row>[^(;]+))$", "({row})", "Write each row in parentheses."),
     (r"@ (?P<out>NULL )", "DATE '9999-12-31'",
      "Write a value for NULL: no column holds NULL. The end of a period that is open is DATE"
@@ -166,19 +174,29 @@ QUERIES = [
      "There is no {word}: a select list has columns alone. Ask for them, and count outside."),
     (r"(?P<out>(?P<word>COUNT|SUM|MIN|MAX|AVG) @ \( (?:DISTINCT )?(?P<of>[^()]*)\) )", "{of}",
      "There is no {word}: a select list has columns alone. Ask for {of}, and do the rest outside."),
-    (rf"(?P<out>(?P<word>(?!IN |VALUES |EXISTS ){NAME}) @ \( (?P<of>[^()]*)\) )", "A",
+    (r"(?P<out>(?P<word>YEAR|MONTH|DATE_PART|DATE_TRUNC|EXTRACT) @ \( (?P<of>[^()]*)\) )", "A",
      "There is no {word}: columns and literals are compared as they are. The days of a year are"
      " those from DATE '2024-01-01' on and before DATE '2025-01-01'.", "."),
+    (rf"(?P<out>(?P<word>(?!IN |VALUES |EXISTS |ALL |ANY |SOME ){NAME}) @ \( (?P<of>[^()]*)\) )",
+     "A", "There is no {word}: columns and literals are compared as they are.", "."),
+    (r"FROM @ \( (?:SELECT|VALIDTIME) ", None,
+     "Name a table after FROM: there are no subqueries. Write the tables and conditions of the"
+     " inner query into the outer one."),
+    (r"AS @ (?P<out>' )", "A", "Write the new name without quotes.", "a name"),
+    (r"(?P<out>MINUS @ )SELECT ", "EXCEPT", "Write EXCEPT for MINUS."),
+    (r"FOR @ (?P<out>SYSTEM TIME )", "SYSTEM_TIME", "Write SYSTEM_TIME, one word."),
+    (rf"^SELECT \* FROM (?P<table>\w+) (?P<out>@ (?:AS )?(?P<new>{NAME}) )(?=WHERE |$)", "",
+     "Leave out {out}, also before columns: the table of SELECT * has no other name."),
     (r"(?:DISTINCT|,) @ (?P<out>(?:[-+] )?0 |' |DATE ' )", "A",
      "A select list has columns alone: leave out {out}. Names are written without quotes.",
      "a name"),
-    (r"(?P<out>ORDER @ BY .*?|@ ORDER BY .*?)(?=LIMIT|OFFSET|FETCH|\) |$)", "",
+    (rf"(?P<out>ORDER @ BY {INNER}|@ ORDER BY {INNER})(?=LIMIT|OFFSET|FETCH|\) |$)", "",
      "Leave out ORDER BY: an answer is ordered by its values and then by first day."),
-    (r"(?P<out>GROUP @ BY .*?|@ GROUP BY .*?)(?=HAVING|ORDER|LIMIT|OFFSET|FETCH|\) |$)", "",
+    (rf"(?P<out>GROUP @ BY {INNER}|@ GROUP BY {INNER})(?=HAVING|ORDER|LIMIT|OFFSET|\) |$)", "",
      "Leave out GROUP BY: it is not in the grammar."),
-    (r"(?P<out>(?P<word>HAVING) @ .*?|@ (?P<other>HAVING) .*?)(?=ORDER|LIMIT|OFFSET|\) |$)", "",
+    (rf"(?P<out>HAVING @ {INNER}|@ HAVING {INNER})(?=ORDER|LIMIT|OFFSET|\) |$)", "",
      "Leave out HAVING: it is not in the grammar."),
-    (r"(?P<out>(?:LIMIT|OFFSET) @ 0 |@ (?:LIMIT|OFFSET) 0 )", "",
+    (r"(?P<out>(?:TOP|LIMIT|OFFSET) @ 0 |@ (?:LIMIT|OFFSET) 0 )", "",
      "Leave out {out}: an answer has all of its rows."),
     (r"(?P<out>(?:@ )?(?:LEFT|RIGHT|FULL|NATURAL) (?:@ )?(?:OUTER )?)JOIN ", "",
      "Leave out {out}: joins are inner. The rows without a partner come by UNION, as those that"
@@ -186,13 +204,15 @@ QUERIES = [
     (r"(?P<out>CROSS JOIN (?P<table>\w+) @ )", ", {table}", "Write a comma for CROSS JOIN."),
     (rf"FROM (?P<one>{NAME}) (?:INNER )?JOIN (?P<two>{NAME}) (?P<out>USING @ \( (?P<by>\w+) \) )",
      "ON {one}.{by} = {two}.{by}", "Write {put} for {out}."),
+    (rf"JOIN {NAME} (?:(?:AS )?{NAME} )?@ (?P<out>WHERE )", "ON",
+     "Write ON for WHERE: each JOIN has its condition after ON.", "ON"),
     (r"^(?P<out>VALIDTIME (?P<one>SELECT (?:(?!UNION|EXCEPT|INTERSECT)\S+ )*)@ INTERSECT "
      r"(?:DISTINCT )?(?P<two>SELECT (?:(?!UNION|EXCEPT|INTERSECT)\S+ )*))$",
      "VALIDTIME {one} EXCEPT ({one} EXCEPT {two})",
      "There is no INTERSECT yet. A EXCEPT (A EXCEPT B) gives the same rows: {put}."),
     (r"@ (?P<out>INTERSECT )", "EXCEPT",
-     "There is no INTERSECT yet: A EXCEPT (A EXCEPT B) gives the same rows as A INTERSECT B, A and B"
-     " two queries."),
+     "There is no INTERSECT yet: A EXCEPT (A EXCEPT B) gives the same rows as A INTERSECT B, A and"
+     " B two queries."),
     (r"(?:UNION|EXCEPT) @ (?P<out>ALL )", "", "Leave out ALL: an answer has no duplicates."),
     (r"(?P<out>AS @ OF |@ AS OF )", "FOR SYSTEM_TIME AS OF", "Write FOR SYSTEM_TIME before AS OF."),
     (r"FOR SYSTEM_TIME @ (?P<out>ALL )",
@@ -240,10 +260,11 @@ CONDITIONS = [
     (rf"VALIDTIME .*(?P<out>@ PERIOD \( DATE ' , DATE ' \) {PREDICATE}"
      rf"|(?:(?<=WHERE )|(?<=AND )|(?<=OR )|(?<=NOT )|(?<=\( )|(?<=ON )){COLUMN}@ {PREDICATE})",
      "A = A", CALENDAR),
-    (rf"@ (?P<out>[-+*] (?:0|'|{NAME}) )", "",
-     "Leave out {out}: there is no arithmetic; columns and literals are compared as they are.", ""),
-    (r"(?P<out>(?P<word>AND|OR|WHERE|NOT|,) )@ $", "", "Leave out {word}, or write what follows."),
-    (r"(?P<out>, )@ (?:\)|FROM|WHERE|WITH) ", "",
+    (rf"@ (?P<out>[-+*] (?:0|'|{NAME}) )", "", NO_ARITHMETIC, "."),
+    (rf"@ (?P<out>[-+*] (?:0|'|{NAME}) )", "", NO_ARITHMETIC, "AND"),
+    (r"(?:=|<>|<|>|<=|>=) (?P<out>(?:ALL|ANY|SOME) @ \( .*\) )", "A", NO_SUBQUERY),
+    (r"(?P<out>(?P<word>AND|OR|WHERE|NOT) )@ $", "", "Leave out {word}, or write what follows."),
+    (r"(?P<out>, )@ (?:(?:\)|FROM|WHERE|WITH) |$)", "",
      "Leave out the comma: a list doesn't end with one."),
 ]
 

@@ -67,7 +67,7 @@ class CurrentRows:
         rows = self.of(tree.table)
         gone, new = ([], inserted(tree, rows.table)) if isinstance(tree, Insert) else \
             self.changed(tree, rows)
-        keys = {rows.key(row) for row in gone + new}
+        keys = list(dict.fromkeys(rows.key(row) for row in new + gone))
         before = {key: rows.of_key(key) for key in keys}
         left = {id(row) for row in gone}
         for key in keys:

@@ -88,7 +88,7 @@ class Definition:
         key = f'{(values + ["ENO"])[0]}, {(self.periods + ["EP"])[0]}'
         for count, what, element in (
                 (len(create.periods), 'application-time period', 'PERIOD FOR EP (S, E)'),
-                (len(create.systems), 'period SYSTEM_TIME',
+                (len(create.systems), 'SYSTEM_TIME period',
                  f'PERIOD FOR SYSTEM_TIME ({start}, {end})'),
                 (generated.count('START'), 'ROW START column',
                  f'{start} TIMESTAMP GENERATED ALWAYS AS ROW START'),
@@ -98,7 +98,7 @@ class Definition:
             if count == 0:
                 yield self.wrong(create.name, f'The table has no {what}: add {element}.')
             elif count > 1:
-                yield self.wrong(create.name, f'The table has {count} of: {what}. It may have one.')
+                yield self.wrong(create.name, f'The table has {count} {what}s, and one has to be.')
 
     def system_columns(self):
         """The names of the ROW START and the ROW END column, or what they might be."""

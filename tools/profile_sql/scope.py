@@ -7,7 +7,7 @@ from .refusals import Fault
 from .tree import (And, ColumnReference, Comparison, ContainsDay, Literal, Not, Or, Predicate, Span)
 
 
-# Words of joins that are not in the grammar: each is a name, so `A LEFT JOIN B` joins A, called LEFT.
+# Words of joins that are not in the grammar. Each is a name: `A LEFT JOIN B` joins A, called LEFT.
 NO_JOINS = ('LEFT', 'RIGHT', 'FULL', 'CROSS', 'NATURAL')
 
 
@@ -89,9 +89,11 @@ class Scope:
         if not found:
             yield self.unknown(column)
         if len(found) > 1:
-            ways = [f'{self.tables[place][0]}.{column.name}' for place, _ in found]
+            names = [self.tables[place][0] for place, _ in found]
+            ways = ' or '.join(f'{name}.{column.name}' for name in names)
+            mend = 'give each a name of its own' if repeated(names) else f'write {ways}'
             yield Fault(25, column.name.offset,
-                        f'{column.name} is a column of several tables: write {" or ".join(ways)}.')
+                        f'{column.name} is a column of several tables: {mend}.')
         for _, table in found:
             if column.name not in table.value_names:
                 kind = 'system' if table.by_name[column.name].generated else 'period'
