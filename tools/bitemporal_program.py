@@ -1,5 +1,5 @@
-"""Where the tools find the program: what BITEMPORAL names, else the one that was built here, else the
-script that builds it."""
+"""Where the tools find the program: what BITEMPORAL names, else the one that was built here, else
+the script that builds it."""
 import os
 import pathlib
 

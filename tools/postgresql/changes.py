@@ -1,6 +1,6 @@
-"""Changes as SQL of PostgreSQL: each a function that changes the versions of a table, looks for a key
-clash and for children without a parent, and gives the record of the report. Where it finds one, its
-exception undoes the change."""
+"""Changes as SQL of PostgreSQL: each a function that changes the versions of a table, looks for a
+key clash and for children without a parent, and gives the record of the report. Where it finds
+one, its exception undoes the change."""
 from profile_sql.scope import Scope
 from profile_sql.tree import Insert, Update
 
@@ -20,12 +20,13 @@ def change_sql(number, change, catalog):
     if references:
         checks += reference_checks(references, tables)
     word = type(change).__name__.lower()
+    done = indented(body(change, table, catalog.clock))
     handlers = ''.join(
         f"  WHEN SQLSTATE 'BT0{code}' THEN\n"
         f"    RETURN 'refused,{number},{code},{name},' || SQLERRM;\n"
         for code, name in REFUSALS.items())
     return ('CREATE FUNCTION pg_temp."#change"() RETURNS text LANGUAGE plpgsql AS $change$\n'
-            f'DECLARE\n  "#n" bigint;\n  "#day" date;\nBEGIN\n{indented(body(change, table, catalog.clock))}\n'
+            f'DECLARE\n  "#n" bigint;\n  "#day" date;\nBEGIN\n{done}\n'
             f"{indented(checks)}  RETURN 'done,{number},{word},' || \"#n\";\n"
             f'EXCEPTION\n{handlers}END $change$;\n'
             'SELECT pg_temp."#change"();\nDROP FUNCTION pg_temp."#change"();\n')
@@ -70,7 +71,8 @@ def change_body(change, table, clock):
 
 
 def made_sql(change, table, now):
-    """The rows in the place of the touched ones: what is outside the portion, then what is in it."""
+    """The rows in the place of the touched ones: what is outside the portion, then what is in
+    it."""
     period, recorded = period_sql(table, 'o'), f'{now}, {FOREVER_SQL} FROM "#old" AS o'
     days = period
     if change.portion:
@@ -93,7 +95,8 @@ def raised(code):
 
 
 def key_check(table):
-    """The first day on which a current row begins before all those of its key before it have ended."""
+    """The first day on which a current row begins before all those of its key before it have
+    ended."""
     keys = ', '.join(name_sql(name) for name in table.key)
     period, (_, until) = period_sql(table, 't'), system_sql(table, 't')
     return (f'SELECT min("#s") INTO "#day" FROM (\n  SELECT lower({period}) AS "#s",'
@@ -106,7 +109,8 @@ def key_check(table):
 def reference_checks(references, tables):
     days = '\nUNION ALL\n'.join(reference_check(child, reference, tables[reference.table])
                                 for child, reference in references)
-    return f'SELECT min("#d") INTO "#day" FROM (\n{indented(days)}\n) AS days ("#d");\n' + raised(43)
+    return (f'SELECT min("#d") INTO "#day" FROM (\n{indented(days)}\n) AS days ("#d");\n'
+            + raised(43))
 
 
 def reference_check(child, reference, parent):
@@ -115,7 +119,8 @@ def reference_check(child, reference, parent):
     same = ' AND '.join(f'c.{name_sql(own)} = p.{name_sql(other)}' for own, other in pairs)
     others = ', '.join(name_sql(other) for _, other in pairs)
     (_, until), (_, ended) = system_sql(child, 'c'), system_sql(parent, 'q')
-    return (f"SELECT lower(datemultirange({period_sql(child, 'c')}) - coalesce(p.\"#days\", '{{}}'))\n"
+    return (f"SELECT lower(datemultirange({period_sql(child, 'c')})"
+            " - coalesce(p.\"#days\", '{}'))\n"
             f'FROM {name_sql(child.name)} AS c LEFT JOIN (\n'
             f"  SELECT {others}, range_agg({period_sql(parent, 'q')}) AS \"#days\""
             f' FROM {name_sql(parent.name)} AS q\n'

@@ -1,9 +1,11 @@
-"""Queries over nodes as SQL of PostgreSQL: the parts of tables are on servers that postgres_fdw asks.
+"""Queries over nodes as SQL of PostgreSQL: the parts of tables are on servers that postgres_fdw
+asks.
 
-range_agg has no function that combines two states of it. So PostgreSQL can't aggregate partly on the
-nodes by itself, and would fetch all rows. Here each node aggregates its own rows (the inner level),
-and the coordinator what the nodes give (the outer level). The inner level is a MATERIALIZED CTE: without
-it the planner may merge sorted nodes, and then asks them one after the other and not all at once.
+range_agg has no function that combines two states of it. So PostgreSQL can't aggregate partly on
+the nodes by itself, and would fetch all rows. Here each node aggregates its own rows (the inner
+level), and the coordinator what the nodes give (the outer level). The inner level is a
+MATERIALIZED CTE: without it the planner may merge sorted nodes, and then asks them one after the
+other and not all at once.
 """
 import re
 
@@ -67,7 +69,8 @@ def query_over_parts(query, kind, catalog, columns, nodes):
     """The query that the coordinator asks where the parts of its tables are foreign tables."""
     if kind == WHOLE:
         return rows_sql(query, catalog)
-    more, listed = with_parts(catalog, columns, nodes), ', '.join(columns_of(len(answer_names(query))))
+    more = with_parts(catalog, columns, nodes)
+    listed = ', '.join(columns_of(len(answer_names(query))))
     return gathered_sql(query, kind, [
         f'SELECT {listed}, days FROM (\n'
         f'{indented(query_sql(on_node(query, columns, node), more))}\n) AS n{node}'
@@ -129,8 +132,9 @@ def answer_views(number, query, kind, catalog, nodes, schema):
                       in zip(columns, typed_columns_of(query, catalog)))
     for node in range(1, nodes + 1):
         options = {'schema_name': schema, 'table_name': view[1:-1]}
-        yield (f'CREATE FOREIGN TABLE {name_sql(part_name(answer_name(number), node))} ({types},'
-               f' days datemultirange)\n  SERVER {server_name(node)} OPTIONS {options_sql(options)};\n')
+        name = name_sql(part_name(answer_name(number), node))
+        yield (f'CREATE FOREIGN TABLE {name} ({types}, days datemultirange)\n'
+               f'  SERVER {server_name(node)} OPTIONS {options_sql(options)};\n')
     parts = [f'SELECT * FROM {name_sql(part_name(answer_name(number), node))}'
              for node in range(1, nodes + 1)]
     yield f'CREATE VIEW {view} AS\n{gathered_sql(query, kind, parts)};\n'

@@ -1,17 +1,18 @@
 """Which sequenced queries can be answered node by node, where tables are kept in parts.
 
 Each table is on every node as a whole, or in parts: then a row is on the node that its columns of
-distribution choose, by one function of their values for all tables. A query splits where the answers of
-the nodes, each over its own rows, are together the answer:
+distribution choose, by one function of their values for all tables. A query splits where the
+answers of the nodes, each over its own rows, are together the answer:
 
-- A SELECT of one table in parts splits. One of several does where equalities that must hold tie their
-  columns of distribution, so that rows that meet are on one node. Tables that are whole don't matter.
-- UNION splits where both sides do. EXCEPT and INTERSECT do where both sides do and have the columns of
-  distribution at the same places of their lists, or where the right side is over whole tables alone; an
-  INTERSECT also where the left side is.
+- A SELECT of one table in parts splits. One of several does where equalities that must hold tie
+  their columns of distribution, so that rows that meet are on one node. Tables that are whole
+  don't matter.
+- UNION splits where both sides do. EXCEPT and INTERSECT do where both sides do and have the
+  columns of distribution at the same places of their lists, or where the right side is over whole
+  tables alone; an INTERSECT also where the left side is.
 
-Where these columns are in the list, no list of values is on two nodes, and the answers are disjoint;
-otherwise the rows of equal values of different nodes have to be merged.
+Where these columns are in the list, no list of values is on two nodes, and the answers are
+disjoint; otherwise the rows of equal values of different nodes have to be merged.
 """
 import itertools
 
@@ -91,8 +92,8 @@ def select_places(select, catalog, columns):
 
 
 class Equalities:
-    """The columns of a SELECT and its literals in classes: those that are equal in each row that its
-    conditions let through, as far as whole members of the outermost ANDs say."""
+    """The columns of a SELECT and its literals in classes: those that are equal in each row that
+    its conditions let through, as far as whole members of the outermost ANDs say."""
 
     def __init__(self, select, catalog):
         self.above = {}

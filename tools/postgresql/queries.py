@@ -1,7 +1,7 @@
 """Sequenced queries as SQL of PostgreSQL.
 
-A query becomes a SELECT of c1, c2 .. and `days`: each list of values once, with the multirange of the
-days on which it is there. The rows of its answer are what `unnest` makes of the multiranges.
+A query becomes a SELECT of c1, c2 .. and `days`: each list of values once, with the multirange of
+the days on which it is there. The rows of its answer are what `unnest` makes of the multiranges.
 """
 from profile_sql.queries import scope_of
 from profile_sql.tree import Select, selects

@@ -1,5 +1,5 @@
-"""SELECTs of PostgreSQL that print the records of a report: the answer of a sequenced query, and the
-versions that a stored query shows."""
+"""SELECTs of PostgreSQL that print the records of a report: the answer of a sequenced query, and
+the versions that a stored query shows."""
 from profile_sql.literals import FIRST_MOMENT
 from profile_sql.queries import columns_of as typed_columns_of
 from profile_sql.scope import Scope
@@ -17,12 +17,12 @@ def said(text):
 
 
 def records_sql(heads, lines):
-    """Prints the two records of `heads`, with the number of rows in the first, and those of `lines`,
-    a SELECT of i, which orders them, and line."""
+    """Prints the two records of `heads`, with the number of rows in the first, and those of
+    `lines`, a SELECT of i, which orders them, and line."""
     first, names = heads
     return (f'WITH records AS MATERIALIZED (\n{indented(lines)})\n'
-            f"SELECT line FROM (\n  SELECT 0 AS i, {text_sql(first)} || ',' || count(*) || E'\\n' ||"
-            f' {text_sql(names)} AS line FROM records\n'
+            f"SELECT line FROM (\n  SELECT 0 AS i, {text_sql(first)} || ',' || count(*) || E'\\n'"
+            f' || {text_sql(names)} AS line FROM records\n'
             '  UNION ALL SELECT i, line FROM records) AS report ORDER BY i;\n')
 
 
@@ -35,7 +35,8 @@ def answer_sql(number, query, catalog):
     names = answer_names(query)
     columns = columns_of(len(names))
     kinds = [kind for _, kind in typed_columns_of(query, catalog)]
-    absent = f"CASE WHEN lower(d) = date '{FIRST_DAY}' THEN 'none' ELSE {day_sql('lower(d) - 1')} END"
+    absent = (f"CASE WHEN lower(d) = date '{FIRST_DAY}' THEN 'none'"
+              f" ELSE {day_sql('lower(d) - 1')} END")
     fields = [*map(field_sql, columns, kinds), day_sql('lower(d)'), day_sql('upper(d)'),
               day_sql('lower(d)'), absent]
     heads = (f'answer,{number},{len(names)}',

@@ -1,7 +1,7 @@
 """A PostgreSQL server of our own in a folder, and what psql gives for a script.
 
-A private server listens on a socket in its folder alone, and is stopped and removed with it. As root
-its processes run as the user postgres, since PostgreSQL refuses to run as root.
+A private server listens on a socket in its folder alone, and is stopped and removed with it. As
+root its processes run as the user postgres, since PostgreSQL refuses to run as root.
 """
 import glob
 import os

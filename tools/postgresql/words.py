@@ -15,7 +15,8 @@ class NotTranslated(Exception):
 
 
 def name_sql(name):
-    """A name of the script, or one of ours; those of ours have a `#`, which no script's name has."""
+    """A name of the script, or one of ours; those of ours have a `#`, which no script's name
+    has."""
     name = name.lower()
     if name in SYSTEM_COLUMNS:
         name += '#'

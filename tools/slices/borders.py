@@ -1,7 +1,7 @@
 """The days on which slices end, so that each slice is small enough for a run.
 
-A slice has the rows that begin in it, and those that go on into it over its border. So the bytes of a
-slice are known from the bytes of the rows that begin and end on each day.
+A slice has the rows that begin in it, and those that go on into it over its border. So the bytes
+of a slice are known from the bytes of the rows that begin and end on each day.
 """
 from .source import END, FIRST_DAY
 
@@ -25,8 +25,8 @@ class Weights:
         """Borders that make about `count` slices with as many bytes that begin in each, and more of
         them where a slice would have more than `most`."""
         share = self.total / count
-        # Of the slice: the bytes of rows that begin in it, and those of all its rows; and of those of
-        # its rows that go on.
+        # Of the slice: the bytes of the rows that begin in it, of all its rows, and of those that
+        # go on behind the day.
         cuts, begun, inside, going = [], 0, 0, 0
         for day in sorted(self.begin.keys() | self.end.keys()):
             going -= self.end.get(day, 0)

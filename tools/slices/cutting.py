@@ -26,8 +26,8 @@ class Cutter:
                 weights.add(start, end, weight(values))
         most = MOST_BYTES - self.common_bytes() - ROOM
         if most <= 0:
-            raise TooManyRows('the statements without rows, which every slice has, are more than a run'
-                              ' takes')
+            raise TooManyRows('the statements without rows, which every slice has, are more than'
+                              ' a run takes')
         return weights.cuts(count, most)
 
     def common_bytes(self):

@@ -6,8 +6,9 @@ import collections
 
 from profile_data.records import records
 
-# kind: done, answer or refused; fields: those behind the number; of an answer `names` are those of
-# its columns record, `place` is where its rows begin in the file, and `audit` the fields of its audit.
+# Its kind is done, answer or refused; `fields` are those of its record behind the number. Of an
+# answer `names` are the columns, `place` is where its rows begin in the file, and `audit` has the
+# fields of its audit, or is None.
 Outcome = collections.namedtuple('Outcome', 'kind fields names place audit')
 
 

@@ -11,7 +11,8 @@ AGREES, DIFFERS, BAD_WITNESS, REFUSED = 'agrees', 'differs', 'badwitness', 'refu
 
 
 class Report:
-    """Writes the records of each statement. `statuses` are those that the program would end with."""
+    """Writes the records of each statement. `statuses` are those that the program would end
+    with."""
 
     def __init__(self, source, slices, refused, output):
         self.source, self.slices, self.refused = source, slices, refused
@@ -69,8 +70,8 @@ class Report:
 
 
 def rows_of(statement):
-    """The number of rows in a done record. A row that an UPDATE or a DELETE touches is cut into those
-    of several slices, so their numbers are not known."""
+    """The number of rows in a done record. A row that an UPDATE or a DELETE touches is cut into
+    those of several slices, so their numbers are not known."""
     if isinstance(statement.tree, Insert):
         return statement.count
     return '' if isinstance(statement.tree, (Update, Delete)) else 0

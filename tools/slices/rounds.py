@@ -1,9 +1,9 @@
 """Runs until all slices agree which statements are refused.
 
-A statement that breaks a key or a reference on some day (42, 43) is refused in the slice of that day, and
-the others know nothing of it. It changes nothing in any slice then. So after the first statement that one
-slice refuses and another does not, the reports of those that did it are wrong: it is taken out of
-these, and they are run again.
+A statement that breaks a key or a reference on some day (42, 43) is refused in the slice of that
+day, and the others know nothing of it. It changes nothing in any slice then. So after the first
+statement that one slice refuses and another does not, the reports of those that did it are wrong:
+it is taken out of these, and they are run again.
 """
 from .outcomes import BadReport, outcomes
 
@@ -15,8 +15,8 @@ class Disagreement(Exception):
 
 
 def settled(slices, numbers, run, told):
-    """Runs the slices, and gives the fields of the refused record of each statement that rows decide to
-    refuse. `run` runs slices, `told` gets a line for each round after the first."""
+    """Runs the slices, and gives the fields of the refused record of each statement that rows
+    decide to refuse. `run` runs slices, `told` gets a line for each round after the first."""
     refused, again = {}, slices
     while True:
         run(again)
@@ -29,7 +29,8 @@ def settled(slices, numbers, run, told):
                  and part.outcomes[number].kind != 'refused']
         for part in again:
             part.take_out(number)
-        told(f'statement {number} is refused in some slices only: {len(again)} run again without it')
+        told(f'statement {number} is refused in some slices and not in {len(again)} others, which'
+             ' are run again without it')
 
 
 def first_divided(slices, numbers, refused):

@@ -3,8 +3,8 @@ from profile_sql.refusals import MOST_BYTES
 
 
 class SliceFile:
-    """The slice of the days from `low` on and before `high`. `report` is where the report of its last
-    run is, `outcomes` what that says."""
+    """The slice of the days from `low` on and before `high`. `report` is where the report of its
+    last run is, `outcomes` what that says."""
 
     def __init__(self, folder, low, high):
         self.low, self.high = low, high

@@ -1,8 +1,8 @@
 """The statements of a script, and what of each a slice of days has.
 
-A slice has the days from `low` on and before `high`. A row or a portion that goes over a border is cut
-there, and a statement that is left without a day is left out. All other statements, and those that are
-refused by their own text, are the same in each slice.
+A slice has the days from `low` on and before `high`. A row or a portion that goes over a border
+is cut there, and a statement that is left without a day is left out. All other statements, and
+those that are refused by their own text, are the same in each slice.
 """
 import bisect
 import datetime

@@ -1,5 +1,5 @@
-"""What a worker of a Dask cluster runs: this module's text is sent with each task, so it needs nothing
-but Python's standard library there."""
+"""What a worker of a Dask cluster runs: this module's text is sent with each task, so it needs
+nothing but Python's standard library there."""
 import hashlib
 import os
 import subprocess

@@ -38,8 +38,8 @@ class Here:
 
 
 class Cluster:
-    """The workers of a Dask cluster. The program goes to each worker once, a slice with its task; so
-    many tasks are under way at once as keep each worker busy."""
+    """The workers of a Dask cluster. The program goes to each worker once, a slice with its task;
+    so many tasks are under way at once as keep each worker busy."""
 
     def __init__(self, scheduler, program, words):
         try:
