@@ -7,6 +7,7 @@ from profile_sql.tree import Insert, Update
 from .conditions import Conditions, period_sql, system_sql
 from .words import FOREVER_SQL, day_sql, indented, moment_sql, name_sql, range_sql, value_sql
 
+DAY = '"#day"'  # the variable of the first day of a fault
 REFUSALS = {42: 'KeyOverlap', 43: 'PeriodReference'}
 
 
@@ -90,7 +91,7 @@ def made_sql(change, table, now):
 
 def raised(code):
     return ('IF "#day" IS NOT NULL THEN\n'
-            f"  RAISE SQLSTATE 'BT0{code}' USING MESSAGE = {day_sql(chr(34) + '#day' + chr(34))};\n"
+            f"  RAISE SQLSTATE 'BT0{code}' USING MESSAGE = {day_sql(DAY)};\n"
             'END IF;\n')
 
 

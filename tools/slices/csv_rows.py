@@ -27,13 +27,10 @@ class BadLines(Exception):
 
 
 class Loaded:
-    """The number of an INSERT of loaded rows: the file that they come from, and a count."""
+    """What an INSERT of loaded rows has in the place of a number: the file that they are of."""
 
-    def __init__(self, path, count):
-        self.path, self.count = path, count
-
-    def __str__(self):
-        return self.path
+    def __init__(self, path):
+        self.path = path
 
 
 class CsvRows:
@@ -106,7 +103,7 @@ class Inserts:
 
     def __init__(self, source, part):
         self.source, self.part = source, part
-        self.texts, self.tokens, self.count = [], 0, 0
+        self.texts, self.tokens = [], 0
 
     def add(self, start, end, values):
         values = [*values]
@@ -121,8 +118,7 @@ class Inserts:
     def end(self):
         """Writes the INSERT of the rows that are not yet written."""
         if self.texts:
-            self.count += 1
-            self.part.add(Loaded(self.source.path, self.count),
+            self.part.add(Loaded(self.source.path),
                           f'INSERT INTO {self.source.table.name} VALUES ' + ',\n'.join(self.texts))
         self.texts, self.tokens = [], 0
 

@@ -19,8 +19,8 @@ class Cutter:
         """The borders of about `count` slices."""
         weights = Weights()
         for statement in self.source.statements:
-            for start, end, weight in statement.rows():
-                weights.add(start, end, weight)
+            for start, end, size in statement.rows():
+                weights.add(start, end, size)
         for file in self.files.values():
             for start, end, values in file.rows():
                 weights.add(start, end, weight(values))

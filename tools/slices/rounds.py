@@ -5,13 +5,18 @@ day, and the others know nothing of it. It changes nothing in any slice then. So
 statement that one slice refuses and another does not, the reports of those that did it are wrong:
 it is taken out of these, and they are run again.
 """
-from .outcomes import BadReport, outcomes
+from .csv_rows import Loaded
+from .outcomes import outcomes
 
 KEY_OVERLAP, PERIOD_REFERENCE = '42', '43'
 
 
 class Disagreement(Exception):
     """Slices that refuse a statement in a way that no rows explain."""
+
+
+class RefusedRows(Exception):
+    """Loaded rows that break a key or a reference."""
 
 
 def settled(slices, numbers, run, told):
@@ -22,6 +27,7 @@ def settled(slices, numbers, run, told):
         run(again)
         for part in again:
             part.outcomes = outcomes(part)
+            check_loaded(part)
         number = first_divided(slices, numbers, refused)
         if number is None:
             return refused
@@ -31,6 +37,12 @@ def settled(slices, numbers, run, told):
             part.take_out(number)
         told(f'statement {number} is refused in some slices and not in {len(again)} others, which'
              ' are run again without it')
+
+
+def check_loaded(part):
+    for number, outcome in part.outcomes.items():
+        if isinstance(number, Loaded) and outcome.kind == 'refused':
+            raise RefusedRows(f"{number.path}: its rows are refused: {' '.join(outcome.fields)}")
 
 
 def first_divided(slices, numbers, refused):

@@ -15,7 +15,7 @@ class SliceFile:
         self.file = open(self.path, 'wb')
 
     def add(self, number, text):
-        """Adds a statement of this number, or one of a loaded file, whose number is its name."""
+        """Adds a statement of this number, or an INSERT of loaded rows."""
         written = text.encode()
         self.file.write(written + b';\n')
         self.spans.append((number, self.size, len(written)))
@@ -31,9 +31,6 @@ class SliceFile:
     def numbers(self):
         """The numbers of the statements of the slice, in its order."""
         return [number for number, _, _ in self.spans]
-
-    def has(self, number):
-        return any(number == other for other, _, _ in self.spans)
 
     def take_out(self, number):
         """Makes white space of a statement."""
