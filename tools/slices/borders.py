@@ -3,7 +3,6 @@
 A slice has the rows that begin in it, and those that go on into it over its border. So the bytes
 of a slice are known from the bytes of the rows that begin and end on each day.
 """
-from .source import END, FIRST_DAY
 
 
 class TooManyRows(Exception):
@@ -11,12 +10,17 @@ class TooManyRows(Exception):
 
 
 class Weights:
-    """The bytes of the rows that begin, and of those that end, on each day."""
+    """The bytes of the rows that begin, and of those that end, on each day. Only the days from
+    `first` on and before `last` count."""
 
-    def __init__(self):
+    def __init__(self, first, last):
+        self.first, self.last = first, last
         self.begin, self.end, self.total = {}, {}, 0
 
     def add(self, start, end, weight):
+        start, end = max(start, self.first), min(end, self.last)
+        if start >= end:
+            return
         self.begin[start] = self.begin.get(start, 0) + weight
         self.end[end] = self.end.get(end, 0) + weight
         self.total += weight
@@ -31,7 +35,7 @@ class Weights:
         for day in sorted(self.begin.keys() | self.end.keys()):
             going -= self.end.get(day, 0)
             more = self.begin.get(day, 0)
-            if FIRST_DAY < day < END and (begun >= share or inside + more > most):
+            if self.first < day < self.last and (begun >= share or inside + more > most):
                 cuts.append(day)
                 begun, inside = 0, going
             if inside + more > most:
@@ -43,6 +47,7 @@ class Weights:
         return cuts
 
 
-def slices_between(cuts):
+def slices_between(first, cuts, last):
     """The first day and the end of each slice."""
-    return list(zip([FIRST_DAY, *cuts], [*cuts, END]))
+    cuts = [day for day in cuts if first < day < last]
+    return list(zip([first, *cuts], [*cuts, last]))

@@ -9,7 +9,7 @@ import functools
 from profile_data import cells
 from profile_sql.refusals import MOST_TOKENS
 
-from .source import END, places
+from .source import END, Places
 
 DATE = cells.date_pattern(cells.ISO)
 MOST_TOLD = 50
@@ -125,9 +125,9 @@ class Inserts:
 
 def load(source, slices):
     """Writes the rows of a file to the slices that have days of them."""
-    inserts, lows = [Inserts(source, part) for part in slices], [part.low for part in slices]
+    inserts, places = [Inserts(source, part) for part in slices], Places(slices)
     for start, end, values in source.rows():
-        for at in places(lows, start, end):
+        for at in places.of(start, end):
             inserts[at].add(start, end, values)
     for insert in inserts:
         insert.end()

@@ -10,14 +10,15 @@ ROOM = 50_000  # what the INSERTs of loaded rows have beside their rows
 
 
 class Cutter:
-    """`files` has the CsvRows of each table that is loaded."""
+    """`files` has the CsvRows of each table that is loaded; `days` are the first day that is asked
+    for, and the first that no longer is."""
 
-    def __init__(self, source, files):
-        self.source, self.files = source, files
+    def __init__(self, source, files, days):
+        self.source, self.files, self.days = source, files, days
 
     def cuts(self, count):
         """The borders of about `count` slices."""
-        weights = Weights()
+        weights = Weights(*self.days)
         for statement in self.source.statements:
             for start, end, size in statement.rows():
                 weights.add(start, end, size)
@@ -35,7 +36,7 @@ class Cutter:
 
     def cut(self, cuts, folder):
         """The slices between borders, each in a file of its own."""
-        days = slices_between(cuts)
+        days = slices_between(self.days[0], cuts, self.days[1])
         if len(days) > MOST_SLICES:
             raise TooManyRows(f'{len(days)} slices are needed, and {MOST_SLICES} are the most')
         slices = [SliceFile(folder, low, high) for low, high in days]

@@ -17,9 +17,17 @@ FIRST_DAY, END = datetime.date.min, datetime.date.max
 LENGTH_OF_A_DATE = len("'2024-01-01'")
 
 
-def places(lows, start, end):
-    """The places of the slices, which begin on these days, that have days of a period."""
-    return range(bisect.bisect_right(lows, start) - 1, bisect.bisect_left(lows, end))
+class Places:
+    """The places of the slices that have days of a period. The slices meet each other."""
+
+    def __init__(self, slices):
+        self.lows, self.high = [part.low for part in slices], slices[-1].high
+
+    def of(self, start, end):
+        if start >= self.high:
+            return range(0)
+        return range(max(bisect.bisect_right(self.lows, start) - 1, 0),
+                     bisect.bisect_left(self.lows, end))
 
 
 class Fixed:
@@ -63,9 +71,9 @@ class Inserted:
             yield start, end, sum(len(cell.encode()) + 1 for cell in cells) + 3
 
     def texts(self, slices):
-        lows, rows = [part.low for part in slices], [[] for _ in slices]
+        places, rows = Places(slices), [[] for _ in slices]
         for start, end, cells in self.parts:
-            for at in places(lows, start, end):
+            for at in places.of(start, end):
                 cells[self.places[0]] = literal(max(start, slices[at].low))
                 cells[self.places[1]] = literal(min(end, slices[at].high))
                 rows[at].append(f"({','.join(cells)})")
