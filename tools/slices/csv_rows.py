@@ -14,12 +14,33 @@ from .source import END, Places
 DATE = cells.date_pattern(cells.ISO)
 MOST_TOLD = 50
 HEAD_TOKENS = 4  # INSERT INTO T VALUES
+DIGITS_THAT_FIT = 19
+DATE_IN_LITERAL = slice(len("DATE '"), -1)
 
 
 @functools.lru_cache(100_000)
 def date(cell):
-    """The day of a cell; files have the same days over and over."""
+    """The day of a cell. Files have the same days over and over."""
     return cells.date(cell, DATE)
+
+
+@functools.lru_cache(100_000)
+def day_literal(day):
+    return cells.literal(day)
+
+
+def integer_literal(cell):
+    if cell.isascii() and cell.isdigit() and len(cell) < DIGITS_THAT_FIT:
+        return cell
+    return cells.literal(cells.whole_number(cell))
+
+
+def text_literal(most, cell):
+    return cells.literal(cells.text(cell, most))
+
+
+def date_literal(cell):
+    return day_literal(date(cell))
 
 
 class BadLines(Exception):
@@ -47,6 +68,19 @@ class CsvRows:
         if missing:
             raise BadLines(f'{path}:1: the header has to name {", ".join(missing)} once')
         self.places = [self.header.index(name) for name in names]
+        self.makers = [self.maker(column) for column in self.given]
+        # A number with a sign has two tokens, as a date has; with the commas and the parentheses.
+        self.tokens = 2 + sum(2 if column.kind == 'VARCHAR' else 3 for column in self.given)
+
+    def maker(self, column):
+        """What makes the literal of a cell of the column."""
+        if column.kind == 'INTEGER':
+            return integer_literal
+        if column.kind == 'VARCHAR':
+            return functools.partial(text_literal, column.number)
+        if column.name == self.table.period.end:
+            return lambda cell: date_literal(cell if cell.strip() else str(END))
+        return date_literal
 
     def rows(self):
         """The first day, the end and the literals of each row; a BadLines after the last line where
@@ -71,31 +105,22 @@ class CsvRows:
                        f' {len(self.header)}')
             return
         values = []
-        for column, place in zip(self.given, self.places):
+        for make, place in zip(self.makers, self.places):
             try:
-                values.append(self.value(column, record[place]))
+                values.append(make(record[place]))
             except ValueError as error:
-                bad.append(f'{self.path}:{line}: column {place + 1} ({column.name}): {error}')
+                bad.append(f'{self.path}:{line}: column {place + 1} ({self.header[place]}): {error}')
                 return
-        start, end = values[self.start], values[self.end]
+        start, end = (date(values[place][DATE_IN_LITERAL]) for place in (self.start, self.end))
         if start >= end:
             bad.append(f'{self.path}:{line}: the start {start} is not before the end {end}')
             return
         yield start, end, values
 
-    def value(self, column, cell):
-        if column.kind == 'INTEGER':
-            return cells.whole_number(cell)
-        if column.kind == 'VARCHAR':
-            return cells.text(cell, column.number)
-        if column.name == self.table.period.end and not cell.strip():
-            return END
-        return date(cell)
-
 
 def weight(values):
     """The bytes of a row."""
-    return sum(len(cells.literal(value).encode()) + 1 for value in values) + 3
+    return len(','.join(values).encode()) + 4
 
 
 class Inserts:
@@ -103,24 +128,23 @@ class Inserts:
 
     def __init__(self, source, part):
         self.source, self.part = source, part
-        self.texts, self.tokens = [], 0
+        self.texts = []
 
     def add(self, start, end, values):
-        values = [*values]
-        values[self.source.start] = max(start, self.part.low)
-        values[self.source.end] = min(end, self.part.high)
-        tokens = 2 + len(values) + sum(map(cells.tokens_of, values))
-        if self.tokens + tokens > MOST_TOKENS - HEAD_TOKENS:
+        if start < self.part.low or end > self.part.high:
+            values = [*values]
+            values[self.source.start] = day_literal(max(start, self.part.low))
+            values[self.source.end] = day_literal(min(end, self.part.high))
+        if len(self.texts) * self.source.tokens > MOST_TOKENS - HEAD_TOKENS - self.source.tokens:
             self.end()
-        self.texts.append(f"({','.join(map(cells.literal, values))})")
-        self.tokens += tokens
+        self.texts.append(f"({','.join(values)})")
 
     def end(self):
         """Writes the INSERT of the rows that are not yet written."""
         if self.texts:
             self.part.add(Loaded(self.source.path),
                           f'INSERT INTO {self.source.table.name} VALUES ' + ',\n'.join(self.texts))
-        self.texts, self.tokens = [], 0
+        self.texts = []
 
 
 def load(source, slices):
