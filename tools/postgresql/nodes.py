@@ -14,7 +14,7 @@ from profile_sql.queries import columns_of as typed_columns_of
 from profile_sql.tree import Select, known_as
 
 from .partitions import WHOLE
-from .queries import answer_names, columns_of, query_sql, rows_sql, unnested_sql
+from .queries import answer_names, columns_of, merged_sql, query_sql, rows_sql, unnested_sql
 from .translation import Options, column_lines, table_sql
 from .words import TYPES, indented, name_sql, text_sql
 
@@ -57,10 +57,8 @@ def gathered_sql(query, kind, node_queries):
     """The rows of an answer from what the nodes say: SELECTs of c1, c2 .. and days."""
     names = answer_names(query)
     columns = columns_of(len(names))
-    listed = ', '.join(columns)
     nodes = '\nUNION ALL\n'.join(node_queries)
-    outer = 'SELECT * FROM nodes' if kind == 'disjoint' else \
-        f'SELECT {listed}, range_agg(days) AS days FROM nodes GROUP BY {listed}'
+    outer = 'SELECT * FROM nodes' if kind == 'disjoint' else merged_sql(columns, 'nodes AS u')
     return (f'WITH nodes AS MATERIALIZED (\n{indented(nodes)}\n)\n'
             + unnested_sql(names, columns, outer))
 

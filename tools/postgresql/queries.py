@@ -32,8 +32,14 @@ def query_sql(query, catalog):
 
 
 def union_sql(columns, left, right):
+    return merged_sql(columns, f'(\n{left}\nUNION ALL\n{right}\n) AS u')
+
+
+def merged_sql(columns, source):
+    """The rows of equal values of a source `u` as one. (Before PostgreSQL 15 range_agg takes ranges
+    alone, and no multiranges.)"""
     names = ', '.join(columns)
-    return (f'SELECT {names}, range_agg(days) AS days FROM (\n{left}\nUNION ALL\n{right}\n) AS u'
+    return (f'SELECT {names}, range_agg(d) AS days FROM {source}, unnest(u.days) AS d'
             f' GROUP BY {names}')
 
 

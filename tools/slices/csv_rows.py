@@ -109,7 +109,8 @@ class CsvRows:
             try:
                 values.append(make(record[place]))
             except ValueError as error:
-                bad.append(f'{self.path}:{line}: column {place + 1} ({self.header[place]}): {error}')
+                name = self.header[place]
+                bad.append(f'{self.path}:{line}: column {place + 1} ({name}): {error}')
                 return
         start, end = (date(values[place][DATE_IN_LITERAL]) for place in (self.start, self.end))
         if start >= end:

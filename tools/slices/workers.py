@@ -48,6 +48,9 @@ class Cluster:
         except ImportError as error:
             raise RunFault(f'--dask needs the Python module {error.name} (in Debian:'
                            ' python3-distributed, for /usr/bin/python3)') from None
+        sent = pathlib.Path(program).read_bytes()
+        if sent.startswith(b'#!'):
+            raise RunFault(f'{program} is a script, and workers get programs: build it first')
         from . import task  # pylint: disable=import-outside-toplevel
         cloudpickle.register_pickle_by_value(task)
         self.distributed, self.task, self.words = distributed, task.run, words
@@ -58,7 +61,7 @@ class Cluster:
         if not self.client.scheduler_info()['workers']:
             self.client.close()
             raise RunFault(f'the Dask scheduler at {scheduler} has no workers')
-        self.program = self.client.scatter(pathlib.Path(program).read_bytes(), broadcast=True)
+        self.program = self.client.scatter(sent, broadcast=True)
 
     def run(self, slices):
         waiting, tasks = list(slices), {}
