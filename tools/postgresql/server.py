@@ -8,7 +8,9 @@ import os
 import pathlib
 import re
 import shutil
+import signal
 import subprocess
+import sys
 import tempfile
 
 # A server that need not survive a crash.
@@ -59,6 +61,8 @@ class PrivateServer:
     def __enter__(self):
         if not is_installed():
             raise ServerFault('no PostgreSQL server is installed here')
+        # So that a process that is told to end stops its servers first.
+        signal.signal(signal.SIGTERM, lambda *_: sys.exit(128 + signal.SIGTERM))
         self.folder = pathlib.Path(tempfile.mkdtemp(prefix='bitemporal_postgresql_'))
         try:
             self.start()
