@@ -1,0 +1,83 @@
+"""Names and values of a script as words of PostgreSQL's SQL."""
+import hashlib
+import re
+
+from profile_sql.literals import FOREVER
+
+TYPES = {'INTEGER': 'int8', 'DATE': 'date'}
+# Columns that each table of PostgreSQL has by itself.
+SYSTEM_COLUMNS = frozenset(('ctid', 'xmin', 'xmax', 'cmin', 'cmax', 'tableoid'))
+MOST_BYTES_OF_A_NAME = 63
+
+
+class NotTranslated(Exception):
+    """PostgreSQL has nothing for this part of a script."""
+
+
+def name_sql(name):
+    """A name of the script, or one of ours; those of ours have a `#`, which no script's name
+    has."""
+    name = name.lower()
+    if name in SYSTEM_COLUMNS:
+        name += '#'
+    if len(name) > MOST_BYTES_OF_A_NAME:
+        name = name[:50] + '#' + hashlib.sha256(name.encode()).hexdigest()[:12]
+    return f'"{name}"'
+
+
+def text_sql(text):
+    """A text. It has nothing that psql or a dollar quote around it could read otherwise."""
+    if '\0' in text:
+        raise NotTranslated('PostgreSQL has no texts with U+0000')
+    if re.fullmatch(r"[A-Za-z0-9_ !#%&()*+,./:;<=>?@\[\]^{|}~-]*", text):
+        return f"'{text}'"
+    return "E'" + ''.join(map(letter_sql, text)) + "'"
+
+
+def letter_sql(letter):
+    if re.fullmatch('[A-Za-z0-9 ]', letter):
+        return letter
+    number = ord(letter)
+    return f'\\u{number:04X}' if number < 0x10000 else f'\\U{number:08X}'
+
+
+def value_sql(literal):
+    if literal.kind == 'INTEGER':
+        return f"'{literal.value}'::int8" if literal.value < 0 else f'{literal.value}::int8'
+    if literal.kind == 'DATE':
+        return f"date '{literal.value}'"
+    return f'{text_sql(literal.value)}::text COLLATE "C"'
+
+
+def moment_sql(text):
+    return f"timestamp '{text}'"
+
+
+def range_sql(start, end):
+    """The period of two DATE literals."""
+    return f"daterange('{start.value}', '{end.value}')"
+
+
+FOREVER_SQL = moment_sql(FOREVER)
+
+
+def type_sql(column):
+    """The type of a value column. Texts are ordered by their bytes."""
+    if column.kind == 'VARCHAR':
+        return f'varchar({column.number}) COLLATE "C"'
+    return TYPES[column.kind]
+
+
+def day_sql(day):
+    return f"to_char({day}, 'YYYY-MM-DD')"
+
+
+def field_sql(column, kind):
+    """A value as a field of a report."""
+    if kind == 'VARCHAR':
+        return f'"#field"({column})'
+    return day_sql(column) if kind == 'DATE' else f'{column}::text'
+
+
+def indented(text, by='  '):
+    return ''.join(by + line for line in text.splitlines(True))
