@@ -32,7 +32,7 @@ class Room:
         self.folder = ROOMS / name
         self.out = self.folder / 'crates' / name / 'out'
         self.fill(crates)
-        is_program = (sums.ROOT / 'crates' / name / 'src/main.rt').is_file()
+        is_program = name == sums.PROGRAM
         # `rt run` also runs the program that it built: with `--help`, and with nothing to read.
         words = ['rt', 'run' if is_program else 'lib', '--jobs', str(jobs)]
         words += ['--', '--help'] if is_program else []
@@ -162,8 +162,11 @@ def prove(crates, waiting, tell):
             for place, name in enumerate(ready):
                 idle = most - sum(room.jobs for room in running)
                 if idle > 0:
+                    # (Of a program there is next to nothing to prove: a second process would
+                    # load all libraries again.)
+                    jobs = jobs_of(place, len(ready), idle) if name != sums.PROGRAM else 1
                     waiting.remove(name)
-                    running.append(Room(crates, name, jobs_of(place, len(ready), idle)))
+                    running.append(Room(crates, name, jobs))
             time.sleep(0.2)
             for room in [it for it in running if it.has_ended()]:
                 running.remove(room)
