@@ -6,10 +6,10 @@ use Rattle.std.proofs.lemmas.List.Sorted.{sorted_far, ranks_by}
 use Rattle.std.specs.declared.cmp.Ordering.TheVariants.{Less, Equal, Greater}
 use Rattle.std.specs.Cmp.{IsTotalOrder}
 use Rattle.std.specs.Ordering.{int_cmp, is_lt, is_gt, ordering_then, ordering_reverse}
-use Rattle.std.proofs.lemmas.Cmp.{then_total, on_total, int_cmp_total, upto, tied_itself}
+use Rattle.std.proofs.lemmas.Cmp.{then_total, on_total, int_cmp_total}
 use Rattle.std.proofs.lemmas.Int.{ints, by_lt_z}
 use Rattle.period_core.specs.Order.{values_cmp, row_cmp}
-use Rattle.period_core.specs.OrderLaws.{values_cmp_total, values_cmp-same}
+use Rattle.period_core.specs.OrderLaws.{values_cmp_total, values_cmp-same, values_cmp-refl}
 use Rattle.period_core.specs.declared.row.PeriodRow.{PeriodRow}
 use Rattle.temporal_model.specs.Answer.{answer_cmp}
 use Rattle.temporal_model.proofs.AnswerOrder.{answer_cmp_total, answer_cmp-same, int_cmp-Less}
@@ -31,9 +31,6 @@ is_lt-reverse Greater = refl
 -- the same test with the rows in their order
 pub flip : (a b : PeriodRow) → is_lt (answer_cmp b a) ≡ is_gt (answer_cmp a b)
 flip a b = ap is_lt (answer_cmp_total.antisymm b a) ∙ is_lt-reverse (answer_cmp a b)
-
-pub NotAfter-trans : (a b c : PeriodRow) → NotAfter a b → NotAfter b c → NotAfter a c
-NotAfter-trans a b c p q = flip a c ∙ upto answer_cmp_total a b c (sym (flip a b) ∙ p) (sym (flip b c) ∙ q)
 
 -- what does not come after a row does so of one of the same values and first day
 pub NotAfter-same_start :
@@ -78,8 +75,38 @@ PrecedesWithGap-trans a b c p q = (
       ] refl,
 )
 
-pub NotAfter-refl : (a : PeriodRow) → NotAfter a a
-NotAfter-refl a = ap is_lt (tied_itself answer_cmp_total a)
+-- what lies behind b, by b's values or from b's first day on, lies behind what precedes b
+pub PrecedesWithGap-later :
+    (a b c : PeriodRow) → PrecedesWithGap a b → b.values ≡ c.values
+    → b.period.start ≤ℤ c.period.start → PrecedesWithGap a c
+PrecedesWithGap-later a b c p same later =
+    elim (values_cmp a.values b.values) as (λ o. values_cmp a.values b.values ≡ o → PrecedesWithGap a c) [
+      | Less ↦ λ e. (
+        ap (λ o. ordering_then o (int_cmp a.period.start c.period.start)) (ap (values_cmp a.values) (sym same) ∙ e),
+        λ v. absurd (let tie : values_cmp a.values b.values ≡ Equal = subst (λ vs. values_cmp a.values vs ≡ Equal) (v ∙ sym same) (values_cmp-refl a.values) in cc),
+      )
+      | Equal ↦ λ e. let one : a.values ≡ b.values = values_cmp-same a.values b.values e in
+          let gap : a.period.end <ℤ b.period.start = p.1 one in
+          PrecedesWithGap-gap a c (one ∙ same) (omega (arith, ints))
+      | Greater ↦ λ e. absurd (let after : answer_cmp a b ≡ Greater = ap (λ o. ordering_then o (int_cmp a.period.start b.period.start)) e in
+          let before : answer_cmp a b ≡ Less = p.0 in cc)
+    ] refl
+
+-- what does not come before b lies behind what precedes b
+pub PrecedesWithGap-upto :
+    (a b c : PeriodRow) → PrecedesWithGap a b → NotAfter b c → PrecedesWithGap a c
+PrecedesWithGap-upto a b c p upto =
+    elim (values_cmp b.values c.values) as (λ o. values_cmp b.values c.values ≡ o → PrecedesWithGap a c) [
+      | Less ↦ λ e. PrecedesWithGap-trans a b c p (
+        ap (λ o. ordering_then o (int_cmp b.period.start c.period.start)) e,
+        λ v. absurd (let tie : values_cmp b.values c.values ≡ Equal = subst (λ vs. values_cmp b.values vs ≡ Equal) v (values_cmp-refl b.values) in cc),
+      )
+      | Equal ↦ λ e. let same : b.values ≡ c.values = values_cmp-same b.values c.values e in
+          PrecedesWithGap-later a b c p same (NotAfter-start b c same upto)
+      | Greater ↦ λ e. absurd (let back : values_cmp c.values b.values ≡ Less = values_cmp_total.antisymm c.values b.values ∙ ap ordering_reverse e in
+          let first : answer_cmp c b ≡ Less = ap (λ o. ordering_then o (int_cmp c.period.start b.period.start)) back in
+          let wrong : is_lt (answer_cmp c b) ≡ true = ap is_lt first in cc)
+    ] refl
 
 -- the order by which the code sorts
 pub row_cmp_total : IsTotalOrder row_cmp

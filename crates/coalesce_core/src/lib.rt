@@ -11,7 +11,7 @@ ghost use Rattle.temporal_model.specs.Witness.{witness_of, WitnessEachRow};
 
 mod merging;
 
-use merging::absorb;
+pub use merging::Coalesce;
 use period_core::{Memory, PeriodRow, Witness};
 use std::alloc::Global;
 
@@ -26,10 +26,7 @@ pub fn coalesce(alloc: Global, rows: Vec<PeriodRow>) -> Result<Vec<PeriodRow>, M
 {
     let mut sorted = rows;
     sorted.sort()?;
-    let mut merged = Vec::new(alloc);
-    for row in sorted {
-        absorb(&mut merged, row)?;
-    }
+    let merged: Vec<PeriodRow> = Coalesce::new(sorted.into_iter()).collect(alloc)?;
     Ok(merged)
 }
 

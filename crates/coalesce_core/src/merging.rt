@@ -1,10 +1,64 @@
-//! One step of coalescing: a row, none before it in order, goes into what is merged already.
+//! Coalescing of ordered rows as they come.
 
-ghost use Rattle.std.specs.Prelude.{◌≡◌, ◌↔◌, ◌≤ℤ◌, ◌⊎◌, ◌++◌, ◌∷◌, [], IsTrue, OnOk};
-ghost use Rattle.temporal_model.specs.Snapshot.{Equivalent};
-ghost use Rattle.coalesce_core.specs.Coalesced.{IsCoalesced, NoneAfter};
+ghost use Rattle.std.specs.Prelude.{◌≡◌, ◌↔◌, ◌≤ℤ◌, ◌⊎◌, IsTrue};
+ghost use Rattle.std.specs.Iterator.{HoldsAlong, IsFinite};
+ghost use Rattle.std.specs.Iterator.Runs.{EachRunFrom, SomeRun};
+ghost use Rattle.coalesce_core.specs.Coalesced.{IsOrdered};
+ghost use Rattle.coalesce_core.specs.Streaming.{coalesce_can, coalesce_left, coalesce_steps};
+ghost use Rattle.coalesce_core.specs.Streaming.{IsCoalescedRun};
 
-use period_core::{Day, Memory, Period, PeriodRow};
+use period_core::{Day, Period, PeriodRow};
+
+/// The coalesced rows of a source of ordered rows, one at a time. It keeps one row of the source
+/// in hand, and takes no memory.
+#[derive(Drop)]
+pub struct Coalesce<I> {
+    source: I,
+    // The first of the rows that are not given yet. None once the source has ended.
+    ahead: Option<PeriodRow>,
+}
+
+impl<I: Iterator<Item = PeriodRow>> Coalesce<I> {
+    /// The coalesced rows of a source that ends, and whose rows are in the order of values and
+    /// then first day. The source's first row is taken at once.
+    pub fn new(source: I) -> Coalesce<I>
+        requires can { I.can_next source }
+        requires ends { IsFinite (I.remaining source) }
+        requires ordered { HoldsAlong I.next_gives source IsOrdered }
+        ensures can { coalesce_can I.can_next I.remaining result }
+        ensures ends { IsFinite (coalesce_left I.remaining result) }
+
+        // What it gives is the coalesced list of what the source gives.
+        ensures runs { EachRunFrom (coalesce_steps I.next_gives) result (λ p.
+            SomeRun I.next_gives source (λ q. IsCoalescedRun p q)) }
+    {
+        let mut source = source;
+        let ahead = source.next();
+        Coalesce { source, ahead }
+    }
+}
+
+impl<I: Iterator<Item = PeriodRow>> Iterator for Coalesce<I> {
+    type Item = PeriodRow;
+
+    ghost can_next = { coalesce_can I.can_next I.remaining };
+
+    ghost next_gives = { coalesce_steps I.next_gives };
+
+    ghost remaining = { coalesce_left I.remaining };
+
+    fn next(&mut self) -> Option<PeriodRow> {
+        let mut row = self.ahead.take()?;
+        while let Some(next) = self.source.next() {
+            if !joins(&row, &next) {
+                self.ahead = Some(next);
+                return Some(row);
+            }
+            row.period = extended(row.period, next.period.end);
+        }
+        Some(row)
+    }
+}
 
 // Whether a value-equivalent row overlaps or meets one that began no later.
 fn joins(last: &PeriodRow, row: &PeriodRow) -> bool
@@ -29,23 +83,4 @@ fn extended(period: Period, end: Day) -> Period
     } else {
         period
     }
-}
-
-/// Adds a row that none of the rows comes after: the last of them is extended over it, or it is
-/// added at their end. The only error is out of memory.
-pub fn absorb(merged: &mut Vec<PeriodRow>, row: PeriodRow) -> Result<(), Memory>
-    requires coalesced { IsCoalesced merged.old.items }
-    requires in_order { NoneAfter merged.old.items row }
-    ensures coalesced { OnOk result (IsCoalesced merged.new.items) }
-    ensures equivalent { OnOk result (Equivalent (merged.old.items ++ row ∷ []) merged.new.items) }
-    ensures in_order { OnOk result (NoneAfter merged.new.items row) }
-{
-    let len = merged.len();
-    if len > 0 && joins(&merged[len - 1], &row) {
-        let last = &mut merged[len - 1];
-        last.period = extended(last.period, row.period.end);
-        return Ok(());
-    }
-    merged.push(row)?;
-    Ok(())
 }

@@ -8,6 +8,7 @@ pub mod Order
 pub mod Codes
 pub mod Leasts
 pub mod OrderLaws
+pub mod Runs
 pub mod Encoding
 pub mod EncodingLaws
 pub mod Decoding

@@ -14,3 +14,7 @@ first_of [] x h e = absurd (omega arith)
 first_of (y ∷ ys) x h e =
     let all : take (length (y ∷ ys) - 1) ys ≡ ys = take_all (length (y ∷ ys) - 1) ys (omega arith) in
     ap (λ z. z ∷ ys) (sym e) ∙ ap (λ zs. x ∷ zs) (sym all)
+
+-- those behind the first
+abbrev pub behind : {X : Type 0} → List X → List X
+behind xs = take (length xs - 1) (drop 1 xs)

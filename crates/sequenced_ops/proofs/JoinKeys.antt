@@ -1,7 +1,7 @@
 -- The equalities of a join, found among the conditions.
 use Rattle.std.proofs.Common.{◌≡◌, ◌<◌, ◌+◌, ◌++◌, ◌∷◌, [], ℕ, List, Option, Some, None}
 use Rattle.std.proofs.Common.{true, length, get_or, refl, sym, ◌∙◌, ap, subst, arith, Bool, false}
-use Rattle.std.proofs.Common.{append_assoc, length-append}
+use Rattle.std.proofs.Common.{append_assoc, length-append, ℤ, ◌↔◌}
 use Rattle.std.specs.Prelude.{◌||◌, ◌&&◌, slice_get}
 use Rattle.std.specs.Global.{Box, Vec}
 use Rattle.std.specs.List.{list_any, list_all}
@@ -9,7 +9,7 @@ use Rattle.std.specs.Ordering.{is_eq}
 use Rattle.std.specs.declared.cmp.Ordering.{Ordering}
 use Rattle.std.specs.declared.cmp.Ordering.TheVariants as order
 use Rattle.std.proofs.lemmas.Bool.{and_parts}
-use Rattle.std.proofs.lemmas.List.Elements.{All-push}
+use Rattle.std.proofs.lemmas.List.Elements.{All-nil, All-push}
 use Rattle.period_core.specs.Order.{value_cmp}
 use Rattle.period_core.specs.OrderLaws.{value_cmp-same}
 use Rattle.period_core.specs.declared.row.PeriodRow.{PeriodRow}
@@ -21,12 +21,13 @@ use Rattle.catalog_core.specs.declared.condition.CompareValues.{CompareValues}
 use Rattle.catalog_core.proofs.lemmas.conditions.Truth.{and_truth, or_truth, test_truth}
 use Rattle.temporal_model.specs.Snapshot.{InSnapshot}
 use Rattle.history_model.specs.OrdinaryQuery.{meets_all}
-use Rattle.sequenced_ops.specs.Operations.{Cond, InJoin, IsEqual, SnapshotsAre}
-use Rattle.sequenced_ops.specs.Planning.{AddsKeys, AreKeys, HasWidth, InPairs, IsColumnPair}
+use Rattle.sequenced_ops.specs.Operations.{Cond, InJoin, InPairs, InSelection, SnapshotsAre}
+use Rattle.sequenced_ops.specs.Joining.{InEqualPairs, IsEqual}
+use Rattle.sequenced_ops.specs.Planning.{AddsKeys, AreKeys, HasWidth, IsColumnPair}
 use Rattle.sequenced_ops.specs.Planning.{IsPruned}
 use Rattle.sequenced_ops.specs.declared.equalities.Equality.{Equality}
 use Rattle.sequenced_ops.proofs.KnownTruths.{get-left, get-right}
-use Rattle.sequenced_ops.proofs.Widths.{passes_at}
+use Rattle.std.proofs.lemmas.List.Folds.{list_all_at}
 
 -- ---- two sides that are equal are there and the same
 
@@ -102,6 +103,16 @@ pair_equal_back width more left right pair is first second rest e f met =
     )
 
 -- ---- the loop over the conditions
+
+-- an element of a list all of whose elements pass
+pub passes_at
+    : {X : Type 0} (p : X → Bool) (xs : List X) (i : ℕ) (d : X) → i < length xs
+    → list_all p xs ≡ true → p (get_or xs i d) ≡ true
+passes_at p xs i d h all = go (p (get_or xs i d)) refl
+  where
+    go : (b : Bool) → p (get_or xs i d) ≡ b → p (get_or xs i d) ≡ true
+    go true e = e
+    go false e = absurd (let none : list_all p xs ≡ false = list_all_at p xs i d h e in cc)
 
 -- a condition among those that all hold
 pub meets_at
@@ -216,35 +227,81 @@ adds_part condition first_part others parts i part width more before middle afte
 
 -- ---- the join
 
+nothing_before
+    : (conjuncts : List Cond) (before values rest : List Value) → length before ≡ 0
+    → (pair : List Value) → pair ≡ values
+    → meets_all conjuncts (before ++ (values ++ rest)) ≡ true
+    → meets_all conjuncts (pair ++ rest) ≡ true
+nothing_before conjuncts [] values rest e pair is met =
+    subst (λ (v : List Value). meets_all conjuncts (v ++ rest) ≡ true) (sym is) met
+nothing_before conjuncts (x ∷ before) values rest e pair is met = absurd (omega arith)
+
 -- a join by the equalities, of a right side that lacks only rows that are ruled out, lacks no pair
 -- that can meet the conditions
 pub pairs_pruned
     : (conjuncts : List Cond) (rows others kept pairs : List PeriodRow) (width more : ℕ)
     → (keys : List Equality) → HasWidth width rows → HasWidth more others
     → AreKeys conjuncts width more keys → IsPruned conjuncts width (InSnapshot others) kept
-    → SnapshotsAre (InJoin keys rows kept) pairs
+    → IsPruned conjuncts 0 (InEqualPairs keys rows kept) pairs
     → IsPruned conjuncts 0 (InPairs rows others) pairs
 pairs_pruned conjuncts rows others kept pairs width more keys lefts rights are_keys pruned are =
     record {
       sound = λ day values h.
-          let (first, second, a, b, equal, is) = (are day values).0 h in
+          let (first, second, a, b, equal, is) = are.sound day values h in
           (first, second, a, pruned.sound day second b, is);
       complete = λ day before values rest e (first, second, a, b, is) met.
           let its : meets_all conjuncts ((first ++ second) ++ rest) ≡ true =
-          nothing_before before values rest e (first ++ second) is met in
+          nothing_before conjuncts before values rest e (first ++ second) is met in
           let wide = lefts day first a in
           let apart : meets_all conjuncts (first ++ (second ++ rest)) ≡ true =
           subst (λ (v : List Value). meets_all conjuncts v ≡ true)
           (append_assoc first second rest) its in
           let there = pruned.complete day first second rest wide b apart in
           let equal = are_keys first second rest wide (rights day second b) its in
-          (are day values).1 (first, second, a, there, equal, is);
+          are.complete day before values rest e (first, second, a, there, equal, is) met;
     }
-  where
-    nothing_before
-        : (before values rest : List Value) → length before ≡ 0 → (pair : List Value)
-        → pair ≡ values → meets_all conjuncts (before ++ (values ++ rest)) ≡ true
-        → meets_all conjuncts (pair ++ rest) ≡ true
-    nothing_before [] values rest e pair is met =
-        subst (λ (v : List Value). meets_all conjuncts (v ++ rest) ≡ true) (sym is) met
-    nothing_before (x ∷ before) values rest e pair is met = absurd (omega arith)
+
+-- a join by no equality
+pub all_pairs_pruned
+    : (conjuncts : List Cond) (rows others pairs : List PeriodRow)
+    → IsPruned conjuncts 0 (InEqualPairs [] rows others) pairs
+    → IsPruned conjuncts 0 (InPairs rows others) pairs
+all_pairs_pruned conjuncts rows others pairs are = record {
+  sound = λ day values h.
+      let (first, second, a, b, equal, is) = are.sound day values h in
+      (first, second, a, b, is);
+  complete = λ day before values rest e (first, second, a, b, is) met.
+      are.complete day before values rest e
+      (first, second, a, b, All-nil (IsEqual first second), is) met;
+}
+
+append-nil : (l : List Value) → l ++ [] ≡ l
+append-nil [] = refl
+append-nil (x ∷ xs) = ap (λ (l : List Value). x ∷ l) (append-nil xs)
+
+and_true : (b : Bool) → b ≡ true → (b && true) ≡ true
+and_true true e = refl
+and_true false e = cc
+
+-- of pairs that lack none that meets the condition those that meet it
+pub joined_selection
+    : (condition : Cond) (left right pairs : List PeriodRow)
+    → IsPruned (condition ∷ []) 0 (InPairs left right) pairs → (day : ℤ) (values : List Value)
+    → (InSelection condition pairs day values ↔ InJoin condition left right day values)
+joined_selection condition left right pairs are day values = (
+  λ (there, met). (are.sound day values there, met),
+  λ (pair, met).
+      let whole : meets condition (values ++ []) ≡ true =
+      ap (meets condition) (append-nil values) ∙ met in
+      (are.complete day [] values [] refl pair (and_true (meets condition (values ++ [])) whole), met),
+)
+
+pub joined_snapshots
+    : (condition : Cond) (left right pairs rows : List PeriodRow)
+    → IsPruned (condition ∷ []) 0 (InPairs left right) pairs
+    → SnapshotsAre (InSelection condition pairs) rows
+    → SnapshotsAre (InJoin condition left right) rows
+joined_snapshots condition left right pairs rows are kept day values = (
+  λ h. (joined_selection condition left right pairs are day values).0 ((kept day values).0 h),
+  λ h. (kept day values).1 ((joined_selection condition left right pairs are day values).1 h),
+)

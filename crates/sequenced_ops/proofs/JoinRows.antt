@@ -1,5 +1,5 @@
 -- The rows of a join: their order, and the pairs of both sides.
-use Rattle.std.proofs.Common.{◌≡◌, ◌≤ℤ◌, ◌<ℤ◌, ℕ, ℤ, List, [], ◌∷◌, ◌++◌, get_or, Ordering, true, false, refl, sym, ◌∙◌, ap, ap₂, subst, inl, inr, ◌⊎◌, arith}
+use Rattle.std.proofs.Common.{◌≡◌, ◌≤ℤ◌, ◌<ℤ◌, ℕ, ℤ, List, [], ◌∷◌, ◌++◌, length, get_or, Ordering, true, false, refl, sym, ◌∙◌, ap, ap₂, subst, inl, inr, ◌⊎◌, arith}
 use Rattle.std.specs.List.{Contains, AllPairs}
 use Rattle.std.specs.List.Sorted.{IsSorted, IsPermutation}
 use Rattle.std.specs.declared.cmp.Ordering.TheVariants.{Less, Equal, Greater}
@@ -20,8 +20,11 @@ use Rattle.sequenced_ops.specs.declared.keyed.Side.{Side}
 use Rattle.sequenced_ops.specs.declared.keyed.Side.TheVariants.{Left, Right}
 use Rattle.sequenced_ops.specs.contracts.keyed.KeyedRowOrd.TheImpl as impl
 use Rattle.sequenced_ops.specs.contracts.keyed.KeyedRowOrd.TheImpl.Laws.{total-law}
-use Rattle.sequenced_ops.specs.Operations.{InJoin, ReadsColumns, SnapshotsAre}
-use Rattle.sequenced_ops.specs.Joining.{columns_on, key_of, key_cmp, IsKeyed, InPairs, PairHolds, Follows}
+use Rattle.history_model.specs.OrdinaryQuery.{meets_all}
+use Rattle.sequenced_ops.specs.Operations.{Cond, ReadsColumns}
+use Rattle.sequenced_ops.specs.Joining.{Adds, columns_on, key_of, key_cmp, InEqualPairs, IsKeyed, InPairs, PairHolds, Follows}
+use Rattle.sequenced_ops.specs.Planning.{IsPruned}
+use Rattle.sequenced_ops.proofs.Standing.{holds-nil}
 use Rattle.sequenced_ops.proofs.Keys.{equal_reads, reads_equal, same_keys, same_read, key_cmp-refl}
 
 -- ---- the order of the rows
@@ -164,7 +167,7 @@ days_on side columns row a is day (from, to) = subst (λ p. InPeriod p day) is.p
 
 pair_joined :
     (es : List Equality) (left right : List PeriodRow) (a b : KeyedRow) → KeyedFrom Left (columns_on Left es) left a
-    → KeyedFrom Right (columns_on Right es) right b → (day : ℤ) (vs : List Value) → PairHolds a b day vs → InJoin es left right day vs
+    → KeyedFrom Right (columns_on Right es) right b → (day : ℤ) (vs : List Value) → PairHolds a b day vs → InEqualPairs es left right day vs
 pair_joined es left right a b (r, in_r, is_a) (s, in_s, is_b) day vs pair =
     let (read, reads, key_a) = is_a.key in
     let (other, others, key_b) = is_b.key in
@@ -181,7 +184,7 @@ pair_joined es left right a b (r, in_r, is_a) (s, in_s, is_b) day vs pair =
 
 joined_pair :
     (es : List Equality) (left right : List PeriodRow) (keyed : List KeyedRow) → AreBothSides es left right keyed → (day : ℤ) (vs : List Value)
-    → InJoin es left right day vs → InPairs keyed day vs
+    → InEqualPairs es left right day vs → InPairs keyed day vs
 joined_pair es left right keyed both day vs (first, second, in_left, in_right, all, values) =
     let (r, in_r, is_r, days_r) = held left day first in_left in
     let (s, in_s, is_s, days_s) = held right day second in_right in
@@ -211,19 +214,29 @@ joined_pair es left right keyed both day vs (first, second, in_left, in_right, a
       ),
     )
 
+nothing_before :
+    (conjuncts : List Cond) (first values rest : List Value) → length first ≡ 0
+    → meets_all conjuncts (first ++ (values ++ rest)) ≡ true → meets_all conjuncts (values ++ rest) ≡ true
+nothing_before conjuncts [] values rest e met = met
+nothing_before conjuncts (x ∷ first) values rest e met = absurd (omega arith)
+
 -- the pairs of both sides are the join
 pub joined_rows :
-    (es : List Equality) (left right rows : List PeriodRow) (keyed sorted : List KeyedRow) → AreBothSides es left right keyed → IsPermutation keyed sorted
-    → SnapshotsAre (InPairs sorted) rows → SnapshotsAre (InJoin es left right) rows
-joined_rows es left right rows keyed sorted both moved all day vs =
+    (conjuncts : List Cond) (es : List Equality) (left right rows : List PeriodRow) (keyed sorted : List KeyedRow) → AreBothSides es left right keyed → IsPermutation keyed sorted
+    → Adds conjuncts (InPairs sorted) [] rows → IsPruned conjuncts 0 (InEqualPairs es left right) rows
+joined_rows conjuncts es left right rows keyed sorted both moved all =
     let back : IsPermutation sorted keyed = IsPermutation-sym keyed sorted moved in
-    let mine = all day vs in (
-      λ h.
-          let (a, b, in_a, in_b, side_a, side_b, pair) = mine.0 h in
-          pair_joined es left right a b
-          (from_left es left right keyed both a (Contains-permutation sorted keyed a back in_a) side_a)
-          (from_right es left right keyed both b (Contains-permutation sorted keyed b back in_b) side_b) day vs pair,
-      λ h.
+    record {
+      sound = λ day vs h. elim (all.sound day vs h) [
+        | inl none ↦ absurd (holds-nil day vs none)
+        | inr (a, b, in_a, in_b, side_a, side_b, pair) ↦
+            pair_joined es left right a b
+            (from_left es left right keyed both a (Contains-permutation sorted keyed a back in_a) side_a)
+            (from_right es left right keyed both b (Contains-permutation sorted keyed b back in_b) side_b) day vs pair
+      ];
+      complete = λ day first vs rest e h met.
           let (a, b, in_a, in_b, side_a, side_b, pair) = joined_pair es left right keyed both day vs h in
-          mine.1 (a, b, Contains-permutation keyed sorted a moved in_a, Contains-permutation keyed sorted b moved in_b, side_a, side_b, pair),
-    )
+          all.complete day vs
+          (a, b, Contains-permutation keyed sorted a moved in_a, Contains-permutation keyed sorted b moved in_b, side_a, side_b, pair)
+          (rest, nothing_before conjuncts first vs rest e met);
+    }

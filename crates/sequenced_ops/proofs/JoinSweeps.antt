@@ -151,11 +151,3 @@ pairs_right done lefts x rest mine active day vs = (
         (a, x, Contains-append_left done (x ∷ []) a was.0, Contains-push done x, was.1, mine, subst (λ s. SidedPair s x a day vs) mine sided)
   ],
 )
-
--- what is there after a row is that of before and its pairs
-pub turn :
-    {D M : Type 0} {A B C : Type 0} → (A ↔ B) → (M ↔ (A ⊎ C)) → (D ↔ (B ⊎ C)) → (M ↔ D)
-turn same more split = (
-  λ m. split.1 (elim (more.0 m) [ inl a ↦ inl (same.0 a) | inr c ↦ inr c ]),
-  λ d. more.1 (elim (split.0 d) [ inl b ↦ inl (same.1 b) | inr c ↦ inr c ]),
-)

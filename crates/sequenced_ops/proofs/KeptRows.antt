@@ -1,6 +1,6 @@
 -- The steps of the loops that leave rows out, and what they keep.
-use Rattle.std.proofs.Common.{◌≡◌, ◌++◌, ◌∷◌, [], ℕ, ℤ, List, true, inl, inr, refl, sym}
-use Rattle.std.proofs.Common.{◌∙◌, ap, subst, append_assoc}
+use Rattle.std.proofs.Common.{◌≡◌, ◌++◌, ◌∷◌, [], ℕ, List, true, inl, inr, sym}
+use Rattle.std.proofs.Common.{subst}
 use Rattle.period_core.specs.declared.row.PeriodRow.{PeriodRow}
 use Rattle.period_core.specs.declared.value.Value.{Value}
 use Rattle.temporal_model.specs.Snapshot.{InSnapshot}
@@ -58,54 +58,3 @@ module _ (conjuncts : List Cond) (start : ℕ) where
               (sym same) met))
         ];
   }
-
-  -- ---- a loop over owned rows
-
-  -- what is kept of the rows that are done, where these are left
-  abbrev pub IsKeptOf : List PeriodRow → List PeriodRow → List PeriodRow → Type 0
-  IsKeptOf rows kept rest = (done : List PeriodRow) × (done ++ rest ≡ rows) × IsKept done kept
-
-  pub left_none : (rows : List PeriodRow) → IsKeptOf rows [] rows
-  left_none rows = ([], refl, kept_none)
-
-  pub left_more
-      : (rows kept rest left : List PeriodRow) (row : PeriodRow) → rest ≡ row ∷ left
-      → IsKeptOf rows kept rest → IsKeptOf rows (kept ++ row ∷ []) left
-  left_more rows kept rest left row is (done, all, old) = (
-    done ++ row ∷ [],
-    append_assoc done (row ∷ []) left ∙ ap (λ (l : List PeriodRow). done ++ l) (sym is) ∙ all,
-    kept_more done kept row old,
-  )
-
-  pub left_same
-      : (rows kept rest left : List PeriodRow) (row : PeriodRow) → rest ≡ row ∷ left
-      → RulesOut conjuncts start row.values → IsKeptOf rows kept rest → IsKeptOf rows kept left
-  left_same rows kept rest left row is ruled (done, all, old) = (
-    done ++ row ∷ [],
-    append_assoc done (row ∷ []) left ∙ ap (λ (l : List PeriodRow). done ++ l) (sym is) ∙ all,
-    kept_same done kept row ruled old,
-  )
-
-  append-nil : (l : List PeriodRow) → l ++ [] ≡ l
-  append-nil [] = refl
-  append-nil (x ∷ xs) = ap (λ (l : List PeriodRow). x ∷ l) (append-nil xs)
-
-  pub left_end
-      : (rows kept rest : List PeriodRow) → rest ≡ [] → IsKeptOf rows kept rest
-      → IsKept rows kept
-  left_end rows kept rest none (done, all, old) =
-      let same : done ≡ rows =
-      sym (append-nil done) ∙ ap (λ (l : List PeriodRow). done ++ l) (sym none) ∙ all in
-      subst (λ (l : List PeriodRow). IsKept l kept) same old
-
--- rows pruned twice are pruned
-pub pruned_again
-    : (conjuncts : List Cond) (start : ℕ) (InSet : ℤ → List Value → Type 0)
-    → (rows next : List PeriodRow) → IsPruned conjuncts start InSet rows
-    → IsPruned conjuncts start (InSnapshot rows) next → IsPruned conjuncts start InSet next
-pruned_again conjuncts start InSet rows next before after = record {
-  sound = λ day values h. before.sound day values (after.sound day values h);
-  complete = λ day first values rest e h met.
-      after.complete day first values rest e
-      (before.complete day first values rest e h met) met;
-}

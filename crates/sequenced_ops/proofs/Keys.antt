@@ -16,7 +16,8 @@ use Rattle.period_core.specs.declared.value.Value.TheVariants.{Int, Text, Date}
 use Rattle.sequenced_ops.specs.declared.equalities.Equality.{Equality}
 use Rattle.sequenced_ops.specs.declared.keyed.Key.{Key}
 use Rattle.sequenced_ops.specs.declared.keyed.Side.TheVariants.{Left, Right}
-use Rattle.sequenced_ops.specs.Operations.{IsEqual, ReadsColumns}
+use Rattle.sequenced_ops.specs.Operations.{ReadsColumns}
+use Rattle.sequenced_ops.specs.Joining.{IsEqual}
 use Rattle.sequenced_ops.specs.Joining.{columns_on, key_cmp, key_of}
 
 -- ---- the values at positions

@@ -4,6 +4,7 @@ pub mod Standing
 pub mod Sweeps
 pub mod Sides
 pub mod InnerSweeps
+pub mod Added
 pub mod Keys
 pub mod Pairs
 pub mod JoinSweeps
@@ -15,5 +16,4 @@ pub mod KeptRows
 pub mod Widths
 pub mod JoinKeys
 pub mod SelectRows
-pub mod References
 mod OperatorExamples

@@ -1,13 +1,17 @@
 -- Worked rows: what each operator gives on a day.
 use Rattle.std.proofs.Common.{◌≡◌, true, ℤ, pos, List, [], ◌∷◌, refl, inr}
-use Rattle.std.proofs.lemmas.List.Elements.{All-cons, All-nil}
 use Rattle.period_core.proofs.Periods.{are_ends, period_over}
 use Rattle.period_core.specs.declared.value.Value.{Value}
 use Rattle.period_core.specs.declared.value.Value.TheVariants.{Int}
 use Rattle.period_core.specs.declared.row.PeriodRow.{PeriodRow}
 use Rattle.temporal_model.proofs.Members.{Contains-here, Contains-nil}
-use Rattle.sequenced_ops.specs.declared.equalities.Equality.{Equality}
-use Rattle.sequenced_ops.specs.Operations.{InDifference, InIntersection, InJoin, InUnion, IsEqual, ReadsColumns}
+use Rattle.sql_statements.specs.declared.statement.Comparison.TheVariants.{Equal}
+use Rattle.sql_statements.specs.declared.tree.Tree as code
+use Rattle.catalog_core.proofs.lemmas.conditions.Truth.{test_truth}
+use Rattle.catalog_core.specs.Conditions.{compares}
+use Rattle.catalog_core.specs.declared.condition.Comparand.TheVariants.{Position}
+use Rattle.catalog_core.specs.declared.condition.CompareValues.{CompareValues}
+use Rattle.sequenced_ops.specs.Operations.{InDifference, InIntersection, InJoin, InUnion, ReadsColumns}
 
 abbrev row_over : (values : List Value) (start end : ℤ) → are_ends start end ≡ true → PeriodRow
 row_over values start end ends = record { values = values; period = period_over start end ends }
@@ -52,19 +56,15 @@ no_third (v ∷ read) reads = cc
 abbrev pairs : List PeriodRow
 pairs = row_over (Int (pos 1) ∷ Int (pos 7) ∷ []) (pos 4) (pos 6) refl ∷ []
 
--- the first column of the left side and the second of the right
-abbrev first_and_second : List Equality
-first_and_second = record { left = 0; right = 1 } ∷ []
+-- the first column equals the third
+abbrev first_is_third : CompareValues
+first_is_third = record { comparison = Equal; left = Position 0; right = Position 2 }
 
-joined_on_day_5 : InJoin first_and_second lefts pairs (pos 5) (Int (pos 7) ∷ Int (pos 1) ∷ Int (pos 7) ∷ [])
+joined_on_day_5 : InJoin (code.Test first_is_third) lefts pairs (pos 5) (Int (pos 7) ∷ Int (pos 1) ∷ Int (pos 7) ∷ [])
 joined_on_day_5 = (
-  Int (pos 7) ∷ [],
-  Int (pos 1) ∷ Int (pos 7) ∷ [],
-  Contains-here _ [],
-  Contains-here _ [],
-  All-cons (IsEqual (Int (pos 7) ∷ []) (Int (pos 1) ∷ Int (pos 7) ∷ [])) _ [] (Int (pos 7), refl, refl) (All-nil _),
-  refl,
+  (Int (pos 7) ∷ [], Int (pos 1) ∷ Int (pos 7) ∷ [], Contains-here _ [], Contains-here _ [], refl),
+  test_truth (compares (Int (pos 7) ∷ Int (pos 1) ∷ Int (pos 7) ∷ [])) first_is_third,
 )
 
-none_joined_on_day_6 : (values : List Value) → InJoin first_and_second lefts pairs (pos 6) values → ⊥
-none_joined_on_day_6 values (first, second, in_left, in_right, all, is) = Contains-nil second in_right
+none_joined_on_day_6 : (values : List Value) → InJoin (code.Test first_is_third) lefts pairs (pos 6) values → ⊥
+none_joined_on_day_6 values ((first, second, in_left, in_right, is), met) = Contains-nil second in_right

@@ -12,7 +12,8 @@ use Rattle.temporal_model.proofs.Members.{Contains-here, Contains-there, Contain
 use Rattle.sequenced_ops.specs.declared.keyed.KeyedRow.{KeyedRow}
 use Rattle.sequenced_ops.specs.declared.keyed.Side.{Side}
 use Rattle.sequenced_ops.specs.declared.keyed.Side.TheVariants.{Left, Right}
-use Rattle.sequenced_ops.specs.Joining.{InPairsWith, PairHolds, SidedPair, IsGone}
+use Rattle.sequenced_ops.specs.Operations.{Cond}
+use Rattle.sequenced_ops.specs.Joining.{Adds, CanMeet, InPairsWith, PairHolds, SidedPair, IsGone}
 use Rattle.sequenced_ops.proofs.Standing.{holds-push}
 
 -- ---- one pair
@@ -34,10 +35,12 @@ pair_pushed rows first second new same values days day vs = (
 
 -- ---- the pairs of one row
 
--- what is added already, and the pairs with what is left, are what was there and all the pairs
-abbrev pub PairsLeft : List PeriodRow → KeyedRow → List KeyedRow → List PeriodRow → List KeyedRow → Type 0
-PairsLeft old row active rows rest =
-    (day : ℤ) (vs : List Value) → ((InSnapshot rows day vs ⊎ InPairsWith row rest day vs) ↔ (InSnapshot old day vs ⊎ InPairsWith row active day vs))
+-- what is added already; of the pairs that can meet the conditions none lacks but those with what
+-- is left
+pub record PairsLeft (conjuncts : List Cond) (old : List PeriodRow) (row : KeyedRow) (active : List KeyedRow) (rows : List PeriodRow) (rest : List KeyedRow) : Type 0 where
+  pub kept : (day : ℤ) (vs : List Value) → InSnapshot old day vs → InSnapshot rows day vs
+  pub sound : (day : ℤ) (vs : List Value) → InSnapshot rows day vs → InSnapshot old day vs ⊎ InPairsWith row active day vs
+  pub complete : (day : ℤ) (vs : List Value) → InPairsWith row active day vs → CanMeet conjuncts vs → InSnapshot rows day vs ⊎ InPairsWith row rest day vs
 
 -- each of the active rows is kept, or it is left, or it is gone
 abbrev pub Accounted : KeyedRow → List KeyedRow → List KeyedRow → List KeyedRow → Type 0
@@ -87,8 +90,53 @@ pub not_going_on :
 not_going_on row other not same =
     by_lt_z {P = other.period.end ≤ℤ row.period.start} row.period.start other.period.end (λ less. absurd (not (same, less))) (λ upto. upto)
 
-pub no_pairs : (row : KeyedRow) (day : ℤ) (vs : List Value) → InPairsWith row [] day vs → ⊥
+no_pairs : (row : KeyedRow) (day : ℤ) (vs : List Value) → InPairsWith row [] day vs → ⊥
 no_pairs row day vs (other, c, pair) = Contains-nil other c
+
+module _ (conjuncts : List Cond) (old : List PeriodRow) (row : KeyedRow) (active : List KeyedRow) where
+  pub pairs_left_all : PairsLeft conjuncts old row active old active
+  pairs_left_all = record { kept = λ day vs h. h; sound = λ day vs h. inl h; complete = λ day vs h can. inr h }
+
+  pub pairs_left_met :
+      (rows more : List PeriodRow) (other : KeyedRow) (rest : List KeyedRow) → Contains active other
+      → PairsLeft conjuncts old row active rows (other ∷ rest) → Adds conjuncts (SidedPair row.side row other) rows more
+      → PairsLeft conjuncts old row active more rest
+  pairs_left_met rows more other rest there before adds = record {
+    kept = λ day vs h. adds.kept day vs (before.kept day vs h);
+    sound = λ day vs h. elim (adds.sound day vs h) [
+      | inl was ↦ before.sound day vs was
+      | inr pair ↦ inr (other, there, pair)
+    ];
+    complete = λ day vs h can. elim (before.complete day vs h can) [
+      | inl was ↦ inl (adds.kept day vs was)
+      | inr left ↦ elim ((pairs-cons row other rest day vs).0 left) [
+        | inl pair ↦ inl (adds.complete day vs pair can)
+        | inr later ↦ inr later
+      ]
+    ];
+  }
+
+  pub pairs_left_gone :
+      (rows : List PeriodRow) (other : KeyedRow) (rest : List KeyedRow) → IsGone other row
+      → PairsLeft conjuncts old row active rows (other ∷ rest) → PairsLeft conjuncts old row active rows rest
+  pairs_left_gone rows other rest gone before = record {
+    kept = before.kept;
+    sound = before.sound;
+    complete = λ day vs h can. elim (before.complete day vs h can) [
+      | inl was ↦ inl was
+      | inr left ↦ inr ((gone_passed row other rest gone day vs).0 left)
+    ];
+  }
+
+  pub pairs_left_none : (rows : List PeriodRow) → PairsLeft conjuncts old row active rows [] → Adds conjuncts (InPairsWith row active) old rows
+  pairs_left_none rows before = record {
+    kept = before.kept;
+    sound = before.sound;
+    complete = λ day vs h can. elim (before.complete day vs h can) [
+      | inl was ↦ was
+      | inr left ↦ absurd (no_pairs row day vs left)
+    ];
+  }
 
 -- the next active row is kept
 pub accounted_kept :

@@ -12,9 +12,9 @@ use Rattle.catalog_core.specs.declared.query.resolved.Select.{Select}
 use Rattle.catalog_core.specs.query.Queries.{Query, both, one, rows_for}
 use Rattle.history_model.specs.OrdinaryQuery.{InAnswerOver, InProduct, TableSights, meets_all}
 use Rattle.history_model.specs.OrdinaryQuery.{read_items}
-use Rattle.sequenced_ops.specs.Operations.{Cond, InDifference, InProjection, InUnion}
+use Rattle.sequenced_ops.specs.Operations.{Cond, InDifference, InPairs, InProjection, InUnion}
 use Rattle.sequenced_ops.specs.Operations.{SnapshotsAre}
-use Rattle.sequenced_ops.specs.Planning.{InJoined, InMeeting, InPairs, IsPruned}
+use Rattle.sequenced_ops.specs.Planning.{InJoined, InMeeting, IsPruned}
 
 append-nil : (l : List Value) → l ++ [] ≡ l
 append-nil [] = refl

@@ -1,12 +1,12 @@
 -- The steps of a selection.
-use Rattle.std.proofs.Common.{◌≡◌, ◌↔◌, ◌++◌, ℕ, ℤ, Bool, true, false, IsTrue, List, [], ◌∷◌, refl, sym, subst, inl, inr, ◌⊎◌}
+use Rattle.std.proofs.Common.{◌≡◌, ◌↔◌, ◌++◌, ℕ, ℤ, Bool, true, false, IsTrue, List, Option, None, Some, MatchOption, [], ◌∷◌, refl, sym, subst, inl, inr, ◌⊎◌, append-nil}
 use Rattle.catalog_core.specs.Conditions.{meets}
 use Rattle.period_core.specs.DaySets.{InPeriod}
 use Rattle.period_core.specs.declared.value.Value.{Value}
 use Rattle.period_core.specs.declared.row.PeriodRow.{PeriodRow}
 use Rattle.period_core.proofs.PeriodEnds.{days_from, days_to, day_in}
 use Rattle.temporal_model.specs.Snapshot.{InSnapshot}
-use Rattle.sequenced_ops.specs.Operations.{Cond, InProjection, InSelection, ReadsColumns}
+use Rattle.sequenced_ops.specs.Operations.{AddsProjection, Cond, InProjection, InSelection, ReadsColumns}
 use Rattle.sequenced_ops.specs.Sweeping.{RowHolds}
 use Rattle.sequenced_ops.proofs.Standing.{holds-cons, holds-nil, holds-push}
 
@@ -113,3 +113,26 @@ projected_selected accepts columns old new row met step day vs = (
       (step day vs).1
       (elim h [ inl was ↦ inl was | inr (inside, its, reads) ↦ inr (reads, inside) ]),
 )
+
+-- ---- the row that is added
+
+module _ (accepts : List Value → Bool) (columns : List ℕ) (row : PeriodRow) (old new : List PeriodRow) where
+  pub AddsProjection-accepted : accepts row.values ≡ true → AddsProjection (λ _. true) columns row old new → AddsProjection accepts columns row old new
+  AddsProjection-accepted met adds = record { added = adds.added; behind = adds.behind; is = again adds.added adds.is }
+    where
+      again : (added : Option PeriodRow)
+          → MatchOption added ((read : List Value) → IsTrue true → ReadsColumns columns row.values read → ⊥)
+          (λ projected. IsTrue true × ReadsColumns columns row.values projected.values × (projected.period ≡ row.period))
+          → MatchOption added ((read : List Value) → IsTrue (accepts row.values) → ReadsColumns columns row.values read → ⊥)
+          (λ projected. IsTrue (accepts row.values) × ReadsColumns columns row.values projected.values × (projected.period ≡ row.period))
+      again None h = λ read ok reads. h read refl reads
+      again (Some projected) h = (met, h.1, h.2)
+
+pub AddsProjection-refused :
+    (accepts : List Value → Bool) (columns : List ℕ) (row : PeriodRow) (rows : List PeriodRow)
+    → accepts row.values ≡ false → AddsProjection accepts columns row rows rows
+AddsProjection-refused accepts columns row rows not = record {
+  added = None;
+  behind = sym (append-nil rows);
+  is = λ read ok reads. cc;
+}

@@ -1,5 +1,7 @@
 -- Rows with the keys by which they are joined, and how a sweep over them finds their pairs.
-use Rattle.std.specs.Prelude.{◌≡◌, ◌++◌, ◌≤ℤ◌, ℕ, ℤ, List, [], ◌∷◌, pos, map, Contains, false}
+use Rattle.std.specs.Prelude.{◌≡◌, ◌++◌, ◌⊎◌, ◌≤ℤ◌, ℕ, ℤ, List, [], ◌∷◌, pos, map, Contains, false}
+use Rattle.std.specs.Prelude.{IsTrue, Some, slice_get}
+use Rattle.std.specs.List.{All}
 use Rattle.std.specs.Ordering.{int_cmp, is_lt, ordering_then}
 use Rattle.std.specs.declared.cmp.Ordering.{Ordering}
 use Rattle.period_core.specs.DaySets.{InPeriod}
@@ -7,12 +9,30 @@ use Rattle.period_core.specs.Order.{values_cmp}
 use Rattle.period_core.specs.declared.value.Value.{Value}
 use Rattle.period_core.specs.declared.value.Value.TheVariants.{Int, Text, Date}
 use Rattle.period_core.specs.declared.row.PeriodRow.{PeriodRow}
+use Rattle.temporal_model.specs.Snapshot.{InSnapshot}
+use Rattle.history_model.specs.OrdinaryQuery.{meets_all}
 use Rattle.sequenced_ops.specs.declared.equalities.Equality.{Equality}
 use Rattle.sequenced_ops.specs.declared.keyed.Key.{Key}
 use Rattle.sequenced_ops.specs.declared.keyed.KeyedRow.{KeyedRow}
 use Rattle.sequenced_ops.specs.declared.keyed.Side.{Side}
 use Rattle.sequenced_ops.specs.declared.keyed.Side.TheVariants.{Left, Right}
-use Rattle.sequenced_ops.specs.Operations.{ReadsColumns}
+use Rattle.sequenced_ops.specs.Operations.{Cond, ReadsColumns}
+
+-- ---- equalities
+
+-- both rows have a value at their column of the equality, and it is the same
+abbrev pub IsEqual : List Value → List Value → Equality → Type 0
+IsEqual first second equality =
+    (value : Value)
+    × (slice_get first equality.left ≡ Some value) × (slice_get second equality.right ≡ Some value)
+
+-- a left and a right row that are held on the day and meet the equalities, one after the other
+abbrev pub InEqualPairs
+    : List Equality → List PeriodRow → List PeriodRow → ℤ → List Value → Type 0
+InEqualPairs equalities left right day values =
+    (first : List Value) × (second : List Value)
+    × InSnapshot left day first × InSnapshot right day second
+    × All (IsEqual first second) equalities × (first ++ second ≡ values)
 
 -- ---- keys
 
@@ -68,6 +88,22 @@ abbrev pub InPairs : List KeyedRow → ℤ → List Value → Type 0
 InPairs rows day values =
     (first : KeyedRow) × (second : KeyedRow) × Contains rows first × Contains rows second
     × (first.side ≡ Left) × (second.side ≡ Right) × PairHolds first second day values
+
+-- ---- rows that are added
+
+-- a row that begins with these values can meet all conditions
+abbrev pub CanMeet : List Cond → List Value → Type 0
+CanMeet conjuncts values = (rest : List Value) × IsTrue (meets_all conjuncts (values ++ rest))
+
+-- the new rows are the old ones and some of the set: at least those that can meet the conditions
+pub record Adds (conjuncts : List Cond) (InSet : ℤ → List Value → Type 0)
+    (old new : List PeriodRow) : Type 0 where
+  pub kept : (day : ℤ) (values : List Value) → InSnapshot old day values
+      → InSnapshot new day values
+  pub sound : (day : ℤ) (values : List Value) → InSnapshot new day values
+      → InSnapshot old day values ⊎ InSet day values
+  pub complete : (day : ℤ) (values : List Value) → InSet day values → CanMeet conjuncts values
+      → InSnapshot new day values
 
 -- ---- the order of a sweep
 

@@ -1,6 +1,6 @@
 -- What each operator gives on each day, by what its arguments hold on that day.
-use Rattle.std.specs.Prelude.{◌≡◌, ◌++◌, ◌↔◌, ◌⊎◌, ℕ, ℤ, List, Some, IsTrue, map, slice_get}
-use Rattle.std.specs.List.{All}
+use Rattle.std.specs.Prelude.{◌≡◌, ◌++◌, ◌↔◌, ◌⊎◌, ℕ, ℤ, Bool, List, Option, Some, IsTrue, map}
+use Rattle.std.specs.Prelude.{MatchOption, option_to_list, slice_get}
 use Rattle.period_core.specs.DaySets.{InPeriod}
 use Rattle.period_core.specs.declared.value.Value.{Value}
 use Rattle.period_core.specs.declared.row.PeriodRow.{PeriodRow}
@@ -8,7 +8,6 @@ use Rattle.temporal_model.specs.Snapshot.{InSnapshot}
 use Rattle.sql_statements.specs.declared.tree.Tree.{Tree}
 use Rattle.catalog_core.specs.Conditions.{meets}
 use Rattle.catalog_core.specs.declared.condition.CompareValues.{CompareValues}
-use Rattle.sequenced_ops.specs.declared.equalities.Equality.{Equality}
 
 -- a condition over a row's values
 abbrev pub Cond : Type 0
@@ -60,17 +59,26 @@ IsSelectedOn condition columns row day read =
     InPeriod row.period day × IsTrue (meets condition row.values)
     × ReadsColumns columns row.values read
 
+-- behind the old rows there is, if the row is accepted and has a value at each position, one row of
+-- these values over its period, and else none
+pub record AddsProjection (accepts : List Value → Bool) (columns : List ℕ) (row : PeriodRow)
+    (old new : List PeriodRow) : Type 0 where
+  pub added : Option PeriodRow
+  pub behind : new ≡ old ++ option_to_list added
+  pub is : MatchOption added
+      ((read : List Value) → IsTrue (accepts row.values) → ReadsColumns columns row.values read → ⊥)
+      (λ projected. IsTrue (accepts row.values)
+      × ReadsColumns columns row.values projected.values × (projected.period ≡ row.period))
+
 -- ---- joins
 
--- both rows have a value at their column of the equality, and it is the same
-abbrev pub IsEqual : List Value → List Value → Equality → Type 0
-IsEqual first second equality =
-    (value : Value)
-    × (slice_get first equality.left ≡ Some value) × (slice_get second equality.right ≡ Some value)
-
--- a left and a right row that are held on the day and meet the equalities, one after the other
-abbrev pub InJoin : List Equality → List PeriodRow → List PeriodRow → ℤ → List Value → Type 0
-InJoin equalities left right day values =
+-- a left and a right row that are held on the day, one after the other
+abbrev pub InPairs : List PeriodRow → List PeriodRow → ℤ → List Value → Type 0
+InPairs left right day values =
     (first : List Value) × (second : List Value)
-    × InSnapshot left day first × InSnapshot right day second
-    × All (IsEqual first second) equalities × (first ++ second ≡ values)
+    × InSnapshot left day first × InSnapshot right day second × (first ++ second ≡ values)
+
+-- of these those that meet the condition
+abbrev pub InJoin : Cond → List PeriodRow → List PeriodRow → ℤ → List Value → Type 0
+InJoin condition left right day values =
+    InPairs left right day values × IsTrue (meets condition values)

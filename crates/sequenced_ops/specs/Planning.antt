@@ -10,7 +10,8 @@ use Rattle.catalog_core.specs.Conditions.{compares, meets}
 use Rattle.catalog_core.specs.declared.condition.CompareValues.{CompareValues}
 use Rattle.catalog_core.specs.declared.query.resolved.QueryReference.{QueryReference}
 use Rattle.history_model.specs.OrdinaryQuery.{InProduct, TableSights, meets_all}
-use Rattle.sequenced_ops.specs.Operations.{Cond, IsEqual, ReadsColumns}
+use Rattle.sequenced_ops.specs.Operations.{Cond, ReadsColumns}
+use Rattle.sequenced_ops.specs.Joining.{IsEqual}
 use Rattle.sequenced_ops.specs.declared.equalities.Equality.{Equality}
 
 -- ---- rows of which some values are known: those from a position on
@@ -48,17 +49,7 @@ abbrev pub HasWidth : ℕ → List PeriodRow → Type 0
 HasWidth width rows =
     (day : ℤ) (values : List Value) → InSnapshot rows day values → length values ≡ width
 
--- all rows have the same number of values
-abbrev pub HasOneWidth : List PeriodRow → Type 0
-HasOneWidth rows = (width : ℕ) × HasWidth width rows
-
 -- ---- joins
-
--- a row of each side, one after the other
-abbrev pub InPairs : List PeriodRow → List PeriodRow → ℤ → List Value → Type 0
-InPairs left right day values =
-    (first : List Value) × (second : List Value)
-    × InSnapshot left day first × InSnapshot right day second × (first ++ second ≡ values)
 
 -- the positions are those of the equality, in a row of the left side, which has so many values, and
 -- one of the right side

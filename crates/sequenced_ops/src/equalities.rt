@@ -9,7 +9,7 @@ use std::alloc::Global;
 
 /// A column of the left side and one of the right, by their positions, whose values are to be the
 /// same.
-#[derive(Clone, Copy, PartialEq, Eq, Debug)]
+#[derive(Clone, Copy)]
 pub struct Equality {
     /// The position in a row of the left side.
     pub left: usize,

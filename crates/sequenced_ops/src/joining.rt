@@ -1,29 +1,35 @@
-//! The join of what is joined so far with one more reference, by the equalities of the conditions.
+//! Joins: by the equalities of the conditions, with the conditions on each pair.
 
 ghost use Rattle.std.specs.Prelude.{◌≡◌, ◌++◌, List, IfOk, IfSome, OnOk, length};
 ghost use Rattle.std.specs.Prelude.{true};
 ghost use Rattle.period_core.specs.declared.value.Value.{Value as ColumnValue};
 ghost use Rattle.catalog_core.specs.Conditions.{compares};
-ghost use Rattle.sequenced_ops.specs.Operations.{IsEqual};
-ghost use Rattle.sequenced_ops.specs.Planning.{AddsKeys, AreKeys, HasOneWidth, HasWidth};
-ghost use Rattle.sequenced_ops.specs.Planning.{InPairs, IsColumnPair, IsPruned};
+ghost use Rattle.sequenced_ops.specs.Operations.{InJoin, InPairs, SnapshotsAre};
+ghost use Rattle.sequenced_ops.specs.Joining.{IsEqual};
+ghost use Rattle.sequenced_ops.specs.Planning.{AddsKeys, AreKeys, HasWidth, IsColumnPair};
+ghost use Rattle.sequenced_ops.specs.Planning.{IsPruned};
 
 use crate::equalities::Equality;
-use crate::joins::join;
-use crate::pruning::{copy_pruned, prune, rules_some_out};
+use crate::filters::filter;
+use crate::joins::join_equal;
+use crate::pruning::{copy_pruned, rules_some_out};
 use catalog_core::{Comparand, CompareValues, Cond};
 use period_core::{Memory, PeriodRow};
 use sql_statements::{Comparison, Tree};
 use std::alloc::Global;
+use std::slice;
 
-/// How many values the rows have; 0 where there is no row.
-fn width_of(rows: &[PeriodRow]) -> usize
-    ensures { HasOneWidth rows.now → HasWidth result rows.now }
+/// How many values each row has, if all have the same number.
+fn width_of(rows: &[PeriodRow]) -> Option<usize>
+    ensures { IfSome result (λ width. HasWidth width rows.now) }
 {
-    match rows.first() {
-        Some(row) => row.values.as_slice().len(),
-        None => 0,
+    let width = rows.first()?.values.as_slice().len();
+    for row in rows {
+        if row.values.as_slice().len() != width {
+            return None;
+        }
     }
+    Some(width)
 }
 
 /// The equality of these two positions, if the first is one of the left side, whose rows have
@@ -108,47 +114,63 @@ fn equalities_of(
     Ok(keys)
 }
 
-/// The pairs of both sides but some that cannot meet the conditions: those that differ in an
-/// equality between the sides, and those of rows that the conditions on the right side alone rule
-/// out. The only error is out of memory.
-fn join_pairs(
+/// The pairs of both sides but those that differ in an equality between the sides, and those that
+/// the conditions rule out. Rows of the right side that the conditions rule out by themselves are
+/// left out before. The only error is out of memory.
+fn join_by_keys(
     alloc: Global,
     conjuncts: &[Cond],
     rows: &[PeriodRow],
     others: &[PeriodRow],
+    width: usize,
+    more: usize,
 ) -> Result<Vec<PeriodRow>, Memory>
-    requires left { HasOneWidth rows.now }
-    requires right { HasOneWidth others.now }
+    requires left { HasWidth width rows.now }
+    requires right { HasWidth more others.now }
     ensures { IfOk result
         (λ pairs. IsPruned conjuncts.now 0 (InPairs rows.now others.now) pairs.items) }
 {
-    let width = width_of(rows);
-    let keys = equalities_of(alloc, conjuncts, width, width_of(others))?;
+    let keys = equalities_of(alloc, conjuncts, width, more)?;
     if rules_some_out(conjuncts, width, others) {
         let kept = copy_pruned(alloc, conjuncts, width, others)?;
-        return join(alloc, rows, kept.as_slice(), keys.as_slice());
+        return join_equal(alloc, rows, kept.as_slice(), keys.as_slice(), conjuncts);
     }
-    join(alloc, rows, others, keys.as_slice())
+    join_equal(alloc, rows, others, keys.as_slice(), conjuncts)
 }
 
-/// What is joined so far with one more reference's rows, without some pairs that cannot meet the
-/// conditions; where more references follow, without all that the conditions rule out now. The only
-/// error is out of memory.
+/// What is joined so far with one more reference's rows, but pairs that cannot meet the conditions.
+/// Positions say what is of which side only where all rows of each side have the same number of
+/// values; otherwise it goes by no equality. The only error is out of memory.
 pub fn join_next(
     alloc: Global,
     conjuncts: &[Cond],
     rows: &[PeriodRow],
     others: &[PeriodRow],
-    is_last: bool,
 ) -> Result<Vec<PeriodRow>, Memory>
-    requires left { HasOneWidth rows.now }
-    requires right { HasOneWidth others.now }
     ensures { IfOk result
         (λ next. IsPruned conjuncts.now 0 (InPairs rows.now others.now) next.items) }
 {
-    let pairs = join_pairs(alloc, conjuncts, rows, others)?;
-    if is_last {
-        return Ok(pairs);
+    if let Some(width) = width_of(rows) {
+        if let Some(more) = width_of(others) {
+            return join_by_keys(alloc, conjuncts, rows, others, width, more);
+        }
     }
-    prune(alloc, conjuncts, pairs)
+    join_equal(alloc, rows, others, &[], conjuncts)
+}
+
+/// On each day the values of a left row and behind them those of a right row, for all pairs of rows
+/// that meet the condition. Where it asks that a column of the left side equals one of the right,
+/// as a whole or in its outermost AND, only pairs of rows with the same values there are looked at.
+/// The only error is out of memory.
+pub fn join(
+    alloc: Global,
+    left: &[PeriodRow],
+    right: &[PeriodRow],
+    condition: &Cond,
+) -> Result<Vec<PeriodRow>, Memory>
+    ensures { IfOk result (λ rows.
+        SnapshotsAre (InJoin condition.now left.now right.now) rows.items) }
+{
+    let pairs = join_next(alloc, slice::from_ref(condition), left, right)?;
+    filter(alloc, pairs, condition)
 }

@@ -1,16 +1,16 @@
 //! Joins: a sweep over the rows of both sides in the order of their keys and first days.
 
-ghost use Rattle.std.specs.Prelude.{◌≡◌, ◌↔◌, ◌⊎◌, ◌++◌, ◌<ℤ◌, ℤ, List, Contains, AllPairs};
+ghost use Rattle.std.specs.Prelude.{◌≡◌, ◌↔◌, ◌⊎◌, ◌++◌, ◌<ℤ◌, [], Contains, AllPairs};
 ghost use Rattle.std.specs.Prelude.{IfOk, OnOk, IsTrue};
-ghost use Rattle.period_core.specs.declared.value.Value.{Value};
-ghost use Rattle.temporal_model.specs.Snapshot.{InSnapshot};
 ghost use Rattle.sequenced_ops.specs.declared.keyed.KeyedRow.{KeyedRow};
-ghost use Rattle.sequenced_ops.specs.Operations.{InJoin, SnapshotsAre};
-ghost use Rattle.sequenced_ops.specs.Joining.{Follows, InPairs, InPairsWith, IsGone};
-ghost use Rattle.sequenced_ops.specs.Joining.{PairHolds, SidedPair};
+ghost use Rattle.sequenced_ops.specs.Joining.{Adds, Follows, InEqualPairs, InPairs};
+ghost use Rattle.sequenced_ops.specs.Joining.{InPairsWith, IsGone, PairHolds, SidedPair};
+ghost use Rattle.sequenced_ops.specs.Planning.{IsPruned};
 
+use crate::conjuncts::is_ruled_out;
 use crate::equalities::{Equality, columns_of};
 use crate::keyed::{KeyedRow, Side, push_keyed};
+use catalog_core::Cond;
 use period_core::{Memory, PeriodRow, Values};
 use std::alloc::Global;
 
@@ -32,44 +32,44 @@ fn joined(alloc: Global, first: &Values, second: &Values) -> Result<Values, Memo
     Ok(Values::from_vec(both))
 }
 
-// Adds the pair of two rows of the same key on the days of both.
+// Adds the pair of two rows of the same key on the days of both, unless the conditions rule it out.
 fn push_joined(
     alloc: Global,
+    conjuncts: &[Cond],
     rows: &mut Vec<PeriodRow>,
     first: &KeyedRow,
     second: &KeyedRow,
 ) -> Result<(), Memory>
     requires { first.now.key ≡ second.now.key }
-    ensures { OnOk result ((day : ℤ) (values : List Value) →
-        (InSnapshot rows.new.items day values
-        ↔ (InSnapshot rows.old.items day values
-        ⊎ PairHolds first.now second.now day values))) }
+    ensures { OnOk result
+        (Adds conjuncts.now (PairHolds first.now second.now) rows.old.items rows.new.items) }
 {
-    if let Some(period) = first.period.intersect(second.period) {
-        rows.push(PeriodRow {
-            values: joined(alloc, first.values, second.values)?,
-            period,
-        })?;
+    let Some(period) = first.period.intersect(second.period) else {
+        return Ok(());
+    };
+    let values = joined(alloc, first.values, second.values)?;
+    if is_ruled_out(conjuncts, 0, values.as_slice()) {
+        return Ok(());
     }
+    rows.push(PeriodRow { values, period })?;
     Ok(())
 }
 
 // Adds the pair of the row and one of the other side, that of the left side first.
 fn push_pair(
     alloc: Global,
+    conjuncts: &[Cond],
     rows: &mut Vec<PeriodRow>,
     row: &KeyedRow,
     other: &KeyedRow,
 ) -> Result<(), Memory>
     requires { other.now.key ≡ row.now.key }
-    ensures { OnOk result ((day : ℤ) (values : List Value) →
-        (InSnapshot rows.new.items day values
-        ↔ (InSnapshot rows.old.items day values
-        ⊎ SidedPair row.now.side row.now other.now day values))) }
+    ensures { OnOk result (Adds conjuncts.now (SidedPair row.now.side row.now other.now)
+        rows.old.items rows.new.items) }
 {
     match row.side {
-        Side::Left => push_joined(alloc, rows, row, other),
-        Side::Right => push_joined(alloc, rows, other, row),
+        Side::Left => push_joined(alloc, conjuncts, rows, row, other),
+        Side::Right => push_joined(alloc, conjuncts, rows, other, row),
     }
 }
 
@@ -92,14 +92,13 @@ fn goes_on(other: &KeyedRow, row: &KeyedRow) -> bool
 // row can meet.
 fn meet<'a>(
     alloc: Global,
+    conjuncts: &[Cond],
     rows: &mut Vec<PeriodRow>,
     row: &KeyedRow<'a>,
     active: Vec<KeyedRow<'a>>,
 ) -> Result<Vec<KeyedRow<'a>>, Memory>
-    ensures rows { OnOk result ((day : ℤ) (values : List Value) →
-        (InSnapshot rows.new.items day values
-        ↔ (InSnapshot rows.old.items day values
-        ⊎ InPairsWith row.now active.entry.items day values))) }
+    ensures rows { OnOk result (Adds conjuncts.now (InPairsWith row.now active.entry.items)
+        rows.old.items rows.new.items) }
     ensures kept { IfOk result (λ left. (other : KeyedRow) →
         Contains left.items other → Contains active.entry.items other) }
     ensures gone { IfOk result (λ left. (other : KeyedRow) →
@@ -108,7 +107,7 @@ fn meet<'a>(
     let mut left = Vec::new(alloc);
     for other in active {
         if goes_on(&other, row) {
-            push_pair(alloc, rows, row, &other)?;
+            push_pair(alloc, conjuncts, rows, row, &other)?;
             left.push(other)?;
         }
     }
@@ -116,10 +115,15 @@ fn meet<'a>(
 }
 
 // The pairs of rows of both sides that have the same key and a day, where none comes before an
-// earlier one.
-fn pairs_of(alloc: Global, sorted: Vec<KeyedRow>) -> Result<Vec<PeriodRow>, Memory>
+// earlier one, but those that the conditions rule out.
+fn pairs_of(
+    alloc: Global,
+    conjuncts: &[Cond],
+    sorted: Vec<KeyedRow>,
+) -> Result<Vec<PeriodRow>, Memory>
     requires { AllPairs Follows sorted.items }
-    ensures { IfOk result (λ rows. SnapshotsAre (InPairs sorted.entry.items) rows.items) }
+    ensures { IfOk result
+        (λ rows. Adds conjuncts.now (InPairs sorted.entry.items) [] rows.items) }
 {
     let mut rows = Vec::new(alloc);
     let mut lefts = Vec::new(alloc);
@@ -127,11 +131,11 @@ fn pairs_of(alloc: Global, sorted: Vec<KeyedRow>) -> Result<Vec<PeriodRow>, Memo
     for row in sorted {
         match row.side {
             Side::Left => {
-                rights = meet(alloc, &mut rows, &row, rights)?;
+                rights = meet(alloc, conjuncts, &mut rows, &row, rights)?;
                 lefts.push(row)?;
             }
             Side::Right => {
-                lefts = meet(alloc, &mut rows, &row, lefts)?;
+                lefts = meet(alloc, conjuncts, &mut rows, &row, lefts)?;
                 rights.push(row)?;
             }
         }
@@ -140,16 +144,17 @@ fn pairs_of(alloc: Global, sorted: Vec<KeyedRow>) -> Result<Vec<PeriodRow>, Memo
 }
 
 /// On each day the values of a left row and behind them those of a right row, for all pairs of rows
-/// that have the same values at the columns of each equality; without equalities, for all pairs.
-/// The only error is out of memory.
-pub fn join(
+/// that have the same values at the columns of each equality, but pairs that the conditions rule
+/// out; without equalities, for all other pairs. The only error is out of memory.
+pub fn join_equal(
     alloc: Global,
     left: &[PeriodRow],
     right: &[PeriodRow],
     equalities: &[Equality],
+    conjuncts: &[Cond],
 ) -> Result<Vec<PeriodRow>, Memory>
-    ensures { IfOk result (λ rows.
-        SnapshotsAre (InJoin equalities.now left.now right.now) rows.items) }
+    ensures { IfOk result (λ rows. IsPruned conjuncts.now 0
+        (InEqualPairs equalities.now left.now right.now) rows.items) }
 {
     let left_columns = columns_of(alloc, equalities, &Side::Left)?;
     let right_columns = columns_of(alloc, equalities, &Side::Right)?;
@@ -169,5 +174,5 @@ pub fn join(
         Side::Right,
     )?;
     sorted.sort()?;
-    pairs_of(alloc, sorted)
+    pairs_of(alloc, conjuncts, sorted)
 }

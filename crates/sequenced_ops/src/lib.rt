@@ -26,10 +26,8 @@ mod selecting;
 mod sweep;
 mod unite;
 
-pub use equalities::Equality;
-pub use filters::filter;
 pub use inner_sweep::intersection;
-pub use joins::join;
+pub use joining::join;
 pub use running::run_query;
 pub use selecting::{select, select_into};
 pub use sweep::difference;

@@ -1,10 +1,10 @@
 //! Projections: the values at given positions, over the same periods.
 
-ghost use Rattle.std.specs.Prelude.{◌≡◌, ◌↔◌, ◌⊎◌, ℤ, List, OnErr, OnOk};
+ghost use Rattle.std.specs.Prelude.{◌≡◌, ◌↔◌, ◌⊎◌, ℤ, List, OnErr, OnOk, true};
 ghost use Rattle.period_core.specs.DaySets.{InPeriod};
 ghost use Rattle.period_core.specs.declared.value.Value.{Value};
 ghost use Rattle.temporal_model.specs.Snapshot.{InSnapshot};
-ghost use Rattle.sequenced_ops.specs.Operations.{ReadsColumns};
+ghost use Rattle.sequenced_ops.specs.Operations.{AddsProjection, ReadsColumns};
 
 use crate::columns::read_columns;
 use period_core::{Memory, PeriodRow};
@@ -23,6 +23,8 @@ pub fn project_into(
         ↔ (InSnapshot rows.old.items day values
         ⊎ (ReadsColumns columns.now row.now.values values
         × InPeriod row.now.period day)))) }
+    ensures behind { OnOk result
+        (AddsProjection (λ _. true) columns.now row.now rows.old.items rows.new.items) }
     ensures kept { OnErr result (rows.new.items ≡ rows.old.items) }
 {
     if let Some(values) = read_columns(alloc, columns, row.values.as_slice())? {

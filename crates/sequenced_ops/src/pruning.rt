@@ -39,21 +39,3 @@ pub fn copy_pruned(
     }
     Ok(kept)
 }
-
-/// The rows, whose values a combined row begins with, but those that the conditions rule out. The
-/// only error is out of memory.
-pub fn prune(
-    alloc: Global,
-    conjuncts: &[Cond],
-    rows: Vec<PeriodRow>,
-) -> Result<Vec<PeriodRow>, Memory>
-    ensures { IfOk result (λ kept. IsPruned conjuncts.now 0 (InSnapshot rows.items) kept.items) }
-{
-    let mut kept = Vec::new(alloc);
-    for row in rows {
-        if !is_ruled_out(conjuncts, 0, row.values.as_slice()) {
-            kept.push(row)?;
-        }
-    }
-    Ok(kept)
-}

@@ -1,13 +1,12 @@
 //! The rows that a query gives.
 
 ghost use Rattle.std.specs.Prelude.{◌≡◌, IfOk, map, true};
-ghost use Rattle.std.specs.List.{list_all};
 ghost use Rattle.catalog_core.specs.declared.query.AnswerColumn.{AnswerColumn as Item};
-ghost use Rattle.catalog_core.specs.query.Fitting.{fits, sees_its_kinds};
-ghost use Rattle.catalog_core.specs.query.Queries.{one, plain_query, references_of};
+ghost use Rattle.catalog_core.specs.query.Fitting.{fits};
+ghost use Rattle.catalog_core.specs.query.Queries.{one, plain_query};
 ghost use Rattle.history_model.specs.OrdinaryQuery.{InAnswerOver};
 ghost use Rattle.sequenced_ops.specs.Operations.{InProjection, SnapshotsAre};
-ghost use Rattle.sequenced_ops.specs.Planning.{HasOneWidth, InJoined};
+ghost use Rattle.sequenced_ops.specs.Planning.{InJoined};
 
 use crate::joining::join_next;
 use crate::pruning::{copy_pruned, rules_some_out};
@@ -42,8 +41,6 @@ fn join_all(
     rows: &[PeriodRow],
     references: &[QueryReference],
 ) -> Result<Vec<PeriodRow>, Memory>
-    requires width { HasOneWidth rows.now }
-    requires fit { list_all (sees_its_kinds tables.now) references.now ≡ true }
     ensures { IfOk result (λ joined. SnapshotsAre
         (InProjection columns.now (InJoined tables.now conjuncts.now rows.now references.now))
         joined.items) }
@@ -52,7 +49,7 @@ fn join_all(
         return select_meeting(alloc, rows, conjuncts, columns);
     };
     let others = tables.rows_for(reference);
-    let next = join_next(alloc, conjuncts, rows, others, more.is_empty())?;
+    let next = join_next(alloc, conjuncts, rows, others)?;
     join_all(alloc, tables, conjuncts, columns, next.as_slice(), more)
 }
 
@@ -66,8 +63,6 @@ fn join_references(
     first: &[PeriodRow],
     more: &[QueryReference],
 ) -> Result<Vec<PeriodRow>, Memory>
-    requires width { HasOneWidth first.now }
-    requires fit { list_all (sees_its_kinds tables.now) more.now ≡ true }
     ensures { IfOk result (λ joined. SnapshotsAre
         (InProjection columns.now (InJoined tables.now conjuncts.now first.now more.now))
         joined.items) }
@@ -81,7 +76,6 @@ fn join_references(
 
 /// The rows that a select gives.
 fn run_select(alloc: Global, select: &Select, tables: &Tables) -> Result<Vec<PeriodRow>, Memory>
-    requires { list_all (sees_its_kinds tables.now) select.now.references ≡ true }
     ensures { IfOk result (λ rows. SnapshotsAre
         (InAnswerOver (one select.now) tables.now) rows.items) }
 {
@@ -94,9 +88,8 @@ fn run_select(alloc: Global, select: &Select, tables: &Tables) -> Result<Vec<Per
     join_references(alloc, tables, conjuncts, columns.as_slice(), first, more)
 }
 
-/// The rows that a part of a query gives, whose references see rows of their tables' kinds.
+/// The rows that a part of a query gives.
 fn run_part(alloc: Global, query: &Query, tables: &Tables) -> Result<Vec<PeriodRow>, Memory>
-    requires { list_all (sees_its_kinds tables.now) (references_of (plain_query query.now)) ≡ true }
     ensures { IfOk result (λ rows. SnapshotsAre
         (InAnswerOver (plain_query query.now) tables.now) rows.items) }
 {

@@ -3,8 +3,9 @@
 ghost use Rattle.std.specs.Prelude.{◌≡◌, ◌↔◌, ◌⊎◌, ℤ, List, IfOk, OnErr, OnOk};
 ghost use Rattle.period_core.specs.declared.value.Value.{Value};
 ghost use Rattle.temporal_model.specs.Snapshot.{InSnapshot};
-ghost use Rattle.sequenced_ops.specs.Operations.{InProjection, InSelection, IsSelectedOn};
-ghost use Rattle.sequenced_ops.specs.Operations.{SnapshotsAre};
+ghost use Rattle.catalog_core.specs.Conditions.{meets};
+ghost use Rattle.sequenced_ops.specs.Operations.{AddsProjection, InProjection, InSelection};
+ghost use Rattle.sequenced_ops.specs.Operations.{IsSelectedOn, SnapshotsAre};
 ghost use Rattle.sequenced_ops.specs.Planning.{InMeeting, IsMeetingOn};
 
 use crate::conjuncts::meets_all;
@@ -26,6 +27,10 @@ pub fn select_into(
         (InSnapshot rows.new.items day values
         ↔ (InSnapshot rows.old.items day values
         ⊎ IsSelectedOn condition.now columns.now row.now day values))) }
+
+    // Behind what was there is at most the row's projection, and nothing else.
+    ensures behind { OnOk result (AddsProjection (meets condition.now) columns.now row.now
+        rows.old.items rows.new.items) }
     ensures kept { OnErr result (rows.new.items ≡ rows.old.items) }
 {
     if holds(condition, row.values.as_slice()) {

@@ -1,16 +1,25 @@
-use Rattle.std.proofs.Common.{◌≡◌, List, length, Some, sym, ◌∙◌, ap, subst}
-use Rattle.std.specs.Prelude.{slice_get}
-use Rattle.std.specs.Option.{option_copied}
-use Rattle.period_core.specs.declared.value.Value.{Value}
+use Rattle.std.proofs.Common.{◌≡◌, ◌+◌, ◌++◌, ◌∷◌, [], List, length, take, sym, ◌∙◌, ap, subst, arith}
+use Rattle.std.proofs.lemmas.List.{take_all, take_more}
+use Rattle.period_core.specs.declared.row.PeriodRow.{PeriodRow}
 use Rattle.sequenced_ops.specs.Planning.{HasWidth}
-use Rattle.sequenced_ops.proofs.Widths.{first_in, one_width}
+use Rattle.sequenced_ops.proofs.Widths.{width_none, width_more}
 use Rattle.sequenced_ops.proofs.joining.width_of.Goals as goal
 
-pub returns-in-Some : goal.returns-in-Some
-returns-in-Some c = λ one.
-    let rows = c.args.rows.now in
-    let row = c.in-Some.row.now in
-    let at : slice_get rows 0 ≡ Some row =
-    sym c.first.ensures.value ∙ ap option_copied c.in-Some.is in
-    subst (λ (l : List Value). HasWidth (length l) rows) (sym c.as_slice.ensures)
-    (one_width rows row (first_in rows row at) one)
+pub loop-row-init : goal.loop-row-init
+loop-row-init c = width_none _
+
+pub loop-row-preserved : goal.loop-row-preserved
+loop-row-preserved c =
+    let rows : List PeriodRow = c.args.rows.now in
+    let i = c.loop-row.row-index in
+    let row : PeriodRow = c.row-item.result in
+    let next : take (i + 1) rows ≡ take i rows ++ row ∷ [] =
+    take_more rows i row c.loop-row-test.true ∙ ap (λ (r : PeriodRow). take i rows ++ r ∷ []) (sym c.row-item.is) in
+    let same : length row.values ≡ length c.as_slice-width.result.now = omega (arith, ap length c.as_slice.ensures) in
+    subst (HasWidth (length c.as_slice-width.result.now)) (sym next) (width_more (length c.as_slice-width.result.now) (take i rows) row c.loop-row.invariant same)
+
+pub returns : goal.returns
+returns c =
+    let rows : List PeriodRow = c.args.rows.now in
+    let all : take c.loop-row.row-index rows ≡ rows = take_all c.loop-row.row-index rows c.loop-row-test.false in
+    subst (HasWidth (length c.as_slice-width.result.now)) all c.loop-row.invariant

@@ -1,16 +1,14 @@
-use Rattle.std.proofs.Common.{rules, ◌≡◌, ◌∷◌, [], ℕ, List, sym, subst, arith}
+use Rattle.std.proofs.Common.{◌≡◌, ◌∷◌, [], ℕ, List, sym, subst, arith}
 use Rattle.std.specs.Global.{Vec}
 use Rattle.std.proofs.lemmas.List.{nil_from_length}
 use Rattle.period_core.specs.declared.row.PeriodRow.{PeriodRow}
 use Rattle.catalog_core.specs.declared.query.resolved.QueryReference.{QueryReference}
 use Rattle.catalog_core.specs.query.Queries.{rows_for}
-use Rattle.sequenced_ops.specs.Operations.{Cond, InProjection, SnapshotsAre}
-use Rattle.sequenced_ops.specs.Planning.{HasOneWidth, InJoined, InMeeting, InPairs, IsPruned}
-use Rattle.sequenced_ops.proofs.Fronts.{first_of}
+use Rattle.sequenced_ops.specs.Operations.{Cond, InPairs, InProjection, SnapshotsAre}
+use Rattle.sequenced_ops.specs.Planning.{InJoined, InMeeting, IsPruned}
+use Rattle.sequenced_ops.proofs.Fronts.{behind, first_of}
 use Rattle.sequenced_ops.proofs.Logic.{if_ok_weaker}
-use Rattle.sequenced_ops.proofs.References.{behind, fit_parts}
 use Rattle.sequenced_ops.proofs.SelectRows.{joined_more, joined_none, projection_same}
-use Rattle.sequenced_ops.proofs.Widths.{pairs_width, seen_width}
 use Rattle.sequenced_ops.proofs.running.+join_all.Goals as goal
 
 pub returns-in_default : goal.returns-in_default
@@ -35,29 +33,6 @@ returns-in_default t c =
     (projection_same columns (InMeeting conjuncts rows) (InJoined tables conjuncts rows [])
     kept.items (joined_none tables conjuncts rows) p))
     c.select_meeting.ensures
-
-pub join_next-requires-clause-right : goal.join_next-requires-clause-right
-join_next-requires-clause-right t c =
-    let references : List QueryReference = c.args.references.now in
-    let reference = c.reference-item.result in
-    let is = first_of references reference c.in-len1-up.len_at_least c.reference-item.is in
-    subst HasOneWidth (sym c.rows_for-others.ensures)
-    (seen_width c.args.tables.now reference
-    (fit_parts c.args.tables.now references reference is c.requires.fit).0)
-
-pub join_all-requires : goal.join_all-requires
-join_all-requires t c =
-    let references : List QueryReference = c.args.references.now in
-    let reference = c.reference-item.result in
-    let is = first_of references reference c.in-len1-up.len_at_least c.reference-item.is in
-    let fits = fit_parts c.args.tables.now references reference is c.requires.fit in
-    let wide : HasOneWidth c.rows_for-others.result.now =
-    subst HasOneWidth (sym c.rows_for-others.ensures)
-    (seen_width c.args.tables.now reference fits.0) in
-    let next : HasOneWidth c.in_ok-next.next.items =
-    pairs_width c.args.conjuncts.now 0 c.args.rows.now c.rows_for-others.result.now
-    c.in_ok-next.next.items c.requires.width wide c.in_ok-next.ensures in
-    (search rules, (subst HasOneWidth (sym c.as_slice.ensures.value) next, fits.1))
 
 pub returns : goal.returns
 returns t c =

@@ -3,17 +3,10 @@ use Rattle.std.specs.Global.{Vec}
 use Rattle.period_core.specs.declared.row.PeriodRow.{PeriodRow}
 use Rattle.temporal_model.specs.Snapshot.{InSnapshot}
 use Rattle.sequenced_ops.specs.Operations.{Cond, InProjection, SnapshotsAre}
-use Rattle.sequenced_ops.specs.Planning.{HasOneWidth, InJoined, IsPruned}
+use Rattle.sequenced_ops.specs.Planning.{InJoined, IsPruned}
 use Rattle.sequenced_ops.proofs.Logic.{if_ok_weaker}
 use Rattle.sequenced_ops.proofs.SelectRows.{joined_pruned, projection_same}
-use Rattle.sequenced_ops.proofs.Widths.{pruned_width}
 use Rattle.sequenced_ops.proofs.running.join_references.Goals as goal
-
-pub join_all-requires-clause-width : goal.join_all-requires-clause-width
-join_all-requires-clause-width c =
-    subst HasOneWidth (sym c.as_slice.ensures.value)
-    (pruned_width c.args.conjuncts.now 0 c.args.first.now c.in_ok-kept.kept.items
-    c.requires.width c.in_ok-kept.ensures)
 
 pub returns-then-rules_some_out : goal.returns-then-rules_some_out
 returns-then-rules_some_out c =

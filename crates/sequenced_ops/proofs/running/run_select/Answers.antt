@@ -1,42 +1,16 @@
-use Rattle.std.proofs.Common.{◌≡◌, ◌∷◌, ℕ, List, true, map, sym, ◌∙◌, ap, subst}
+use Rattle.std.proofs.Common.{◌≡◌, ◌∷◌, ℕ, List, map, sym, ◌∙◌, ap, subst}
 use Rattle.std.specs.Global.{Vec}
-use Rattle.std.specs.List.{list_all}
 use Rattle.period_core.specs.declared.row.PeriodRow.{PeriodRow}
 use Rattle.catalog_core.specs.declared.query.AnswerColumn.{AnswerColumn}
 use Rattle.catalog_core.specs.declared.query.resolved.QueryReference.{QueryReference}
-use Rattle.catalog_core.specs.query.Fitting.{sees_its_kinds}
 use Rattle.catalog_core.specs.query.Queries.{one, rows_for}
 use Rattle.history_model.specs.OrdinaryQuery.{InAnswerOver}
 use Rattle.sequenced_ops.specs.Operations.{Cond, InProjection, SnapshotsAre}
-use Rattle.sequenced_ops.specs.Planning.{HasOneWidth, InJoined}
-use Rattle.sequenced_ops.proofs.Fronts.{first_of}
+use Rattle.sequenced_ops.specs.Planning.{InJoined}
+use Rattle.sequenced_ops.proofs.Fronts.{behind, first_of}
 use Rattle.sequenced_ops.proofs.Logic.{if_ok_weaker}
-use Rattle.sequenced_ops.proofs.References.{behind, fit_parts}
 use Rattle.sequenced_ops.proofs.SelectRows.{select_rows}
-use Rattle.sequenced_ops.proofs.Widths.{seen_width}
 use Rattle.sequenced_ops.proofs.running.run_select.Goals as goal
-
--- the references of the program's select
-fit_of
-    : (tables : List (List PeriodRow)) (all references : List QueryReference)
-    → references ≡ all → list_all (sees_its_kinds tables) all ≡ true
-    → list_all (sees_its_kinds tables) references ≡ true
-fit_of tables all references same fit = ap (list_all (sees_its_kinds tables)) same ∙ fit
-
-pub join_references-requires : goal.join_references-requires
-join_references-requires c =
-    let tables = c.args.tables.now in
-    let references : List QueryReference = c.as_slice.result.now in
-    let reference = c.reference-item.result in
-    let is = first_of references reference c.in-len1-up.len_at_least c.reference-item.is in
-    let fits = fit_parts tables references reference is
-    (fit_of tables c.args.select.now.references references c.as_slice.ensures.value
-    c.requires) in
-    record {
-      width = subst HasOneWidth (sym c.rows_for-first.ensures)
-          (seen_width tables reference fits.0);
-      fit = fits.1;
-    }
 
 pub returns : goal.returns
 returns c =

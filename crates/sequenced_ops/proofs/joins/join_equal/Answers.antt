@@ -5,7 +5,7 @@ use Rattle.sequenced_ops.specs.declared.keyed.Side.TheVariants.{Left, Right}
 use Rattle.sequenced_ops.specs.Joining.{columns_on}
 use Rattle.sequenced_ops.proofs.Logic.{if_ok_weaker}
 use Rattle.sequenced_ops.proofs.JoinRows.{sorted_rows, joined_rows, both_keyed, AreBothSides, KeyedMore}
-use Rattle.sequenced_ops.proofs.joins.join.Goals as goal
+use Rattle.sequenced_ops.proofs.joins.join_equal.Goals as goal
 
 pub pairs_of-requires : goal.pairs_of-requires
 pairs_of-requires c = sorted_rows c.sort.new.self.items c.in_ok-sort.ensures.sorted
@@ -36,4 +36,4 @@ returns c =
     let rights : KeyedMore Right (columns_on Right es) first keyed right =
     subst (λ (l : List ℕ). KeyedMore Right l first keyed right) right_is made_right in
     let both : AreBothSides es left right keyed = both_keyed es left right first keyed lefts rights in
-    if_ok_weaker c.pairs_of.result _ _ (λ rows. joined_rows es left right rows.items keyed sorted both c.in_ok-sort.ensures.permutation) c.pairs_of.ensures
+    if_ok_weaker c.pairs_of.result _ _ (λ rows. joined_rows c.args.conjuncts.now es left right rows.items keyed sorted both c.in_ok-sort.ensures.permutation) c.pairs_of.ensures

@@ -2,21 +2,22 @@ use Rattle.std.proofs.Common.{List, sym, subst}
 use Rattle.std.specs.Global.{Vec}
 use Rattle.period_core.specs.declared.row.PeriodRow.{PeriodRow}
 use Rattle.temporal_model.specs.Snapshot.{InSnapshot}
-use Rattle.sequenced_ops.specs.Operations.{Cond, InJoin, SnapshotsAre}
-use Rattle.sequenced_ops.specs.Planning.{AreKeys, InPairs, IsPruned}
+use Rattle.sequenced_ops.specs.Operations.{Cond, InPairs}
+use Rattle.sequenced_ops.specs.Joining.{InEqualPairs}
+use Rattle.sequenced_ops.specs.Planning.{AreKeys, IsPruned}
 use Rattle.sequenced_ops.specs.declared.equalities.Equality.{Equality}
 use Rattle.sequenced_ops.proofs.JoinKeys.{pairs_pruned}
 use Rattle.sequenced_ops.proofs.Logic.{if_ok_weaker}
 use Rattle.sequenced_ops.proofs.KeptRows.{kept_all}
-use Rattle.sequenced_ops.proofs.joining.join_pairs.Goals as goal
+use Rattle.sequenced_ops.proofs.joining.join_by_keys.Goals as goal
 
 pub returns-then-rules_some_out : goal.returns-then-rules_some_out
 returns-then-rules_some_out c =
     let conjuncts : List Cond = c.args.conjuncts.now in
     let rows : List PeriodRow = c.args.rows.now in
     let others : List PeriodRow = c.args.others.now in
-    let width = c.width_of-width.result in
-    let more = c.width_of.result in
+    let width = c.args.width in
+    let more = c.args.more in
     let kept : List PeriodRow = c.as_slice.result.now in
     let keys : List Equality = c.as_slice-then-rules_some_out.result.now in
     let are_keys : AreKeys conjuncts width more keys =
@@ -24,30 +25,30 @@ returns-then-rules_some_out c =
     let pruned : IsPruned conjuncts width (InSnapshot others) kept =
     subst (IsPruned conjuncts width (InSnapshot others)) (sym c.as_slice.ensures.value)
     c.in_ok-kept.ensures in
-    if_ok_weaker c.join.result
-    (λ (pairs : Vec PeriodRow). SnapshotsAre (InJoin keys rows kept) pairs.items)
+    if_ok_weaker c.join_equal.result
+    (λ (pairs : Vec PeriodRow). IsPruned conjuncts 0 (InEqualPairs keys rows kept) pairs.items)
     (λ (pairs : Vec PeriodRow). IsPruned conjuncts 0 (InPairs rows others) pairs.items)
     (λ pairs p.
     pairs_pruned conjuncts rows others kept pairs.items width more keys
-    (c.width_of-width.ensures c.requires.left) (c.width_of.ensures c.requires.right) are_keys
+    c.requires.left c.requires.right are_keys
     pruned p)
-    c.join.ensures
+    c.join_equal.ensures
 
 pub returns : goal.returns
 returns c =
     let conjuncts : List Cond = c.args.conjuncts.now in
     let rows : List PeriodRow = c.args.rows.now in
     let others : List PeriodRow = c.args.others.now in
-    let width = c.width_of-width.result in
-    let more = c.width_of.result in
+    let width = c.args.width in
+    let more = c.args.more in
     let keys : List Equality = c.as_slice-2.result.now in
     let are_keys : AreKeys conjuncts width more keys =
     subst (AreKeys conjuncts width more) (sym c.as_slice-2.ensures.value) c.in_ok-keys.ensures in
-    if_ok_weaker c.join-2.result
-    (λ (pairs : Vec PeriodRow). SnapshotsAre (InJoin keys rows others) pairs.items)
+    if_ok_weaker c.join_equal-2.result
+    (λ (pairs : Vec PeriodRow). IsPruned conjuncts 0 (InEqualPairs keys rows others) pairs.items)
     (λ (pairs : Vec PeriodRow). IsPruned conjuncts 0 (InPairs rows others) pairs.items)
     (λ pairs p.
     pairs_pruned conjuncts rows others others pairs.items width more keys
-    (c.width_of-width.ensures c.requires.left) (c.width_of.ensures c.requires.right) are_keys
+    c.requires.left c.requires.right are_keys
     (kept_all conjuncts width others) p)
-    c.join-2.ensures
+    c.join_equal-2.ensures
