@@ -1,4 +1,4 @@
-use Rattle.std.proofs.Common.{◌≡◌, ◌<ℤ◌, pos, rules, w64, to_z, of_z}
+use Rattle.std.proofs.Common.{◌≡◌, ◌<ℤ◌, rules, w64, to_z, of_z}
 use Rattle.version_tables.proofs.ColumnFacts.{never, rise_read}
 use Rattle.version_tables.proofs.judging.rises.Goals as goal
 
