@@ -15,7 +15,8 @@ use Rattle.ordered_rows.specs.declared.undo.Change.TheVariants.{Nothing, Out, In
 use Rattle.ordered_rows.specs.declared.undo.Undo.{Undo}
 use Rattle.ordered_rows.specs.Cursors.{Gives, left, left_from}
 use Rattle.ordered_rows.specs.Edits.{IsAt, IsCut, IsHere, IsPlaced, inserted, removed, with_new, without}
-use Rattle.ordered_rows.specs.Forks.{IsCounted, rows_of}
+use Rattle.ordered_rows.specs.Forks.{IsBalanced, tree_of}
+use Rattle.ordered_rows.specs.Heights.{IsLow}
 use Rattle.ordered_rows.specs.Heads.{head_by, head_cmp, integer_of}
 use Rattle.ordered_rows.specs.Undos.{Undoes, changed}
 
@@ -125,14 +126,25 @@ removed-beyond : removed 3 (two ∷ five ∷ nine ∷ []) ≡ two ∷ five ∷ n
 removed-beyond = refl
 
 -- a fork shows the rows on its left, its row and those on its right
-rows-fork : (height count : ℕ) (fork : Box Fork Global) → fork.value.left ≡ two ∷ [] → fork.value.row ≡ five → fork.value.right ≡ nine ∷ []
-    → rows_of (link.Fork height count fork) ≡ two ∷ five ∷ nine ∷ []
+rows-fork : (height count : ℕ) (fork : Box Fork Global) → fork.value.left.rows ≡ two ∷ [] → fork.value.row ≡ five → fork.value.right.rows ≡ nine ∷ []
+    → (tree_of (link.Fork height count fork)).rows ≡ two ∷ five ∷ nine ∷ []
 rows-fork height count fork before row after = rw (before, row, after)
 
+-- it is one higher than its higher side
+height-fork : (height count : ℕ) (fork : Box Fork Global) → fork.value.left.height ≡ 3 → fork.value.right.height ≡ 2 → (tree_of (link.Fork height count fork)).height ≡ 4
+height-fork height count fork left right = rw (left, right) refl
+
 -- it has three rows
-count-fork : (height count : ℕ) (fork : Box Fork Global) → fork.value.left ≡ two ∷ [] → fork.value.right ≡ nine ∷ []
-    → IsCounted (link.Fork height count fork) ≡ (count ≡ 3)
-count-fork height count fork before after = rw (before, after) refl
+count-fork : (height count : ℕ) (fork : Fork) → fork.left.rows ≡ two ∷ [] → fork.right.rows ≡ nine ∷ [] → IsBalanced height count fork → count ≡ 3
+count-fork height count fork before after h = rw (before, after) at h.count_is
+
+-- a fork with three more on one side than on the other is not balanced
+unbalanced-fork : (height count : ℕ) (fork : Fork) → fork.left.height ≡ 5 → fork.right.height ≡ 2 → IsBalanced height count fork → ⊥
+unbalanced-fork height count fork left right h = omega (arith, left, right, h.balanced.0)
+
+-- three rows are too few for a height of five, which is a chain's
+chain-low : IsLow 3 3 → ⊥
+chain-low h = omega (arith, h)
 
 -- the key of a version in table 3 with the value 258: its head has the table's number, the byte of an integer, and 258 above the least
 head-key : head_by (Int (pos 3)) (Blob (1 ∷ 128 ∷ 0 ∷ 0 ∷ 0 ∷ 0 ∷ 0 ∷ 1 ∷ 2 ∷ [])) ≡ IntegerAndBlob 1 (pos 3) 9223372036854776066

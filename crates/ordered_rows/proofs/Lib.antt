@@ -3,6 +3,7 @@ mod Examples
 pub mod Forked
 pub mod Given
 pub mod Heads
+pub mod Heights
 pub mod Numbers
 pub mod Orders
 pub mod Placed

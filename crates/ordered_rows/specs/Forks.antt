@@ -1,20 +1,33 @@
 -- What a node of the tree is seen as.
-use Rattle.std.specs.Prelude.{◌≡◌, ◌-◌, ◌^◌, ◌++◌, ℕ, List, [], ◌∷◌, length, min, ⊤}
-use Rattle.sqlite_value.specs.Order.{Row}
+use Rattle.std.specs.Prelude.{◌≡◌, ◌+◌, ◌-◌, ◌^◌, ◌%◌, ◌++◌, ℕ, [], ◌∷◌, length, max, min, ⊤}
+use Rattle.ordered_rows.specs.declared.tree.Fork.{Fork as ForkOf}
 use Rattle.ordered_rows.specs.declared.tree.Link.{Link}
 use Rattle.ordered_rows.specs.declared.tree.Link.TheVariants.{Leaf, Fork}
+use Rattle.ordered_rows.specs.Heights.{DifferByAtMost, IsLow}
+use Rattle.ordered_rows.specs.RowTrees.{RowTree}
 
--- the rows in order
-abbrev pub rows_of : Link → List Row
-rows_of Leaf = []
-rows_of (Fork height count f) = f.value.left ++ f.value.row ∷ f.value.right
+-- a fork's row between those of its sides, and one more than the height of its higher side
+abbrev pub fork_tree : ForkOf → RowTree
+fork_tree f = record {
+  rows = f.left.rows ++ f.row ∷ f.right.rows;
+  height = max f.left.height f.right.height + 1;
+}
+
+abbrev pub tree_of : Link → RowTree
+tree_of Leaf = record { rows = []; height = 0 }
+tree_of (Fork height count f) = fork_tree f.value
 
 -- the greatest number of rows that can be told
 abbrev pub most : ℕ
 most = 2 ^ 32 - 1
 
--- the number beside a fork is that of its rows
-abbrev pub IsCounted : Link → Type 0
-IsCounted Leaf = ⊤
-IsCounted (Fork height count f) =
-    count ≡ min (length (f.value.left ++ f.value.row ∷ f.value.right)) most
+-- the height and the number beside a fork are right, and the fork is balanced, which makes it low
+pub record IsBalanced (height count : ℕ) (f : ForkOf) : Type 0 where
+  pub height_is : height ≡ (fork_tree f).height % 256
+  pub count_is : count ≡ min (length (fork_tree f).rows) most
+  pub balanced : DifferByAtMost 1 f.left.height f.right.height
+  pub low : IsLow (fork_tree f).height (length (fork_tree f).rows)
+
+abbrev pub IsSound : Link → Type 0
+IsSound Leaf = ⊤
+IsSound (Fork height count f) = IsBalanced height count f.value

@@ -1,5 +1,7 @@
 pub mod Cursors
 pub mod Heads
+pub mod Heights
+pub mod RowTrees
 pub mod Forks
 pub mod ForkDepths
 pub mod Lows

@@ -1,11 +1,12 @@
 //! Rows of a table or entries of an index, in order, in a balanced tree. The way to a row is at
-//! most one and a half times the binary logarithm of their number. Each edit gives what takes it
-//! back, and taking it back needs no memory.
+//! most 1.45 times the binary logarithm of one more than their number (`laws`). Each edit gives
+//! what takes it back, and taking it back needs no memory.
 #![tactic(auto)]
 
 pub mod cursor;
 mod head;
 mod kept;
+pub mod laws;
 mod place;
 pub mod rows;
 mod tree;

@@ -39,7 +39,7 @@ impl Model for OrderedRows {
 
     ghost coded = { coded_list the_row.coded };
 
-    ghost view = { λ r. r.tree };
+    ghost view = { λ r. r.tree.rows };
 }
 
 impl OrderedRows {

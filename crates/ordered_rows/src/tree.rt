@@ -1,7 +1,8 @@
-//! A balanced tree of rows, which contracts see as the list of these rows.
+//! A balanced tree of rows, which contracts see as the list of these rows and the tree's height.
 
-ghost use Rattle.std.specs.Prelude.{◌≡◌, [], ◌∷◌, ◌++◌, length, min};
-ghost use Rattle.ordered_rows.specs.Forks.{most};
+ghost use Rattle.std.specs.Prelude.{◌≡◌, ◌↔◌, ◌+◌, ◌%◌, ◌<◌, [], IsTrue, length, min};
+ghost use Rattle.ordered_rows.specs.Forks.{fork_tree, most};
+ghost use Rattle.ordered_rows.specs.Heights.{DifferByAtMost, IsLow};
 
 use crate::kept::KeptRow;
 use std::marker::Model;
@@ -17,9 +18,9 @@ pub(crate) struct Tree {
     root: Link,
 }
 
-/// A fork has beside it its height, one more than that of its higher side, and the number of its
-/// rows, so that a look at either reads no fork. A number that is too large for 32 bits stands as
-/// the greatest.
+/// A fork has beside it its height, modulo 256, and the number of its rows, so that a look at either
+/// reads no fork. Heights that are compared differ by two at most, and modulo 256 they still tell by
+/// how much. A number that is too large for 32 bits stands as the greatest.
 #[cycle(tree)]
 #[derive(Drop)]
 pub(crate) enum Link {
@@ -37,22 +38,20 @@ pub(crate) struct Fork {
 }
 
 impl Model for Tree {
-    ghost use Rattle.std.specs.Prelude.{List, length};
-    ghost use Rattle.std.specs.Coded.{coded_list};
-    ghost use Rattle.sqlite_value.specs.Order.{Row as AnyRow};
-    ghost use Rattle.sqlite_value.specs.contracts.row.Row.{the_row};
+    ghost use Rattle.std.specs.Prelude.{length};
+    ghost use Rattle.ordered_rows.specs.RowTrees.{RowTree, row_tree_code};
 
-    ghost Value = { List AnyRow };
+    ghost Value = { RowTree };
 
-    ghost coded = { coded_list the_row.coded };
+    ghost coded = { row_tree_code };
 
-    ghost use Rattle.ordered_rows.specs.Forks.{IsCounted, rows_of};
+    ghost use Rattle.ordered_rows.specs.Forks.{IsSound, tree_of};
 
-    ghost view = { λ t. rows_of t.root };
+    ghost view = { λ t. tree_of t.root };
 
-    ghost invariant = { λ t. IsCounted t.root };
+    ghost invariant = { λ t. IsSound t.root };
 
-    ghost size = { length };
+    ghost size = { λ t. length t.rows };
 
     ghost use Rattle.ordered_rows.specs.ForkDepths.{depth_le_length};
 
@@ -61,7 +60,8 @@ impl Model for Tree {
 
 impl Tree {
     pub(crate) fn empty() -> Tree
-        ensures { result ≡ [] }
+        ensures rows { result.rows ≡ [] }
+        ensures height { result.height ≡ 0 }
     {
         Tree { root: Link::Leaf }
     }
@@ -69,21 +69,35 @@ impl Tree {
     /// The tree, which leaves an empty one.
     pub(crate) fn take(&mut self) -> Tree
         ensures taken { result ≡ self.old }
-        ensures after { self.new ≡ [] }
+        ensures rows { self.new.rows ≡ [] }
+        ensures height { self.new.height ≡ 0 }
     {
         mem::replace(self, Tree::empty())
     }
 
-    fn height(&self) -> u8 {
+    /// The height modulo 256. It is low for the number of rows.
+    fn height(&self) -> u8
+        ensures value { result ≡ self.now.height % 256 }
+        ensures low { IsLow self.now.height (length self.now.rows) }
+    {
         match &self.root {
             Link::Leaf => 0,
             Link::Fork(height, _, _) => *height,
         }
     }
 
+    /// Whether the tree is higher than the other by so much. They differ by two at most.
+    fn is_higher(&self, other: &Tree, by: u8) -> bool
+        requires near { DifferByAtMost 2 self.now.height other.now.height }
+        requires within { by < 3 }
+        ensures { IsTrue result ↔ (self.now.height ≡ other.now.height + by) }
+    {
+        self.height() == other.height().wrapping_add(by)
+    }
+
     /// The number of rows, or the greatest one.
     pub(crate) fn count(&self) -> u32
-        ensures { result ≡ min (length self.now) most }
+        ensures { result ≡ min (length self.now.rows) most }
     {
         match &self.root {
             Link::Leaf => 0,
@@ -91,12 +105,19 @@ impl Tree {
         }
     }
 
-    /// A fork as a tree. The heights of its sides differ by one at most.
+    /// A fork as a tree.
     fn joined(fork: Box<Fork>) -> Tree
-        ensures { result ≡ fork.value.left ++ fork.value.row ∷ fork.value.right }
+        requires { DifferByAtMost 1 fork.value.left.height fork.value.right.height }
+        ensures { result ≡ fork_tree fork.value }
     {
         let (left, right) = (&fork.left, &fork.right);
-        let height = left.height().max(right.height()).saturating_add(1);
+        let (of_left, of_right) = (left.height(), right.height());
+        let higher = if right.is_higher(left, 1) {
+            of_right
+        } else {
+            of_left
+        };
+        let height = higher.wrapping_add(1);
         let count = left.count().saturating_add(right.count()).saturating_add(1);
         Tree {
             root: Link::Fork(height, count, fork),

@@ -11,7 +11,10 @@ use Rattle.sqlite.specs.Order.{Row}
 use Rattle.period_core.specs.Encoding.{IsColumnValue, encoded}
 use Rattle.period_core.proofs.EncodingOrder.{keeps_order, reads_back}
 use Rattle.period_core.specs.declared.version.VersionRow.{VersionRow}
-use Rattle.version_tables.specs.Represents.{AreOfTable, Version, shown}
+use Rattle.version_tables.specs.Giving.{AreSelected}
+use Rattle.version_tables.specs.Represents.{Version, shown}
+use Rattle.version_tables.specs.Selections.{selects}
+use Rattle.version_tables.specs.declared.selection.Selection.TheVariants.{Whole}
 use Rattle.version_tables.specs.Represents as raw
 use Rattle.version_store.specs.Contents.{AreRowsOf, Contents, HaveColumnValues, TableVersion, of_table, version_cmp, version_in}
 use Rattle.version_store.specs.Written.{written, written_version}
@@ -103,15 +106,20 @@ sorted_values xs held h k e low high =
     let ordered : is_lt (raw.version_cmp (get_or (map written_version xs) (k + 1) (written_version e)) (get_or (map written_version xs) k (written_version e))) ≡ false = h k (written_version e) low (omega arith) in
     sym (ap is_lt (cmp_same (get_or xs (k + 1) e) (get_or xs k e) second first)) ∙ subst₂ (λ a b. is_lt (raw.version_cmp a b) ≡ false) top below ordered
 
+kept_all : (vs : List Version) → filter (λ (v : Version). selects Whole v.from v.to) vs ≡ vs
+kept_all [] = refl
+kept_all (v ∷ vs) = ap (λ l. v ∷ l) (kept_all vs)
+
 pub rows_are : (c : Contents) (table : ℕ) (found : List Version) (rows : List VersionRow) → HaveColumnValues c.versions → AllByRecursion (λ (v : VersionRow). All IsColumnValue v.values) rows
-    → map shown found ≡ map (λ (v : VersionRow). shown (written_version (version_in 0 v))) rows → AreOfTable (written c) table found → AreRowsOf c table rows
+    → map shown found ≡ map (λ (v : VersionRow). shown (written_version (version_in 0 v))) rows → AreSelected (written c) table Whole found → AreRowsOf c table rows
 rows_are c table found rows held values same of =
-    let these : AllByRecursion (λ (v : Version). (v.table == table) ≡ true) found = all-permutation (λ (v : Version). (v.table == table) ≡ true) _ _ of.all (passes (λ (v : Version). v.table == table) (map written_version c.versions)) in
+    let all = subst (λ l. IsPermutation l found) (kept_all (raw.of_table table (map written_version c.versions))) of.all in
+    let these : AllByRecursion (λ (v : Version). (v.table == table) ≡ true) found = all-permutation (λ (v : Version). (v.table == table) ≡ true) _ _ all (passes (λ (v : Version). v.table == table) (map written_version c.versions)) in
     let is = found_are table found rows these same in
     let ys = map (version_in table) rows in
     let hy : HaveColumnValues ys = all-map (λ (v : TableVersion). All IsColumnValue v.values) (version_in table) rows values in
     let hx : HaveColumnValues (of_table table c.versions) = all-filter (λ (v : TableVersion). All IsColumnValue v.values) (λ v. v.table == table) c.versions held in
     record {
-      all = same_order (of_table table c.versions) ys hx hy (subst₂ IsPermutation (filter-map (λ (v : Version). v.table == table) written_version c.versions) is of.all);
+      all = same_order (of_table table c.versions) ys hx hy (subst₂ IsPermutation (filter-map (λ (v : Version). v.table == table) written_version c.versions) is all);
       sorted = sorted_values ys hy (subst (IsSorted raw.version_cmp) is of.sorted);
     }

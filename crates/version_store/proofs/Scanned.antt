@@ -1,18 +1,19 @@
 -- What a scan hands over of the rows that the query shows.
-use Rattle.std.proofs.Common.{◌≡◌, ℕ, ℤ, ◌+◌, ◌==◌, List, [], ◌∷◌, ◌++◌, map, filter, fold, take, drop, length, Bool, true, false, zero, suc, eqb-true, refl, sym, ap, ap₂, subst, subst₂, ◌∙◌, append-nil, arith, Option, Some, None, Result, Ok, Err, OnOk}
-use Rattle.std.specs.Prelude.{IsSorted}
+use Rattle.std.proofs.Common.{◌≡◌, ℕ, ℤ, ◌+◌, ◌==◌, List, [], ◌∷◌, ◌++◌, map, filter, fold, take, drop, length, Bool, true, false, zero, suc, eqb-true, refl, sym, ap, ap₂, subst, subst₂, ◌∙◌, append-nil, arith, Option, Some, None, Result, Ok, Err, OnOk, true≢false}
+use Rattle.std.specs.Prelude.{IsSorted, int_le, int_lt}
 use Rattle.std.specs.List.{All, AllByRecursion}
 use Rattle.std.specs.List.Sorted.{IsPermutation}
 use Rattle.std.specs.Cmp.{IsStrictWeakOrder, IsTotalOrder}
 use Rattle.std.specs.Ordering.{is_lt}
+use Rattle.std.proofs.Math.Path.{fun_ext}
+use Rattle.std.proofs.lemmas.Bool.Decides.{nat_tests}
+use Rattle.std.proofs.lemmas.Int.{ints}
 use Rattle.std.proofs.lemmas.Cmp.{then_total, on_total, int_cmp_total}
 use Rattle.std.proofs.lemmas.List.{take-append-drop, get_or_append_left, get_or-append-add, get_or_default, length-append, length-map, drop_all, map-append, take-map}
-use Rattle.std.proofs.lemmas.List.Elements.{filter-append}
-use Rattle.std.proofs.lemmas.List.Kept.{IsSortedBy-filter}
 use Rattle.std.proofs.lemmas.List.MinMax.{ranks_by}
 use Rattle.std.proofs.lemmas.List.Sorted.{IsPermutation-refl, sorted_far}
 use Rattle.std.proofs.lemmas.List.Sums.{fold-append}
-use Rattle.sqlite_trees.proofs.ListLemmas.{pull_back, filter-map, IsPermutation-filter, all-permutation, all-filter}
+use Rattle.sqlite_trees.proofs.ListLemmas.{all-filter, all-permutation, filter-map, filter_none, pull_back}
 use Rattle.std.proofs.Math.Seq.{take-append_seam}
 use Rattle.sqlite.specs.Store.{Ghosts}
 use Rattle.sqlite.specs.Order.{Row}
@@ -24,14 +25,16 @@ use Rattle.period_core.specs.Windows.{window_sees}
 use Rattle.period_core.specs.declared.refusal.Refusal.{Refusal}
 use Rattle.period_core.specs.declared.version.VersionRow.{VersionRow}
 use Rattle.period_core.specs.declared.window.Window.{Window}
-use Rattle.version_tables.specs.Giving.{GivesNext, HasGivenAll, HasGivenRows}
-use Rattle.version_tables.specs.Represents.{AreOfTable, Version, shown}
+use Rattle.period_core.specs.declared.window.Window.TheVariants.{Now, AsOf, FromTo, Between}
+use Rattle.version_tables.specs.Giving.{AreSelected, GivesNext, HasGivenAll, HasGivenRows}
+use Rattle.version_tables.specs.Represents.{Version, shown}
 use Rattle.version_tables.specs.Represents as raw
-use Rattle.version_tables.specs.Rows.{IsNumberAt}
+use Rattle.version_tables.specs.Selections.{selected, selects}
+use Rattle.version_tables.specs.declared.selection.Selection.{Selection}
 use Rattle.version_store.specs.Contents.{Contents, HaveColumnValues, TableVersion, of_table, version_cmp, version_in}
-use Rattle.version_store.specs.Scans.{AreFirstSeen, Visits, seen_of}
+use Rattle.version_store.specs.Scans.{AreFirstSeen, Sees, Visits, is_empty, seen_of}
 use Rattle.version_store.specs.Written.{Has, written, written_version}
-use Rattle.version_store.proofs.Found.{passes, same_row, sorted_values}
+use Rattle.version_store.proofs.Found.{passes, sorted_values}
 use Rattle.version_store.proofs.Standing.{on_ok}
 
 -- ---- lists
@@ -64,61 +67,52 @@ rest_behind xs ys h i d low j e high =
     let second = get_or-append-add xs ys j d ∙ get_or_default ys j d e high in
     subst₂ (λ a b. below a b ≡ false) second first (sorted_far below below_ranks (xs ++ ys) h i (length xs + j) d (omega arith) (omega arith))
 
+-- ---- two moments
+
+not_before : (a b : ℤ) → int_le b a ≡ true → int_lt a b ≡ false
+not_before a b h = grind (arith, nat_tests, ints)
+
+not_up_to : (a b : ℤ) → int_lt b a ≡ true → int_le a b ≡ false
+not_up_to a b h = grind (arith, nat_tests, ints)
+
 -- ---- the rows that were given
 
 -- the rows of the query that show versions of a table
 abbrev pub as_given : List TableVersion → List Row
 as_given = map (λ (v : TableVersion). shown (written_version v))
 
--- the window sees the version
-abbrev seen_by : Window → TableVersion → Bool
-seen_by window v = window_sees window v.from v.to
-
 -- a visitor took the version rows which these are
 abbrev pub Took : {M : Type 0} → (M → VersionRow → M) → ℕ → M → M → List TableVersion → Type 0
-Took next table old new seen = (rows : List VersionRow) × (map (version_in table) rows ≡ seen) × (new ≡ fold next old rows)
+Took next table old new versions = (rows : List VersionRow) × (map (version_in table) rows ≡ versions) × (new ≡ fold next old rows)
 
--- rows were given: whatever versions of the table they show, it took those that the window sees
-abbrev pub TookSeen : {M : Type 0} → (M → VersionRow → M) → ℕ → Window → M → M → List Row → Type 0
-TookSeen next table window old new given =
+-- rows were given: whatever versions of the table they show, it took those
+abbrev pub TookShown : {M : Type 0} → (M → VersionRow → M) → ℕ → M → M → List Row → Type 0
+TookShown next table old new given =
     (done : List TableVersion) → AllByRecursion (λ (v : TableVersion). (v.table == table) ≡ true) done → HaveColumnValues done → given ≡ as_given done
-    → Took next table old new (filter (seen_by window) done)
+    → Took next table old new done
+
+-- one row is taken
+abbrev pub TookOne : {M : Type 0} → (M → VersionRow → M) → M → M → Row → Type 0
+TookOne next old new row =
+    (v : TableVersion) → row ≡ shown (written_version v) → All IsColumnValue v.values → (read : VersionRow) × (version_in v.table read ≡ v) × (new ≡ next old read)
 
 given_are : (ys : List TableVersion) → map shown (map written_version ys) ≡ as_given ys
 given_are [] = refl
 given_are (y ∷ ys) = ap (λ rows. shown (written_version y) ∷ rows) (given_are ys)
 
--- the first of the versions in order that the window sees, and the others
-first_are : (c : Contents) (table : ℕ) (window : Window) (ys : List TableVersion) (n : ℕ) (rows : List VersionRow) → IsPermutation (of_table table c.versions) ys → IsSorted version_cmp ys
-    → map (version_in table) rows ≡ filter (seen_by window) (take n ys) → AreFirstSeen c table window rows (filter (seen_by window) (drop n ys))
+-- the first of the versions in order, and the others
+first_are : (c : Contents) (table : ℕ) (window : Window) (ys : List TableVersion) (n : ℕ) (rows : List VersionRow) → IsPermutation (seen_of table window c.versions) ys → IsSorted version_cmp ys
+    → map (version_in table) rows ≡ take n ys → AreFirstSeen c table window rows (drop n ys)
 first_are c table window ys n rows same up is =
-    let sees = seen_by window in
-    let parts : filter sees ys ≡ map (version_in table) rows ++ filter sees (drop n ys) =
-    sym (ap (filter sees) (take-append-drop n ys)) ∙ filter-append sees (take n ys) (drop n ys) ∙ ap (λ l. l ++ filter sees (drop n ys)) (sym is) in
-    let sorted = subst (IsSorted version_cmp) parts (IsSortedBy-filter below below_ranks sees ys up) in
+    let parts : ys ≡ map (version_in table) rows ++ drop n ys = sym (take-append-drop n ys) ∙ ap (λ l. l ++ drop n ys) (sym is) in
+    let sorted = subst (IsSorted version_cmp) parts up in
     record {
-      all = subst (IsPermutation (seen_of table window c.versions)) parts (IsPermutation-filter sees _ _ same);
+      all = subst (IsPermutation (seen_of table window c.versions)) parts same;
       sorted = front_sorted _ _ sorted;
       behind = rest_behind _ _ sorted;
     }
 
 -- ---- one row
-
-module _ {M : Type 0} (next : M → VersionRow → M) (window : Window) (old : M) (v : TableVersion) where
-  pub not_seen : (row : Row) (from to : ℤ) → IsNumberAt row 3 from → IsNumberAt row 4 to → row ≡ shown (written_version v) → window_sees window from to ≡ false → Took next v.table old old (filter (seen_by window) (v ∷ []))
-  not_seen row from to at_from at_to shows hidden =
-      let a : from ≡ v.from = cc in
-      let b : to ≡ v.to = cc in
-      let none : window_sees window v.from v.to ≡ false = subst₂ (λ f t. window_sees window f t ≡ false) a b hidden in
-      rw none ([], refl, refl)
-
-  pub is_seen : (row : Row) (from to : ℤ) (read : VersionRow) (new : M) → IsNumberAt row 3 from → IsNumberAt row 4 to → row ≡ shown (written_version (version_in 0 read)) → All IsColumnValue read.values
-      → row ≡ shown (written_version v) → All IsColumnValue v.values → window_sees window from to ≡ true → new ≡ next old read → Took next v.table old new (filter (seen_by window) (v ∷ []))
-  is_seen row from to read new at_from at_to reads held shows values sees taken =
-      let a : from ≡ v.from = cc in
-      let b : to ≡ v.to = cc in
-      let one : window_sees window v.from v.to ≡ true = subst₂ (λ f t. window_sees window f t ≡ true) a b sees in
-      rw one (read ∷ [], ap (λ w. w ∷ []) (same_row v read values held (sym shows ∙ reads)), taken)
 
 heads : (a b : Row) (xs ys : List Row) → ◌≡◌ {A = List Row} (a ∷ xs) (b ∷ ys) → (a ≡ b) × (xs ≡ ys)
 heads a b xs ys e = (cc, cc)
@@ -135,16 +129,15 @@ last_shown table (r ∷ given) row (v ∷ done) e of held =
     let rest = last_shown table given row done parts.1 of.1 held.1 in
     (v ∷ rest.0, rest.1, ap (λ l. v ∷ l) rest.2, ap₂ (λ r rows. r ∷ rows) parts.0 rest.3, (of.0, rest.4), (held.0, rest.5), rest.6, rest.7, rest.8)
 
-pub one_more : {M : Type 0} (next : M → VersionRow → M) (table : ℕ) (window : Window) (old mid new : M) (given : List Row) (row : Row) → TookSeen next table window old mid given
-    → ((v : TableVersion) → row ≡ shown (written_version v) → All IsColumnValue v.values → Took next v.table mid new (filter (seen_by window) (v ∷ []))) → TookSeen next table window old new (given ++ row ∷ [])
-one_more next table window old mid new given row was taken done of held shows =
+pub one_more : {M : Type 0} (next : M → VersionRow → M) (table : ℕ) (old mid new : M) (given : List Row) (row : Row) → TookShown next table old mid given → TookOne next mid new row → TookShown next table old new (given ++ row ∷ [])
+one_more next table old mid new given row was taken done of held shows =
     let parts = last_shown table given row done shows of held in
-    let sees = seen_by window in
     let before = was parts.0 parts.4 parts.5 parts.3 in
-    let step : Took next table mid new (filter sees (parts.1 ∷ [])) = subst (λ t. Took next t mid new (filter sees (parts.1 ∷ []))) (eqb-true _ _ parts.7) (taken parts.1 parts.6 parts.8) in (
-      before.0 ++ step.0,
-      map-append (version_in table) before.0 step.0 ∙ ap₂ (λ a b. a ++ b) before.1 step.1 ∙ sym (filter-append sees parts.0 (parts.1 ∷ [])) ∙ ap (filter sees) (sym parts.2),
-      step.2 ∙ ap (λ m. fold next m step.0) before.2 ∙ sym (fold-append next old before.0 step.0),
+    let step = taken parts.1 parts.6 parts.8 in
+    let one : version_in table step.0 ≡ parts.1 = subst (λ t. version_in t step.0 ≡ parts.1) (eqb-true _ _ parts.7) step.1 in (
+      before.0 ++ step.0 ∷ [],
+      map-append (version_in table) before.0 (step.0 ∷ []) ∙ ap₂ (λ a b. a ++ b ∷ []) before.1 one ∙ sym parts.2,
+      step.2 ∙ ap (λ m. next m step.0) before.2 ∙ sym (fold-append next old before.0 (step.0 ∷ [])),
     )
 
 -- ---- the answer of a scan
@@ -157,58 +150,86 @@ none_yet c table window = record {
   behind = λ k d low. absurd (omega arith);
 }
 
-pub visits : {M X : Type 0} (next : M → VersionRow → M) (c : Contents) (table : ℕ) (window : Window) (old new : M) (result : Result X Refusal) (found : List Version) (given more : List Row) → HaveColumnValues c.versions
-    → given ++ more ≡ map shown found → AreOfTable (written c) table found → TookSeen next table window old new given → OnOk result (more ≡ []) → Visits next c table window old new result
-visits next c table window old new result found given more held shows of took all =
-    let ours = of_table table c.versions in
-    let back = pull_back written_version (map written_version ours) found (subst (λ l. IsPermutation l found) (filter-map (λ (v : Version). v.table == table) written_version c.versions) of.all) ours refl in
+seen_written : (table : ℕ) (window : Window) (selection : Selection) → Sees window selection → (vs : List TableVersion) → selected table selection (map written_version vs) ≡ map written_version (seen_of table window vs)
+seen_written table window selection sees vs =
+    let same : (λ (v : TableVersion). selects selection v.from v.to) ≡ (λ (v : TableVersion). window_sees window v.from v.to) = fun_ext (λ v. sym (sees v.from v.to)) in
+    ap (filter (λ (v : Version). selects selection v.from v.to)) (filter-map (λ (v : Version). v.table == table) written_version vs)
+    ∙ filter-map (λ (v : Version). selects selection v.from v.to) written_version (of_table table vs)
+    ∙ ap (λ t. map written_version (filter t (of_table table vs))) same
+
+pub visits : {M X : Type 0} (next : M → VersionRow → M) (c : Contents) (table : ℕ) (window : Window) (selection : Selection) (old new : M) (result : Result X Refusal) (found : List Version) (given more : List Row) → Sees window selection → HaveColumnValues c.versions
+    → given ++ more ≡ map shown found → AreSelected (written c) table selection found → TookShown next table old new given → OnOk result (more ≡ []) → Visits next c table window old new result
+visits next c table window selection old new result found given more sees held shows of took all =
+    let theirs = of_table table c.versions in
+    let ours = seen_of table window c.versions in
+    let is_seen = λ (v : TableVersion). window_sees window v.from v.to in
+    let back = pull_back written_version (map written_version ours) found (subst (λ l. IsPermutation l found) (seen_written table window selection sees c.versions) of.all) ours refl in
     let ys = back.0 in
-    let hx : HaveColumnValues ours = all-filter (λ (v : TableVersion). All IsColumnValue v.values) (λ v. v.table == table) c.versions held in
-    let hy : HaveColumnValues ys = all-permutation (λ (v : TableVersion). All IsColumnValue v.values) ours ys back.1 hx in
-    let these : AllByRecursion (λ (v : TableVersion). (v.table == table) ≡ true) ys = all-permutation (λ (v : TableVersion). (v.table == table) ≡ true) ours ys back.1 (passes (λ (v : TableVersion). v.table == table) c.versions) in
+    let values = λ (v : TableVersion). All IsColumnValue v.values in
+    let hx : HaveColumnValues ours = all-filter values is_seen theirs (all-filter values (λ v. v.table == table) c.versions held) in
+    let hy : HaveColumnValues ys = all-permutation values ours ys back.1 hx in
+    let at = λ (v : TableVersion). (v.table == table) ≡ true in
+    let these : AllByRecursion at ys = all-permutation at ours ys back.1 (all-filter at is_seen theirs (passes (λ (v : TableVersion). v.table == table) c.versions)) in
     let sorted = sorted_values ys hy (subst (IsSorted raw.version_cmp) back.2 of.sorted) in
     let n = length given in
     let whole : given ++ more ≡ as_given ys = shows ∙ ap (map shown) back.2 ∙ given_are ys in
     let firsts : given ≡ as_given (take n ys) = sym (take-append_seam given more) ∙ ap (take n) whole ∙ take-map (λ (v : TableVersion). shown (written_version v)) n ys in
-    let seen = took (take n ys) (all-take (λ (v : TableVersion). (v.table == table) ≡ true) n ys these) (all-take (λ (v : TableVersion). All IsColumnValue v.values) n ys hy) firsts in
+    let taken = took (take n ys) (all-take at n ys these) (all-take values n ys hy) firsts in
     let long = length-append given more in
     let wide : length (given ++ more) ≡ length ys = ap length whole ∙ length-map ys (λ (v : TableVersion). shown (written_version v)) in (
-      seen.0,
-      filter (seen_by window) (drop n ys),
-      first_are c table window ys n seen.0 back.1 sorted seen.1,
-      seen.2,
-      on_ok result (λ none. ap (filter (seen_by window)) (drop_all n ys (omega (arith, long, wide, ap length none)))) all,
+      taken.0,
+      drop n ys,
+      first_are c table window ys n taken.0 back.1 sorted taken.1,
+      taken.2,
+      on_ok result (λ none. drop_all n ys (omega (arith, long, wide, ap length none))) all,
     )
 
--- the query of the table has given rows, and the visitor took what they show and the window sees
-abbrev pub HasVisited : {S M : Type 0} → Ghosts S → (M → VersionRow → M) → ℕ → Window → Held S → Held S → M → M → Type 0
-HasVisited g next table window first now old new = (given : List Row) × HasGivenRows g table first now given × TookSeen next table window old new given
+-- an empty window sees no version
+empty_sees : (window : Window) → is_empty window ≡ true → (from to : ℤ) → window_sees window from to ≡ false
+empty_sees Now h from to = absurd (true≢false (sym h))
+empty_sees (AsOf m) h from to = absurd (true≢false (sym h))
+empty_sees (FromTo a b) h from to = rw (not_before a b h) refl
+empty_sees (Between a b) h from to = rw (not_up_to a b h) refl
 
-module _ {S M : Type 0} (g : Ghosts S) (next : M → VersionRow → M) (table : ℕ) (window : Window) (first : Held S) where
+pub none_visits : {M : Type 0} (next : M → VersionRow → M) (c : Contents) (table : ℕ) (window : Window) (old : M) → is_empty window ≡ true → Visits next c table window old old (let r : Result (Unit {0}) Refusal = Ok (tt {0}) in r)
+none_visits next c table window old empty =
+    let none : seen_of table window c.versions ≡ [] = filter_none (λ (v : TableVersion). window_sees window v.from v.to) (of_table table c.versions) (each (of_table table c.versions)) in
+    ([], [], subst (AreFirstSeen c table window []) none (none_yet c table window), refl, refl)
+  where
+    each : (vs : List TableVersion) → AllByRecursion (λ (v : TableVersion). window_sees window v.from v.to ≡ false) vs
+    each [] = tt
+    each (v ∷ vs) = (empty_sees window empty v.from v.to, each vs)
+
+-- the query of the table has given rows, and the visitor took what they show
+abbrev pub HasVisited : {S M : Type 0} → Ghosts S → (M → VersionRow → M) → ℕ → Selection → Held S → Held S → M → M → Type 0
+HasVisited g next table selection first now old new = (given : List Row) × HasGivenRows g table selection first now given × TookShown next table old new given
+
+module _ {S M : Type 0} (g : Ghosts S) (next : M → VersionRow → M) (table : ℕ) (selection : Selection) (first : Held S) where
   -- no row was given
-  pub none_visited : (now : Held S) (n : ℕ) (old : M) → n ≡ table → HasGivenRows g n first now [] → HasVisited g next table window first now old old
-  none_visited now n old same begun = ([], subst (λ t. HasGivenRows g t first now []) same begun, none)
+  pub none_visited : (now : Held S) (n : ℕ) (old : M) → n ≡ table → HasGivenRows g n selection first now [] → HasVisited g next table selection first now old old
+  none_visited now n old same begun = ([], subst (λ t. HasGivenRows g t selection first now []) same begun, none)
     where
-      none : TookSeen next table window old old []
+      none : TookShown next table old old []
       none [] of held shows = ([], refl, refl)
       none (v ∷ done) of held shows = absurd cc
 
   -- one row more was given and taken
-  pub one_visited : (before now : Held S) (old mid new : M) (was : HasVisited g next table window first before old mid) (row : Row) (after : Option Row) → GivesNext g table first now was.0 after → after ≡ Some row
-      → ((v : TableVersion) → row ≡ shown (written_version v) → All IsColumnValue v.values → Took next v.table mid new (filter (seen_by window) (v ∷ []))) → HasVisited g next table window first now old new
-  one_visited before now old mid new was row after gives is taken = (was.0 ++ row ∷ [], rw is at gives, one_more next table window old mid new was.0 row was.2 taken)
+  pub one_visited : (before now : Held S) (old mid new : M) (was : HasVisited g next table selection first before old mid) (row : Row) (after : Option Row) → GivesNext g table selection first now was.0 after → after ≡ Some row
+      → TookOne next mid new row → HasVisited g next table selection first now old new
+  one_visited before now old mid new was row after gives is taken = (was.0 ++ row ∷ [], rw is at gives, one_more next table old mid new was.0 row was.2 taken)
 
-  -- a refusal, where the query has given the rows so far
-  pub some_visits : (now : Held S) (old mid new : M) (refusal : Refusal) → HasVisited g next table window first now old mid → new ≡ mid → HasCleanDisk (state g now) → (c : Contents) → Has (state g first).now c
-      → Visits next c table window old new (let r : Result (Unit {0}) Refusal = Err refusal in r)
-  some_visits now old mid new refusal was same clean c has =
-      let shows = was.1.rows clean (written c) has.rows in
-      visits {X = Unit {0}} next c table window old new (Err refusal) shows.1.0 was.0 shows.0 has.values shows.1.1 shows.1.2 (subst (λ m. TookSeen next table window old m was.0) (sym same) was.2) tt
+  module _ (window : Window) (sees : Sees window selection) where
+    -- a refusal, where the query has given the rows so far
+    pub some_visits : (now : Held S) (old mid new : M) (refusal : Refusal) → HasVisited g next table selection first now old mid → new ≡ mid → HasCleanDisk (state g now) → (c : Contents) → Has (state g first).now c
+        → Visits next c table window old new (let r : Result (Unit {0}) Refusal = Err refusal in r)
+    some_visits now old mid new refusal was same clean c has =
+        let shows = was.1.rows clean (written c) has.rows in
+        visits {X = Unit {0}} next c table window selection old new (Err refusal) shows.1.0 was.0 shows.0 sees has.values shows.1.1 shows.1.2 (subst (λ m. TookShown next table old m was.0) (sym same) was.2) tt
 
-  -- the end of the query
-  pub all_visits : (before now : Held S) (old new : M) (was : HasVisited g next table window first before old new) (after : Option Row) → GivesNext g table first now was.0 after → after ≡ None
-      → HasCleanDisk (state g now) → (c : Contents) → Has (state g first).now c → Visits next c table window old new (let r : Result (Unit {0}) Refusal = Ok (tt {0}) in r)
-  all_visits before now old new was after gives is clean c has =
-      let all : HasGivenAll g table first now was.0 = rw is at gives in
-      let shows = all.rows clean (written c) has.rows in
-      visits {X = Unit {0}} next c table window old new (Ok (tt {0})) shows.0 was.0 [] has.values (append-nil was.0 ∙ shows.1) shows.2 was.2 refl
+    -- the end of the query
+    pub all_visits : (before now : Held S) (old new : M) (was : HasVisited g next table selection first before old new) (after : Option Row) → GivesNext g table selection first now was.0 after → after ≡ None
+        → HasCleanDisk (state g now) → (c : Contents) → Has (state g first).now c → Visits next c table window old new (let r : Result (Unit {0}) Refusal = Ok (tt {0}) in r)
+    all_visits before now old new was after gives is clean c has =
+        let all : HasGivenAll g table selection first now was.0 = rw is at gives in
+        let shows = all.rows clean (written c) has.rows in
+        visits {X = Unit {0}} next c table window selection old new (Ok (tt {0})) shows.0 was.0 [] sees has.values (append-nil was.0 ∙ shows.1) shows.2 was.2 refl

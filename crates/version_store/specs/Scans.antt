@@ -1,5 +1,6 @@
 -- What a scan hands over: the versions of a table that a system-time window sees, one by one.
-use Rattle.std.specs.Prelude.{◌≡◌, ◌++◌, ℕ, false, List, [], map, filter, fold}
+use Rattle.std.specs.Prelude.{◌≡◌, ◌⊎◌, ◌++◌, ℕ, ℤ, Bool, false, List, [], map, filter, fold}
+use Rattle.std.specs.Prelude.{Err, Ok, None, Option, Some, int_le, int_lt}
 use Rattle.std.specs.Prelude.{IsPermutation, IsSorted, OnOk, Result}
 use Rattle.std.specs.List.{All}
 use Rattle.std.specs.Ordering.{is_lt}
@@ -7,7 +8,11 @@ use Rattle.period_core.specs.Windows.{window_sees}
 use Rattle.period_core.specs.declared.refusal.Refusal.{Refusal}
 use Rattle.period_core.specs.declared.version.VersionRow.{VersionRow}
 use Rattle.period_core.specs.declared.window.Window.{Window}
+use Rattle.period_core.specs.declared.window.Window.TheVariants.{Now, AsOf, FromTo, Between}
+use Rattle.version_tables.specs.Selections.{selects}
+use Rattle.version_tables.specs.declared.selection.Selection.{Selection}
 use Rattle.version_store.specs.Contents.{Contents, TableVersion, of_table, version_cmp, version_in}
+use Rattle.version_store.specs.StoreState.{IsStoreRefusal}
 
 -- the versions of the table that the window sees
 abbrev pub seen_of : ℕ → Window → List TableVersion → List TableVersion
@@ -24,9 +29,30 @@ pub record AreFirstSeen (c : Contents) (table : ℕ) (window : Window) (rows : L
       (λ (row : TableVersion). All (λ (v : TableVersion). is_lt (version_cmp v row) ≡ false) rest)
       (map (version_in table) rows)
 
+-- FROM a TO b where a is not before b, or BETWEEN a AND b where b is before a: such a window sees
+-- no version
+abbrev pub is_empty : Window → Bool
+is_empty Now = false
+is_empty (AsOf m) = false
+is_empty (FromTo a b) = int_le b a
+is_empty (Between a b) = int_lt b a
+
+-- a query selects what the window sees
+abbrev pub Sees : Window → Selection → Type 0
+Sees window selection =
+    (from to : ℤ) → window_sees window from to ≡ selects selection from to
+
 -- the visitor took such rows in turn, from one meaning to another; on Ok there is no other
 abbrev pub Visits : {M X : Type 0} → (M → VersionRow → M) → Contents → ℕ → Window → M → M
     → Result X Refusal → Type 0
 Visits next c table window old new result =
     (rows : List VersionRow) × (rest : List TableVersion)
     × AreFirstSeen c table window rows rest × (new ≡ fold next old rows) × OnOk result (rest ≡ [])
+
+-- where the visitor had refused no row: it has refused none on Ok; and on Err either its own
+-- refusal is answered, or it has refused none and the store failed
+abbrev pub AnswersRefusal : {X : Type 0} → (Option Refusal → Type 0) → (Option Refusal → Type 0)
+    → Result X Refusal → Type 0
+AnswersRefusal old new (Ok x) = old None → new None
+AnswersRefusal old new (Err refusal) =
+    old None → new (Some refusal) ⊎ (new None × IsStoreRefusal refusal)

@@ -17,7 +17,7 @@ use period_core::{Day, DecodeFault, Moment, Period, Refusal, Values, VersionRow,
 use sqlite::{Connection, Row};
 use sqlite_trees::store::Alter;
 use std::alloc::Global;
-use version_tables::{bytes_at, number_at, rows_of, to_next_row};
+use version_tables::{Selection, bytes_at, number_at, rows_of, to_next_row};
 
 /// The day at a place of a row.
 fn day_at(row: &Row, at: usize) -> Option<Day>
@@ -31,7 +31,7 @@ fn day_at(row: &Row, at: usize) -> Option<Day>
 }
 
 /// The moment at a place of a row.
-pub(crate) fn moment_at(row: &Row, at: usize) -> Option<Moment>
+fn moment_at(row: &Row, at: usize) -> Option<Moment>
     ensures { IfSome result (λ moment. IsNumberAt row.now at moment) }
 {
     Moment::new(number_at(row, at)?)
@@ -94,7 +94,7 @@ pub(crate) fn table_rows<S: Alter>(
     ensures mode { connection.new.in_transaction ≡ false }
     ensures named { IfErr result IsStoreRefusal }
 {
-    let mut rows = match rows_of(connection, u32::from(table)) {
+    let mut rows = match rows_of(connection, u32::from(table), Selection::Whole) {
         Ok(rows) => rows,
         Err(error) => return Err(refusal_of(&error)),
     };

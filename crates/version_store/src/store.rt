@@ -1,7 +1,7 @@
 //! The store: what is kept in memory over a connection.
 
 ghost use Rattle.std.specs.Prelude.{◌≡◌, ◌≢◌, ◌⊎◌, ◌<◌, ◌<ℤ◌, ◌≤ℤ◌, ◌++◌, ◌∷◌, [], List};
-ghost use Rattle.std.specs.Prelude.{IfErr, IfOk, IsTrue, OnErr, OnOk, false, length, true};
+ghost use Rattle.std.specs.Prelude.{IfErr, IfOk, IsOk, IsTrue, OnErr, OnOk, false, length, true};
 ghost use Rattle.catalog_core.specs.Limits.{most_tables};
 ghost use Rattle.catalog_core.specs.table.TableWords.{has_date_period, has_distinct_names};
 ghost use Rattle.catalog_core.specs.declared.table.TableDef.{TableDef};
@@ -16,7 +16,7 @@ ghost use Rattle.version_store.specs.Contents.{AreRowsOf, Contents, empty_conten
 ghost use Rattle.version_store.specs.DistinctKeys.{HaveDistinctKeys};
 ghost use Rattle.version_store.specs.GoodStore.{AreGood, AreLawful, HaveTables, IsGoodStore};
 ghost use Rattle.version_store.specs.GoodStore.{NothingMore};
-ghost use Rattle.version_store.specs.Scans.{Visits};
+ghost use Rattle.version_store.specs.Scans.{AnswersRefusal, Visits, is_empty};
 ghost use Rattle.version_store.specs.StoreState.{Changes, IsOpenRefusal, IsOurs, IsStoreRefusal};
 ghost use Rattle.version_store.specs.StoreState.{IsOnlyRead, IsUsable, StoreRepresents};
 ghost use Rattle.version_store.specs.Written.{Has};
@@ -208,6 +208,7 @@ impl<S: Alter> VersionStore<S> {
         ensures added { OnOk result
             (self.new.catalog.tables ≡ self.old.catalog.tables ++ definition ∷ []) }
         ensures none { OnErr result (self.new.catalog.tables ≡ self.old.catalog.tables) }
+        ensures clock { self.new.clock ≡ self.old.clock }
         ensures named { IfErr result IsStoreRefusal }
     {
         let Ok(bytes) = encode_def(alloc, &definition) else {
@@ -233,6 +234,8 @@ impl<S: Alter> VersionStore<S> {
         requires before_the_end { moment <ℤ forever }
         ensures changes { Changes S.Store self.old self.new result (with_clock moment) }
         ensures catalog { self.new.catalog ≡ self.old.catalog }
+        ensures advanced { OnOk result (self.new.clock ≡ moment) }
+        ensures clock { OnErr result (self.new.clock ≡ self.old.clock) }
         ensures named { IfErr result IsStoreRefusal }
     {
         match write_clock(&mut self.connection, moment) {
@@ -258,6 +261,7 @@ impl<S: Alter> VersionStore<S> {
         ensures changes { Changes S.Store self.old self.new result
             (planned table moment plan.now.ended plan.now.added) }
         ensures catalog { self.new.catalog ≡ self.old.catalog }
+        ensures clock { self.new.clock ≡ self.old.clock }
         ensures usable { IsUsable S.Store self.new.connection
             → IsUsable S.Store self.old.connection }
         ensures distinct { IsUsable S.Store self.new.connection
@@ -278,6 +282,7 @@ impl<S: Alter> VersionStore<S> {
             → (c : Contents) → StoreRepresents S.Store self.old c
             → StoreRepresents S.Store self.new c }
         ensures catalog { self.new.catalog ≡ self.old.catalog }
+        ensures clock { self.new.clock ≡ self.old.clock }
         ensures named { IfErr result IsStoreRefusal }
     {
         table_rows(alloc, &mut self.connection, table)
@@ -286,7 +291,7 @@ impl<S: Alter> VersionStore<S> {
     /// Hands the version rows of the table of a number that the window sees over to the visitor,
     /// one at a time: by values, then period start, then system start. A refusal of the visitor
     /// ends the scan and is answered. On `Err` the visitor has been handed some of the first rows.
-    /// Nothing is changed.
+    /// Nothing is changed. An empty window hands over nothing, and the database is not called.
     pub fn scan<V: RowVisitor>(
         &mut self,
         alloc: Global,
@@ -301,6 +306,9 @@ impl<S: Alter> VersionStore<S> {
             → (c : Contents) → StoreRepresents S.Store self.old c
             → StoreRepresents S.Store self.new c }
         ensures read { IsOnlyRead S.Store self.old self.new }
+        ensures empty { is_empty window ≡ true → IsOk result × (self.new ≡ self.old)
+            × (V.meaning visitor.new ≡ V.meaning visitor.old) }
+        ensures answered { AnswersRefusal (V.answered visitor.old) (V.answered visitor.new) result }
         ensures named { IfErr result (λ refusal. IsStoreRefusal refusal ⊎ V.may_refuse refusal) }
     {
         scan_rows(alloc, &mut self.connection, table, window, visitor)

@@ -1,6 +1,7 @@
 //! Who is handed the rows of a scan.
 
 ghost use Rattle.std.specs.Prelude.{◌≡◌, ◌++◌, ◌∷◌, [], List, OnErr, OnOk, IfErr};
+ghost use Rattle.std.specs.Prelude.{None, Option, Some};
 ghost use Rattle.period_core.specs.declared.refusal.Refusal.{Refusal as AnyRefusal};
 ghost use Rattle.period_core.specs.declared.refusal.Refusal.TheVariants.{Memory};
 ghost use Rattle.period_core.specs.declared.version.VersionRow.{VersionRow as AnyRow};
@@ -23,11 +24,17 @@ pub trait RowVisitor {
     /// Which refusals it may answer.
     ghost may_refuse: { AnyRefusal → Type 0 };
 
+    /// What it tells of how it answered last: by a refusal, or by none. One that keeps nothing of it
+    /// tells nothing.
+    ghost answered: { Self → Option AnyRefusal → Type 0 };
+
     /// Takes a row, or refuses it. A refused row leaves the meaning.
     fn visit(&mut self, row: VersionRow) -> Result<(), Refusal>
         ensures taken { OnOk result (meaning self.new ≡ next (meaning self.old) row) }
         ensures refused { OnErr result (meaning self.new ≡ meaning self.old) }
-        ensures named { IfErr result may_refuse };
+        ensures named { IfErr result may_refuse }
+        ensures takes { OnOk result (answered self.new None) }
+        ensures refuses { IfErr result (λ refusal. answered self.new (Some refusal)) };
 }
 
 /// A visitor that keeps all rows, in the order in which it is handed them.
@@ -57,6 +64,8 @@ impl RowVisitor for KeptRows {
     ghost next = { λ rows row. rows ++ row ∷ [] };
 
     ghost may_refuse = { λ refusal. refusal ≡ Memory };
+
+    ghost answered = { λ _ _. Unit {0} };
 
     fn visit(&mut self, row: VersionRow) -> Result<(), Refusal> {
         match self.rows.push(row) {

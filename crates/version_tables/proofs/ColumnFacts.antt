@@ -1,16 +1,34 @@
 -- What the columns of a row say.
-use Rattle.std.proofs.Common.{◌≡◌, ◌<◌, ap, ℕ, ℤ, pos, negsuc, List, [], ◌∷◌, length, IsTrue, false, refl, subst, arith, ◌∙◌}
+use Rattle.std.proofs.Common.{◌≡◌, ◌<◌, ap, ℕ, ℤ, pos, negsuc, List, [], ◌∷◌, length, IsTrue, true, false, refl, subst, arith, ◌∙◌, ◌<ℤ◌}
 use Rattle.std.proofs.lemmas.Int.{ints}
 use Rattle.sqlite_value.specs.Order.{column}
 use Rattle.sqlite.specs.declared.types.Value.{Value}
-use Rattle.sqlite.specs.declared.types.Value.TheVariants.{Int}
+use Rattle.sqlite.specs.declared.types.Value.TheVariants.{Null, Int, Real, Text, Blob}
 use Rattle.sqlite.specs.Order.{Row}
+use Rattle.sqlite.specs.Tree.{rowid}
+use Rattle.sqlite.specs.View.{is_int}
 use Rattle.version_tables.specs.Represents.{Version, version, meta_row, stored}
 use Rattle.version_tables.specs.Good.{IsClock, IsKnown, AreDays, AreMoments, IsGoodParts, SayClock, SaysVersion, IsDefinition}
-use Rattle.version_tables.specs.Rows.{IsNumberAt, AreBytesAt}
+use Rattle.version_tables.specs.Rows.{IsNumberAt, AreBytesAt, Rise}
 
 pub never : {P : Type 0} → IsTrue false → P
 never h = cc
+
+-- a row that begins with an integer
+pub numbered : (row : Row) → is_int (rowid row) ≡ true → (n : ℤ) × IsNumberAt row 0 n
+numbered [] h = absurd cc
+numbered (Null ∷ more) h = absurd cc
+numbered (Int n ∷ more) h = (n, (omega arith, refl))
+numbered (Real x ∷ more) h = absurd cc
+numbered (Text t ∷ more) h = absurd cc
+numbered (Blob b ∷ more) h = absurd cc
+
+pub same_int : (m n : ℤ) (v : Value) → v ≡ Int m → v ≡ Int n → m ≡ n
+same_int m n v p q = cc
+
+-- its integers are those that were read
+pub rise_read : (a b : Row) (low high : ℤ) → IsNumberAt a 0 low → IsNumberAt b 0 high → Rise a b → low <ℤ high
+rise_read a b low high p q h = rw (same_int low h.low _ p.1 h.low_is.1, same_int high h.high _ q.1 h.high_is.1) h.rises
 
 -- ---- the form and the clock
 
@@ -84,9 +102,6 @@ says_version clock tables row table values start end from to width a b c d e f k
     let v = version n.0 values start end from to in
     let same : row ≡ stored v = cc in
     (v, same, record { known = subst (IsKnown tables) n.1 known; days = days; moments = moments })
-
-same_int : (m n : ℤ) (v : Value) → v ≡ Int m → v ≡ Int n → m ≡ n
-same_int m n v p q = cc
 
 pub good_parts : (clock : ℤ) (tables : ℕ) (row : Row) (table start end from to : ℤ) → IsNumberAt row 0 table → IsNumberAt row 2 start → IsNumberAt row 3 end → IsNumberAt row 4 from → IsNumberAt row 5 to
     → SaysVersion clock tables row → IsGoodParts clock tables table start end from to

@@ -1,10 +1,9 @@
 -- A query whose rows are given one at a time.
-use Rattle.std.proofs.Common.{◌≡◌, ◌⊎◌, ◌∙◌, ap, ℕ, pos, List, [], ◌∷◌, ◌++◌, Option, Some, None, Ok, Err, Result, OnErr, OnOk, IfOk, IfErr, inl, inr, refl, sym, subst, arith, IsTrue, false}
+use Rattle.std.proofs.Common.{◌≡◌, ◌⊎◌, ◌∙◌, ap, ℕ, List, [], ◌∷◌, ◌++◌, Option, Some, None, Ok, Err, Result, OnErr, OnOk, IfOk, IfErr, inl, inr, refl, sym, subst, arith, IsTrue, false}
 use Rattle.sqlite.specs.Store.{Ghosts}
 use Rattle.sqlite.specs.Order.{Row}
 use Rattle.sqlite.specs.Tree.{Trees}
 use Rattle.sqlite.specs.Schema.{Schema}
-use Rattle.sqlite.specs.declared.types.Value.TheVariants.{Int}
 use Rattle.sqlite.specs.declared.error.Error.{Error}
 use Rattle.sqlite.specs.Held.{Held, state}
 use Rattle.sqlite.specs.Given.{Advances, HasBegun, HasGiven, IsRefused, Returns}
@@ -15,7 +14,8 @@ use Rattle.sqlite.proofs.Callers.{EndsIn, begins_shown, command_of, given_begin,
 use Rattle.sqlite.proofs.StateLemmas.{unchanged}
 use Rattle.sqlite_resolve.specs.declared.compiled.Compiled.{Compiled}
 use Rattle.sqlite_resolve.specs.declared.error.CompileError.{CompileError}
-use Rattle.version_tables.specs.Texts.{select_text}
+use Rattle.version_tables.specs.Selections.{select_given, select_text}
+use Rattle.version_tables.specs.declared.selection.Selection.{Selection}
 use Rattle.version_tables.specs.Represents.{Records, Represents}
 use Rattle.version_tables.specs.Giving.{AreFirst, GivesNext, HasGivenRows, IsLeft}
 use Rattle.version_tables.specs.Steps.{Keeps}
@@ -24,42 +24,46 @@ use Rattle.version_tables.proofs.Selects.{failed_keeps, select_reads, understood
 use Rattle.version_tables.proofs.Shows.{reads}
 use Rattle.version_tables.proofs.Texts.{select_is}
 
-never_returns : (schema : Schema) (r : Result Compiled CompileError) → understood schema select_text ≡ r → ¬ Returns r
-never_returns schema (Ok c) is some = absurd (let e = rw (understood_none schema select_text select_reads c is) at some in cc)
-never_returns schema (Err e) is some = some
+never_returns : (selection : Selection) (schema : Schema) (r : Result Compiled CompileError) → understood schema (select_text selection) ≡ r → ¬ Returns r
+never_returns selection schema (Ok c) is some = absurd (let e = rw (understood_none schema (select_text selection) (select_reads selection) c is) at some in cc)
+never_returns selection schema (Err e) is some = some
 
 -- the query has no recursion
-ends_alone : (s : State) (m : Records) → Represents s.now m → (c : Compiled) → understood s.now.schema select_text ≡ Ok c → (db : Database) (params : Row) → EndsIn c.command db params
-ends_alone s m stands c is db params =
-    let known : command_of (understood store_schema select_text) ≡ c.command = ap (λ schema. command_of (understood schema select_text)) (sym stands.schema) ∙ ap command_of is in
-    subst (λ command. EndsIn command db params) (sym select_is.0 ∙ known) tt
+ends_alone : (selection : Selection) (s : State) (m : Records) → Represents s.now m → (c : Compiled) → understood s.now.schema (select_text selection) ≡ Ok c → (db : Database) (params : Row) → EndsIn c.command db params
+ends_alone selection s m stands c is db params =
+    let text = select_text selection in
+    let known : command_of (understood store_schema text) ≡ c.command = ap (λ schema. command_of (understood schema text)) (sym stands.schema) ∙ ap command_of is in
+    subst (λ command. EndsIn command db params) (sym (select_is selection).0 ∙ known) tt
 
 as_it_was : {a b : State} → IsUnchanged a b → Keeps a b
 as_it_was same = record { was_open = λ _. same.0.was_open; now = λ _. same.0.now_is; committed = λ _. same.0.committed_is }
 
-module _ {S : Type 0} (g : Ghosts S) (table : ℕ) (first : Held S) where
+module _ {S : Type 0} (g : Ghosts S) (table : ℕ) (selection : Selection) (first : Held S) where
+  abbrev text : List ℕ
+  text = select_text selection
+
   abbrev params : Row
-  params = Int (pos table) ∷ []
+  params = select_given table selection
 
   abbrev IsSettled : Type 0
   IsSettled = IsTrue (state g first).is_open → (state g first).now ≡ (state g first).committed
 
   -- ---- the start
 
-  begins : (now : Held S) → HasBegun g select_text params first now → HasGiven g select_text params now [] × IsUnchanged (state g first) (state g now)
+  begins : (now : Held S) → HasBegun g text params first now → HasGiven g text params now [] × IsUnchanged (state g first) (state g now)
   begins now (inl h) = h
-  begins now (inr h) = absurd (never_returns first.schema _ refl h.0)
+  begins now (inr h) = absurd (never_returns selection first.schema _ refl h.0)
 
   -- the rows so far are the first
-  are_first : (now : Held S) (given : List Row) → HasGiven g select_text params now given → IsUnchanged (state g first) (state g now) → AreFirst (state g first).now table given
+  are_first : (now : Held S) (given : List Row) → HasGiven g text params now given → IsUnchanged (state g first) (state g now) → AreFirst (state g first).now table selection given
   are_first now given h same m stands =
       let s = state g now in
       let stands_now : Represents s.now m = subst (λ db. Represents db m) (sym same.0.now_is) stands in
-      let whole = begins_shown select_text params s s given (given_begin g select_text params now given h) (unchanged s same.0.is_open) (λ c db it _. ends_alone s m stands_now c it.is db _) in
-      (whole.0, reads s s table (given ++ whole.0) m stands_now whole.1)
+      let whole = begins_shown text params s s given (given_begin g text params now given h) (unchanged s same.0.is_open) (λ c db it _. ends_alone selection s m stands_now c it.is db _) in
+      (whole.0, reads s s table selection (given ++ whole.0) m stands_now whole.1)
 
   goes_on : (now : Held S) (given : List Row) → IsSettled → now.in_transaction ≡ false → (HasCleanDisk (state g now) → HasCleanDisk (state g first))
-      → (HasCleanDisk (state g now) → HasGiven g select_text params now given × IsUnchanged (state g first) (state g now)) → HasGivenRows g table first now given
+      → (HasCleanDisk (state g now) → HasGiven g text params now given × IsUnchanged (state g first) (state g now)) → HasGivenRows g table selection first now given
   goes_on now given settled mode clean h = record {
     rows = λ sure. let it = h sure in are_first now given it.0 it.1;
     left = record { clean = clean; keeps = λ sure. as_it_was (h sure).1; mode = mode };
@@ -68,35 +72,35 @@ module _ {S : Type 0} (g : Ghosts S) (table : ℕ) (first : Held S) where
     settled = settled;
   }
 
-  pub given_none : {X : Type 0} (of : X → Held S) (P : X → Trees → Type 0) (r : Result X Error) → IsSettled → IfOk r (λ x. HasCleanDisk (state g (of x)) → HasBegun g select_text params first (of x))
-      → IfOk r (λ x. Survives (state g first) (state g (of x)) (P x)) → IfOk r (λ x. (of x).in_transaction ≡ false) → IfOk r (λ x. HasGivenRows g table first (of x) [])
+  pub given_none : {X : Type 0} (of : X → Held S) (P : X → Trees → Type 0) (r : Result X Error) → IsSettled → IfOk r (λ x. HasCleanDisk (state g (of x)) → HasBegun g text params first (of x))
+      → IfOk r (λ x. Survives (state g first) (state g (of x)) (P x)) → IfOk r (λ x. (of x).in_transaction ≡ false) → IfOk r (λ x. HasGivenRows g table selection first (of x) [])
   given_none of P (Err e) settled begun survives mode = tt
   given_none of P (Ok x) settled begun survives mode = goes_on (of x) [] settled mode (λ clean. let kept = survives.clean in omega arith) (λ clean. begins (of x) (begun clean))
 
-  pub left : {X : Type 0} (now : Held S) → first.in_transaction ≡ false → IsSettled → (r : Result X Error) → OnErr r (IsRefused g select_text params first r now) → OnErr r (IsLeft g first now)
+  pub left : {X : Type 0} (now : Held S) → first.in_transaction ≡ false → IsSettled → (r : Result X Error) → OnErr r (IsRefused g text params first r now) → OnErr r (IsLeft g first now)
   left now mode settled (Ok x) h = tt
   left now mode settled (Err e) h = record {
     clean = λ clean. let kept = h.survives.clean in omega arith;
-    keeps = λ clean. failed_keeps select_text select_reads params (state g first) (state g now) settled e (h.err clean);
+    keeps = λ clean. failed_keeps text (select_reads selection) params (state g first) (state g now) settled e (h.err clean);
     mode = h.mode mode;
   }
 
   -- ---- a row more, or the end
 
-  module _ (before now : Held S) (given : List Row) (was : HasGivenRows g table first before given) (survives : Survives (state g before) (state g now) (λ _. ⊥)) (mode : before.in_transaction ≡ false → now.in_transaction ≡ false) where
+  module _ (before now : Held S) (given : List Row) (was : HasGivenRows g table selection first before given) (survives : Survives (state g before) (state g now) (λ _. ⊥)) (mode : before.in_transaction ≡ false → now.in_transaction ≡ false) where
     still_clean : HasCleanDisk (state g now) → HasCleanDisk (state g before)
     still_clean clean = let kept = survives.clean in omega arith
 
     same_so_far : HasCleanDisk (state g now) → IsUnchanged (state g before) (state g now) → IsUnchanged (state g first) (state g now)
     same_so_far clean same = unchanged_then (state g first) (state g before) (state g now) (was.unchanged (still_clean clean)) same
 
-    gives : (next : Option Row) → (HasCleanDisk (state g now) → Advances g before now next) → (HasCleanDisk (state g now) → IsUnchanged (state g before) (state g now)) → GivesNext g table first now given next
+    gives : (next : Option Row) → (HasCleanDisk (state g now) → Advances g before now next) → (HasCleanDisk (state g now) → IsUnchanged (state g before) (state g now)) → GivesNext g table selection first now given next
     gives (Some row) ok same =
-        goes_on now (given ++ row ∷ []) was.settled (mode was.left.mode) (λ clean. was.left.clean (still_clean clean)) (λ clean. (ok clean select_text params given (was.goes_on (still_clean clean)), same_so_far clean (same clean)))
+        goes_on now (given ++ row ∷ []) was.settled (mode was.left.mode) (λ clean. was.left.clean (still_clean clean)) (λ clean. (ok clean text params given (was.goes_on (still_clean clean)), same_so_far clean (same clean)))
     gives None ok same = record {
       rows = λ clean m stands.
           let so_far = was.unchanged (still_clean clean) in
-          reads (state g before) (state g now) table given m (subst (λ db. Represents db m) (sym so_far.0.now_is) stands) (ok clean select_text params given (was.goes_on (still_clean clean)));
+          reads (state g before) (state g now) table selection given m (subst (λ db. Represents db m) (sym so_far.0.now_is) stands) (ok clean text params given (was.goes_on (still_clean clean)));
       left = record { clean = λ clean. was.left.clean (still_clean clean); keeps = λ clean. as_it_was (same_so_far clean (same clean)); mode = mode was.left.mode };
     }
 
@@ -113,7 +117,7 @@ module _ {S : Type 0} (g : Ghosts S) (table : ℕ) (first : Held S) where
     keeps e (inr same) clean = as_it_was (same_so_far clean same)
 
     pub gives_next : {X : Type 0} (next : Option Row) (r : Result X Error) → (HasCleanDisk (state g now) → OnOk r (Advances g before now next)) → (HasCleanDisk (state g now) → OnOk r (IsUnchanged (state g before) (state g now)))
-        → OnOk r (GivesNext g table first now given next)
+        → OnOk r (GivesNext g table selection first now given next)
     gives_next next (Ok x) ok same = gives next ok same
     gives_next next (Err e) ok same = tt
 

@@ -16,7 +16,7 @@ use Rattle.sqlite.specs.Tree.{rowid, IsTable}
 use Rattle.sqlite.specs.View.{is_int}
 use Rattle.std.proofs.lemmas.Int.{ints}
 use Rattle.version_tables.specs.Represents.{rowid_shown, table_shown, defined, tied, AreUntied}
-use Rattle.version_tables.specs.Rows.{IsNumberAt, AreNumbered, AreRising, InOrder, by_rowid}
+use Rattle.version_tables.specs.Rows.{AreNumbered, AreRising, InOrder, Rise, by_rowid}
 use Rattle.version_tables.proofs.Goes.{untied_along, tied_turned}
 
 -- ---- lists
@@ -113,13 +113,19 @@ definitions_in_order tree tables ds order says =
 
 -- ---- rowids
 
+rises_by : (a b : Row) → Rise a b → by_rowid a b ≡ Less
+rises_by a b h = rw (h.low_is.1, h.high_is.1) (value_cmp-Int h.low h.high ∙ int_less h.low h.high h.rises)
+  where
+    int_less : (m n : ℤ) → m <ℤ n → int_cmp m n ≡ Less
+    int_less m n h = grind (arith, nat_tests, ints)
+
 rising_table : (rows : List Row) → AreRising rows → IsTable rows
 rising_table [] up = tt
 rising_table (x ∷ []) up = (tt, tt)
 rising_table (x ∷ y ∷ rows) up =
     let next : (k : ℕ) → suc k + 1 ≡ suc (k + 1) = λ k. omega arith in
-    let rest = rising_table (y ∷ rows) (λ k low. subst (λ (n : ℕ). by_rowid (get_or (y ∷ rows) k []) (get_or (x ∷ y ∷ rows) n []) ≡ Less) (next k) (up (suc k) (omega arith))) in
-    let first : by_rowid x y ≡ Less = up 0 (omega arith) in
+    let rest = rising_table (y ∷ rows) (λ k low. subst (λ (n : ℕ). Rise (get_or (y ∷ rows) k []) (get_or (x ∷ y ∷ rows) n [])) (next k) (up (suc k) (omega arith))) in
+    let first : by_rowid x y ≡ Less = rises_by x y (up 0 (omega arith)) in
     ((first, all_weaker (λ r. by_rowid y r ≡ Less) (λ r. by_rowid x r ≡ Less) (λ r below. value_cmp_total.trans _ _ _ first below) rows rest.0), rest)
 
 pub own_rowids : (tree ids : List Row) → IsPermutation (map rowid_shown tree) ids → AreNumbered ids → AreRising ids → AreUntied tree × AllByRecursion (λ r. is_int (rowid r) ≡ true) tree
@@ -128,9 +134,3 @@ own_rowids tree ids same ints up =
       ascending_from_map (λ a b. tied a b ≡ false) rowid_shown tree (untied_along _ _ back (table_untied ids (rising_table ids up))),
       all_from_map (λ r. is_int (rowid r) ≡ true) rowid_shown tree (all-permutation (λ r. is_int (rowid r) ≡ true) _ _ back (all_by_place (λ r. is_int (rowid r) ≡ true) [] ids ints)),
     )
-
-pub rises_by : (a b : Row) (m n : ℤ) → IsNumberAt a 0 m → IsNumberAt b 0 n → m <ℤ n → by_rowid a b ≡ Less
-rises_by a b m n p q less = rw (p.1, q.1) (value_cmp-Int m n ∙ int_less m n less)
-  where
-    int_less : (m n : ℤ) → m <ℤ n → int_cmp m n ≡ Less
-    int_less m n h = grind (arith, nat_tests, ints)

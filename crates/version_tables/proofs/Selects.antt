@@ -13,7 +13,10 @@ use Rattle.sqlite_resolve.specs.Lowering.{Checked, and_then}
 use Rattle.sqlite_resolve.specs.declared.compiled.Compiled.{Compiled}
 use Rattle.sqlite_syntax.specs.declared.statement.Parsed.{Parsed}
 use Rattle.sqlite_tied.specs.Compute.{everything}
-use Rattle.version_tables.specs.Texts.{select_text, meta_rows_text, table_rows_text, version_rows_text, rowids_text}
+use Rattle.version_tables.specs.Texts.{whole_text, ending_text, overlapping_text, meta_rows_text, table_rows_text, version_rows_text, rowids_text}
+use Rattle.version_tables.specs.Selections.{select_text}
+use Rattle.version_tables.specs.declared.selection.Selection.{Selection}
+use Rattle.version_tables.specs.declared.selection.Selection.TheVariants.{Whole, EndingAt, Overlapping}
 use Rattle.version_tables.specs.Steps.{Keeps}
 
 -- ---- what is parsed has no RETURNING
@@ -25,9 +28,22 @@ NamesNothing (Err e) = Unit {0}
 abbrev pub IsQueryText : List ℕ → Type 0
 IsQueryText sql = NamesNothing (first sql)
 
-pub select_reads : IsQueryText select_text
+whole_reads : IsQueryText whole_text
 unfolding first everything
-select_reads schema base = refl
+whole_reads schema base = refl
+
+ending_reads : IsQueryText ending_text
+unfolding first everything
+ending_reads schema base = refl
+
+overlapping_reads : IsQueryText overlapping_text
+unfolding first everything
+overlapping_reads schema base = refl
+
+pub select_reads : (selection : Selection) → IsQueryText (select_text selection)
+select_reads Whole = whole_reads
+select_reads (EndingAt end) = ending_reads
+select_reads (Overlapping start end) = overlapping_reads
 
 pub meta_reads : IsQueryText meta_rows_text
 unfolding first everything

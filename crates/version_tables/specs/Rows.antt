@@ -1,8 +1,8 @@
 -- What the rows that a query answers are read as.
-use Rattle.std.specs.Prelude.{◌≡◌, true, ℕ, ◌<◌, ℤ, List, [], ◌+◌, map, length, slice_index_or}
+use Rattle.std.specs.Prelude.{◌≡◌, true, ℕ, ◌<◌, ℤ, ◌<ℤ◌, List, [], ◌+◌, map, length}
+use Rattle.std.specs.Prelude.{slice_index_or}
 use Rattle.std.specs.Prelude.{IsPermutation, IsSorted}
 use Rattle.std.specs.declared.cmp.Ordering.{Ordering}
-use Rattle.std.specs.declared.cmp.Ordering.TheVariants.{Less}
 use Rattle.sqlite.specs.View.{is_int}
 use Rattle.sqlite_value.specs.Order.{column, value_cmp}
 use Rattle.sqlite.specs.Tree.{rowid}
@@ -31,11 +31,19 @@ abbrev pub AreNumbered : List Row → Type 0
 AreNumbered rows =
     (k : ℕ) → k < length rows → is_int (rowid (slice_index_or rows k [])) ≡ true
 
--- each row begins with a greater value than the row before it
+-- both rows begin with integers, the second with the greater one
+pub record Rise (first second : Row) : Type 0 where
+  pub low : ℤ
+  pub high : ℤ
+  pub low_is : IsNumberAt first 0 low
+  pub high_is : IsNumberAt second 0 high
+  pub rises : low <ℤ high
+
+-- each row and the row behind it rise
 abbrev pub AreRising : List Row → Type 0
 AreRising rows =
     (k : ℕ) → k + 1 < length rows
-    → by_rowid (slice_index_or rows k []) (slice_index_or rows (k + 1) []) ≡ Less
+    → Rise (slice_index_or rows k []) (slice_index_or rows (k + 1) [])
 
 -- ---- the key of bt_version
 

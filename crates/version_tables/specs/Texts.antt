@@ -61,8 +61,21 @@ eight_text = four_text
 
 -- ---- the queries
 
-abbrev pub select_text : List ℕ
-select_text = codes "SELECT vals, s, e, ss, se FROM bt_version WHERE tab = ?1 ORDER BY vals, s, ss"
+-- The versions of a table: all of them, those whose system time ends at a moment, and those whose
+-- system time ends after one moment and begins before another.
+
+abbrev pub whole_text : List ℕ
+whole_text = codes "SELECT vals, s, e, ss, se FROM bt_version WHERE tab = ?1 ORDER BY vals, s, ss"
+
+abbrev pub ending_text : List ℕ
+ending_text =
+    codes "SELECT vals, s, e, ss, se FROM bt_version WHERE tab = ?1 AND se = ?2 "
+    ++ codes "ORDER BY vals, s, ss"
+
+abbrev pub overlapping_text : List ℕ
+overlapping_text =
+    codes "SELECT vals, s, e, ss, se FROM bt_version WHERE tab = ?1 AND ss < ?3 AND ?2 < se "
+    ++ codes "ORDER BY vals, s, ss"
 
 abbrev pub meta_rows_text : List ℕ
 meta_rows_text = codes "SELECT id, form, clock FROM bt_meta ORDER BY id"

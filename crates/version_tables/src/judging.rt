@@ -1,14 +1,13 @@
 //! The tests of the rows that the queries answer: by their kinds and numbers, and not by what their
 //! bytes are.
 
-ghost use Rattle.std.specs.Prelude.{◌≡◌, ◌↔◌, ◌∷◌, [], ℤ, IsTrue, MatchOption};
-ghost use Rattle.std.specs.declared.cmp.Ordering.{Ordering};
+ghost use Rattle.std.specs.Prelude.{◌↔◌, ◌∷◌, [], ℤ, IsTrue, MatchOption};
 ghost use Rattle.period_core.specs.Calendar.{IsDayNumber};
 ghost use Rattle.period_core.specs.Moments.{IsMomentNumber};
 ghost use Rattle.version_tables.specs.Good.{AreDays, AreMoments, IsClock, IsDefinition, IsKnown};
 ghost use Rattle.version_tables.specs.Good.{IsPast, SayClock, SaysVersion};
 ghost use Rattle.version_tables.specs.Rows.{AreNumbered, AreRising, HaveOneKey, RepeatKey};
-ghost use Rattle.version_tables.specs.Rows.{ShareBytes, ShareNumber, by_rowid};
+ghost use Rattle.version_tables.specs.Rows.{Rise, ShareBytes, ShareNumber};
 
 use crate::columns::{bytes_at, number_at};
 use period_core::{Day, Moment};
@@ -149,7 +148,7 @@ pub fn is_version(row: &Row, clock: i64, tables: u32) -> bool
 
 /// Whether each row begins with an integer.
 pub fn are_numbered(rows: &[Row]) -> bool
-    ensures { IsTrue result → AreNumbered rows.now }
+    ensures { IsTrue result ↔ AreNumbered rows.now }
 {
     for row in rows {
         if number_at(row, 0).is_none() {
@@ -161,7 +160,7 @@ pub fn are_numbered(rows: &[Row]) -> bool
 
 /// Whether both rows begin with integers, and the second with the greater one.
 fn rises(first: &Row, second: &Row) -> bool
-    ensures { IsTrue result → by_rowid first.now second.now ≡ Ordering.Less }
+    ensures { IsTrue result ↔ Rise first.now second.now }
 {
     let Some(low) = number_at(first, 0) else {
         return false;
@@ -174,7 +173,7 @@ fn rises(first: &Row, second: &Row) -> bool
 
 /// Whether each row begins with an integer that is greater than that of the row before it.
 pub fn are_rising(rows: &[Row]) -> bool
-    ensures { IsTrue result → AreRising rows.now }
+    ensures { IsTrue result ↔ AreRising rows.now }
 {
     for at in 1..rows.len() {
         if !rises(&rows[at - 1], &rows[at]) {

@@ -14,38 +14,56 @@ ghost use Rattle.version_tables.specs.Represents.{meta_shown, rowid_shown, table
 ghost use Rattle.version_tables.specs.Represents.{version_shown};
 ghost use Rattle.version_tables.specs.Rows.{InOrder, by_rowid};
 ghost use Rattle.version_tables.specs.Steps.{OnlyReads, Tells};
+ghost use Rattle.version_tables.specs.declared.selection.Selection.{Selection as AnySelection};
 
+use crate::selection::Selection;
 use sqlite::{Alter, Connection, Error, Row, Rows, params};
 
-/// The query of the versions of the table of a number, which gives one row at a time: by values,
-/// then period start, then system start. A row has the values' bytes, the two days and the two
-/// moments.
-pub fn rows_of<S: Alter>(connection: &mut Connection<S>, table: u32) -> Result<Rows<'_, S>, Error>
+/// The query of the selected versions of the table of a number, which gives one row at a time: by
+/// values, then period start, then system start. A row has the values' bytes, the two days and the
+/// two moments.
+pub fn rows_of<S: Alter>(
+    connection: &mut Connection<S>,
+    table: u32,
+    selection: Selection,
+) -> Result<Rows<'_, S>, Error>
     requires { connection.old.in_transaction ≡ false }
     ensures* refused { sem 𝓛 (RestsIfErr (the_row S.row S.Store) connection.entry
         (λ rows. rows.conn.ghost_name) result (IsLeft S.Store connection.old)) }
     ensures same_reference { IfOk result
         (λ rows. rows.conn.ghost_name ≡ connection.entry.ghost_name) }
     ensures begun { IfOk result
-        (λ rows. HasGivenRows S.Store table connection.old rows.conn.now []) }
+        (λ rows. HasGivenRows S.Store table selection connection.old rows.conn.now []) }
     ensures mode { IfOk result (λ rows. rows.conn.now.in_transaction ≡ false) }
 {
     let _settled = connection.is_autocommit();
-    connection.query(
-        "SELECT vals, s, e, ss, se FROM bt_version WHERE tab = ?1 ORDER BY vals, s, ss",
-        params![table],
-    )
+    match selection {
+        Selection::Whole => connection.query(
+            "SELECT vals, s, e, ss, se FROM bt_version WHERE tab = ?1 ORDER BY vals, s, ss",
+            params![table],
+        ),
+        Selection::EndingAt(end) => connection.query(
+            "SELECT vals, s, e, ss, se FROM bt_version WHERE tab = ?1 AND se = ?2 \
+             ORDER BY vals, s, ss",
+            params![table, end],
+        ),
+        Selection::Overlapping(start, end) => connection.query(
+            "SELECT vals, s, e, ss, se FROM bt_version WHERE tab = ?1 AND ss < ?3 AND ?2 < se \
+             ORDER BY vals, s, ss",
+            params![table, start, end],
+        ),
+    }
 }
 
 /// Moves to the next row of that query, or past the last. An error ends the query.
 pub fn to_next_row<S: Alter>(rows: &mut Rows<'_, S>) -> Result<(), Error>
     ensures same_reference { rows.new.conn.ghost_name ≡ rows.old.conn.ghost_name }
-    ensures gives { (table : ℕ) (first : Held S) (given : List Values)
-        → HasGivenRows S.Store table first rows.old.conn.now given
-        → OnOk result (GivesNext S.Store table first rows.new.conn.now given
+    ensures gives { (table : ℕ) (selection : AnySelection) (first : Held S) (given : List Values)
+        → HasGivenRows S.Store table selection first rows.old.conn.now given
+        → OnOk result (GivesNext S.Store table selection first rows.new.conn.now given
         (row_if rows.new.has_row rows.new.conn.now)) }
-    ensures left { (table : ℕ) (first : Held S) (given : List Values)
-        → HasGivenRows S.Store table first rows.old.conn.now given
+    ensures left { (table : ℕ) (selection : AnySelection) (first : Held S) (given : List Values)
+        → HasGivenRows S.Store table selection first rows.old.conn.now given
         → OnErr result (IsLeft S.Store first rows.new.conn.now) }
     ensures clean { HasCleanDisk (state S.Store rows.new.conn.now)
         → HasCleanDisk (state S.Store rows.old.conn.now) }

@@ -1,15 +1,17 @@
-//! Rotations, which keep a tree low and its rows as they are. No contract speaks of heights: a tree
-//! out of balance would be slow, and not wrong.
+//! Rotations, which keep a tree balanced and its rows as they are.
 
-ghost use Rattle.std.specs.Prelude.{◌≡◌, ◌∷◌, ◌++◌, []};
+ghost use Rattle.std.specs.Prelude.{◌≡◌, ◌+◌, ◌≤◌, ◌∷◌, ◌++◌, max};
+ghost use Rattle.ordered_rows.specs.Forks.{fork_tree};
+ghost use Rattle.ordered_rows.specs.Heights.{DifferByAtMost, GrowsByAtMostOne, IsSettled};
 
 use super::{Fork, Link, Tree};
 
 impl Tree {
-    /// A fork as a tree, with a new left side that is balanced, and as high as the old one or one
-    /// higher or lower.
+    /// A fork as a tree, with a new left side.
     pub(super) fn with_left(mut fork: Box<Fork>, left: Tree) -> Tree
-        ensures { result ≡ left ++ fork.value.row ∷ fork.value.right }
+        requires { DifferByAtMost 2 left.height fork.value.right.height }
+        ensures rows { result.rows ≡ left.rows ++ fork.value.row ∷ fork.value.right.rows }
+        ensures height { IsSettled left.height fork.value.right.height result.height }
     {
         fork.left = left;
         Tree::balanced(fork)
@@ -17,20 +19,23 @@ impl Tree {
 
     /// The same on the right.
     pub(super) fn with_right(mut fork: Box<Fork>, right: Tree) -> Tree
-        ensures { result ≡ fork.value.left ++ fork.value.row ∷ right }
+        requires { DifferByAtMost 2 fork.value.left.height right.height }
+        ensures rows { result.rows ≡ fork.value.left.rows ++ fork.value.row ∷ right.rows }
+        ensures height { IsSettled fork.value.left.height right.height result.height }
     {
         fork.right = right;
         Tree::balanced(fork)
     }
 
-    /// A fork as a tree. Its sides are balanced, and their heights differ by two at most.
+    /// A fork as a tree.
     fn balanced(fork: Box<Fork>) -> Tree
-        ensures { result ≡ fork.value.left ++ fork.value.row ∷ fork.value.right }
+        requires { DifferByAtMost 2 fork.value.left.height fork.value.right.height }
+        ensures rows { result.rows ≡ (fork_tree fork.value).rows }
+        ensures height { IsSettled fork.value.left.height fork.value.right.height result.height }
     {
-        let (left, right) = (fork.left.height(), fork.right.height());
-        if left > right.saturating_add(1) {
+        if fork.left.is_higher(&fork.right, 2) {
             Tree::turned_right(fork)
-        } else if right > left.saturating_add(1) {
+        } else if fork.right.is_higher(&fork.left, 2) {
             Tree::turned_left(fork)
         } else {
             Tree::joined(fork)
@@ -39,16 +44,15 @@ impl Tree {
 
     /// The same where the left side is higher by two.
     fn turned_right(mut lower: Box<Fork>) -> Tree
-        ensures { result ≡ lower.value.left ++ lower.value.row ∷ lower.value.right }
+        requires { lower.value.left.height ≡ lower.value.right.height + 2 }
+        ensures rows { result.rows ≡ (fork_tree lower.value).rows }
+        ensures height { GrowsByAtMostOne lower.value.left.height result.height }
     {
         let left = lower.left.take();
-        let Link::Fork(_, _, mut upper) = left.root else {
-            return Tree::joined(lower);
+        let Link::Fork(_, _, upper) = left.root else {
+            unreachable!()
         };
-        if upper.right.height() > upper.left.height() {
-            let middle = upper.right.take();
-            upper = Tree::risen_right(upper, middle);
-        }
+        let mut upper = Tree::leaning_left(upper);
         lower.left = upper.right.take();
         upper.right = Tree::joined(lower);
         Tree::joined(upper)
@@ -56,43 +60,56 @@ impl Tree {
 
     /// The same where the right side is higher by two.
     fn turned_left(mut lower: Box<Fork>) -> Tree
-        ensures { result ≡ lower.value.left ++ lower.value.row ∷ lower.value.right }
+        requires { lower.value.right.height ≡ lower.value.left.height + 2 }
+        ensures rows { result.rows ≡ (fork_tree lower.value).rows }
+        ensures height { GrowsByAtMostOne lower.value.right.height result.height }
     {
         let right = lower.right.take();
-        let Link::Fork(_, _, mut upper) = right.root else {
-            return Tree::joined(lower);
+        let Link::Fork(_, _, upper) = right.root else {
+            unreachable!()
         };
-        if upper.left.height() > upper.right.height() {
-            let middle = upper.left.take();
-            upper = Tree::risen_left(upper, middle);
-        }
+        let mut upper = Tree::leaning_right(upper);
         lower.right = upper.left.take();
         upper.left = Tree::joined(lower);
         Tree::joined(upper)
     }
 
-    // The fork of the middle, which was taken from the right of the upper one, above that.
-    fn risen_right(mut upper: Box<Fork>, middle: Tree) -> Box<Fork>
-        requires { upper.value.right ≡ [] }
-        ensures { result.value.left ++ result.value.row ∷ result.value.right
-            ≡ upper.value.left ++ upper.value.row ∷ middle }
+    // The fork, or where its right side is the higher, the fork of that above it.
+    fn leaning_left(mut upper: Box<Fork>) -> Box<Fork>
+        requires { DifferByAtMost 1 upper.value.left.height upper.value.right.height }
+        ensures rows { (fork_tree result.value).rows ≡ (fork_tree upper.value).rows }
+        ensures left { result.value.left.height
+            ≡ max upper.value.left.height upper.value.right.height }
+        ensures right { DifferByAtMost 2 result.value.right.height result.value.left.height
+            × (result.value.right.height ≤ result.value.left.height) }
     {
-        let Link::Fork(_, _, mut middle) = middle.root else {
+        if !upper.right.is_higher(&upper.left, 1) {
             return upper;
+        }
+        let right = upper.right.take();
+        let Link::Fork(_, _, mut middle) = right.root else {
+            unreachable!()
         };
         upper.right = middle.left.take();
         middle.left = Tree::joined(upper);
         middle
     }
 
-    // The same with the middle from the left.
-    fn risen_left(mut upper: Box<Fork>, middle: Tree) -> Box<Fork>
-        requires { upper.value.left ≡ [] }
-        ensures { result.value.left ++ result.value.row ∷ result.value.right
-            ≡ middle ++ upper.value.row ∷ upper.value.right }
+    // The same with the sides changed.
+    fn leaning_right(mut upper: Box<Fork>) -> Box<Fork>
+        requires { DifferByAtMost 1 upper.value.left.height upper.value.right.height }
+        ensures rows { (fork_tree result.value).rows ≡ (fork_tree upper.value).rows }
+        ensures right { result.value.right.height
+            ≡ max upper.value.left.height upper.value.right.height }
+        ensures left { DifferByAtMost 2 result.value.left.height result.value.right.height
+            × (result.value.left.height ≤ result.value.right.height) }
     {
-        let Link::Fork(_, _, mut middle) = middle.root else {
+        if !upper.left.is_higher(&upper.right, 1) {
             return upper;
+        }
+        let left = upper.left.take();
+        let Link::Fork(_, _, mut middle) = left.root else {
+            unreachable!()
         };
         upper.left = middle.right.take();
         middle.right = Tree::joined(upper);

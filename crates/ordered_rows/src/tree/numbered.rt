@@ -1,9 +1,10 @@
 //! Rows by their number, the first is 0: a look at one, and edits in place.
 
 ghost use Rattle.std.specs.Prelude.{◌≡◌, ◌∷◌, ◌++◌, ◌+◌, ◌<◌, ◌≤◌, []};
-ghost use Rattle.std.specs.Prelude.{MatchOption, drop, length, slice_set};
+ghost use Rattle.std.specs.Prelude.{MatchOption, drop, length, max, slice_set};
 ghost use Rattle.ordered_rows.specs.Edits.{inserted, removed};
 ghost use Rattle.ordered_rows.specs.Forks.{most};
+ghost use Rattle.ordered_rows.specs.Heights.{DifferByAtMost, GrowsByAtMostOne};
 
 use super::{Fork, Link, Tree};
 use crate::kept::KeptRow;
@@ -14,8 +15,8 @@ impl Tree {
     /// The row with this number, if there is one.
     pub(crate) fn nth(&self, at: u32) -> Option<&KeptRow>
         requires { at < most }
-        ensures { MatchOption result (length self.now ≤ at)
-            (λ row. drop at self.now ≡ row.now ∷ drop (at + 1) self.now) }
+        ensures { MatchOption result (length self.now.rows ≤ at)
+            (λ row. drop at self.now.rows ≡ row.now ∷ drop (at + 1) self.now.rows) }
     {
         let Link::Fork(_, _, fork) = &self.root else {
             return None;
@@ -32,7 +33,8 @@ impl Tree {
     /// The row of a fork before the row with this number. The fork becomes one of the tree's.
     pub(crate) fn inserted(self, at: u32, mut new: Box<Fork>) -> Tree
         requires { at < most }
-        ensures { result ≡ inserted at new.value.row self }
+        ensures rows { result.rows ≡ inserted at new.value.row self.rows }
+        ensures height { GrowsByAtMostOne self.height result.height }
     {
         let Link::Fork(_, _, mut fork) = self.root else {
             new.left = Tree::empty();
@@ -52,9 +54,10 @@ impl Tree {
     /// The tree without the row with this number, and the fork of that, if there is one.
     pub(crate) fn removed(self, at: u32) -> (Tree, Option<Box<Fork>>)
         requires { at < most }
-        ensures rest { result.0 ≡ removed at self }
-        ensures taken { MatchOption result.1 (length self ≤ at)
-            (λ fork. drop at self ≡ fork.value.row ∷ drop (at + 1) self) }
+        ensures rest { result.0.rows ≡ removed at self.rows }
+        ensures height { GrowsByAtMostOne result.0.height self.height }
+        ensures taken { MatchOption result.1 (length self.rows ≤ at)
+            (λ fork. drop at self.rows ≡ fork.value.row ∷ drop (at + 1) self.rows) }
     {
         let Link::Fork(_, _, mut fork) = self.root else {
             return (Tree::empty(), None);
@@ -77,9 +80,11 @@ impl Tree {
         }
     }
 
-    /// One tree after another, whose heights differ by one at most.
+    /// One tree after another.
     fn merged(left: Tree, right: Tree) -> Tree
-        ensures { result ≡ left ++ right }
+        requires { DifferByAtMost 1 left.height right.height }
+        ensures rows { result.rows ≡ left.rows ++ right.rows }
+        ensures height { GrowsByAtMostOne (max left.height right.height) result.height }
     {
         match right.split_first() {
             None => left,
@@ -92,7 +97,10 @@ impl Tree {
 
     /// The fork of the first row, and the tree of the others.
     fn split_first(self) -> Option<(Box<Fork>, Tree)>
-        ensures { MatchOption result (self ≡ []) (λ parts. self ≡ parts.0.value.row ∷ parts.1) }
+        ensures rows { MatchOption result (self.rows ≡ [])
+            (λ parts. self.rows ≡ parts.0.value.row ∷ parts.1.rows) }
+        ensures height { MatchOption result (self.height ≡ 0)
+            (λ parts. GrowsByAtMostOne parts.1.height self.height) }
     {
         let Link::Fork(_, _, mut fork) = self.root else {
             return None;
@@ -109,9 +117,10 @@ impl Tree {
     /// The tree with a new row over the one with this number, and the old one, if there is one.
     pub(crate) fn replaced(self, at: u32, new: KeptRow) -> (Tree, Option<KeptRow>)
         requires { at < most }
-        ensures after { result.0 ≡ slice_set self at new }
-        ensures taken { MatchOption result.1 (length self ≤ at)
-            (λ row. drop at self ≡ row ∷ drop (at + 1) self) }
+        ensures after { result.0.rows ≡ slice_set self.rows at new }
+        ensures height { result.0.height ≡ self.height }
+        ensures taken { MatchOption result.1 (length self.rows ≤ at)
+            (λ row. drop at self.rows ≡ row ∷ drop (at + 1) self.rows) }
     {
         let Link::Fork(_, _, mut fork) = self.root else {
             return (Tree::empty(), None);

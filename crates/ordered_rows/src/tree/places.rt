@@ -16,8 +16,8 @@ use std::cmp::Ordering;
 impl Tree {
     /// Writes the row at the place over `row`, or answers false.
     pub(crate) fn find(&self, place: Place<'_>, row: &mut Row) -> Result<bool, AllocError>
-        requires { IsCut (side place) self.now }
-        ensures { IfOk result (IsAt (side place.entry) self.now row.new) }
+        requires { IsCut (side place) self.now.rows }
+        ensures { IfOk result (IsAt (side place.entry) self.now.rows row.new) }
     {
         let Link::Fork(_, _, fork) = &self.root else {
             return Ok(false);
@@ -35,9 +35,9 @@ impl Tree {
 
     /// The number of the rows below the place, and whether there is one at it.
     pub(crate) fn rank(&self, place: Place<'_>) -> (u32, bool)
-        requires { IsCut (side place) self.now }
-        ensures within { result.0 ≤ length self.now }
-        ensures is { result.0 < most → IsPlaced (side place.entry) self.now result.0 result.1 }
+        requires { IsCut (side place) self.now.rows }
+        ensures within { result.0 ≤ length self.now.rows }
+        ensures is { result.0 < most → IsPlaced (side place.entry) self.now.rows result.0 result.1 }
     {
         let Link::Fork(_, _, fork) = &self.root else {
             return (0, false);
@@ -55,10 +55,10 @@ impl Tree {
 
     /// The number of the rows below the key, where a cursor forward begins.
     pub(crate) fn rank_from(&self, sought: &Sought<'_>) -> u32
-        requires { IsSeekable sought.now.order sought.now.row.now self.now }
-        ensures within { result ≤ length self.now }
+        requires { IsSeekable sought.now.order sought.now.row.now self.now.rows }
+        ensures within { result ≤ length self.now.rows }
         ensures is { result < most
-            → from_key sought.now.order sought.now.row.now self.now ≡ drop result self.now }
+            → from_key sought.now.order sought.now.row.now self.now.rows ≡ drop result self.now.rows }
     {
         let Link::Fork(_, _, fork) = &self.root else {
             return 0;
@@ -74,10 +74,10 @@ impl Tree {
 
     /// The number of the rows that are not above the key, where a cursor backward begins.
     pub(crate) fn rank_up_to(&self, sought: &Sought<'_>) -> u32
-        requires { IsSeekable sought.now.order sought.now.row.now self.now }
-        ensures within { result ≤ length self.now }
+        requires { IsSeekable sought.now.order sought.now.row.now self.now.rows }
+        ensures within { result ≤ length self.now.rows }
         ensures is { result < most
-            → up_to_key sought.now.order sought.now.row.now self.now ≡ take result self.now }
+            → up_to_key sought.now.order sought.now.row.now self.now.rows ≡ take result self.now.rows }
     {
         let Link::Fork(_, _, fork) = &self.root else {
             return 0;
@@ -96,7 +96,7 @@ impl Fork {
     /// The number among all rows of one with this number on the right.
     #[inline(always)]
     fn number_right(&self, at: u32) -> u32
-        ensures { result ≡ min (length self.now.left + 1 + at) most }
+        ensures { result ≡ min (length self.now.left.rows + 1 + at) most }
     {
         self.left.count().saturating_add(at).saturating_add(1)
     }

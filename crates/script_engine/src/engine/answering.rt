@@ -66,6 +66,8 @@ impl RowVisitor for SeenRows {
 
     ghost may_refuse = { λ refusal. refusal ≡ OutOfMemory };
 
+    ghost answered = { λ _ _. Unit {0} };
+
     fn visit(&mut self, version: VersionRow) -> Result<(), Refusal> {
         let VersionRow {
             values,

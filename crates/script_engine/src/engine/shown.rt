@@ -122,6 +122,8 @@ impl RowVisitor for ShownRows {
 
     ghost may_refuse = { λ refusal. refusal ≡ OutOfMemory };
 
+    ghost answered = { λ _ _. Unit {0} };
+
     fn visit(&mut self, row: VersionRow) -> Result<(), Refusal> {
         if !meets(&self.query, &row) {
             return Ok(());

@@ -35,8 +35,8 @@ returns-clause-good g c clean on has =
     let pv = subst₂ (λ (d : Database) (rows : List Row). IsPermutation (map version_shown (d.trees 2)) rows) now2 (sym c.deref-6.ensures.value) (c.in-Ok-version_rows.ensures.shows clean3 has2) in
     let ids = c.in-Ok-rowids.rows.items in
     let same = subst (λ (d : Database). IsPermutation (map rowid_shown (d.trees 2)) ids) now3 (c.in-Ok-rowids.ensures.shows clean has3) in
-    let numbered = subst AreNumbered c.deref.ensures.value (c.are_numbered.ensures c.if-not-are_numbered.false) in
-    let rising = subst AreRising c.deref-2.ensures.value (c.are_rising.ensures c.if-not-are_rising.false) in
+    let numbered = subst AreNumbered c.deref.ensures.value (c.are_numbered.ensures.0 c.if-not-are_numbered.false) in
+    let rising = subst AreRising c.deref-2.ensures.value (c.are_rising.ensures.0 c.if-not-are_rising.false) in
     let own = own_rowids (old.trees 2) ids same numbered rising in
     let keys = keys_kept old has (c.schema-live.ensures.live was_open).0 own.0 own.1 in
     found_contents old own.0 own.1 c.judge_rows.result

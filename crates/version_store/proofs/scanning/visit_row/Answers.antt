@@ -1,10 +1,17 @@
-use Rattle.std.proofs.Common.{◌≡◌, true, rules}
-use Rattle.period_core.specs.Windows.{window_sees}
-use Rattle.version_store.proofs.Scanned.{is_seen}
+use Rattle.std.proofs.Common.{Err, IfErr, None, Ok, OnOk, Option, Result, Some, inl, sym, ◌∙◌}
+use Rattle.period_core.specs.declared.refusal.Refusal.{Refusal}
+use Rattle.version_store.specs.Scans.{AnswersRefusal}
+use Rattle.version_store.proofs.Found.{same_row}
 use Rattle.version_store.proofs.Standing.{on_ok}
 use Rattle.version_store.proofs.scanning.visit_row.Goals as goal
 
+answers : {X : Type 0} (old new : Option Refusal → Type 0) (r : Result X Refusal) → OnOk r (new None) → IfErr r (λ refusal. new (Some refusal)) → AnswersRefusal old new r
+answers old new (Ok x) takes refuses = λ _. takes
+answers old new (Err refusal) takes refuses = λ _. inl refuses
+
 pub returns-in-Ok-clause-visited : goal.returns-in-Ok-clause-visited
 returns-in-Ok-clause-visited g c =
-    let sees : window_sees c.args.window.now c.in-Some-Some.from c.in-Some-Some.to ≡ true = search rules in
-    on_ok c.visit.result (λ taken v shows held. is_seen g.V.RowVisitor.next c.args.window.now _ v c.args.row.now _ _ c.in-Ok.version _ c.in-Some-Some.ensures c.in-Some-Some.ensures' c.in-Ok.ensures.shown c.in-Ok.ensures.values shows held sees taken) c.visit.ensures.taken
+    on_ok c.visit.result (λ taken v shows held. (c.in-Ok.version, same_row v c.in-Ok.version held c.in-Ok.ensures.values (sym shows ∙ c.in-Ok.ensures.shown), taken)) c.visit.ensures.taken
+
+pub returns-in-Ok-clause-answered : goal.returns-in-Ok-clause-answered
+returns-in-Ok-clause-answered g c = answers (g.V.RowVisitor.answered c.args.visitor.now) (g.V.RowVisitor.answered c.visit.new.self) c.visit.result c.visit.ensures.takes c.visit.ensures.refuses

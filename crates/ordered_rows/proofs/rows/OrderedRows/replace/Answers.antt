@@ -8,7 +8,7 @@ use Rattle.ordered_rows.proofs.rows.OrderedRows.replace.Goals as goal
 pub returns : goal.returns
 returns c =
     let rows = c.args.self.now in
-    let made : c.replaced-tree.result.0 ≡ set rows c.args.at c.args.new = search rules in (
+    let made : c.replaced-tree.result.0.rows ≡ set rows c.args.at c.args.new = search rules in (
       made,
       elim c.match-taken.branch [
         | in-Some w ↦
@@ -16,6 +16,6 @@ returns c =
             rw w.result-is (ap (λ l. set l c.args.at w.in-Some.old) made ∙ written_back rows c.args.at c.args.new w.in-Some.old found)
         | in-None w ↦
             let none : length rows ≤ c.args.at = search rules in
-            rw w.result-is (ap (λ change. changed change c.replaced-tree.result.0) w.nothing.ensures ∙ made ∙ set_past rows c.args.at c.args.new none)
+            rw w.result-is (ap (λ change. changed change c.replaced-tree.result.0.rows) w.nothing.ensures ∙ made ∙ set_past rows c.args.at c.args.new none)
       ],
     )

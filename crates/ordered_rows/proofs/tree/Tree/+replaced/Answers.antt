@@ -42,7 +42,7 @@ returns-in-Greater-clause-taken t c =
     let over : c.count-left.result < c.args.at = search rules in
     let number = past _ _ c.args.at (rw (c.deref.ensures, c.in-Fork.fork-is) at c.count-left.ensures) over c.requires in
     let k = c.args.at - c.count-left.result - 1 in
-    let right : c.take-in-Greater.result ≡ c.in-Fork.fork.value.right = search rules in
+    let right : c.take-in-Greater.result.rows ≡ c.in-Fork.fork.value.right.rows = search rules in
     option_weaker _ _ _ _ _ (beyond _ _ _ _ is c.args.at _ number.0) (λ row. nth_right _ _ _ _ is c.args.at _ row number.0)
     (subst (λ side. MatchOption c.replaced-side-in-Greater.result.1 (length side ≤ k) (λ row. drop k side ≡ row ∷ drop (k + 1) side))
     right c.replaced-side-in-Greater.ensures.taken)

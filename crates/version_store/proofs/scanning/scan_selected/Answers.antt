@@ -1,0 +1,119 @@
+use Rattle.std.proofs.Common.{◌≡◌, refl, sym, ap, ◌∙◌, rules, [], None, Some, option_copied}
+use Rattle.period_core.specs.declared.refusal.Refusal.TheVariants.{Memory}
+use Rattle.sqlite.specs.Given.{row_if}
+use Rattle.sqlite.specs.Held.{state}
+use Rattle.sqlite.specs.State.{HasCleanDisk}
+use Rattle.version_tables.specs.Giving.{IsLeft}
+use Rattle.version_store.specs.Scans.{seen_of}
+use Rattle.version_store.proofs.Scanned.{all_visits, none_yet, one_visited, some_visits}
+use Rattle.version_store.proofs.scanning.scan_selected.Goals as goal
+
+-- no query
+
+pub returns-in-Err-clause-visited : goal.returns-in-Err-clause-visited
+returns-in-Err-clause-visited g c clean d has window sees = ([], seen_of c.args.table window d.versions, none_yet d c.args.table window, refl, tt)
+
+-- an error of the query
+
+pub returns-in-Err-to_next_row-clause-visited : goal.returns-in-Err-to_next_row-clause-visited
+returns-in-Err-to_next_row-clause-visited g c clean d has window sees =
+    let selection = c.args.selection in
+    let sure : HasCleanDisk (state g.S.Store c.to_next_row.new.rows.conn.now) = search rules in
+    some_visits g.S.Store g.V.RowVisitor.next c.args.table selection c.args.connection.now window sees c.rows.rows.conn.now _ _ _ c.refusal_of-in-Err-to_next_row.result c.rows.invariant.visited refl (c.to_next_row.ensures.clean sure) d has
+
+pub returns-in-Err-to_next_row-clause-same : goal.returns-in-Err-to_next_row-clause-same
+returns-in-Err-to_next_row-clause-same g c =
+    let selection = c.args.selection in
+    let was = c.rows.invariant.visited in
+    let left : IsLeft g.S.Store c.args.connection.now c.to_next_row.new.rows.conn.now = c.in-Err-to_next_row.ensures.left c.args.table selection c.args.connection.now was.0 was.1 in
+    search rules
+
+pub returns-in-Err-to_next_row-clause-clean : goal.returns-in-Err-to_next_row-clause-clean
+returns-in-Err-to_next_row-clause-clean g c =
+    let selection = c.args.selection in
+    let was = c.rows.invariant.visited in
+    let left : IsLeft g.S.Store c.args.connection.now c.to_next_row.new.rows.conn.now = c.in-Err-to_next_row.ensures.left c.args.table selection c.args.connection.now was.0 was.1 in
+    search rules
+
+-- the end of the query
+
+pub returns-in_default-get-clause-visited : goal.returns-in_default-get-clause-visited
+returns-in_default-get-clause-visited g c clean d has window sees =
+    let selection = c.args.selection in
+    let was = c.rows.invariant.visited in
+    let now = c.to_next_row.new.rows in
+    let none : row_if now.has_row now.conn.now ≡ None = sym c.get.ensures ∙ ap option_copied c.in_default-get.is in
+    let sure : HasCleanDisk (state g.S.Store now.conn.now) = search rules in
+    all_visits g.S.Store g.V.RowVisitor.next c.args.table selection c.args.connection.now window sees c.rows.rows.conn.now now.conn.now _ _ c.rows.invariant.visited _ (c.in_default.ensures.gives c.args.table selection c.args.connection.now was.0 was.1) none sure d has
+
+pub returns-in_default-get-clause-same : goal.returns-in_default-get-clause-same
+returns-in_default-get-clause-same g c =
+    let selection = c.args.selection in
+    let was = c.rows.invariant.visited in
+    let now = c.to_next_row.new.rows in
+    let none : row_if now.has_row now.conn.now ≡ None = sym c.get.ensures ∙ ap option_copied c.in_default-get.is in
+    let all = rw none at (c.in_default.ensures.gives c.args.table selection c.args.connection.now was.0 was.1) in
+    let left : IsLeft g.S.Store c.args.connection.now now.conn.now = all.left in
+    search rules
+
+pub returns-in_default-get-clause-clean : goal.returns-in_default-get-clause-clean
+returns-in_default-get-clause-clean g c =
+    let selection = c.args.selection in
+    let was = c.rows.invariant.visited in
+    let now = c.to_next_row.new.rows in
+    let none : row_if now.has_row now.conn.now ≡ None = sym c.get.ensures ∙ ap option_copied c.in_default-get.is in
+    let all = rw none at (c.in_default.ensures.gives c.args.table selection c.args.connection.now was.0 was.1) in
+    let left : IsLeft g.S.Store c.args.connection.now now.conn.now = all.left in
+    search rules
+
+-- a row that is refused
+
+pub returns-in-Err-visit_row-clause-visited : goal.returns-in-Err-visit_row-clause-visited
+returns-in-Err-visit_row-clause-visited g c clean d has window sees =
+    let selection = c.args.selection in
+    let sure : HasCleanDisk (state g.S.Store c.to_next_row.new.rows.conn.now) = search rules in
+    some_visits g.S.Store g.V.RowVisitor.next c.args.table selection c.args.connection.now window sees c.rows.rows.conn.now _ _ _ c.in-Err-visit_row.refusal c.rows.invariant.visited c.in-Err-visit_row.ensures.refused (c.to_next_row.ensures.clean sure) d has
+
+pub returns-in-Err-visit_row-clause-same : goal.returns-in-Err-visit_row-clause-same
+returns-in-Err-visit_row-clause-same g c =
+    let selection = c.args.selection in
+    let was = c.rows.invariant.visited in
+    let now = c.to_next_row.new.rows in
+    let some : row_if now.has_row now.conn.now ≡ Some c.in-Some.row.now = sym c.get.ensures ∙ ap option_copied c.in-Some.is in
+    let on = rw some at (c.in_default.ensures.gives c.args.table selection c.args.connection.now was.0 was.1) in
+    let left : IsLeft g.S.Store c.args.connection.now now.conn.now = on.left in
+    search rules
+
+pub returns-in-Err-visit_row-clause-clean : goal.returns-in-Err-visit_row-clause-clean
+returns-in-Err-visit_row-clause-clean g c =
+    let selection = c.args.selection in
+    let was = c.rows.invariant.visited in
+    let now = c.to_next_row.new.rows in
+    let some : row_if now.has_row now.conn.now ≡ Some c.in-Some.row.now = sym c.get.ensures ∙ ap option_copied c.in-Some.is in
+    let on = rw some at (c.in_default.ensures.gives c.args.table selection c.args.connection.now was.0 was.1) in
+    let left : IsLeft g.S.Store c.args.connection.now now.conn.now = on.left in
+    search rules
+
+-- a row more
+
+pub rows-preserved : goal.rows-preserved
+rows-preserved g c =
+    let selection = c.args.selection in
+    let was = c.rows.invariant.visited in
+    let now = c.to_next_row.new.rows in
+    let some : row_if now.has_row now.conn.now ≡ Some c.in-Some.row.now = sym c.get.ensures ∙ ap option_copied c.in-Some.is in
+    let gives = c.in_default.ensures.gives c.args.table selection c.args.connection.now was.0 was.1 in
+    record {
+      same_reference = search rules;
+      mode = search rules;
+      answered = λ none. c.in_default-visit_row.ensures.answered (c.rows.invariant.answered none);
+      visited = one_visited g.S.Store g.V.RowVisitor.next c.args.table selection c.args.connection.now c.rows.rows.conn.now now.conn.now _ _ _ c.rows.invariant.visited c.in-Some.row.now _ gives some c.in_default-visit_row.ensures.visited;
+    }
+
+-- more rows than there can be
+
+pub returns-clause-visited : goal.returns-clause-visited
+returns-clause-visited g c clean d has window sees =
+    let selection = c.args.selection in
+    let sure : HasCleanDisk (state g.S.Store c.rows.rows.conn.now) = search rules in
+    some_visits g.S.Store g.V.RowVisitor.next c.args.table selection c.args.connection.now window sees c.rows.rows.conn.now _ _ _ Memory c.rows.invariant.visited refl sure d has

@@ -1,0 +1,32 @@
+-- Which versions of a table a query gives, and by which text.
+use Rattle.std.specs.Prelude.{◌&&◌, ℕ, ℤ, pos, Bool, true, List, [], ◌∷◌, filter, int_lt}
+use Rattle.std.specs.Ordering.{int_eq}
+use Rattle.sqlite.specs.declared.types.Value.TheVariants.{Int}
+use Rattle.sqlite.specs.Order.{Row}
+use Rattle.version_tables.specs.Represents.{Version, of_table}
+use Rattle.version_tables.specs.Texts.{ending_text, overlapping_text, whole_text}
+use Rattle.version_tables.specs.declared.selection.Selection.{Selection}
+use Rattle.version_tables.specs.declared.selection.Selection.TheVariants.{Whole, EndingAt}
+use Rattle.version_tables.specs.declared.selection.Selection.TheVariants.{Overlapping}
+
+-- whether a version whose system time is from one moment on and before another is selected
+abbrev pub selects : Selection → ℤ → ℤ → Bool
+selects Whole from to = true
+selects (EndingAt end) from to = int_eq to end
+selects (Overlapping start end) from to = int_lt from end && int_lt start to
+
+-- the versions of the table that are selected
+abbrev pub selected : ℕ → Selection → List Version → List Version
+selected table selection versions = filter (λ v. selects selection v.from v.to) (of_table table versions)
+
+-- the text of the query
+abbrev pub select_text : Selection → List ℕ
+select_text Whole = whole_text
+select_text (EndingAt end) = ending_text
+select_text (Overlapping start end) = overlapping_text
+
+-- its parameters
+abbrev pub select_given : ℕ → Selection → Row
+select_given table Whole = Int (pos table) ∷ []
+select_given table (EndingAt end) = Int (pos table) ∷ Int end ∷ []
+select_given table (Overlapping start end) = Int (pos table) ∷ Int start ∷ Int end ∷ []
