@@ -1,0 +1,169 @@
+//! Days, moments, periods and windows.
+
+use crate::fixtures::{FOREVER, day, moment, period};
+use period_core::{Day, Moment, Period, Window};
+use std::test::Fail;
+
+#[test]
+fn days(rt: HostRuntime) -> Result<(), Fail> {
+    // the number of each date, counted from 1970-01-01, and the days beside it
+    let dates = [
+        ("0001-01-01", -719_162, "", "0001-01-02"),
+        ("1969-12-31", -1, "1969-12-30", "1970-01-01"),
+        ("2000-02-29", 11_016, "2000-02-28", "2000-03-01"),
+        ("9999-12-31", 2_932_896, "9999-12-30", ""),
+    ];
+    for (date, number, before, behind) in dates {
+        let one = day(date)?;
+        assert_eq!(rt; one.number(), number, "of {date}");
+        assert_eq!(rt; Day::new(number), Some(one), "of {date}");
+        assert_eq!(rt;
+            one.prev(),
+            Day::from_text(before.as_bytes()),
+            "before {date}"
+        );
+        assert_eq!(rt;
+            one.next(),
+            Day::from_text(behind.as_bytes()),
+            "behind {date}"
+        );
+    }
+    assert_eq!(rt; Day::new(-719_163), None);
+    assert_eq!(rt; Day::new(2_932_897), None);
+    assert_eq!(rt; Day::from_date(2100, 2, 29), None);
+    assert_eq!(rt; Day::from_date(2024, 2, 29), Day::new(19_782));
+    let mut text = [0; 10];
+    day("0987-06-05")?.write_text(&mut text);
+    assert!(rt; text == *b"0987-06-05");
+    Ok(())
+}
+
+#[test]
+fn moments(rt: HostRuntime) -> Result<(), Fail> {
+    let second = moment("2024-01-02 00:00:00")?;
+    assert_eq!(rt; second.number(), 1_704_153_600);
+    assert_eq!(rt; Moment::new(1_704_153_600), Some(second));
+    assert_eq!(rt; Moment::from_parts(2024, 1, 2, 0, 0, 0), Some(second));
+    assert_eq!(rt; Moment::from_parts(2024, 1, 1, 24, 0, 0), None);
+    assert_eq!(rt; second.prev(), Some(moment("2024-01-01 23:59:59")?));
+    assert_eq!(rt; second.next(), Some(moment("2024-01-02 00:00:01")?));
+    assert_eq!(rt; Moment::first(), moment("0001-01-01 00:00:00")?);
+    assert_eq!(rt; Moment::first().prev(), None);
+    assert_eq!(rt; Moment::forever(), moment(FOREVER)?);
+    assert_eq!(rt; Moment::forever().next(), None);
+    let mut text = [0; 19];
+    second.write_text(&mut text);
+    assert!(rt; text == *b"2024-01-02 00:00:00");
+    Ok(())
+}
+
+#[test]
+fn shared_days(rt: HostRuntime) -> Result<(), Fail> {
+    let one = period("2024-01-05", "2024-01-09")?;
+    let (no, yes) = (false, true);
+    // whether it overlaps another, equals it, contains it
+    let others = [
+        ("2024-01-01", "2024-01-05", no, no, no),
+        ("2024-01-01", "2024-01-06", yes, no, no),
+        ("2024-01-01", "2024-01-09", yes, no, no),
+        ("2024-01-05", "2024-01-08", yes, no, yes),
+        ("2024-01-05", "2024-01-09", yes, yes, yes),
+        ("2024-01-08", "2024-01-10", yes, no, no),
+        ("2024-01-09", "2024-01-10", no, no, no),
+    ];
+    for (start, end, overlaps, equals, contains) in others {
+        let other = period(start, end)?;
+        assert_eq!(rt; one.overlaps(other), overlaps, "with {start} to {end}");
+        assert_eq!(rt; one.equals(other), equals, "with {start} to {end}");
+        assert_eq!(rt; one.contains(other), contains, "with {start} to {end}");
+    }
+    Ok(())
+}
+
+#[test]
+fn one_after_the_other(rt: HostRuntime) -> Result<(), Fail> {
+    let one = period("2024-01-05", "2024-01-09")?;
+    let (no, yes) = (false, true);
+    // whether it succeeds another, immediately, precedes it, immediately
+    let others = [
+        ("2024-01-01", "2024-01-04", yes, no, no, no),
+        ("2024-01-01", "2024-01-05", yes, yes, no, no),
+        ("2024-01-01", "2024-01-06", no, no, no, no),
+        ("2024-01-08", "2024-01-10", no, no, no, no),
+        ("2024-01-09", "2024-01-10", no, no, yes, yes),
+        ("2024-01-10", "2024-01-11", no, no, yes, no),
+    ];
+    for (start, end, succeeds, at_once, precedes, before) in others {
+        let other = period(start, end)?;
+        assert_eq!(rt; one.succeeds(other), succeeds, "with {start} to {end}");
+        assert_eq!(rt;
+            one.immediately_succeeds(other),
+            at_once,
+            "with {start} to {end}"
+        );
+        assert_eq!(rt; one.precedes(other), precedes, "with {start} to {end}");
+        assert_eq!(rt;
+            one.immediately_precedes(other),
+            before,
+            "with {start} to {end}"
+        );
+    }
+    Ok(())
+}
+
+#[test]
+fn parts_of_periods(rt: HostRuntime) -> Result<(), Fail> {
+    let one = period("2024-01-05", "2024-01-09")?;
+    assert_eq!(rt; one.start(), day("2024-01-05")?);
+    assert_eq!(rt; one.end(), day("2024-01-09")?);
+    assert_eq!(rt; Period::new(one.end(), one.end()), None);
+    let first = period("2024-01-05", "2024-01-06")?;
+    let last = period("2024-01-08", "2024-01-09")?;
+    assert!(rt; one.contains_day(first.start()) && one.contains_day(last.start()));
+    assert!(rt; !one.contains_day(one.end()));
+    // what both have, and what the one has before the other and behind it
+    let middle = period("2024-01-06", "2024-01-08")?;
+    assert_eq!(rt; one.intersect(middle), Some(middle));
+    assert_eq!(rt; one.minus(middle), (Some(first), Some(last)));
+    let later = period("2024-01-08", "2024-01-12")?;
+    assert_eq!(rt; one.intersect(later), Some(last));
+    assert_eq!(rt;
+        one.minus(later),
+        (Some(period("2024-01-05", "2024-01-08")?), None)
+    );
+    assert_eq!(rt; first.intersect(last), None);
+    assert_eq!(rt; first.minus(last), (Some(first), None));
+    assert_eq!(rt; last.minus(first), (None, Some(last)));
+    Ok(())
+}
+
+#[test]
+fn windows(rt: HostRuntime) -> Result<(), Fail> {
+    let (from, to) = (
+        moment("2024-01-01 00:00:00")?,
+        moment("2024-01-02 00:00:00")?,
+    );
+    let (before, last) = (
+        moment("2023-12-31 23:59:59")?,
+        moment("2024-01-01 23:59:59")?,
+    );
+    // a version that is recorded from the first of January to the second
+    let windows = [
+        (Window::Now, false),
+        (Window::AsOf(before), false),
+        (Window::AsOf(from), true),
+        (Window::AsOf(last), true),
+        (Window::AsOf(to), false),
+        (Window::FromTo(before, from), false),
+        (Window::FromTo(last, to), true),
+        (Window::FromTo(last, last), false),
+        (Window::Between(before, from), true),
+        (Window::Between(last, last), true),
+        (Window::Between(to, Moment::forever()), false),
+    ];
+    for (window, sees) in windows {
+        assert_eq!(rt; window.sees(from, to), sees, "through {window:?}");
+    }
+    assert!(rt; Window::Now.sees(from, Moment::forever()));
+    Ok(())
+}
