@@ -2,5 +2,5 @@ pub mod Creation
 pub mod PeriodCounts
 pub mod Keyed
 pub mod Definition
-pub mod Spelling
+pub mod PlacedTests
 pub mod Lawful

@@ -12,7 +12,6 @@ pub mod lawful;
 pub mod names;
 pub mod period_counts;
 pub mod shape;
-pub mod spelling;
 
 use crate::create::building::build;
 use crate::create::names::{
@@ -40,7 +39,7 @@ fn first_fault(
     if exceeds_limits(catalog, create) {
         return Ok(Some(Refusal::LimitReached));
     }
-    if is_there(catalog, create) {
+    if is_there(catalog, &create.name) {
         return Ok(Some(Refusal::TableExists));
     }
     if lacks_parent(catalog, create) {

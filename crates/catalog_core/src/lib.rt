@@ -15,7 +15,7 @@
 //!   truth in `specs/Conditions` or `specs/stored/StoredAnswers`, its flaws in `specs/Flaws`, and
 //!   its positions in `specs/Numbering` or `specs/stored/StoredQueries`;
 //! - a column type: `ColumnKind` and `ValueKind`, `specs/table/Kinds`, `create/building.rt` and
-//!   `create/spelling.rt`, and its number in `bytes/`.
+//!   `create/lawful.rt`, and its number in `bytes/`.
 #![tactic(auto)]
 
 mod bytes;
@@ -44,6 +44,6 @@ pub use query::resolved::{Query, QueryReference, Select, Tables};
 pub use query::{AnswerColumn, resolved};
 pub use stored::resolution::{resolve_stored, resolve_stored_query};
 pub use stored::{PeriodSide, Stored, VersionTest, meets};
-pub use table::catalog::Catalog;
+pub use table::catalog::{Catalog, of_number};
 pub use table::columns::is_value_column;
 pub use table::{Column, ColumnKind, PeriodColumns, Reference, TableDef, ValueKind};

@@ -1,5 +1,8 @@
 -- An index read at a key after a change at one key.
-use Rattle.std.proofs.Common.{◌≡◌, Bool, true, false, cond, Some, None, List, [], ◌++◌, refl, sym, ◌∙◌, ap, subst}
+use Rattle.std.proofs.Common.{◌≡◌, ℕ, suc, Bool, true, false, not, cond, Some, None, List, [], ◌∷◌, ◌++◌, refl, sym, ◌∙◌, ap, subst, arith, length}
+use Rattle.std.specs.Prelude.{◌==◌, Option, is_some}
+use Rattle.std.proofs.lemmas.Bool.{false≢true}
+use Rattle.std.proofs.lemmas.Bool.Decides.{nat_tests}
 use Rattle.std.specs.List.Sorted.{IsPermutation}
 use Rattle.std.proofs.lemmas.List.Sorted.{IsPermutation-refl}
 use Rattle.std.specs.Option.{option_map_or}
@@ -9,6 +12,9 @@ use Rattle.period_core.specs.Order.{values_cmp}
 use Rattle.period_core.specs.OrderLaws.{values_eq}
 use Rattle.period_core.specs.declared.value.Value.{Value}
 use Rattle.period_core.specs.declared.period.Period.{Period}
+use Rattle.period_keys.specs.Index.{periods_at}
+use Rattle.period_keys.specs.declared.keyed_periods.KeyedPeriods.{KeyedPeriods}
+use Rattle.period_keys.specs.declared.ordered_periods.OrderedPeriods.{OrderedPeriods}
 
 -- what a map of lists has at a key
 abbrev pub read : {V : Type 0} → (V → List Period) → BTreeMap (List Value) V → List Value → List Period
@@ -58,3 +64,28 @@ read_apart items m n key w u other apart = ap (λ o. option_map_or items o []) (
     by_test : (b : Bool) → eq_by_cmp values_cmp key other ≡ b → cond b (Some w) (get values_cmp m other) ≡ get values_cmp m other
     by_test true e = absurd (apart ((values_eq key other).0 e))
     by_test false e = refl
+
+-- whether an index has a period of a key
+abbrev pub has_period : KeyedPeriods → List Value → Bool
+has_period index key = not (length (periods_at index key) == 0)
+
+pub has_some : (index : KeyedPeriods) (key : List Value) → has_period index key ≡ true → periods_at index key ≡ [] → ⊥
+has_some index key has none = false≢true (sym (ap (λ (xs : List Period). not (length xs == 0)) none) ∙ has)
+
+pub some_has : (index : KeyedPeriods) (key : List Value) → (periods_at index key ≡ [] → ⊥) → has_period index key ≡ true
+some_has index key some = go (periods_at index key) some
+  where
+    longer : (n : ℕ) → not (suc n == 0) ≡ true
+    longer n = grind (arith, nat_tests)
+
+    go : (xs : List Period) → (xs ≡ [] → ⊥) → not (length xs == 0) ≡ true
+    go [] none = absurd (none refl)
+    go (x ∷ xs) none = longer (length xs)
+
+-- a key that has one is in the map
+pub has_entry : (index : KeyedPeriods) (key : List Value) → (periods_at index key ≡ [] → ⊥) → is_some (get values_cmp index.entries key) ≡ true
+has_entry index key some = go (get values_cmp index.entries key) some
+  where
+    go : (found : Option OrderedPeriods) → (option_map_or (λ (periods : OrderedPeriods). periods.items.items) found [] ≡ [] → ⊥) → is_some found ≡ true
+    go None none = absurd (none refl)
+    go (Some periods) none = refl

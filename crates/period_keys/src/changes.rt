@@ -1,6 +1,6 @@
 //! An index follows a change of its rows.
 
-ghost use Rattle.std.specs.Prelude.{◌≡◌, ◌≤◌, ◌++◌, ℕ, IfOk, IsPermutation, List, OnErr, OnOk};
+ghost use Rattle.std.specs.Prelude.{◌≡◌, ◌≤◌, ◌++◌, ℕ, IfOk, List, OnErr, OnOk};
 ghost use Rattle.std.specs.Prelude.{length, map, take};
 ghost use Rattle.period_core.specs.declared.row.PeriodRow.{PeriodRow as Row};
 ghost use Rattle.period_keys.specs.Keys.{key_values};
@@ -11,32 +11,6 @@ use crate::keyed_periods::KeyedPeriods;
 use crate::keys::key_of;
 use period_core::{Memory, PeriodRow};
 use std::alloc::Global;
-
-/// Makes of an index of rows that of the rows after a change: the ended ones are among them and go,
-/// the added ones come. The only error is out of memory: then it is an index of the same rows as
-/// before.
-pub fn apply_change(
-    alloc: Global,
-    positions: &[usize],
-    index: &mut KeyedPeriods,
-    ended: &[PeriodRow],
-    added: &[PeriodRow],
-) -> Result<(), Memory>
-    ensures ok { OnOk result ((before stay : List Row)
-        → IsIndexOf positions.now before index.old
-        → IsPermutation before (ended.now ++ stay)
-        → IsIndexOf positions.now (stay ++ added.now) index.new) }
-    ensures err { OnErr result ((before : List Row)
-        → IsIndexOf positions.now before index.old → IsIndexOf positions.now before index.new) }
-{
-    let going = keys_of(alloc, positions, ended)?;
-    let coming = keys_of(alloc, positions, added)?;
-    if let Err(refused) = add_rows(alloc, index, coming.as_slice(), added) {
-        return Err(refused);
-    }
-    take_first(index, going.as_slice(), ended, ended.len());
-    Ok(())
-}
 
 /// The keys of the rows, row by row. The only error is out of memory.
 pub fn keys_of(alloc: Global, positions: &[usize], rows: &[PeriodRow]) -> Result<Vec<Key>, Memory>

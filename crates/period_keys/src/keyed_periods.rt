@@ -1,11 +1,11 @@
 //! Periods by their keys.
 
 ghost use Rattle.std.specs.Prelude.{◌≡◌, ◌++◌, ◌∷◌, [], Contains, IsPermutation, List, IsTrue, ◌↔◌};
-ghost use Rattle.std.specs.Prelude.{OnErr, OnOk, if◌then◌else◌};
+ghost use Rattle.std.specs.Prelude.{IfOk, OnErr, OnOk, if◌then◌else◌, map};
 ghost use Rattle.std.specs.Bool.{OnFalse, OnTrue};
+ghost use Rattle.std.specs.List.Sorted.{IsStrictlySortedBy};
 ghost use Rattle.std.specs.Ordering.{eq_by_cmp};
 ghost use Rattle.period_core.specs.Order.{values_cmp};
-ghost use Rattle.period_core.specs.declared.period.Period.{Period as PeriodModel};
 ghost use Rattle.period_core.specs.declared.value.Value.{Value as ColumnValue};
 ghost use Rattle.period_keys.specs.Index.{periods_at};
 
@@ -13,7 +13,7 @@ use crate::key::Key;
 use crate::ordered_periods::OrderedPeriods;
 use period_core::{Memory, Period};
 use std::alloc::Global;
-use std::collections::{BTreeMap, btree_map};
+use std::collections::BTreeMap;
 
 /// For each key its periods, nearly in the order of their starts. Contracts read them by
 /// `periods_at`.
@@ -52,12 +52,21 @@ impl KeyedPeriods {
         }
     }
 
-    /// The keys in ascending order, among them each that has a period.
-    pub fn keys(&self) -> btree_map::Keys<'_, Key, OrderedPeriods>
-        ensures { (key : List ColumnValue) (period : PeriodModel)
-            → Contains (periods_at self.now key) period → Contains result key }
+    /// The keys that have a period, in ascending order. The only error is out of memory.
+    pub fn keys(&self, alloc: Global) -> Result<Vec<&Key>, Memory>
+        ensures exact { IfOk result (λ keys. (key : List ColumnValue)
+            → (Contains (map (λ k. k.now) keys.items) key
+            ↔ (periods_at self.now key ≡ [] → ⊥))) }
+        ensures ascending { IfOk result
+            (λ keys. IsStrictlySortedBy values_cmp (map (λ k. k.now) keys.items)) }
     {
-        self.entries.keys()
+        let mut keys = Vec::new(alloc);
+        for key in self.entries.keys() {
+            if !self.of_key(key).is_empty() {
+                keys.push(key)?;
+            }
+        }
+        Ok(keys)
     }
 
     /// Adds a period to those of a key. The only error is out of memory, and changes nothing.

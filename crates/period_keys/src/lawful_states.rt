@@ -10,11 +10,11 @@ ghost use Rattle.period_keys.specs.Lawful.{IsLawfulTable};
 
 use crate::faults::rows_of_current;
 use crate::positions::positions_of;
-use crate::reference_faults::{definition_of, periods_by};
+use crate::reference_faults::periods_by;
 use crate::references::uncovered_by_children;
 use crate::table_index::TableIndex;
 use crate::tables::key_clash;
-use catalog_core::{Catalog, Reference, TableDef};
+use catalog_core::{Catalog, Reference, TableDef, of_number};
 use period_core::{Memory, PeriodRow};
 use std::alloc::Global;
 
@@ -81,7 +81,7 @@ fn is_covered(
         → (IsTrue covered
         ↔ IsCoveredBy definitions.now state number child.now reference.now)) }
 {
-    let Some(parent) = definition_of(definitions, reference.parent) else {
+    let Some(parent) = of_number(definitions, reference.parent) else {
         return Ok(true);
     };
     let own = positions_of(alloc, child, reference.own.as_slice())?;

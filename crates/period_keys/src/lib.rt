@@ -40,7 +40,6 @@ mod table_index;
 mod table_list;
 mod tables;
 
-pub use changes::{add_rows, apply_change, keys_of, take_rows};
 pub use clashes::{index_of, index_of_current, index_of_versions, key_clash_after};
 pub use current_rows::CurrentRows;
 pub use faults::{child_fault, key_fault, parent_fault, rows_of, rows_of_current};

@@ -1,7 +1,7 @@
 //! The least day on which a change would leave a row without its parent, over all references that it
 //! touches: those from the changed table, and those to it.
 
-ghost use Rattle.std.specs.Prelude.{◌≡◌, ℕ, Contains, IfOk, List, MatchOption, None, Some, map};
+ghost use Rattle.std.specs.Prelude.{◌≡◌, ℕ, Contains, IfOk, List, Some, map};
 ghost use Rattle.catalog_core.specs.declared.change.Change.{Change as ChangeModel};
 ghost use Rattle.catalog_core.specs.declared.table.TableDef.{TableDef as Definition};
 ghost use Rattle.catalog_core.specs.table.TableWords.{table_of};
@@ -20,7 +20,7 @@ use crate::keyed_periods::KeyedPeriods;
 use crate::positions::positions_of;
 use crate::shared_days::earlier;
 use crate::table_index::TableIndex;
-use catalog_core::{Catalog, Change, Plan, Reference, TableDef};
+use catalog_core::{Catalog, Change, Plan, Reference, TableDef, of_number};
 use period_core::{Day, Memory};
 use std::alloc::Global;
 
@@ -102,7 +102,7 @@ fn fault_by(
         → IsLeastOf (λ day.
         IsFaultBy definitions.now before change.now number child.now day reference.now) found) }
 {
-    let Some(parent) = definition_of(definitions, reference.parent) else {
+    let Some(parent) = of_number(definitions, reference.parent) else {
         return Ok(None);
     };
     if number == usize::from(change.table) {
@@ -186,15 +186,4 @@ pub fn periods_by<'a>(
         unreachable!()
     };
     periods
-}
-
-/// The definition of the table of a number.
-pub fn definition_of(definitions: &[TableDef], number: u8) -> Option<&TableDef>
-    ensures { MatchOption result (table_of definitions.now number ≡ None)
-        (λ definition. table_of definitions.now number ≡ Some definition.now) }
-{
-    if number == 0 {
-        return None;
-    }
-    definitions.get(usize::from(number) - 1)
 }

@@ -101,8 +101,9 @@ fn uncovered_by_keys(
         → IsPermutation before (ended ++ stay)
         → IsLeastOf (IsUncovered own below keys (stay ++ added)) found) }
 {
+    let ended_keys = gone.keys(alloc)?;
     let mut found = None;
-    for key in gone.keys() {
+    for key in ended_keys.as_slice() {
         let there = there_after(
             alloc,
             parents.of_key(key),

@@ -10,9 +10,8 @@ ghost use Rattle.period_keys.specs.TableRows.{HasMoreIndexes};
 
 use crate::current_rows::CurrentRows;
 use crate::positions::positions_of;
-use crate::reference_faults::definition_of;
 use crate::table_index::TableIndex;
-use catalog_core::{Catalog, Reference, TableDef};
+use catalog_core::{Catalog, Reference, TableDef, of_number};
 use period_core::{Items, Memory};
 use std::alloc::Global;
 
@@ -142,7 +141,7 @@ fn index_parent(
     ensures ok { OnOk result (IsParentIndexed definitions.now reference.now tables.new) }
     ensures kept { HaveMoreIndexes tables.old tables.new }
 {
-    let Some(parent) = definition_of(definitions, reference.parent) else {
+    let Some(parent) = of_number(definitions, reference.parent) else {
         return Ok(());
     };
     let keys = positions_of(alloc, parent, reference.keys.as_slice())?;

@@ -1,115 +1,92 @@
--- Going over versions of which some end, in their order.
-use Rattle.std.proofs.Common.{◌≡◌, ◌+◌, ◌<◌, ◌≤◌, ℕ, zero, suc, Bool, true, false, cond, not, List, [], ◌∷◌, ◌++◌, Some, map, refl, sym, ◌∙◌, ap, ap₂, subst, arith, take, drop, length, get_or, drop-cons, add-one, append-nil}
-use Rattle.std.specs.List.{filter, slice_get}
+-- Going over versions of which a plan ends some, each once, in any order.
+use Rattle.std.proofs.Common.{◌≡◌, ◌+◌, ◌<◌, ◌≤◌, ℕ, List, [], ◌∷◌, ◌++◌, map, refl, sym, ◌∙◌, ap, ap₂, subst, arith, drop, length, get_or, drop-cons, add-one, append-nil, append_assoc, inl, inr}
+use Rattle.std.specs.List.{Contains}
 use Rattle.std.specs.List.Sorted.{IsPermutation}
-use Rattle.std.proofs.lemmas.List.{map-append, take_all, take_more}
-use Rattle.std.proofs.lemmas.List.Elements.{filter-append}
-use Rattle.std.proofs.lemmas.List.Sorted.{IsPermutation-filter_both}
+use Rattle.std.proofs.lemmas.List.{length-append, length-drop, map-append, nil_from_length}
+use Rattle.std.proofs.lemmas.List.Elements.{Contains-append_cases}
+use Rattle.std.proofs.lemmas.List.Sorted.{Contains-permutation, IsPermutation-append_comm, IsPermutation-append_left, IsPermutation-append_right, IsPermutation-cons, IsPermutation-refl, IsPermutation-trans, length_permutation}
 use Rattle.period_core.specs.declared.row.PeriodRow.{PeriodRow}
 use Rattle.period_core.specs.declared.version.VersionRow.{VersionRow}
-use Rattle.history_model.specs.Versions.{row_of}
-use Rattle.portion_dml.specs.Plans.{AreLeftCurrent}
 use Rattle.catalog_core.specs.declared.change.Plan.{Plan}
+use Rattle.history_model.specs.Versions.{row_of}
 use Rattle.history_model.proofs.Lists.{same_order}
+use Rattle.portion_dml.specs.Plans.{AreLeftCurrent}
+use Rattle.temporal_model.proofs.Members.{Contains-here, rest_of}
+use Rattle.temporal_model.proofs.Rearranged.{IsPermutation-uncons}
 
--- after some of the versions: those that end so far are counted, and the others are kept
-pub record Passed (current ended : List VersionRow) (index next : ℕ) (rows : List PeriodRow) : Type 0 where
-  pub low : next ≤ length ended
-  pub ahead : (test : VersionRow → Bool) → ended ≡ filter test current → drop next ended ≡ filter test (drop index current)
-  pub kept : (test : VersionRow → Bool) → ended ≡ filter test current → rows ≡ map row_of (filter (λ v. not (test v)) (take index current))
+-- after some of the versions: those that were kept so far, and those that will be, are those that stay
+pub record Passed (current : List VersionRow) (index : ℕ) (left : List VersionRow) (rows : List PeriodRow) (stay : List VersionRow) : Type 0 where
+  pub kept : List VersionRow
+  pub later : List VersionRow
+  pub made : rows ≡ map row_of kept
+  pub ahead : IsPermutation (drop index current) (left ++ later)
+  pub whole : IsPermutation stay (kept ++ later)
 
--- what passes a test heads its list only if it passes
-heads : {X : Type 0} (test : X → Bool) (x : X) (xs ys : List X) → x ∷ xs ≡ filter test ys → test x ≡ true
-heads test x xs [] e = cc
-heads {X} test x xs (y ∷ ys) e = go (test y) refl (heads test x xs ys) e
-  where
-    go : (b : Bool) → test y ≡ b → (x ∷ xs ≡ filter test ys → test x ≡ true) → x ∷ xs ≡ cond b (y ∷ filter test ys) (filter test ys) → test x ≡ true
-    go true t rest e = let same : x ≡ y = cc in ap test same ∙ t
-    go false t rest e = rest e
+pub at_first : (current ended left stay : List VersionRow) → left ≡ ended → IsPermutation current (ended ++ stay) → Passed current 0 left [] stay
+at_first current ended left stay same taken = record {
+  kept = [];
+  later = stay;
+  made = refl;
+  ahead = subst (λ l. IsPermutation current (l ++ stay)) (sym same) taken;
+  whole = IsPermutation-refl stay;
+}
 
--- the element at a place, and those behind it
-behind : {X : Type 0} (xs : List X) (k : ℕ) (x : X) → slice_get xs k ≡ Some x → drop k xs ≡ x ∷ drop (k + 1) xs
-behind [] zero x e = cc
-behind [] (suc k) x e = cc
-behind (y ∷ ys) zero x e = let same : y ≡ x = cc in ap (λ z. z ∷ ys) same
-behind (y ∷ ys) (suc k) x e =
-    let one : suc k + 1 ≡ suc (k + 1) = omega arith in behind ys k x e ∙ ap (λ n. x ∷ drop n (y ∷ ys)) (sym one)
-
-below : {X : Type 0} (xs : List X) (k : ℕ) (x : X) → slice_get xs k ≡ Some x → k < length xs
-below [] zero x e = cc
-below [] (suc k) x e = cc
-below (y ∷ ys) zero x e = omega arith
-below (y ∷ ys) (suc k) x e = let rest : k < length ys = below ys k x e in omega arith
-
--- an element that heads what lies ahead stands at the place
-at_front : {X : Type 0} (xs : List X) (k : ℕ) (x : X) (rest : List X) → drop k xs ≡ x ∷ rest → slice_get xs k ≡ Some x
-at_front [] zero x rest e = cc
-at_front [] (suc k) x rest e = cc
-at_front (y ∷ ys) zero x rest e = cc
-at_front (y ∷ ys) (suc k) x rest e = at_front ys k x rest e
-
-module _ (current ended : List VersionRow) (index next : ℕ) (rows : List PeriodRow) (version : VersionRow)
-    (inside : index < length current) (its : version ≡ get_or current index version) (passed : Passed current ended index next rows) where
+module _ (current : List VersionRow) (index : ℕ) (left : List VersionRow) (rows : List PeriodRow) (stay : List VersionRow) (version : VersionRow)
+    (inside : index < length current) (its : version ≡ get_or current index version) (passed : Passed current index left rows stay) where
   here : drop index current ≡ version ∷ drop (index + 1) current
   here = drop-cons current index version inside ∙ ap₂ (λ (v : VersionRow) (n : ℕ). v ∷ drop n current) (sym its) (sym (add-one index))
 
-  more : take (index + 1) current ≡ take index current ++ version ∷ []
-  more = take_more current index version inside ∙ ap (λ (v : VersionRow). take index current ++ v ∷ []) (sym its)
-
-  kept_more : (test : VersionRow → Bool) → filter (λ v. not (test v)) (take (index + 1) current) ≡ filter (λ v. not (test v)) (take index current) ++ filter (λ v. not (test v)) (version ∷ [])
-  kept_more test = ap (filter (λ v. not (test v))) more ∙ filter-append (λ v. not (test v)) (take index current) (version ∷ [])
+  front : IsPermutation (version ∷ drop (index + 1) current) (left ++ passed.later)
+  front = subst (λ l. IsPermutation l (left ++ passed.later)) here passed.ahead
 
   -- the version ends
-  pub passed_ended : slice_get ended next ≡ Some version → Passed current ended (index + 1) (next + 1) rows
-  passed_ended e = record {
-    low = (let b : next < length ended = below ended next version e in omega arith);
-    ahead = λ test is. tails test (test version) refl (sym (behind ended next version e) ∙ passed.ahead test is ∙ ap (filter test) here);
-    kept = λ test is.
-        let yes : test version ≡ true = heads test version (drop (next + 1) ended) (drop index current) (sym (behind ended next version e) ∙ passed.ahead test is) in
-        passed.kept test is ∙ ap (map row_of) (sym (kept_more test ∙ nothing test (test version) yes (filter (λ v. not (test v)) (take index current))));
+  pub passed_ended : (fewer : List VersionRow) → IsPermutation left (version ∷ fewer) → Passed current (index + 1) fewer rows stay
+  passed_ended fewer taken = record {
+    kept = passed.kept;
+    later = passed.later;
+    made = passed.made;
+    ahead = IsPermutation-uncons version (drop (index + 1) current) (fewer ++ passed.later)
+        (IsPermutation-trans (version ∷ drop (index + 1) current) (left ++ passed.later) (version ∷ (fewer ++ passed.later)) front
+        (IsPermutation-append_left passed.later left (version ∷ fewer) taken));
+    whole = passed.whole;
   }
-    where
-      nothing : (test : VersionRow → Bool) (b : Bool) → b ≡ true → (l : List VersionRow) → l ++ cond (not b) (version ∷ []) [] ≡ l
-      nothing test true t l = append-nil l
-      nothing test false t l = cc
-
-      tails : (test : VersionRow → Bool) (b : Bool) → test version ≡ b → version ∷ drop (next + 1) ended ≡ cond b (version ∷ filter test (drop (index + 1) current)) (filter test (drop (index + 1) current))
-          → drop (next + 1) ended ≡ filter test (drop (index + 1) current)
-      tails test true t e = cc
-      tails test false t e = let yes : test version ≡ true = heads test version (drop (next + 1) ended) (drop (index + 1) current) e in cc
 
   -- the version stays
-  pub passed_kept : (slice_get ended next ≡ Some version → ⊥) → Passed current ended (index + 1) next (rows ++ row_of version ∷ [])
-  passed_kept away = record {
-    low = passed.low;
-    ahead = λ test is. passed.ahead test is ∙ ap (filter test) here ∙ skipped test (test version) (off test is);
-    kept = λ test is.
-        ap (λ l. l ++ row_of version ∷ []) (passed.kept test is)
-        ∙ sym (map-append row_of (filter (λ v. not (test v)) (take index current)) (version ∷ []))
-        ∙ ap (map row_of) (sym (kept_more test ∙ ap (λ b. filter (λ v. not (test v)) (take index current) ++ cond (not b) (version ∷ []) []) (off test is)));
-  }
-    where
-      off : (test : VersionRow → Bool) → ended ≡ filter test current → test version ≡ false
-      off test is = go (test version) refl
-        where
-          go : (b : Bool) → test version ≡ b → b ≡ false
-          go false t = refl
-          go true t =
-              absurd (away (at_front ended next version (filter test (drop (index + 1) current))
-              (passed.ahead test is ∙ ap (filter test) here ∙ ap (λ b. cond b (version ∷ filter test (drop (index + 1) current)) (filter test (drop (index + 1) current))) t)))
+  pub passed_kept : (Contains left version → ⊥) → Passed current (index + 1) left (rows ++ row_of version ∷ []) stay
+  passed_kept absent =
+      let there : Contains passed.later version =
+      (elim (Contains-append_cases left passed.later version (Contains-permutation (version ∷ drop (index + 1) current) (left ++ passed.later) version front (Contains-here version (drop (index + 1) current)))) [
+        | inl among ↦ absurd (absent among)
+        | inr among ↦ among
+      ]) in
+      let (rest, moved) = rest_of passed.later version there in
+      let first : IsPermutation (left ++ passed.later) (left ++ version ∷ rest) = IsPermutation-append_right left passed.later (version ∷ rest) moved in
+      let turned : IsPermutation (left ++ version ∷ rest) (version ∷ (rest ++ left)) = IsPermutation-append_comm left (version ∷ rest) in
+      let back : IsPermutation (version ∷ (rest ++ left)) (version ∷ (left ++ rest)) = IsPermutation-cons version (rest ++ left) (left ++ rest) (IsPermutation-append_comm rest left) in
+      record {
+        kept = passed.kept ++ version ∷ [];
+        later = rest;
+        made = ap (λ (l : List PeriodRow). l ++ row_of version ∷ []) passed.made ∙ sym (map-append row_of passed.kept (version ∷ []));
+        ahead = IsPermutation-uncons version (drop (index + 1) current) (left ++ rest)
+            (IsPermutation-trans (version ∷ drop (index + 1) current) (left ++ passed.later) (version ∷ (left ++ rest)) front
+            (IsPermutation-trans (left ++ passed.later) (left ++ version ∷ rest) (version ∷ (left ++ rest)) first
+            (IsPermutation-trans (left ++ version ∷ rest) (version ∷ (rest ++ left)) (version ∷ (left ++ rest)) turned back)));
+        whole = subst (IsPermutation stay) (sym (append_assoc passed.kept (version ∷ []) rest))
+            (IsPermutation-trans stay (passed.kept ++ passed.later) (passed.kept ++ version ∷ rest) passed.whole
+            (IsPermutation-append_right passed.kept passed.later (version ∷ rest) moved));
+      }
 
-      skipped : (test : VersionRow → Bool) (b : Bool) → b ≡ false → cond b (version ∷ filter test (drop (index + 1) current)) (filter test (drop (index + 1) current)) ≡ filter test (drop (index + 1) current)
-      skipped test true t = cc
-      skipped test false t = refl
-
--- at the end the rows that stand are those of the versions that don't end, and those that are added
-pub left_in_the_end : (current : List VersionRow) (plan : Plan) (index next : ℕ) (first rows : List PeriodRow) → length current ≤ index → Passed current plan.ended index next first
-    → rows ≡ first ++ plan.added → (test : VersionRow → Bool) → plan.ended ≡ filter test current → AreLeftCurrent current plan rows
-left_in_the_end current plan index next first rows past passed e test is =
-    let stay : List VersionRow = filter (λ v. not (test v)) current in
-    let kept : first ≡ map row_of stay = passed.kept test is ∙ ap (λ l. map row_of (filter (λ v. not (test v)) l)) (take_all index current past) in
+-- at the end the rows are those of the versions that stay, and those that are added
+pub left_in_the_end : (current : List VersionRow) (plan : Plan) (index : ℕ) (left : List VersionRow) (first rows : List PeriodRow) (stay : List VersionRow) → length current ≤ index
+    → IsPermutation current (plan.ended ++ stay) → Passed current index left first stay → rows ≡ first ++ plan.added → AreLeftCurrent current plan rows
+left_in_the_end current plan index left first rows stay past taken passed e =
+    let none : length (left ++ passed.later) ≡ length (drop index current) = length_permutation (drop index current) (left ++ passed.later) passed.ahead in
+    let parts = length-append left passed.later in
+    let short = length-drop index current in
+    let done : passed.later ≡ [] = nil_from_length passed.later (omega (arith, none, parts, short)) in
+    let same : IsPermutation stay passed.kept = subst (IsPermutation stay) (ap (λ l. passed.kept ++ l) done ∙ append-nil passed.kept) passed.whole in
     record {
-      stay = stay;
-      taken = subst (λ l. IsPermutation current (l ++ stay)) (sym is) (IsPermutation-filter_both test (λ v. not (test v)) (λ v. refl) current);
-      rest = same_order rows (map row_of stay ++ plan.added) (e ∙ ap (λ l. l ++ plan.added) kept);
+      stay = passed.kept;
+      taken = IsPermutation-trans current (plan.ended ++ stay) (plan.ended ++ passed.kept) taken (IsPermutation-append_right plan.ended stay passed.kept same);
+      rest = same_order rows (map row_of passed.kept ++ plan.added) (e ∙ ap (λ l. l ++ plan.added) passed.made);
     }

@@ -1,5 +1,5 @@
 -- Plans: which current versions a change ends, which rows it adds, and what they make.
-use Rattle.std.specs.Prelude.{◌≡◌, ◌++◌, ℤ, Bool, List, IsPermutation, filter, flat_map, map}
+use Rattle.std.specs.Prelude.{◌≡◌, ◌++◌, ℤ, List, IsPermutation, filter, flat_map, map}
 use Rattle.period_core.specs.declared.row.PeriodRow.{PeriodRow}
 use Rattle.period_core.specs.declared.version.VersionRow.{VersionRow}
 use Rattle.temporal_model.specs.Snapshot.{values_on}
@@ -41,9 +41,10 @@ pub record Plans (action : Action) (current : List VersionRow) (plan : Plan) : T
 
 -- ---- the rows that would be current after a plan
 
--- the plan ends those of the versions that pass some test, in their order
-abbrev pub EndsByTest : List VersionRow → Plan → Type 0
-EndsByTest current plan = (test : VersionRow → Bool) × (plan.ended ≡ filter test current)
+-- the plan ends rows of the list, each once, in any order
+pub record EndsRows (current : List VersionRow) (plan : Plan) : Type 0 where
+  pub stay : List VersionRow
+  pub taken : IsPermutation current (plan.ended ++ stay)
 
 -- they are those of the versions that the plan does not end, and those that it adds
 pub record AreLeftCurrent (current : List VersionRow) (plan : Plan) (rows : List PeriodRow)

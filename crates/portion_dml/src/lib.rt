@@ -9,5 +9,6 @@ mod parts;
 mod plan;
 mod remaining;
 
+pub use catalog_core::Plan;
 pub use plan::{plan_delete, plan_insert, plan_update};
 pub use remaining::after;

@@ -1,11 +1,9 @@
 //! The rows of the three tables, judged.
 
 ghost use Rattle.std.specs.Prelude.{◌≡◌, ◌⊎◌, ◌≤◌, ℤ, List, IfErr, IfOk, true, length};
-ghost use Rattle.std.specs.Prelude.{option_copied};
 ghost use Rattle.std.specs.List.{AllByRecursion};
 ghost use Rattle.catalog_core.specs.Limits.{most_tables};
 ghost use Rattle.catalog_core.specs.table.TableWords.{has_date_period, has_distinct_names};
-ghost use Rattle.catalog_core.specs.table.TableWords.{table_of};
 ghost use Rattle.catalog_core.specs.declared.table.TableDef.{TableDef as AnyTable};
 ghost use Rattle.period_core.specs.declared.refusal.Refusal.TheVariants.{BadStore};
 ghost use Rattle.version_store.specs.GoodStore.{AreTables, IsTableRow, SayRows, SaysVersion};
@@ -38,11 +36,13 @@ fn read_table(alloc: Global, catalog: &Catalog, row: &Row) -> Result<TableDef, R
         return Err(Refusal::BadStore);
     };
     match decode_def(alloc, bytes) {
-        Ok(definition) => match lawful(alloc, catalog, &definition) {
-            Ok(true) => Ok(definition),
-            Ok(false) => Err(Refusal::BadStore),
-            Err(_) => Err(Refusal::Memory),
-        },
+        Ok(definition) => {
+            if lawful(catalog, &definition) {
+                Ok(definition)
+            } else {
+                Err(Refusal::BadStore)
+            }
+        }
         Err(DecodeFault::Memory) => Err(Refusal::Memory),
         Err(DecodeFault::Malformed) => Err(Refusal::BadStore),
     }
@@ -72,16 +72,6 @@ fn read_tables(alloc: Global, rows: &[Row]) -> Result<Catalog, Refusal>
     Ok(catalog)
 }
 
-/// The definition of the table of this number.
-fn definition_of(catalog: &Catalog, number: u8) -> Option<&TableDef>
-    ensures { option_copied result ≡ table_of catalog.now.tables number }
-{
-    if number == 0 {
-        return None;
-    }
-    catalog.tables.as_slice().get(usize::from(number) - 1)
-}
-
 /// Judges the row of a version, by the tables and the clock.
 fn judge_version(alloc: Global, catalog: &Catalog, clock: i64, row: &Row) -> Result<(), Refusal>
     ensures good { IfOk result (λ _. SaysVersion catalog.now.tables clock row.now) }
@@ -101,7 +91,7 @@ fn judge_version(alloc: Global, catalog: &Catalog, clock: i64, row: &Row) -> Res
     let Ok(number) = u8::try_from(number) else {
         return Err(Refusal::BadStore);
     };
-    let Some(definition) = definition_of(catalog, number) else {
+    let Some(definition) = catalog.def(number) else {
         return Err(Refusal::BadStore);
     };
     match decode_values(alloc, bytes) {

@@ -3,6 +3,10 @@ pub mod Built
 pub mod DatePeriods
 pub mod DistinctDefined
 pub mod KeyedColumns
-pub mod OneDefinition
+pub mod Spelling
+pub mod PlacedNames
+pub mod SpelledNames
 pub mod SpelledParts
+pub mod SpelledReferences
 pub mod Spelled
+pub mod LawfulTests

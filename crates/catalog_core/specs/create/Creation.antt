@@ -89,8 +89,8 @@ exceeds_limits catalog c =
     || nat_lt most_references (length c.references)
 
 -- 22: a table of this name is there
-unfoldable pub is_there : List TableDef → CreateTable → Bool
-is_there catalog c = list_any (λ (t : TableDef). bytes_eq c.name t.name) catalog
+unfoldable pub is_there : List TableDef → Name → Bool
+is_there catalog name = list_any (λ (t : TableDef). bytes_eq name t.name) catalog
 
 -- 23: a reference names a table that is not there
 unfoldable pub lacks_parent : List TableDef → CreateTable → Bool
@@ -260,7 +260,7 @@ references_other_kind catalog c =
 abbrev pub create_conditions : List TableDef → CreateTable → List Judged
 create_conditions catalog c =
     (LimitReached, exceeds_limits catalog c)
-    ∷ (TableExists, is_there catalog c)
+    ∷ (TableExists, is_there catalog c.name)
     ∷ (UnknownTable, lacks_parent catalog c)
     ∷ (UnknownColumn, lacks_name catalog c)
     ∷ (AmbiguousColumn, is_ambiguous catalog c)

@@ -107,7 +107,7 @@ pub fn resolve_update(
     ensures refused { IfErr result
         (MayAnswer (Holds (update_conditions catalog.now.tables (plain_update update.now)))) }
 {
-    let Some((number, table)) = catalog.find(&update.table) else {
+    let Some((number, table)) = catalog.table_named(&update.table) else {
         return Err(Refusal::UnknownTable);
     };
     if let Some(fault) = update_fault(table, update) {
@@ -136,7 +136,7 @@ pub fn resolve_delete(
     ensures refused { IfErr result
         (MayAnswer (Holds (delete_conditions catalog.now.tables (plain_delete delete.now)))) }
 {
-    let Some((number, table)) = catalog.find(&delete.table) else {
+    let Some((number, table)) = catalog.table_named(&delete.table) else {
         return Err(Refusal::UnknownTable);
     };
     if let Some(fault) = delete_fault(table, delete) {

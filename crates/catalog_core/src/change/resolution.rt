@@ -36,7 +36,7 @@ pub fn resolve_insert(
     ensures refused { IfErr result
         (MayAnswer (Holds (insert_conditions catalog.now.tables insert.now))) }
 {
-    let Some((number, table)) = catalog.find(&insert.table) else {
+    let Some((number, table)) = catalog.table_named(&insert.table) else {
         return Err(Refusal::UnknownTable);
     };
     if let Some(fault) = shape_fault(table, insert) {

@@ -100,7 +100,7 @@ fn declared_reference(
         (λ x. declared_reference catalog.now.tables create.now element.now ≡ reference_parts x) }
     ensures kept { IfOk result (λ x. is_reference (length create.now.columns) x ≡ true) }
 {
-    let Some((parent, table)) = catalog.find(&element.parent) else {
+    let Some((parent, table)) = catalog.table_named(&element.parent) else {
         unreachable!()
     };
     let own = own_places(alloc, create, element.columns.as_slice())?;

@@ -1,66 +1,232 @@
-//! Whether some CREATE gives a definition: what a store asks of each definition that it reads.
+//! Whether some CREATE gives a definition: what a store asks of each definition that it reads. The
+//! definition is judged by its names and places, and no test takes memory.
 
-ghost use Rattle.std.specs.Prelude.{◌≡◌, ◌↔◌, IfOk, IsTrue, MatchOption, bytes_eq};
-ghost use Rattle.period_core.specs.Leasts.{NoneApplies};
-ghost use Rattle.catalog_core.specs.Judged.{Holds};
-ghost use Rattle.catalog_core.specs.bytes.DefinitionValues.{definition_values};
-ghost use Rattle.catalog_core.specs.create.Creation.{create_conditions};
-ghost use Rattle.catalog_core.specs.create.Definition.{Defines};
+ghost use Rattle.std.specs.Prelude.{◌≡◌, ◌↔◌, IsTrue, count_by};
+ghost use Rattle.std.specs.List.{list_all};
 ghost use Rattle.catalog_core.specs.create.Lawful.{IsLawful};
+ghost use Rattle.catalog_core.specs.create.PlacedTests.{are_key_places, are_value_places};
+ghost use Rattle.catalog_core.specs.create.PlacedTests.{has_place, has_system_columns};
+ghost use Rattle.catalog_core.specs.create.PlacedTests.{have_two_kinds, is_first_named};
+ghost use Rattle.catalog_core.specs.create.PlacedTests.{is_placed_reference, is_row_end};
+ghost use Rattle.catalog_core.specs.create.PlacedTests.{is_row_start, is_value_place};
+ghost use Rattle.catalog_core.specs.create.PlacedTests.{is_within_limits, kind_at, passes_all};
+ghost use Rattle.catalog_core.specs.create.PlacedTests.{place_count, refers_to, repeats_place};
+ghost use Rattle.catalog_core.specs.declared.table.Column.{Column as AnyColumn};
 
-use crate::bytes::encode_def;
-use crate::create::define;
-use crate::create::spelling::spelled;
-use crate::table::TableDef;
+use crate::create::names::is_there;
+use crate::limits::{MOST_COLUMNS, MOST_REFERENCES, MOST_TABLES};
 use crate::table::catalog::Catalog;
-use period_core::{Memory, Refusal};
-use sql_statements::CreateTable;
-use std::alloc::Global;
+use crate::table::columns::is_value_column;
+use crate::table::kinds::{differ, kind_of_column};
+use crate::table::matching::{Matching, def_matches};
+use crate::table::{Column, ColumnKind, Reference, TableDef, ValueKind};
 
-/// The definition that a CREATE gives, if it is accepted. The only error is out of memory.
-fn given(alloc: Global, catalog: &Catalog, create: &CreateTable) -> Result<Option<TableDef>, Memory>
-    ensures { let accepted = NoneApplies (Holds (create_conditions catalog.now.tables create.now))
-        in IfOk result (λ found. MatchOption found (¬ accepted)
-        (λ d. accepted × Defines catalog.now.tables create.now d)) }
+/// Whether there is room for one table more, and its columns and references are not too many.
+#[tactic(auto, unfolding(crate::specs::create::PlacedTests::is_within_limits))]
+fn is_within_limits(catalog: &Catalog, definition: &TableDef) -> bool
+    ensures { result ≡ is_within_limits catalog.now.tables definition.now }
 {
-    match define(alloc, catalog, create) {
-        Ok(definition) => Ok(Some(definition)),
-        Err(refusal) => match refusal {
-            Refusal::Memory => Err(Memory),
-            _ => Ok(None),
-        },
+    catalog.len() < MOST_TABLES
+        && definition.columns.len() <= MOST_COLUMNS
+        && definition.references.len() <= MOST_REFERENCES
+}
+
+/// Whether it is a ROW START column's.
+fn is_row_start(kind: ColumnKind) -> bool
+    ensures { result ≡ is_row_start kind }
+{
+    matches!(kind, ColumnKind::RowStart(_))
+}
+
+/// Whether it is a ROW END column's.
+fn is_row_end(kind: ColumnKind) -> bool
+    ensures { result ≡ is_row_end kind }
+{
+    matches!(kind, ColumnKind::RowEnd(_))
+}
+
+/// How many ROW START columns there are.
+fn row_starts(columns: &[Column]) -> usize
+    ensures { result ≡ count_by (λ (x : AnyColumn). is_row_start x.kind) columns.now }
+{
+    columns.iter().filter(|x| is_row_start(x.kind)).count()
+}
+
+/// How many ROW END columns there are.
+fn row_ends(columns: &[Column]) -> usize
+    ensures { result ≡ count_by (λ (x : AnyColumn). is_row_end x.kind) columns.now }
+{
+    columns.iter().filter(|x| is_row_end(x.kind)).count()
+}
+
+/// Whether there is one ROW START column and one ROW END column.
+#[tactic(auto, unfolding(crate::specs::create::PlacedTests::has_system_columns))]
+fn has_system_columns(definition: &TableDef) -> bool
+    ensures { result ≡ has_system_columns definition.now }
+{
+    let columns = definition.columns.as_slice();
+    row_starts(columns) == 1 && row_ends(columns) == 1
+}
+
+/// How often a place is in a list.
+fn place_count(place: usize, places: &[usize]) -> usize
+    ensures { result ≡ place_count place places.now }
+{
+    places.iter().filter(|other| **other == place).count()
+}
+
+/// Whether some place is in a list more than once.
+#[tactic(auto, unfolding(crate::specs::create::PlacedTests::repeats_place))]
+fn repeats_place(places: &[usize]) -> bool
+    ensures { result ≡ repeats_place places.now }
+{
+    places.iter().any(|place| place_count(*place, places) > 1)
+}
+
+/// Whether a place is in a list.
+#[tactic(auto, unfolding(crate::specs::create::PlacedTests::has_place))]
+fn has_place(places: &[usize], place: usize) -> bool
+    ensures { result ≡ has_place places.now place }
+{
+    places.iter().any(|other| *other == place)
+}
+
+/// Whether the column at a place is a value column.
+#[tactic(auto, unfolding(crate::specs::create::PlacedTests::is_value_place))]
+fn is_value_place(definition: &TableDef, place: usize) -> bool
+    ensures { result ≡ is_value_place definition.now place }
+{
+    match definition.columns.as_slice().get(place) {
+        Some(column) => is_value_column(definition, place, column),
+        None => false,
     }
 }
 
-/// Whether two lists of bytes are one.
-fn are_same(bytes: &[u8], others: &[u8]) -> bool
-    ensures { result ≡ bytes_eq bytes.now others.now }
+/// Whether each place is a value column's.
+fn are_value_columns(definition: &TableDef, places: &[usize]) -> bool
+    ensures { result ≡ list_all (is_value_place definition.now) places.now }
 {
-    bytes == others
+    places
+        .iter()
+        .all(|place| is_value_place(definition, *place))
 }
 
-/// Whether two definitions are the same: they are where their values are. The only error is out of
-/// memory.
-fn is_same(alloc: Global, definition: &TableDef, other: &TableDef) -> Result<bool, Memory>
-    ensures same { IfOk result (λ same. IsTrue same → definition.now ≡ other.now) }
-    ensures found { IfOk result
-        (λ same. definition_values definition.now ≡ definition_values other.now → IsTrue same) }
+/// Whether each place is among others.
+fn are_among(others: &[usize], places: &[usize]) -> bool
+    ensures { result ≡ list_all (has_place others.now) places.now }
 {
-    let bytes = encode_def(alloc, definition)?;
-    let others = encode_def(alloc, other)?;
-    Ok(are_same(bytes.as_slice(), others.as_slice()))
+    places.iter().all(|place| has_place(others, *place))
 }
 
-/// Whether some CREATE that is accepted over the tables of the catalog gives this definition. The
-/// only error is out of memory.
-pub fn lawful(alloc: Global, catalog: &Catalog, definition: &TableDef) -> Result<bool, Memory>
-    ensures { IfOk result
-        (λ holds. IsTrue holds ↔ IsLawful catalog.now.tables definition.now) }
+/// Whether each place is a value column's, and none is there twice.
+#[tactic(auto, unfolding(crate::specs::create::PlacedTests::are_value_places))]
+fn are_value_places(definition: &TableDef, places: &[usize]) -> bool
+    ensures { result ≡ are_value_places definition.now places.now }
 {
-    let create = spelled(alloc, catalog, definition)?;
-    let found = given(alloc, catalog, &create)?;
-    match found {
-        None => Ok(false),
-        Some(other) => is_same(alloc, definition, &other),
+    !repeats_place(places) && are_value_columns(definition, places)
+}
+
+/// Whether the places are those of the key's columns, in some order.
+#[tactic(auto, unfolding(crate::specs::create::PlacedTests::are_key_places))]
+fn are_key_places(table: &TableDef, places: &[usize]) -> bool
+    ensures { result ≡ are_key_places table.now places.now }
+{
+    let key = table.key.as_slice();
+    !repeats_place(places) && are_among(key, places) && are_among(places, key)
+}
+
+/// The kind of the column at a place.
+#[tactic(auto, unfolding(crate::specs::create::PlacedTests::kind_at))]
+fn kind_at(table: &TableDef, place: usize) -> Option<ValueKind>
+    ensures { result ≡ kind_at table.now place }
+{
+    match table.columns.as_slice().get(place) {
+        Some(column) => Some(kind_of_column(column.kind)),
+        None => None,
     }
+}
+
+/// Whether columns of two tables at the same place of two lists are of two kinds.
+#[tactic(auto, unfolding(crate::specs::create::PlacedTests::have_two_kinds))]
+fn have_two_kinds(child: &TableDef, parent: &TableDef, own: &[usize], keys: &[usize]) -> bool
+    ensures { result ≡ have_two_kinds child.now parent.now own.now keys.now }
+{
+    for i in 0..own.len().min(keys.len()) {
+        if differ(kind_at(child, own[i]), kind_at(parent, keys[i])) {
+            return true;
+        }
+    }
+    false
+}
+
+/// Whether the first table of this table's name has the number.
+#[tactic(auto, unfolding(crate::specs::create::PlacedTests::is_first_named))]
+fn is_first_named(catalog: &Catalog, number: u8, table: &TableDef) -> bool
+    ensures { result ≡ is_first_named catalog.now.tables number table.now }
+{
+    match catalog.find(&table.name) {
+        Some(first) => first == number,
+        None => false,
+    }
+}
+
+/// Whether a reference is by value columns of the one table to the key of the other, of the same
+/// kinds.
+#[tactic(auto, unfolding(crate::specs::create::PlacedTests::refers_to))]
+fn refers_to(child: &TableDef, parent: &TableDef, reference: &Reference) -> bool
+    ensures { result ≡ refers_to child.now parent.now reference.now }
+{
+    let (own, keys) = (reference.own.as_slice(), reference.keys.as_slice());
+    are_value_places(child, own)
+        && are_key_places(parent, keys)
+        && !have_two_kinds(child, parent, own, keys)
+}
+
+/// Whether it is one to a table that is there, which is known by its name.
+#[tactic(auto, unfolding(crate::specs::create::PlacedTests::is_placed_reference))]
+fn is_placed_reference(catalog: &Catalog, definition: &TableDef, reference: &Reference) -> bool
+    ensures { result ≡ is_placed_reference catalog.now.tables definition.now reference.now }
+{
+    match catalog.def(reference.parent) {
+        Some(parent) => {
+            is_first_named(catalog, reference.parent, parent)
+                && refers_to(definition, parent, reference)
+        }
+        None => false,
+    }
+}
+
+/// Whether each of the definition's references is one.
+fn are_placed_references(catalog: &Catalog, definition: &TableDef) -> bool
+    ensures { result ≡ list_all (is_placed_reference catalog.now.tables definition.now)
+        definition.now.references }
+{
+    for reference in definition.references.as_slice() {
+        if !is_placed_reference(catalog, definition, reference) {
+            return false;
+        }
+    }
+    true
+}
+
+/// Whether a definition passes all tests.
+#[tactic(auto, unfolding(crate::specs::create::PlacedTests::passes_all))]
+fn passes_all(catalog: &Catalog, definition: &TableDef) -> bool
+    ensures { result ≡ passes_all catalog.now.tables definition.now }
+{
+    is_within_limits(catalog, definition)
+        && !is_there(catalog, &definition.name)
+        && definition.has_distinct_names()
+        && Matching::Nothing.takes(def_matches(definition, &definition.period.name))
+        && definition.has_date_period()
+        && has_system_columns(definition)
+        && are_value_places(definition, definition.key.as_slice())
+        && are_placed_references(catalog, definition)
+}
+
+/// Whether some CREATE that is accepted over the tables of the catalog gives this definition.
+pub fn lawful(catalog: &Catalog, definition: &TableDef) -> bool
+    ensures { IsTrue result ↔ IsLawful catalog.now.tables definition.now }
+{
+    passes_all(catalog, definition)
 }

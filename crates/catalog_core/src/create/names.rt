@@ -32,7 +32,7 @@ use std::collections::BTreeMap;
 pub fn parent_of<'a>(catalog: &'a Catalog, reference: &ReferenceElement) -> Option<&'a TableDef>
     ensures { option_copied result ≡ parent_of catalog.now.tables reference.now }
 {
-    match catalog.find(&reference.parent) {
+    match catalog.table_named(&reference.parent) {
         Some((_, table)) => Some(table),
         None => None,
     }
@@ -94,11 +94,11 @@ pub fn exceeds_limits(catalog: &Catalog, create: &CreateTable) -> bool
 
 /// Whether a table of this name is there.
 #[tactic(auto, unfolding(crate::specs::create::Creation::is_there))]
-pub fn is_there(catalog: &Catalog, create: &CreateTable) -> bool
-    ensures { result ≡ is_there catalog.now.tables create.now }
+pub fn is_there(catalog: &Catalog, name: &Name) -> bool
+    ensures { result ≡ is_there catalog.now.tables name.now }
 {
     for table in catalog.tables.as_slice() {
-        if create.name.is(&table.name) {
+        if name.is(&table.name) {
             return true;
         }
     }

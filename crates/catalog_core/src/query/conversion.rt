@@ -110,7 +110,7 @@ fn number_reference(
         written_reference catalog.now.tables reference.now ≡ reference_parts numbered) }
     ensures placed { IfOk result (λ numbered. numbered.place ≡ place) }
 {
-    let Some((number, table)) = catalog.find(&reference.table) else {
+    let Some((number, table)) = catalog.table_named(&reference.table) else {
         unreachable!()
     };
     let kinds = value_kinds(alloc, table)?;

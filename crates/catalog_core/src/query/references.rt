@@ -56,7 +56,7 @@ pub fn references_of(alloc: Global, select: &SelectDistinct) -> Result<Vec<&Tabl
 fn is_missing(catalog: &Catalog, reference: &TableReference) -> bool
     ensures { result ≡ is_none (table_of_name catalog.now.tables reference.now.table) }
 {
-    match catalog.find(&reference.table) {
+    match catalog.table_named(&reference.table) {
         Some(_) => false,
         None => true,
     }

@@ -130,7 +130,7 @@ pub fn push_columns<'a>(
         ++ declared_columns (scope.known_name reference.now)
         (table_of_name catalog.now.tables reference.now.table)) }
 {
-    let Some((_, table)) = catalog.find(&reference.table) else {
+    let Some((_, table)) = catalog.table_named(&reference.table) else {
         return Ok(());
     };
     let known_as = known_name(reference);

@@ -66,7 +66,7 @@ pub fn resolve_stored_query(
     ensures refused { IfErr result (MayAnswer
         (Holds (stored_query_conditions catalog.now.tables (plain_stored query.now)))) }
 {
-    let Some((number, table)) = catalog.find(&query.table) else {
+    let Some((number, table)) = catalog.table_named(&query.table) else {
         return Err(Refusal::UnknownTable);
     };
     if let Some(fault) = stored_fault(table, query) {

@@ -1,13 +1,12 @@
 //! The catalog: the tables by their numbers.
 
-ghost use Rattle.std.specs.Prelude.{◌≡◌, ◌↔◌, ◌≤◌, ◌<◌, ◌++◌, ◌∷◌, [], IfOk, IfSome, IsSome, true};
+ghost use Rattle.std.specs.Prelude.{◌≡◌, ◌≤◌, ◌<◌, ◌++◌, ◌∷◌, [], IfOk, IfSome, IsSome, true};
 ghost use Rattle.std.specs.Prelude.{MatchOption, None, OnErr, Some, length};
 ghost use Rattle.std.specs.List.{list_all};
 ghost use Rattle.catalog_core.specs.Limits.{most_tables};
 ghost use Rattle.catalog_core.specs.table.TableWords.{has_date_period, has_distinct_names};
 ghost use Rattle.catalog_core.specs.table.TableWords.{number_of, table_of};
 
-use crate::limits::MOST_TABLES;
 use crate::table::TableDef;
 use period_core::{Items, Memory};
 use sql_statements::Name;
@@ -23,28 +22,16 @@ pub struct Catalog {
     pub ghost distinct: { list_all has_distinct_names tables ≡ true },
 }
 
-/// Whether the application period of each table is over two different DATE columns.
-fn have_date_periods(tables: &[TableDef]) -> bool
-    ensures { result ≡ list_all has_date_period tables.now }
+/// What a list has of the table of this number, where it has one entry a table, in the order of
+/// their creation.
+pub fn of_number<T>(entries: &[T], number: u8) -> Option<&T>
+    ensures { MatchOption result (table_of entries.now number ≡ None)
+        (λ entry. table_of entries.now number ≡ Some entry.now) }
 {
-    for table in tables {
-        if !table.has_date_period() {
-            return false;
-        }
+    if number == 0 {
+        return None;
     }
-    true
-}
-
-/// Whether no two columns of a table share a name.
-fn have_distinct_names(tables: &[TableDef]) -> bool
-    ensures { result ≡ list_all has_distinct_names tables.now }
-{
-    for table in tables {
-        if !table.has_distinct_names() {
-            return false;
-        }
-    }
-    true
+    entries.get(usize::from(number) - 1)
 }
 
 impl Catalog {
@@ -55,24 +42,6 @@ impl Catalog {
         Catalog {
             tables: Items::from_vec(Vec::new(alloc)),
         }
-    }
-
-    /// The catalog of these tables. `None` says that they are more than 64, that the application
-    /// period of one is not over two different DATE columns, or that two columns of one share a
-    /// name.
-    pub fn from_tables(tables: Items<TableDef>) -> Option<Catalog>
-        ensures there { IsSome result ↔ (length tables ≤ most_tables)
-            × (list_all has_date_period tables ≡ true)
-            × (list_all has_distinct_names tables ≡ true) }
-        ensures value { IfSome result (λ catalog. catalog.tables ≡ tables) }
-    {
-        if tables.len() > MOST_TABLES
-            || !have_date_periods(tables.as_slice())
-            || !have_distinct_names(tables.as_slice())
-        {
-            return None;
-        }
-        Some(Catalog { tables })
     }
 
     /// Adds a table to fewer than 64; its number is then the number of tables. Its application
@@ -95,20 +64,38 @@ impl Catalog {
         self.tables.len()
     }
 
-    /// The number and the definition of the table of this name.
+    /// The number of the table of this name.
     #[tactic(auto, unfolding(crate::specs::table::TableWords::number_of))]
-    pub fn find(&self, name: &Name) -> Option<(u8, &TableDef)>
-        ensures { MatchOption result (number_of self.now.tables name.now ≡ None)
-            (λ found. (number_of self.now.tables name.now ≡ Some found.0)
-            × (table_of self.now.tables found.0 ≡ Some found.1.now)) }
+    pub fn find(&self, name: &Name) -> Option<u8>
+        ensures value { result ≡ number_of self.now.tables name.now }
+        ensures there { IfSome result (λ number. IsSome (table_of self.now.tables number)) }
     {
         let tables = self.tables.as_slice();
         for i in 0..tables.len() {
             let table = &tables[i];
             if name.is(&table.name) {
-                return Some((i as u8 + 1, table));
+                return Some(i as u8 + 1);
             }
         }
         None
+    }
+
+    /// The definition of the table of this number.
+    pub fn def(&self, number: u8) -> Option<&TableDef>
+        ensures { MatchOption result (table_of self.now.tables number ≡ None)
+            (λ table. table_of self.now.tables number ≡ Some table.now) }
+    {
+        of_number(self.tables.as_slice(), number)
+    }
+
+    /// The number and the definition of the table of this name.
+    pub(crate) fn table_named(&self, name: &Name) -> Option<(u8, &TableDef)>
+        ensures { MatchOption result (number_of self.now.tables name.now ≡ None)
+            (λ found. (number_of self.now.tables name.now ≡ Some found.0)
+            × (table_of self.now.tables found.0 ≡ Some found.1.now)) }
+    {
+        let number = self.find(name)?;
+        let table = self.def(number)?;
+        Some((number, table))
     }
 }

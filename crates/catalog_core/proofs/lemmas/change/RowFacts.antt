@@ -1,5 +1,5 @@
 -- What the rows of a resolved change are: they have a value for each value column, and the empty ones decide the refusal.
-use Rattle.std.proofs.Common.{◌≡◌, ◌∷◌, ◌++◌, ◌||◌, ◌∙◌, ℕ, Bool, List, [], Option, Some, map, refl, sym, ap}
+use Rattle.std.proofs.Common.{◌≡◌, ◌∷◌, ◌||◌, ◌∙◌, ℕ, Bool, List, [], Option, Some, map, refl, sym, ap}
 use Rattle.std.specs.List.{list_any}
 use Rattle.std.specs.Option.{option_and_then}
 use Rattle.period_core.specs.declared.value.Value.{Value}

@@ -1,5 +1,5 @@
 -- The one CREATE that is accepted and gives a definition is the one that spells it.
-use Rattle.std.proofs.Common.{◌≡◌, ◌↔◌, ◌∷◌, ◌||◌, ◌∙◌, ℕ, Bool, false, not, List, [], Option, None, Some, Result, Ok, Err, IfOk, IsTrue, arith, ap, bytes_eq, length, map, refl, subst, sym}
+use Rattle.std.proofs.Common.{◌≡◌, ◌∷◌, ◌||◌, ◌∙◌, ℕ, false, not, List, [], Option, None, Some, arith, ap, bytes_eq, length, map, refl, subst, sym}
 use Rattle.std.specs.Prelude.{unwrap_or}
 use Rattle.std.specs.List.{list_any}
 use Rattle.std.specs.Option.{option_and_then, option_map}
@@ -13,14 +13,12 @@ use Rattle.sql_statements.specs.declared.create.KeyElement.{KeyElement}
 use Rattle.sql_statements.specs.declared.create.PeriodElement.{PeriodElement}
 use Rattle.sql_statements.specs.declared.create.ReferenceElement.{ReferenceElement}
 use Rattle.sql_statements.specs.declared.create.SystemElement.{SystemElement}
-use Rattle.catalog_core.proofs.lemmas.create.OneDefinition.{values_one}
 use Rattle.catalog_core.proofs.lemmas.create.Shape.{fails_single, sound}
 use Rattle.catalog_core.proofs.lemmas.create.SpelledParts.{columns_declared, name_back, names_back, parent_named, sort_named}
 use Rattle.catalog_core.specs.create.Creation.{create_conditions, has_bad_system_period, has_other_period, has_sort, is_used_otherwise, names_other_period, parent_of, sort_count}
 use Rattle.catalog_core.specs.create.Definition.{Defines, Numbers, declared_key, declared_period, declared_reference, reference_parts}
-use Rattle.catalog_core.specs.bytes.DefinitionValues.{definition_values}
 use Rattle.catalog_core.specs.create.Lawful.{IsLawful}
-use Rattle.catalog_core.specs.create.Spelling.{create_of, create_with, name_of_sort, own_name, parent_name, reference_to, spelled_key, spelled_period, spelled_reference, spelled_system}
+use Rattle.catalog_core.proofs.lemmas.create.Spelling.{create_of, create_with, name_of_sort, own_name, parent_name, reference_to, spelled_key, spelled_period, spelled_reference, spelled_system}
 use Rattle.catalog_core.specs.Judged.{Holds}
 use Rattle.catalog_core.specs.table.Naming.{Name, passes}
 use Rattle.catalog_core.specs.table.TableWords.{def_place, number_of, table_of, table_of_name}
@@ -169,12 +167,3 @@ pub spelled_given : (tables : List TableDef) (c : CreateTable) (d : TableDef) �
 spelled_given tables c d is given =
     let Gives : CreateTable → Type 0 = λ x. NoneApplies (Holds (create_conditions tables x)) × Defines tables x d in
     subst Gives (spelled_one tables given.0 d given.1 given.2 ∙ sym is) (given.1, given.2)
-
--- what the comparison of the definition with the one that is given says
-pub lawful_by : {E : Type 0} (tables : List TableDef) (c : CreateTable) (d e : TableDef) (compared : Result Bool E) → c ≡ create_of tables d → NoneApplies (Holds (create_conditions tables c)) → Defines tables c e
-    → IfOk compared (λ same. IsTrue same → d ≡ e) → IfOk compared (λ same. definition_values d ≡ definition_values e → IsTrue same) → IfOk compared (λ holds. IsTrue holds ↔ IsLawful tables d)
-lawful_by tables c d e (Ok same) is none defines alike found = (
-  λ yes. (c, none, subst (Defines tables c) (sym (alike yes)) defines),
-  λ given. found (values_one tables c d e (spelled_given tables c d is given).1 defines),
-)
-lawful_by tables c d e (Err fault) is none defines alike found = tt

@@ -1,5 +1,5 @@
 -- The names and the columns of a CREATE, from the places and the columns of the definition that it gives.
-use Rattle.std.proofs.Common.{◌≡◌, ◌<◌, ◌≤◌, ◌+◌, ◌∷◌, ◌&&◌, ◌||◌, ◌∙◌, ℕ, suc, Bool, true, false, not, List, [], Option, None, Some, arith, ap, bytes_eq, cond, filter, get_or, inl, inr, length, map, refl, sym}
+use Rattle.std.proofs.Common.{◌≡◌, ◌≤◌, ◌+◌, ◌∷◌, ◌&&◌, ◌||◌, ◌∙◌, ℕ, suc, Bool, true, false, not, List, [], Option, None, Some, arith, ap, bytes_eq, cond, filter, get_or, inl, inr, length, map, refl, sym}
 use Rattle.std.specs.Prelude.{find, slice_get}
 use Rattle.std.specs.List.{list_any, position}
 use Rattle.std.specs.Option.{option_map}
@@ -16,8 +16,7 @@ use Rattle.sql_statements.specs.declared.create.TypeName.{TypeName}
 use Rattle.sql_statements.specs.declared.create.TypeName.TheVariants as type_name
 use Rattle.catalog_core.specs.create.Creation.{has_sort, sort_count}
 use Rattle.catalog_core.specs.create.Definition.{column_parts, declared_column, declared_kind}
-use Rattle.catalog_core.specs.create.Spelling.{name_at, name_of_sort, name_or, spelled_column, spelled_side, spelled_type}
-use Rattle.catalog_core.specs.table.IsDefinition.{has_some}
+use Rattle.catalog_core.proofs.lemmas.create.Spelling.{name_at, name_of_sort, name_or, spelled_column, spelled_side, spelled_type}
 use Rattle.catalog_core.specs.table.Matches.{is_of_sort}
 use Rattle.catalog_core.specs.table.Naming.{Name, place_among}
 use Rattle.catalog_core.specs.table.TableWords.{number_of, table_of}
@@ -28,10 +27,6 @@ use Rattle.catalog_core.specs.declared.table.ColumnKind.TheVariants.{Integer, Va
 use Rattle.catalog_core.specs.declared.table.TableDef.{TableDef}
 
 -- ==== names for places ====
-
-pub some_long : {X : Type 0} (xs : List X) → has_some xs ≡ true → 0 < length xs
-some_long [] some = absurd (false≢true some)
-some_long (x ∷ xs) some = omega arith
 
 -- a name is that of the element at its place
 pub name_back : {X : Type 0} (named : X → Name) (other : Name) (xs : List X) (name : Name) (place : ℕ) → place_among named xs name ≡ Some place → name ≡ name_at named other xs place

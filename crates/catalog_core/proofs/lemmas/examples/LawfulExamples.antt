@@ -14,7 +14,7 @@ use Rattle.catalog_core.proofs.lemmas.judged.Least.{none_first}
 use Rattle.catalog_core.specs.create.Creation.{create_conditions, period_matches, some_parent_match, some_match, has_sort, sort_count, exceeds_limits, is_there, lacks_parent, names_other_period, lacks_period, lacks_name, is_ambiguous, is_shared, repeats_name, is_no_value_column, some_no_value, keys_period_column, lacks_one_of_each, has_bad_period, has_bad_system_period, is_bad_type, has_bad_column, is_used_otherwise, has_other_period, is_at, is_key_name, is_named, are_key, names_no_key, references_no_key, is_bad_definition, has_unequal_lists, own_kind, have_other_kinds, names_other_kind, references_other_kind}
 use Rattle.catalog_core.specs.create.Definition.{Defines, declared_kind, declared_reference}
 use Rattle.catalog_core.specs.create.Lawful.{IsLawful}
-use Rattle.catalog_core.specs.create.Spelling.{create_of}
+use Rattle.catalog_core.proofs.lemmas.create.Spelling.{create_of}
 use Rattle.catalog_core.specs.Judged.{Holds}
 use Rattle.catalog_core.specs.table.Kinds.{kind_of_type, kind_of_column, same_kind, differ}
 use Rattle.catalog_core.specs.table.Matches.{is_matching, is_of_sort}

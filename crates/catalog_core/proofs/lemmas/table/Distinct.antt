@@ -16,7 +16,7 @@ use Rattle.catalog_core.specs.declared.table.TableDef.{TableDef}
 use Rattle.catalog_core.specs.table.Naming.{matches_among, place_among}
 
 -- an element that passes is kept
-kept_some : {X : Type 0} (p : X → Bool) (xs : List X) (i : ℕ) (d : X) → i < length xs → p (get_or xs i d) ≡ true → 0 < length (filter p xs)
+pub kept_some : {X : Type 0} (p : X → Bool) (xs : List X) (i : ℕ) (d : X) → i < length xs → p (get_or xs i d) ≡ true → 0 < length (filter p xs)
 kept_some p [] i d here passing = absurd (omega (arith, here))
 kept_some p (x ∷ xs) zero d here passing = rw passing (omega arith)
 kept_some p (x ∷ xs) (suc i) d here passing =

@@ -1,57 +1,71 @@
-use Rattle.std.proofs.Common.{◌≡◌, ◌∙◌, ℕ, Bool, List, [], Some, None, refl, sym, ap, true, false, arith}
-use Rattle.std.specs.Prelude.{◌||◌, IfSome, Option}
+use Rattle.std.proofs.Common.{◌≡◌, ◌∙◌, ℕ, List, [], get_or, length, subst, sym, ap, arith, inl, inr}
+use Rattle.std.specs.Prelude.{MatchOption, Option}
 use Rattle.std.specs.Borrow.{Bor}
 use Rattle.std.specs.Global.{Box, Vec}
-use Rattle.std.specs.List.{list_all, list_any}
-use Rattle.std.proofs.lemmas.Bool.{eqb-true}
-use Rattle.std.proofs.lemmas.List.{nil_from_length}
-use Rattle.std.proofs.lemmas.List.Sums.{AllPass-from_list_all}
+use Rattle.std.proofs.lemmas.Bool.{cases_lt, eq-eqb, eqb-true, false≢true}
+use Rattle.std.proofs.lemmas.List.{get_or_default, nil_from_length}
 use Rattle.period_core.specs.declared.value.Value.{Value}
 use Rattle.sql_statements.specs.declared.tree.Tree as code
-use Rattle.catalog_core.specs.Conditions.{compares, meets}
+use Rattle.sql_statements.specs.Plain.{plain_condition}
+use Rattle.sql_statements.specs.Trees.{Condition}
 use Rattle.catalog_core.specs.declared.condition.CompareValues.{CompareValues}
-use Rattle.catalog_core.proofs.lemmas.conditions.Truth.{and_truth, or_truth}
-use Rattle.period_keys.specs.FixedKeys.{Fixes}
-use Rattle.period_keys.proofs.Fixed.{both_true}
+use Rattle.catalog_core.proofs.lemmas.conditions.Truth.{test_view}
+use Rattle.period_keys.specs.FixedKeys.{Equates}
+use Rattle.period_keys.proofs.Fixed.{in_first, in_none, in_other, only_view, several_none}
 use Rattle.period_keys.proofs.fixed_keys.+fixed_value.Goals as goal
 
--- the parts of an AND are met where it is
-parts_met : (condition : code.Tree CompareValues) (first : Box (code.Tree CompareValues)) (others : Vec (code.Tree CompareValues)) (values : List Value) → condition ≡ code.And first others
-    → meets condition values ≡ true → (meets first.value values ≡ true) × (list_all (λ part. meets part values) others.items ≡ true)
-parts_met condition first others values is met =
-    both_true (meets first.value values) (list_all (λ part. meets part values) others.items)
-    (sym (ap (λ part. meets part values) is ∙ and_truth (compares values) first others) ∙ met)
+-- what is found is what the condition says
+abbrev Says : Condition CompareValues → ℕ → Option (Bor Value) → Type 0
+Says condition position found = MatchOption found ((value : Value) → Equates condition position value → ⊥) (λ (value : Bor Value). Equates condition position value.now)
 
 pub returns-in-Some : goal.returns-in-Some
-returns-in-Some t c = λ values met.
-    c.in-Some.ensures values (ap (λ (part : code.Tree CompareValues). meets part values) c.deref.ensures ∙ (parts_met c.args.condition.now c.in-And.first c.in-And.others values c.in-And.is met).0)
+returns-in-Some t c =
+    in_first c.args.condition.now c.in-And.first c.in-And.others c.args.position c.in-Some.value.now c.in-And.is c.deref.result.now c.deref.ensures c.in-Some.ensures
 
 pub returns-in-Some-fixed_value : goal.returns-in-Some-fixed_value
-returns-in-Some-fixed_value t c = λ values met.
-    let parts = c.deref-part-items.result.now in
-    let others : list_all (λ part. meets part values) parts ≡ true = ap (list_all (λ part. meets part values)) c.deref-part-items.ensures.value ∙ (parts_met c.args.condition.now c.in-And.first c.in-And.others values c.in-And.is met).1 in
-    c.in-Some-fixed_value.ensures values (ap (λ (part : code.Tree CompareValues). meets part values) c.part-item.is ∙ AllPass-from_list_all (λ part. meets part values) parts others c.loop-part.part-index c.part-item.result c.loop-part-test.true)
+returns-in-Some-fixed_value t c =
+    in_other c.args.condition.now c.in-And.first c.in-And.others c.args.position c.in-Some-fixed_value.value.now c.in-And.is c.deref-part-items.result.now c.deref-part-items.ensures.value
+    c.loop-part.part-index c.part-item.result c.loop-part-test.true c.part-item.is c.in-Some-fixed_value.ensures
 
-or_alone : (b : Bool) → (b || false) ≡ true → b ≡ true
-or_alone true h = refl
-or_alone false h = absurd cc
+pub loop-part-init : goal.loop-part-init
+loop-part-init t c = λ k d below value says. omega (arith, below)
 
--- the only part of an OR is met where it is
-only_part_met : (condition : code.Tree CompareValues) (first : Box (code.Tree CompareValues)) (others : Vec (code.Tree CompareValues)) (values : List Value) → condition ≡ code.Or first others → others.items ≡ []
-    → meets condition values ≡ true → meets first.value values ≡ true
-only_part_met condition first others values is alone met =
-    or_alone (meets first.value values)
-    (sym (ap (λ part. meets part values) is ∙ or_truth (compares values) first others ∙ ap (λ parts. meets first.value values || list_any (λ part. meets part values) parts) alone) ∙ met)
+pub loop-part-preserved : goal.loop-part-preserved
+loop-part-preserved t c = λ k d below value says.
+    let parts : List (code.Tree CompareValues) = c.deref-part-items.result.now in
+    let i : ℕ = c.loop-part.part-index in
+    let here : code.Tree CompareValues = c.part-item.result in
+    elim (cases_lt k i) [
+      | inl less ↦ c.loop-part.invariant k d less value says
+      | inr more ↦
+          let same : k ≡ i = omega (arith, below, more) in
+          let at : get_or parts k d ≡ here = ap (λ n. get_or parts n d) same ∙ get_or_default parts i d here c.loop-part-test.true ∙ sym c.part-item.is in
+          c.in_default-fixed_value.ensures value (subst (λ (p : code.Tree CompareValues). Equates (plain_condition p) c.args.position value) at says)
+    ]
 
--- what the only part of an OR fixes
-of_only_part : (condition part : code.Tree CompareValues) (first : Box (code.Tree CompareValues)) (others : Vec (code.Tree CompareValues)) (position : ℕ) (found : Option (Bor Value)) → condition ≡ code.Or first others → others.items ≡ [] → part ≡ first.value
-    → IfSome found (λ value. Fixes part position value.now) → IfSome found (λ value. Fixes condition position value.now)
-of_only_part condition part first others position None is alone same h = tt
-of_only_part condition part first others position (Some value) is alone same h = λ values met.
-    h values (ap (λ (part : code.Tree CompareValues). meets part values) same ∙ only_part_met condition first others values is alone met)
+pub returns-after-loop-part : goal.returns-after-loop-part
+returns-after-loop-part t c = λ value says.
+    in_none c.args.condition.now c.in-And.first c.in-And.others c.args.position value c.in-And.is c.deref.result.now c.deref.ensures (c.in_default.ensures value)
+    c.deref-part-items.result.now c.deref-part-items.ensures.value (λ k d below it. c.loop-part.invariant k d (omega (arith, below, c.loop-part-test.false)) value it) says
 
-pub returns-in-Or : goal.returns-in-Or
-returns-in-Or t c =
+-- of an OR of one part
+of_only : (condition part : code.Tree CompareValues) (first : Box (code.Tree CompareValues)) (others : Vec (code.Tree CompareValues)) (position : ℕ) (found : Option (Bor Value)) → condition ≡ code.Or first others → others.items ≡ [] → part ≡ first.value
+    → Says (plain_condition part) position found → Says (plain_condition condition) position found
+of_only condition part first others position found is alone same h =
+    subst (λ (x : Condition CompareValues). Says x position found) (sym (only_view condition first others is alone))
+    (subst (λ (p : code.Tree CompareValues). Says (plain_condition p) position found) same h)
+
+pub returns-then-is_empty : goal.returns-then-is_empty
+returns-then-is_empty t c =
     let none : c.in-Or.others.len ≡ 0 = eqb-true c.in-Or.others.len 0 (sym c.is_empty.ensures ∙ c.if-is_empty.true) in
     let alone : c.in-Or.others.items ≡ [] = nil_from_length c.in-Or.others.items (omega (arith, none, c.in-Or.others.ok.0)) in
-    of_only_part c.args.condition.now c.deref-in-Or.result.now c.in-Or.first c.in-Or.others c.args.position c.fixed_value-in-Or.result c.in-Or.is alone c.deref-in-Or.ensures c.fixed_value-in-Or.ensures
+    of_only c.args.condition.now c.deref-then-is_empty.result.now c.in-Or.first c.in-Or.others c.args.position c.fixed_value-then-is_empty.result c.in-Or.is alone c.deref-then-is_empty.ensures c.fixed_value-then-is_empty.ensures
+
+pub returns-else-is_empty : goal.returns-else-is_empty
+returns-else-is_empty t c = λ value says.
+    several_none c.args.condition.now c.in-Or.first c.in-Or.others c.args.position value c.in-Or.is
+    (λ none. let size = ap length none in false≢true (sym c.if-is_empty.false ∙ c.is_empty.ensures ∙ eq-eqb c.in-Or.others.len 0 (omega (arith, size, c.in-Or.others.ok.0)))) says
+
+pub returns-in-Test : goal.returns-in-Test
+returns-in-Test t c =
+    subst (λ (x : Condition CompareValues). Says x c.args.position c.fixed_by_test.result) (sym (ap plain_condition c.in-Test.is ∙ test_view c.in-Test.test)) c.fixed_by_test.ensures

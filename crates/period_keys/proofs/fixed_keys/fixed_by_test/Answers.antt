@@ -1,23 +1,23 @@
-use Rattle.std.proofs.Common.{◌≡◌, ℕ, List, Some, None, true}
-use Rattle.std.specs.Prelude.{IfSome, Option, slice_get}
+use Rattle.std.proofs.Common.{◌≡◌, ℕ, Some, None, inl, inr}
+use Rattle.std.specs.Prelude.{MatchOption, Option}
 use Rattle.std.specs.Borrow.{Bor}
 use Rattle.period_core.specs.declared.value.Value.{Value}
-use Rattle.catalog_core.specs.Conditions.{compares}
 use Rattle.catalog_core.specs.declared.condition.Comparand.TheVariants.{Literal, Position}
 use Rattle.catalog_core.specs.declared.condition.CompareValues.{CompareValues}
 use Rattle.sql_statements.specs.declared.statement.Comparison.TheVariants.{Equal}
-use Rattle.period_keys.proofs.Fixed.{fixed_left, fixed_right}
+use Rattle.period_keys.specs.FixedKeys.{IsEquation}
 use Rattle.period_keys.proofs.fixed_keys.fixed_by_test.Goals as goal
 
 pub returns-in-Some : goal.returns-in-Some
-returns-in-Some c = λ values h. fixed_left c.args.test.now c.args.position c.in-Some.value.now values c.in-Equal.is c.in-Some.ensures.0 c.in-Some.ensures.1 h
+returns-in-Some c = (c.in-Equal.is, inl c.in-Some.ensures)
 
--- where the other order of the sides gives one
+-- where the sides in one order give none, and the other order is asked
 beside : (test : CompareValues) (position : ℕ) (found : Option (Bor Value)) → test.comparison ≡ Equal
-    → IfSome found (λ value. (test.right ≡ Position position) × (test.left ≡ Literal value.now))
-    → IfSome found (λ value. (values : List Value) → compares values test ≡ true → slice_get values position ≡ Some value.now)
-beside test position None is h = tt
-beside test position (Some value) is h = λ values met. fixed_right test position value.now values is h.0 h.1 met
+    → ((value : Value) → (test.left ≡ Position position) × (test.right ≡ Literal value) → ⊥)
+    → MatchOption found ((value : Value) → (test.right ≡ Position position) × (test.left ≡ Literal value) → ⊥) (λ value. (test.right ≡ Position position) × (test.left ≡ Literal value.now))
+    → MatchOption found ((value : Value) → IsEquation test position value → ⊥) (λ value. IsEquation test position value.now)
+beside test position None is first second = λ value equation. elim equation.1 [ inl sides ↦ first value sides | inr sides ↦ second value sides ]
+beside test position (Some value) is first second = (is, inr second)
 
 pub returns-in-None : goal.returns-in-None
-returns-in-None c = beside c.args.test.now c.args.position c.literal_beside-in-None.result c.in-Equal.is c.literal_beside-in-None.ensures
+returns-in-None c = beside c.args.test.now c.args.position c.literal_beside-in-None.result c.in-Equal.is c.in-None.ensures c.literal_beside-in-None.ensures

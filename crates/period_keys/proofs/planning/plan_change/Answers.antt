@@ -26,7 +26,7 @@ returns-in-Ok-Some-clause-plan c =
     let rows : List VersionRow = c.args.current.now.rows in
     let key : List Value = c.in-Ok-Some.key in
     let fixes : FixesKey c.in-Some.condition.now positions key = subst (λ (ps : List ℕ). FixesKey c.in-Some.condition.now ps key) c.positions.ensures
-    (subst (λ (o : Option (List Value)). IfSome o (FixesKey c.in-Some.condition.now c.positions.result.now)) c.in-Ok-Some.field-0-is c.in-Ok-Some.ensures) in
+    (subst (λ (o : Option (List Value)). IfSome o (FixesKey c.in-Some.condition.now c.positions.result.now)) c.in-Ok-Some.field-0-is c.in-Ok-Some.ensures.fixed) in
     if_ok c.plan_over.result (λ plan. Plans action c.of_key.result.now plan) (λ plan. IsPlanOf action rows plan)
     (λ plan plans. plan_of_passing action (is_of_key positions key) rows plan (of_fixed action c.in-Some.condition.now positions key fixes c.in-Some.ensures.met)
     (subst (λ (xs : List VersionRow). Plans action xs plan) c.of_key.ensures plans)) c.plan_over.ensures.plan

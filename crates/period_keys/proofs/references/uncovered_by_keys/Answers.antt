@@ -1,4 +1,8 @@
-use Rattle.std.proofs.Common.{◌≡◌, ◌++◌, ◌∷◌, [], ◌∙◌, ℤ, List, append_assoc, append-nil, sym, ap, subst}
+use Rattle.std.proofs.Common.{◌≡◌, ◌+◌, ◌++◌, ◌∷◌, [], ◌∙◌, ℕ, ℤ, List, map, take, take_all, sym, ap, subst, arith}
+use Rattle.std.specs.Borrow.{Bor}
+use Rattle.std.proofs.lemmas.List.{map-append, take_more}
+use Rattle.temporal_model.proofs.Members.{Contains-nil}
+use Rattle.period_keys.specs.Keys.{IsLeastOf}
 use Rattle.std.specs.List.{Any, Contains}
 use Rattle.std.specs.List.Sorted.{IsPermutation}
 use Rattle.period_core.specs.declared.period.Period.{Period}
@@ -12,11 +16,7 @@ use Rattle.period_keys.proofs.Leasts.{IsLeastOf-same, least_none, least_one_more
 use Rattle.period_keys.proofs.references.uncovered_by_keys.Goals as goal
 
 pub loop-key-init : goal.loop-key-init
-loop-key-init c = (
-  [],
-  λ key p there. subst (λ (list : List (List Value)). Contains list key) (sym c.into_iter-key-iterator.ensures.into_iter_gives) (c.keys-key-items.ensures key p there),
-  λ keys before ended stay added is gone_is new_is moved. least_none (λ key day. LosesParent (periods_of_key keys (stay ++ added)) c.args.children.now key day),
-)
+loop-key-init c = λ keys before ended stay added is gone_is new_is moved. least_none (λ key day. LosesParent (periods_of_key keys (stay ++ added)) c.args.children.now key day)
 
 -- what the function that was called says of the key's periods, of the indexes
 of_indexes : (parents gone new : KeyedPeriods) (key : List Value) (xs gs ns made there : List Period) → xs ≡ periods_at parents key → gs ≡ periods_at gone key → ns ≡ periods_at new key → there ≡ made
@@ -27,34 +27,38 @@ of_indexes parents gone new key xs gs ns made there xs_is gs_is ns_is there_is e
     (subst (λ (list : List Period). IsPermutation made (stay ++ list)) ns_is
     (ensured stay (subst (λ (list : List Period). IsPermutation list (gs ++ stay)) (sym xs_is) (subst (λ (list : List Period). IsPermutation (periods_at parents key) (list ++ stay)) (sym gs_is) split))))
 
+abbrev values_of_key : Bor (List Value) → List Value
+values_of_key k = k.now
+
 pub loop-key-preserved : goal.loop-key-preserved
-loop-key-preserved c =
-    let (done, have, least) = c.loop-key.invariant in
-    let key : List Value = c.in-Some.key.now in
-    let rest : List (List Value) = c.next.new.self in
-    let left : c.loop-key.key-iterator ≡ key ∷ rest = c.in-Some.ensures.steps in
-    let there : List Period = c.as_slice.result.now in (
-      done ++ key ∷ [],
-      λ k p has. subst (λ (list : List (List Value)). Contains list k) (sym (append_assoc done (key ∷ []) rest)) (subst (λ (list : List (List Value)). Contains (done ++ list) k) left (have k p has)),
-      λ keys before ended stay added is gone_is new_is moved.
-          let after : List Period = periods_of_key keys (stay ++ added) key in
-          let moved_there : IsPermutation there after =
-          there_afterwards keys c.args.parents.now c.args.gone.now c.args.new.now before ended stay added key there is moved gone_is new_is
-          (of_indexes c.args.parents.now c.args.gone.now c.args.new.now key c.of_key.result.now c.of_key-in-loop-key.result.now c.of_key-in-loop-key-2.result.now c.in_ok-there.there.items.items there
-          c.of_key.ensures c.of_key-in-loop-key.ensures c.of_key-in-loop-key-2.ensures c.as_slice.ensures c.in_ok-there.ensures) in
-          least_one_more (λ key day. LosesParent (periods_of_key keys (stay ++ added)) c.args.children.now key day) done key c.loop-key.found c.first_gap_of_some.result c.earlier-found.result
-          (least keys before ended stay added is gone_is new_is moved)
-          (lost_least there after c.of_key-in-loop-key-3.result.now c.args.children.now key c.first_gap_of_some.result c.of_key-in-loop-key-3.ensures moved_there c.first_gap_of_some.ensures)
-          c.earlier-found.ensures,
-    )
+loop-key-preserved c = λ keys before ended stay added is gone_is new_is moved.
+    let items : List (Bor (List Value)) = c.as_slice-key-items.result.now in
+    let i : ℕ = c.loop-key.key-index in
+    let here : Bor (List Value) = c.key-item.result in
+    let key : List Value = here.now in
+    let there : List Period = c.as_slice.result.now in
+    let after : List Period = periods_of_key keys (stay ++ added) key in
+    let more : map values_of_key (take (i + 1) items) ≡ map values_of_key (take i items) ++ key ∷ [] =
+    ap (map values_of_key) (take_more items i here (omega arith) ∙ ap (λ (k : Bor (List Value)). take i items ++ k ∷ []) (sym c.key-item.is)) ∙ map-append values_of_key (take i items) (here ∷ []) in
+    let moved_there : IsPermutation there after =
+    there_afterwards keys c.args.parents.now c.args.gone.now c.args.new.now before ended stay added key there is moved gone_is new_is
+    (of_indexes c.args.parents.now c.args.gone.now c.args.new.now key c.of_key.result.now c.of_key-in-loop-key.result.now c.of_key-in-loop-key-2.result.now c.in_ok-there.there.items.items there
+    c.of_key.ensures c.of_key-in-loop-key.ensures c.of_key-in-loop-key-2.ensures c.as_slice.ensures c.in_ok-there.ensures) in
+    subst (λ (done : List (List Value)). IsLeastOf (λ day. Any (λ k. LosesParent (periods_of_key keys (stay ++ added)) c.args.children.now k day) done) c.earlier-found.result) (sym more)
+    (least_one_more (λ k day. LosesParent (periods_of_key keys (stay ++ added)) c.args.children.now k day) (map values_of_key (take i items)) key c.loop-key.found c.first_gap_of_some.result c.earlier-found.result
+    (c.loop-key.invariant keys before ended stay added is gone_is new_is moved)
+    (lost_least there after c.of_key-in-loop-key-3.result.now c.args.children.now key c.first_gap_of_some.result c.of_key-in-loop-key-3.ensures moved_there c.first_gap_of_some.ensures)
+    c.earlier-found.ensures)
 
 pub returns : goal.returns
 returns c = λ own keys below before ended stay added children_is parents_is gone_is new_is covered moved.
-    let (done, have, least) = c.loop-key.invariant in
+    let items : List (Bor (List Value)) = c.as_slice-key-items.result.now in
     let after : List PeriodRow = stay ++ added in
     let Loses : ℤ → List Value → Type 0 = λ day key. LosesParent (periods_of_key keys after) c.args.children.now key day in
-    let all : done ++ c.loop-key.key-iterator ≡ done = ap (λ (list : List (List Value)). done ++ list) c.in-None.ensures.steps.0 ∙ append-nil done in
+    let done : List (List Value) = map values_of_key c.in_ok-ended_keys.ended_keys.items in
+    let all : map values_of_key (take c.loop-key.key-index items) ≡ done = ap (map values_of_key) (take_all c.loop-key.key-index items (omega arith) ∙ c.as_slice-key-items.ensures.value) in
     IsLeastOf-same (λ day. Any (Loses day) done) (IsUncovered own below keys after)
     (uncovered_of_parents own keys below before ended stay added done c.args.children.now c.args.parents.now c.args.gone.now children_is parents_is gone_is
-    (λ key p there. subst (λ (list : List (List Value)). Contains list key) all (have key p there)) covered moved)
-    c.loop-key.found (least keys before ended stay added parents_is gone_is new_is moved)
+    (λ key p there. (c.in_ok-ended_keys.ensures.exact key).1 (λ none. Contains-nil p (subst (λ (list : List Period). Contains list p) none there))) covered moved)
+    c.loop-key.found
+    (subst (λ (list : List (List Value)). IsLeastOf (λ day. Any (Loses day) list) c.loop-key.found) all (c.loop-key.invariant keys before ended stay added parents_is gone_is new_is moved))

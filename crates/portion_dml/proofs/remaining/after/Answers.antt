@@ -1,43 +1,67 @@
-use Rattle.std.proofs.Common.{◌≡◌, ◌+◌, ◌++◌, ◌∷◌, [], List, ℕ, Some, sym, ◌∙◌, ap, subst}
-use Rattle.std.specs.List.{slice_get}
+use Rattle.std.proofs.Common.{◌≡◌, ◌+◌, ◌++◌, ◌∷◌, [], Bool, true, false, List, ℕ, sym, ◌∙◌, ap, map, subst}
+use Rattle.std.specs.Bool.{OnFalse, OnTrue}
+use Rattle.std.specs.Borrow.{Bor}
+use Rattle.std.specs.List.{Contains}
+use Rattle.std.specs.List.Sorted.{IsPermutation}
+use Rattle.std.proofs.lemmas.Bool.{false≢true}
 use Rattle.std.proofs.lemmas.List.{take_all}
 use Rattle.period_core.specs.declared.row.PeriodRow.{PeriodRow}
-use Rattle.portion_dml.specs.Plans.{AreLeftCurrent}
+use Rattle.period_core.specs.declared.version.VersionRow.{VersionRow}
+use Rattle.history_model.specs.Versions.{row_of}
 use Rattle.portion_dml.proofs.Daily.{daily}
-use Rattle.portion_dml.proofs.Ending.{Passed, passed_ended, passed_kept, left_in_the_end}
+use Rattle.portion_dml.proofs.Ending.{Passed, at_first, left_in_the_end, passed_ended, passed_kept}
 use Rattle.portion_dml.proofs.remaining.after.Goals as goal
-use Rattle.portion_dml.proofs.remaining.after.Goals.{then-is_at, else-is_at+in_ok-period_row+in_ok-push}
+use Rattle.portion_dml.proofs.remaining.after.Goals.{then-not-take_out+in_ok-period_row+in_ok-push, else-not-take_out}
+
+abbrev now_of : Bor VersionRow → VersionRow
+now_of r = r.now
+
+on_true : (b : Bool) (P : Type 0) → OnTrue b P → b ≡ true → P
+on_true true P h e = h
+on_true false P h e = absurd (false≢true e)
+
+on_false : (b : Bool) (P : Type 0) → OnFalse b P → b ≡ false → P
+on_false true P h e = absurd (false≢true (sym e))
+on_false false P h e = h
+
+pub loop-version-init : goal.loop-version-init
+loop-version-init c = λ stay taken.
+    let left : List VersionRow = map now_of c.in_ok-left.left.items in
+    subst (λ (r : List PeriodRow). Passed c.args.current.now 0 left r stay) (sym c.new-rows.ensures.items)
+    (at_first c.args.current.now c.args.plan.now.ended left stay (c.in_ok-left.ensures ∙ c.as_slice.ensures) taken)
 
 pub loop-version-preserved : goal.loop-version-preserved
-loop-version-preserved c =
-    let current = c.args.current.now in
-    let ended = c.args.plan.now.ended in
-    let index = c.loop-version.version-index in
-    let next = c.loop-version.next in
-    let rows = c.loop-version.rows.items in
-    let version = c.version-item.result in
-    elim c.if-is_at.branch [
-      | then-is_at w ↦
-          subst (λ (n : ℕ). Passed current ended (index + 1) n c.if-is_at.rows.items) (sym w.next-is)
-          (subst (λ r. Passed current ended (index + 1) (next + 1) r.items) (sym w.rows-is)
-          (passed_ended current ended index next rows version c.loop-version-test.true c.version-item.is c.loop-version.invariant
-          (subst (λ l. slice_get l next ≡ Some version) c.as_slice-ended.ensures (c.is_at.ensures.0 w.if-is_at.true))))
-      | else-is_at+in_ok-period_row+in_ok-push w ↦
-          subst (λ (n : ℕ). Passed current ended (index + 1) n c.if-is_at.rows.items) (sym w.next-is)
-          (subst (λ (r : List PeriodRow). Passed current ended (index + 1) next r)
+loop-version-preserved c = λ stay taken.
+    let current : List VersionRow = c.args.current.now in
+    let index : ℕ = c.loop-version.version-index in
+    let rows : List PeriodRow = c.loop-version.rows.items in
+    let version : VersionRow = c.version-item.result in
+    let old : List VersionRow = map now_of c.loop-version.left.items in
+    let new : List VersionRow = map now_of c.take_out.new.left.items in
+    let passed : Passed current index old rows stay = c.loop-version.invariant stay taken in
+    elim c.if-not-take_out.branch [
+      | then-not-take_out+in_ok-period_row+in_ok-push w ↦
+          let absent = on_false c.take_out.result (Contains old version → ⊥) c.take_out.ensures.absent w.if-not-take_out.true in
+          let kept = on_false c.take_out.result (c.take_out.new.left.items ≡ c.loop-version.left.items) c.take_out.ensures.kept w.if-not-take_out.true in
+          subst (λ (r : List PeriodRow). Passed current (index + 1) new r stay)
           (sym (ap (λ r. r.items) w.rows-is ∙ w.in_ok-push.ensures.items ∙ ap (λ (p : PeriodRow). rows ++ p ∷ []) w.in_ok-period_row.ensures))
-          (passed_kept current ended index next rows version c.loop-version-test.true c.version-item.is c.loop-version.invariant
-          (λ there. let t = c.is_at.ensures.1 (subst (λ l. slice_get l next ≡ Some version) (sym c.as_slice-ended.ensures) there) in let f = w.if-is_at.false in cc)))
+          (subst (λ (l : List VersionRow). Passed current (index + 1) l (rows ++ row_of version ∷ []) stay) (sym (ap (map now_of) kept))
+          (passed_kept current index old rows stay version c.loop-version-test.true c.version-item.is passed absent))
+      | else-not-take_out w ↦
+          let gone = on_true c.take_out.result (IsPermutation old (version ∷ new)) c.take_out.ensures.taken w.if-not-take_out.false in
+          subst (λ r. Passed current (index + 1) new r.items stay) (sym w.rows-is)
+          (passed_ended current index old rows stay version c.loop-version-test.true c.version-item.is passed new gone)
     ]
 
-stand : (c : goal.After-loop-row) → AreLeftCurrent c.args.current.now c.args.plan.now c.loop-row.rows.items
-stand c =
-    left_in_the_end c.args.current.now c.args.plan.now c.loop-version.version-index c.loop-version.next c.loop-version.rows.items c.loop-row.rows.items c.loop-version-test.false c.loop-version.invariant
-    (c.loop-row.invariant ∙ ap (λ l. c.loop-version.rows.items ++ l) (take_all c.loop-row.row-index c.as_slice-row-items.result.now c.loop-row-test.false ∙ c.as_slice-row-items.ensures))
-    c.requires.0 c.requires.1
-
 pub returns-clause-left : goal.returns-clause-left
-returns-clause-left c = stand c
+returns-clause-left c =
+    left_in_the_end c.args.current.now c.args.plan.now c.loop-version.version-index (map now_of c.loop-version.left.items) c.loop-version.rows.items c.loop-row.rows.items c.requires.stay c.loop-version-test.false
+    c.requires.taken (c.loop-version.invariant c.requires.stay c.requires.taken)
+    (c.loop-row.invariant ∙ ap (λ l. c.loop-version.rows.items ++ l) (take_all c.loop-row.row-index c.as_slice-row-items.result.now c.loop-row-test.false ∙ c.as_slice-row-items.ensures))
 
 pub returns-clause-effect : goal.returns-clause-effect
-returns-clause-effect c action plans = daily action c.args.current.now c.args.plan.now c.loop-row.rows.items plans (stand c)
+returns-clause-effect c action plans =
+    daily action c.args.current.now c.args.plan.now c.loop-row.rows.items plans
+    (left_in_the_end c.args.current.now c.args.plan.now c.loop-version.version-index (map now_of c.loop-version.left.items) c.loop-version.rows.items c.loop-row.rows.items c.requires.stay c.loop-version-test.false
+    c.requires.taken (c.loop-version.invariant c.requires.stay c.requires.taken)
+    (c.loop-row.invariant ∙ ap (λ l. c.loop-version.rows.items ++ l) (take_all c.loop-row.row-index c.as_slice-row-items.result.now c.loop-row-test.false ∙ c.as_slice-row-items.ensures)))

@@ -1,7 +1,0 @@
-use Rattle.std.specs.Prelude.{◌≡◌, take, true}
-use Rattle.std.specs.List.{list_all}
-use Rattle.catalog_core.specs.table.TableWords.{has_date_period}
-use Rattle.catalog_core.proofs.table.catalog.have_date_periods.Given as goal
-
-abbrev pub invariant-loop-table : goal.invariant-loop-table
-invariant-loop-table l = list_all has_date_period (take l.table-index l.tables) ≡ true
