@@ -208,6 +208,9 @@ impl<S: Alter> VersionStore<S> {
         ensures added { OnOk result
             (self.new.catalog.tables ≡ self.old.catalog.tables ++ definition ∷ []) }
         ensures none { OnErr result (self.new.catalog.tables ≡ self.old.catalog.tables) }
+        ensures clock { self.new.clock ≡ self.old.clock }
+        ensures usable { IsUsable S.Store self.new.connection
+            → IsUsable S.Store self.old.connection }
         ensures named { IfErr result IsStoreRefusal }
     {
         let Ok(bytes) = encode_def(alloc, &definition) else {
@@ -233,6 +236,9 @@ impl<S: Alter> VersionStore<S> {
         requires before_the_end { moment <ℤ forever }
         ensures changes { Changes S.Store self.old self.new result (with_clock moment) }
         ensures catalog { self.new.catalog ≡ self.old.catalog }
+        ensures none { OnErr result (self.new.clock ≡ self.old.clock) }
+        ensures usable { IsUsable S.Store self.new.connection
+            → IsUsable S.Store self.old.connection }
         ensures named { IfErr result IsStoreRefusal }
     {
         match write_clock(&mut self.connection, moment) {
@@ -258,6 +264,7 @@ impl<S: Alter> VersionStore<S> {
         ensures changes { Changes S.Store self.old self.new result
             (planned table moment plan.now.ended plan.now.added) }
         ensures catalog { self.new.catalog ≡ self.old.catalog }
+        ensures clock { self.new.clock ≡ self.old.clock }
         ensures usable { IsUsable S.Store self.new.connection
             → IsUsable S.Store self.old.connection }
         ensures distinct { IsUsable S.Store self.new.connection
