@@ -1,5 +1,6 @@
 pub mod ReadFacts
 pub mod LineFacts
+mod NewStore
 pub mod ProgramExamples
 pub mod CommandLines
 pub mod ProgramFacts
