@@ -127,9 +127,10 @@ fn runs(rt: HostRuntime) -> Result<(), Fail> {
             (&[1], "2024-01-08", "2024-01-09"),
         ],
     )?;
-    assert_eq!(rt; list.len(), 4);
-    for (at, end) in [2, 2, 3, 4].iter().enumerate() {
-        assert_eq!(rt; run_end(list.as_slice(), at), *end, "from {at}");
+    let ends = [2, 2, 3, 4];
+    assert_eq!(rt; list.len(), ends.len());
+    for at in 0..list.len() {
+        assert_eq!(rt; run_end(list.as_slice(), at), ends[at], "from {at}");
     }
     Ok(())
 }
