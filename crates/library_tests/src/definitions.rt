@@ -1,7 +1,7 @@
 //! Definitions of tables: those that a CREATE gives, and their bytes, and bytes of no definition.
 
 use crate::fixtures::{self, DEP, WRK, catalog_of, defined};
-use catalog_core::{Catalog, ColumnKind, TableDef, decode_def, encode_def, lawful};
+use catalog_core::{Catalog, ColumnKind, decode_def, encode_def, lawful};
 use period_core::DecodeFault;
 use std::alloc::Global;
 use std::test::Fail;
@@ -117,19 +117,6 @@ fn cut_bytes(rt: HostRuntime) {
     assert!(rt; is_refused(rt.alloc(), &EMP[..203]));
 }
 
-// Whether some CREATE over a catalog's tables gives the definition.
-fn is_lawful(alloc: Global, catalog: &Catalog, definition: &TableDef) -> Result<bool, Fail> {
-    Ok(lawful(alloc, catalog, definition)?)
-}
-
-// The number of the table that has the definition's name.
-fn number_of(catalog: &Catalog, definition: &TableDef) -> Option<u8> {
-    match catalog.find(&definition.name) {
-        Some((number, _)) => Some(number),
-        None => None,
-    }
-}
-
 #[test]
 fn of_creates(rt: HostRuntime) -> Result<(), Fail> {
     let alloc = rt.alloc();
@@ -139,11 +126,11 @@ fn of_creates(rt: HostRuntime) -> Result<(), Fail> {
     drop(employees);
     assert!(rt; encode_def(alloc, &copy)?.as_slice() == EMP);
     // its name is no longer free, and free where there is another table
-    assert!(rt; is_lawful(alloc, &none, &copy)?);
+    assert!(rt; lawful(&none, &copy));
     let own = catalog_of(alloc, &[fixtures::EMP])?;
-    assert!(rt; !is_lawful(alloc, &own, &copy)?);
+    assert!(rt; !lawful(&own, &copy));
     let other = catalog_of(alloc, &[DEP])?;
-    assert!(rt; is_lawful(alloc, &other, &copy)?);
+    assert!(rt; lawful(&other, &copy));
     Ok(())
 }
 
@@ -159,18 +146,23 @@ fn references(rt: HostRuntime) -> Result<(), Fail> {
     assert_eq!(rt; reference.own.as_slice(), [1].as_slice());
     assert_eq!(rt; reference.keys.as_slice(), [0].as_slice());
     // the parent has to be there, under its number
-    assert!(rt; is_lawful(alloc, &catalog, &workers)?);
-    assert!(rt; !is_lawful(alloc, &catalog_of(alloc, &[DEP, fixtures::EMP])?, &workers)?);
+    assert!(rt; lawful(&catalog, &workers));
+    assert!(rt; !lawful(&catalog_of(alloc, &[DEP, fixtures::EMP])?, &workers));
     Ok(())
 }
 
 #[test]
 fn numbers_of_tables(rt: HostRuntime) -> Result<(), Fail> {
     let alloc = rt.alloc();
+    let none = Catalog::new(alloc);
     let catalog = catalog_of(alloc, &[fixtures::EMP, DEP, WRK])?;
     assert_eq!(rt; catalog.len(), 3);
-    let departments = defined(alloc, &Catalog::new(alloc), DEP)?;
-    assert_eq!(rt; number_of(&catalog, &departments), Some(2));
-    assert_eq!(rt; number_of(&Catalog::new(alloc), &departments), None);
+    let departments = defined(alloc, &none, DEP)?;
+    assert_eq!(rt; catalog.find(&departments.name), Some(2));
+    assert_eq!(rt; none.find(&departments.name), None);
+    let found = catalog.def(2).ok_or("no second table")?;
+    let bytes = encode_def(alloc, &departments)?;
+    assert!(rt; encode_def(alloc, found)?.as_slice() == bytes.as_slice());
+    assert!(rt; catalog.def(0).is_none() && catalog.def(4).is_none());
     Ok(())
 }

@@ -15,7 +15,7 @@
 //! - `new`, `start`, `end`, `contains_day`, `intersect`, `minus` of `Period`:
 //!   `periods::parts_of_periods`
 //! - `Window::sees`: `periods::windows`
-//! - the order of `Value` and `Values`: `values::order`
+//! - the order of `Value` and `Values`: `values::order`; `run_end`: `values::runs`
 //! - `copy` of `Value`, `PeriodRow`, `VersionRow`: `values::copies`; of `Answer`:
 //!   `engines::answers_and_their_copies`
 //! - `encode_values`, `decode_values`: `values::numbers`, `values::texts_and_dates`,
@@ -28,7 +28,7 @@
 //!
 //! catalog_core
 //! - `define`, `lawful`, `TableDef::copy`: `definitions::of_creates`, `definitions::references`
-//! - `len`, `find` of `Catalog`: `definitions::numbers_of_tables`
+//! - `len`, `find`, `def` of `Catalog`: `definitions::numbers_of_tables`
 //! - `encode_def`, `decode_def`: `definitions::both_ways`, `definitions::bytes_of_no_definition`,
 //!   `definitions::cut_bytes`
 //! - `resolve_change`: `plans::plans_of_each_form`
@@ -51,7 +51,8 @@
 //! - `run_query`: `queries::first_answer`, `queries::changed_departments`
 //!
 //! coalesce_core
-//! - `coalesce`: `operators::shortest_lists`; `witnesses`: `operators::days_that_witness`
+//! - `coalesce`: `operators::shortest_lists`; `Coalesce::new`:
+//!   `operators::rows_coalesced_one_at_a_time`; `witnesses`: `operators::days_that_witness`
 //!
 //! snapshot_audit
 //! - `rows_on`: `audits::snapshots`; `eval_on`: `audits::sets_on_a_day`

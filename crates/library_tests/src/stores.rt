@@ -189,6 +189,8 @@ impl RowVisitor for FirstTwo {
 
     ghost may_refuse = { λ refusal. refusal ≡ OutOfMemory };
 
+    ghost answered = { λ _ _. Unit {0} };
+
     fn visit(&mut self, row: VersionRow) -> Result<(), Refusal> {
         if self.rows.len() == 2 {
             return Err(Refusal::Memory);

@@ -1,8 +1,8 @@
 //! Values, rows and versions: their order and their copies; the bytes that are kept for values,
 //! both ways, and bytes that are kept for none.
 
-use crate::fixtures::{FOREVER, Held, integers, row, version};
-use period_core::{Day, DecodeFault, Text, Value, decode_values, encode_values};
+use crate::fixtures::{FOREVER, Held, integers, row, rows, version};
+use period_core::{Day, DecodeFault, Text, Value, decode_values, encode_values, run_end};
 use std::alloc::Global;
 use std::test::Fail;
 
@@ -112,5 +112,25 @@ fn order(rt: HostRuntime) -> Result<(), Fail> {
     // lists by the first value that differs, and one before those that go on behind it
     assert!(rt; integers(alloc, &[1, 9])? < integers(alloc, &[2])?);
     assert!(rt; integers(alloc, &[1])? < integers(alloc, &[1, 0])?);
+    Ok(())
+}
+
+#[test]
+fn runs(rt: HostRuntime) -> Result<(), Fail> {
+    let alloc = rt.alloc();
+    let list = rows(
+        alloc,
+        &[
+            (&[1], "2024-01-01", "2024-01-03"),
+            (&[1], "2024-01-05", "2024-01-07"),
+            (&[2], "2024-01-01", "2024-01-03"),
+            (&[1], "2024-01-08", "2024-01-09"),
+        ],
+    )?;
+    let ends = [2, 2, 3, 4];
+    assert_eq!(rt; list.len(), ends.len());
+    for at in 0..list.len() {
+        assert_eq!(rt; run_end(list.as_slice(), at), ends[at], "from {at}");
+    }
     Ok(())
 }
