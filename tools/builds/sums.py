@@ -118,15 +118,20 @@ def sum_of(parts):
     return found.hexdigest()
 
 
-def lay_copy(copy, main, uses=()):
-    """Copies what a build without a proof reads, with another file as the program's main, which may
-    use further crates."""
+def lay_crates(copy, crates):
+    """Copies what a build without a proof reads, where each crate depends on these."""
     copy.mkdir(parents=True, exist_ok=True)
-    crates = repository_crates()
     for name in crates:
         shutil.copytree(ROOT / 'crates' / name / 'src', copy / 'crates' / name / 'src')
-    crates[PROGRAM] += uses
     lines = ''.join(f"{name}: {' '.join(words)}\n" for name, words in crates.items())
     (copy / 'crates.txt').write_text(lines, encoding='utf-8')
     shutil.copy(ROOT / 'HANDLES', copy)
+
+
+def lay_copy(copy, main, uses=()):
+    """Copies what a build without a proof reads, with another file as the program's main, which may
+    use further crates."""
+    crates = repository_crates()
+    crates[PROGRAM] += uses
+    lay_crates(copy, crates)
     shutil.copy(main, copy / 'crates' / PROGRAM / 'src/main.rt')

@@ -1,7 +1,6 @@
-//! Definitions of tables: those that a CREATE gives, and their bytes, and bytes of no definition.
+//! Definitions of tables as bytes, and back; and bytes of no definition.
 
-use crate::fixtures::{self, DEP, WRK, catalog_of, defined};
-use catalog_core::{Catalog, ColumnKind, TableDef, decode_def, encode_def, lawful};
+use catalog_core::{ColumnKind, decode_def, encode_def};
 use period_core::DecodeFault;
 use std::alloc::Global;
 use std::test::Fail;
@@ -69,9 +68,9 @@ fn both_ways(rt: HostRuntime) -> Result<(), Fail> {
 
 #[test]
 fn bytes_of_no_definition(rt: HostRuntime) -> Result<(), Fail> {
-    // the table's name in another case, and one that begins with a digit; a reserved word; counts
-    // of columns; kinds of ENO, and its number; the p of SS; places of the period and of the key;
-    // the length of the key; a reference too many
+    // the table's name in another case, and one that begins with a digit; a reserved word; counts of
+    // columns; kinds of ENO, and its number; the p of SS; places of the period and of the key; the
+    // length of the key; a reference too many
     let places = [
         (1, b'e'),
         (1, b'1'),
@@ -115,62 +114,4 @@ fn cut_bytes(rt: HostRuntime) {
     assert!(rt; is_refused(rt.alloc(), &[]));
     assert!(rt; is_refused(rt.alloc(), &EMP[..195]));
     assert!(rt; is_refused(rt.alloc(), &EMP[..203]));
-}
-
-// Whether some CREATE over a catalog's tables gives the definition.
-fn is_lawful(alloc: Global, catalog: &Catalog, definition: &TableDef) -> Result<bool, Fail> {
-    Ok(lawful(alloc, catalog, definition)?)
-}
-
-// The number of the table that has the definition's name.
-fn number_of(catalog: &Catalog, definition: &TableDef) -> Option<u8> {
-    match catalog.find(&definition.name) {
-        Some((number, _)) => Some(number),
-        None => None,
-    }
-}
-
-#[test]
-fn of_creates(rt: HostRuntime) -> Result<(), Fail> {
-    let alloc = rt.alloc();
-    let none = Catalog::new(alloc);
-    let employees = defined(alloc, &none, fixtures::EMP)?;
-    let copy = employees.copy(alloc)?;
-    drop(employees);
-    assert!(rt; encode_def(alloc, &copy)?.as_slice() == EMP);
-    // its name is no longer free, and free where there is another table
-    assert!(rt; is_lawful(alloc, &none, &copy)?);
-    let own = catalog_of(alloc, &[fixtures::EMP])?;
-    assert!(rt; !is_lawful(alloc, &own, &copy)?);
-    let other = catalog_of(alloc, &[DEP])?;
-    assert!(rt; is_lawful(alloc, &other, &copy)?);
-    Ok(())
-}
-
-#[test]
-fn references(rt: HostRuntime) -> Result<(), Fail> {
-    let alloc = rt.alloc();
-    let catalog = catalog_of(alloc, &[fixtures::EMP, DEP])?;
-    let workers = defined(alloc, &catalog, WRK)?;
-    let [reference] = workers.references.as_slice() else {
-        return Err("another number of references")?;
-    };
-    assert_eq!(rt; reference.parent, 2);
-    assert_eq!(rt; reference.own.as_slice(), [1].as_slice());
-    assert_eq!(rt; reference.keys.as_slice(), [0].as_slice());
-    // the parent has to be there, under its number
-    assert!(rt; is_lawful(alloc, &catalog, &workers)?);
-    assert!(rt; !is_lawful(alloc, &catalog_of(alloc, &[DEP, fixtures::EMP])?, &workers)?);
-    Ok(())
-}
-
-#[test]
-fn numbers_of_tables(rt: HostRuntime) -> Result<(), Fail> {
-    let alloc = rt.alloc();
-    let catalog = catalog_of(alloc, &[fixtures::EMP, DEP, WRK])?;
-    assert_eq!(rt; catalog.len(), 3);
-    let departments = defined(alloc, &Catalog::new(alloc), DEP)?;
-    assert_eq!(rt; number_of(&catalog, &departments), Some(2));
-    assert_eq!(rt; number_of(&Catalog::new(alloc), &departments), None);
-    Ok(())
 }

@@ -1,9 +1,7 @@
 //! Scripts in a process that runs several: the memory of each store is given back.
 
 use memory_store::open_in_memory;
-use script_engine::{
-    check_script, run_audited, run_script, write_audited, write_check, write_report,
-};
+use script_engine::{run_audited, run_script, write_audited, write_report};
 use std::alloc::Global;
 use std::test::Fail;
 
@@ -65,15 +63,5 @@ fn refused_as_a_whole(rt: HostRuntime) -> Result<(), Fail> {
     let results = run_script(alloc, open_in_memory(alloc)?, b"\xff");
     let refusal = results.err().ok_or("the script was run")?;
     assert_eq!(rt; refusal.code(), 1);
-    Ok(())
-}
-
-#[test]
-fn checked(rt: HostRuntime) -> Result<(), Fail> {
-    let alloc = rt.alloc();
-    let results = check_script(alloc, b"SELECT 1; SELECT * FROM T;;")?;
-    let mut report = Vec::new(alloc);
-    write_check(alloc, &mut report, results.as_slice())?;
-    assert!(rt; report.as_slice() == b"refused,1,10,Syntax,\nchecked,2,1\n".as_slice());
     Ok(())
 }

@@ -1,7 +1,5 @@
-//! Values, rows and versions: their order and their copies; the bytes that are kept for values,
-//! both ways, and bytes that are kept for none.
+//! Values and the bytes that are kept for them, both ways, and bytes that are kept for none.
 
-use crate::fixtures::{FOREVER, Held, integers, row, version};
 use period_core::{Day, DecodeFault, Text, Value, decode_values, encode_values};
 use std::alloc::Global;
 use std::test::Fail;
@@ -74,43 +72,4 @@ fn bytes_of_no_values(rt: HostRuntime) {
         let read = decode_values(rt.alloc(), bytes);
         assert!(rt; matches!(read, Err(DecodeFault::Malformed)));
     }
-}
-
-#[test]
-fn copies(rt: HostRuntime) -> Result<(), Fail> {
-    let alloc = rt.alloc();
-    let name = text(alloc, "Tools")?;
-    assert!(rt; name.copy(alloc)? == name);
-    assert!(rt; date(0)?.copy(alloc)? == date(0)?);
-    let held: Held<'_> = (&[22_217, 3], "2010-01-01", "2011-11-12");
-    let one = row(alloc, held)?;
-    assert!(rt; one.copy(alloc)? == one);
-    let recorded = version(alloc, (held, "2024-01-01 00:00:00", FOREVER))?;
-    assert!(rt; recorded.copy(alloc)? == recorded);
-    Ok(())
-}
-
-#[test]
-fn order(rt: HostRuntime) -> Result<(), Fail> {
-    let alloc = rt.alloc();
-    // integers, then texts by their bytes, then dates
-    let ascending = [
-        Value::Int(i64::MIN),
-        Value::Int(i64::MAX),
-        text(alloc, "")?,
-        text(alloc, "Z")?,
-        text(alloc, "a")?,
-        text(alloc, "ab")?,
-        text(alloc, "é")?,
-        date(-719_162)?,
-        date(0)?,
-    ];
-    let list = ascending.as_slice();
-    for (one, next) in list.iter().zip(&list[1..]) {
-        assert!(rt; one < next, "{one:?} before {next:?}");
-    }
-    // lists by the first value that differs, and one before those that go on behind it
-    assert!(rt; integers(alloc, &[1, 9])? < integers(alloc, &[2])?);
-    assert!(rt; integers(alloc, &[1])? < integers(alloc, &[1, 0])?);
-    Ok(())
 }

@@ -1,7 +1,7 @@
 //! The version store by calls, over a database in memory: its changes, its rows, and who visits
 //! them.
 
-ghost use Rattle.std.specs.Prelude.{◌≡◌, ◌++◌, ◌∷◌, [], List, false};
+ghost use Rattle.std.specs.Prelude.{◌≡◌, ◌++◌, ◌∷◌, [], List};
 ghost use Rattle.period_core.specs.declared.refusal.Refusal.TheVariants.{Memory as OutOfMemory};
 ghost use Rattle.period_core.specs.declared.version.VersionRow.{VersionRow as AnyRow};
 
@@ -17,9 +17,7 @@ use version_store::{KeptRows, RowVisitor, VersionStore};
 type Store = VersionStore<MemoryStore>;
 
 // The store of a connection.
-fn opened(alloc: Global, connection: Connection<MemoryStore>) -> Result<Store, Fail>
-    requires { connection.in_transaction ≡ false }
-{
+fn opened(alloc: Global, connection: Connection<MemoryStore>) -> Result<Store, Fail> {
     match VersionStore::open(alloc, connection) {
         Ok(store) => Ok(store),
         Err((refusal, _connection)) => Err(refusal)?,
@@ -188,6 +186,8 @@ impl RowVisitor for FirstTwo {
     ghost next = { λ rows row. rows ++ row ∷ [] };
 
     ghost may_refuse = { λ refusal. refusal ≡ OutOfMemory };
+
+    ghost answered = { λ _ _. Unit {0} };
 
     fn visit(&mut self, row: VersionRow) -> Result<(), Refusal> {
         if self.rows.len() == 2 {

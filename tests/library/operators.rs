@@ -3,9 +3,9 @@
 
 use crate::fixtures::{Held, are_rows, day, row, rows};
 use catalog_core::{Comparand, CompareValues, Cond};
-use coalesce_core::{coalesce, witnesses};
-use period_core::{PeriodRow, Value, Witness};
-use sequenced_ops::{Equality, difference, intersection, join, select, select_into, union};
+use coalesce_core::{Coalesce, coalesce, witnesses};
+use period_core::{Memory, PeriodRow, Value, Witness};
+use sequenced_ops::{difference, intersection, join, select, select_into, union};
 use sql_statements::{Comparison, Tree};
 use std::alloc::Global;
 use std::test::Fail;
@@ -75,20 +75,19 @@ fn rows_selected_one_at_a_time(rt: HostRuntime) -> Result<(), Fail> {
     Ok(())
 }
 
-// The pairs of rows with the same first value.
-fn joined(alloc: Global, left: &[PeriodRow], right: &[PeriodRow]) -> Result<Vec<PeriodRow>, Fail> {
-    Ok(join(alloc, left, right, &[Equality { left: 0, right: 0 }])?)
-}
-
 #[test]
 fn changed_departments(rt: HostRuntime) -> Result<(), Fail> {
     let alloc = rt.alloc();
     let before = rows(alloc, &[(&[22_217, 3], "2010-01-01", "2011-11-12")])?;
     let now = rows(alloc, &EMPLOYED)?;
-    let pairs = joined(alloc, before.as_slice(), now.as_slice())?;
+    // the same number, then another department; and the other way round
+    let same = compares(0, Comparison::Equal, 2);
     let other = compares(1, Comparison::NotEqual, 3);
-    let found = select(alloc, pairs.as_slice(), &other, &[1, 3])?;
-    assert!(rt; coalesce_to(alloc, found, &[(&[3, 4], "2011-02-03", "2011-09-10")])?);
+    for (first, second) in [(&same, &other), (&other, &same)] {
+        let pairs = join(alloc, before.as_slice(), now.as_slice(), first)?;
+        let found = select(alloc, pairs.as_slice(), second, &[1, 3])?;
+        assert!(rt; coalesce_to(alloc, found, &[(&[3, 4], "2011-02-03", "2011-09-10")])?);
+    }
     Ok(())
 }
 
@@ -109,14 +108,14 @@ fn pairs_of_rows(rt: HostRuntime) -> Result<(), Fail> {
             (&[2, 40], "2024-01-04", "2024-01-09"),
         ],
     )?;
-    let found = joined(alloc, left.as_slice(), right.as_slice())?;
-    assert!(rt;
-        coalesce_to(
-            alloc,
-            found,
-            &[(&[2, 20, 2, 40], "2024-01-04", "2024-01-05")]
-        )?
-    );
+    let same = compares(0, Comparison::Equal, 2);
+    let found = join(alloc, left.as_slice(), right.as_slice(), &same)?;
+    let second: [Held<'_>; 1] = [(&[2, 20, 2, 40], "2024-01-04", "2024-01-05")];
+    assert!(rt; coalesce_to(alloc, found, &second)?);
+    // all pairs of rows that share a day and meet a condition that equals no columns
+    let found = join(alloc, left.as_slice(), right.as_slice(), &is_at(1, 10))?;
+    let first: [Held<'_>; 1] = [(&[1, 10, 2, 40], "2024-01-04", "2024-01-05")];
+    assert!(rt; coalesce_to(alloc, found, &first)?);
     Ok(())
 }
 
@@ -202,6 +201,36 @@ fn shortest_lists(rt: HostRuntime) -> Result<(), Fail> {
         (&[2], "2024-01-01", "2024-01-03"),
     ];
     assert!(rt; coalesce_to(alloc, found, &wanted)?);
+    Ok(())
+}
+
+// The rows in order, coalesced one at a time.
+fn streamed(alloc: Global, all: Vec<PeriodRow>) -> Result<Vec<PeriodRow>, Memory> {
+    let mut sorted = all;
+    sorted.sort()?;
+    let merged: Vec<PeriodRow> = Coalesce::new(sorted.into_iter()).collect(alloc)?;
+    Ok(merged)
+}
+
+#[test]
+fn rows_coalesced_one_at_a_time(rt: HostRuntime) -> Result<(), Fail> {
+    let alloc = rt.alloc();
+    let found = rows(
+        alloc,
+        &[
+            (&[2], "2024-01-01", "2024-01-03"),
+            (&[1], "2024-01-03", "2024-01-05"),
+            (&[1], "2024-01-07", "2024-01-09"),
+            (&[1], "2024-01-01", "2024-01-03"),
+        ],
+    )?;
+    let wanted: [Held<'_>; 3] = [
+        (&[1], "2024-01-01", "2024-01-05"),
+        (&[1], "2024-01-07", "2024-01-09"),
+        (&[2], "2024-01-01", "2024-01-03"),
+    ];
+    let merged = streamed(alloc, found)?;
+    assert!(rt; are_rows(alloc, merged.as_slice(), &wanted)?);
     Ok(())
 }
 

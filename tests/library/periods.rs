@@ -57,63 +57,61 @@ fn moments(rt: HostRuntime) -> Result<(), Fail> {
     Ok(())
 }
 
+// From the fifth of January to the eighth.
+fn four_days() -> Result<Period, Fail> {
+    period("2024-01-05", "2024-01-09")
+}
+
 #[test]
 fn shared_days(rt: HostRuntime) -> Result<(), Fail> {
-    let one = period("2024-01-05", "2024-01-09")?;
-    let (no, yes) = (false, true);
     // whether it overlaps another, equals it, contains it
     let others = [
-        ("2024-01-01", "2024-01-05", no, no, no),
-        ("2024-01-01", "2024-01-06", yes, no, no),
-        ("2024-01-01", "2024-01-09", yes, no, no),
-        ("2024-01-05", "2024-01-08", yes, no, yes),
-        ("2024-01-05", "2024-01-09", yes, yes, yes),
-        ("2024-01-08", "2024-01-10", yes, no, no),
-        ("2024-01-09", "2024-01-10", no, no, no),
+        ("2024-01-01", "2024-01-05", false, false, false),
+        ("2024-01-01", "2024-01-06", true, false, false),
+        ("2024-01-01", "2024-01-09", true, false, false),
+        ("2024-01-05", "2024-01-08", true, false, true),
+        ("2024-01-05", "2024-01-09", true, true, true),
+        ("2024-01-08", "2024-01-10", true, false, false),
+        ("2024-01-09", "2024-01-10", false, false, false),
     ];
     for (start, end, overlaps, equals, contains) in others {
-        let other = period(start, end)?;
-        assert_eq!(rt; one.overlaps(other), overlaps, "with {start} to {end}");
-        assert_eq!(rt; one.equals(other), equals, "with {start} to {end}");
-        assert_eq!(rt; one.contains(other), contains, "with {start} to {end}");
+        let found = four_days()?.overlaps(period(start, end)?);
+        assert_eq!(rt; found, overlaps, "with {start} to {end}");
+        let found = four_days()?.equals(period(start, end)?);
+        assert_eq!(rt; found, equals, "with {start} to {end}");
+        let found = four_days()?.contains(period(start, end)?);
+        assert_eq!(rt; found, contains, "with {start} to {end}");
     }
     Ok(())
 }
 
 #[test]
 fn one_after_the_other(rt: HostRuntime) -> Result<(), Fail> {
-    let one = period("2024-01-05", "2024-01-09")?;
-    let (no, yes) = (false, true);
     // whether it succeeds another, immediately, precedes it, immediately
     let others = [
-        ("2024-01-01", "2024-01-04", yes, no, no, no),
-        ("2024-01-01", "2024-01-05", yes, yes, no, no),
-        ("2024-01-01", "2024-01-06", no, no, no, no),
-        ("2024-01-08", "2024-01-10", no, no, no, no),
-        ("2024-01-09", "2024-01-10", no, no, yes, yes),
-        ("2024-01-10", "2024-01-11", no, no, yes, no),
+        ("2024-01-01", "2024-01-04", true, false, false, false),
+        ("2024-01-01", "2024-01-05", true, true, false, false),
+        ("2024-01-01", "2024-01-06", false, false, false, false),
+        ("2024-01-08", "2024-01-10", false, false, false, false),
+        ("2024-01-09", "2024-01-10", false, false, true, true),
+        ("2024-01-10", "2024-01-11", false, false, true, false),
     ];
     for (start, end, succeeds, at_once, precedes, before) in others {
-        let other = period(start, end)?;
-        assert_eq!(rt; one.succeeds(other), succeeds, "with {start} to {end}");
-        assert_eq!(rt;
-            one.immediately_succeeds(other),
-            at_once,
-            "with {start} to {end}"
-        );
-        assert_eq!(rt; one.precedes(other), precedes, "with {start} to {end}");
-        assert_eq!(rt;
-            one.immediately_precedes(other),
-            before,
-            "with {start} to {end}"
-        );
+        let found = four_days()?.succeeds(period(start, end)?);
+        assert_eq!(rt; found, succeeds, "with {start} to {end}");
+        let found = four_days()?.immediately_succeeds(period(start, end)?);
+        assert_eq!(rt; found, at_once, "with {start} to {end}");
+        let found = four_days()?.precedes(period(start, end)?);
+        assert_eq!(rt; found, precedes, "with {start} to {end}");
+        let found = four_days()?.immediately_precedes(period(start, end)?);
+        assert_eq!(rt; found, before, "with {start} to {end}");
     }
     Ok(())
 }
 
 #[test]
 fn parts_of_periods(rt: HostRuntime) -> Result<(), Fail> {
-    let one = period("2024-01-05", "2024-01-09")?;
+    let one = four_days()?;
     assert_eq!(rt; one.start(), day("2024-01-05")?);
     assert_eq!(rt; one.end(), day("2024-01-09")?);
     assert_eq!(rt; Period::new(one.end(), one.end()), None);

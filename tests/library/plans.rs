@@ -1,9 +1,6 @@
 //! Changes by calls: the change that a statement asks, its plan, the rows that would be current
 //! after it, and the least day on which they would break a key or a reference.
 
-ghost use Rattle.std.specs.Prelude.{IfOk};
-ghost use Rattle.portion_dml.specs.Plans.{Plans};
-
 use crate::fixtures::{
     DEP, EMP, FOREVER, Held, Recorded, WRK, are_rows, catalog_of, day, defined, rows, statement,
     versions,
@@ -35,9 +32,7 @@ pub fn change_of(alloc: Global, catalog: &Catalog, text: &str) -> Result<Change,
 }
 
 /// The plan of a change over the current versions of its table.
-pub fn plan_of(alloc: Global, current: &[VersionRow], change: &Change) -> Result<Plan, Fail>
-    ensures { IfOk result (λ plan. Plans change.now.action current.now plan) }
-{
+pub fn plan_of(alloc: Global, current: &[VersionRow], change: &Change) -> Result<Plan, Fail> {
     match &change.action {
         Action::Insert(_) => Ok(plan_insert(alloc, current, change)?),
         Action::Update(_, _, _) => Ok(plan_update(alloc, current, change)?),

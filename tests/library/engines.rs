@@ -1,8 +1,6 @@
 //! The engine by calls, over a database in memory: statements, its clock, its tables and rows, and
 //! the store that it leaves.
 
-ghost use Rattle.std.specs.Prelude.{◌≡◌, false};
-
 use crate::fixtures::{
     EMP, FOREVER, Held, Recorded, are_rows, are_versions, day, moment, statement,
 };
@@ -17,9 +15,7 @@ use std::test::Fail;
 type InMemory = Engine<MemoryStore>;
 
 // The engine over the store of a connection.
-fn opened(alloc: Global, connection: Connection<MemoryStore>) -> Result<InMemory, Fail>
-    requires { connection.in_transaction ≡ false }
-{
+fn opened(alloc: Global, connection: Connection<MemoryStore>) -> Result<InMemory, Fail> {
     match Engine::open(alloc, connection) {
         Ok(engine) => Ok(engine),
         Err((refusal, _connection)) => Err(refusal)?,

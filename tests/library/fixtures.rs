@@ -1,9 +1,6 @@
 //! What the tests start from: statements and tables by their texts, rows and versions by their
 //! dates.
 
-ghost use Rattle.std.specs.Prelude.{◌≡◌, IfOk, true};
-ghost use Rattle.catalog_core.specs.table.TableWords.{has_date_period, has_distinct_names};
-
 use catalog_core::{Catalog, TableDef, define};
 use period_core::{Day, Moment, Period, PeriodRow, Refusal, Value, Values, VersionRow};
 use sql_front::{lex, parse};
@@ -56,10 +53,7 @@ fn definition_of(
     alloc: Global,
     catalog: &Catalog,
     statement: &Statement,
-) -> Result<TableDef, Refusal>
-    ensures dated { IfOk result (λ d. has_date_period d ≡ true) }
-    ensures distinct { IfOk result (λ d. has_distinct_names d ≡ true) }
-{
+) -> Result<TableDef, Refusal> {
     match statement.form() {
         StatementForm::Create(create) => define(alloc, catalog, create.table()),
         _ => Err(Refusal::Syntax),
@@ -67,10 +61,7 @@ fn definition_of(
 }
 
 /// The definition that a CREATE gives over the tables of a catalog.
-pub fn defined(alloc: Global, catalog: &Catalog, create: &str) -> Result<TableDef, Fail>
-    ensures dated { IfOk result (λ d. has_date_period d ≡ true) }
-    ensures distinct { IfOk result (λ d. has_distinct_names d ≡ true) }
-{
+pub fn defined(alloc: Global, catalog: &Catalog, create: &str) -> Result<TableDef, Fail> {
     let statement = statement(alloc, create)?;
     let definition = definition_of(alloc, catalog, &statement);
     drop(statement);
