@@ -12,8 +12,8 @@ returns-in-Ok-run-clause-run g c =
     IfSome_then (g.R.Read.remaining c.args.input.now.inner) c.in_ok-script.ensures.bytes
     (λ all bytes. subst (λ (script : List ℕ). IsRunBy g.K.Kept.is_step (opened new_database) script c.in-Ok-run.results.items) (c.as_slice.ensures.value ∙ bytes) run)
 
-pub returns-in-Err-clause-refused : goal.returns-in-Err-clause-refused
-returns-in-Err-clause-refused g c =
+pub returns-clause-refused : goal.returns-clause-refused
+returns-clause-refused g c =
     let may = never_bad c.as_slice.result.now c.in-Err.refusal _ c.in-Ok.ensures.empty.2 c.in-Err.ensures.refused (c.in-Err.ensures.bad (memory_is_usable c.in-Err._connection)) in
     IfSome_then (g.R.Read.remaining c.args.input.now.inner) c.in_ok-script.ensures.bytes
     (λ all bytes. subst (λ (script : List ℕ). MayRefuseNewRun script c.in-Err.refusal) (c.as_slice.ensures.value ∙ bytes) may)
