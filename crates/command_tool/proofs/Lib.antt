@@ -1,4 +1,5 @@
 pub mod ReadFacts
 pub mod LineFacts
+mod NewStore
 pub mod ProgramExamples
 pub mod ProgramFacts

@@ -13,7 +13,7 @@ use Rattle.script_engine.specs.script.Check.{IsCheckOf}
 use Rattle.script_engine.specs.report.AuditedReport.{audited_report}
 use Rattle.script_engine.specs.report.CheckReport.{check_text}
 use Rattle.script_engine.specs.report.Report.{report}
-use Rattle.script_engine.specs.script.Script.{IsRunOf, MayRefuseRun, MayRefuseScript}
+use Rattle.script_engine.specs.script.Script.{IsRunOf, MayRefuseNewRun, MayRefuseScript}
 use Rattle.script_engine.specs.script.Script.{ScriptApplies, most_bytes}
 use Rattle.command_tool.specs.Lines.{IsTold, fault_line}
 use Rattle.command_arguments.specs.declared.command.Mode.{Mode}
@@ -75,10 +75,10 @@ Reports Run = ReportsText IsRunOf report status_of
 Reports RunAudited = ReportsText IsAuditedRunOf audited_report audited_status
 Reports Check = ReportsText IsCheckOf check_text status_of
 
--- which refusals a whole script may get: only a run opens a store
+-- which refusals a whole script may get: only a run opens a store, and that is a new one
 abbrev pub MayRefuseIn : Mode → List ℕ → Refusal → Type 0
-MayRefuseIn Run = MayRefuseRun
-MayRefuseIn RunAudited = MayRefuseRun
+MayRefuseIn Run = MayRefuseNewRun
+MayRefuseIn RunAudited = MayRefuseNewRun
 MayRefuseIn Check = MayRefuseScript
 
 -- a fault of a script that gave no results; its reader is at fault only if a read failed

@@ -4,9 +4,9 @@
 ghost use Rattle.std.specs.Prelude.{◌≡◌, ◌≢◌, ◌≤◌, IfErr, IfOk, is_err};
 ghost use Rattle.std.specs.List.{list_any};
 ghost use Rattle.std.specs.Io.KnownBytes.{Keeps};
-ghost use Rattle.script_engine.specs.script.AuditedRuns.{IsAuditedRunOf};
+ghost use Rattle.history_model.specs.Histories.{new_database, opened};
 ghost use Rattle.script_engine.specs.script.Check.{IsCheckOf};
-ghost use Rattle.script_engine.specs.script.Script.{IsRunOf};
+ghost use Rattle.script_engine.specs.script.Script.{IsRunBy};
 ghost use Rattle.command_tool.specs.Program.{AreOfReader, EndsWell, IsOfReport, MayEndIn};
 ghost use Rattle.command_tool.specs.Program.{MayEndSilently, Reports, TakesAtMost};
 ghost use Rattle.command_tool.specs.Program.{audited_status, fails_audit, read_limit, status_of};
@@ -15,14 +15,14 @@ use crate::fault::{RunFault, end_in};
 use crate::reading::read_script;
 use crate::tracked::Tracked;
 use command_arguments::Mode;
-use memory_store::open_in_memory;
+use memory_store::{MemoryStore, open_in_memory};
 use period_core::Refusal;
 use script_engine::{
-    Entry, Outcome, Verdict, check_script, run_last_audited, run_last_script, write_audited,
-    write_check, write_report,
+    Entry, Kept, Outcome, Verdict, check_script, run, write_audited, write_check, write_report,
 };
 use std::alloc::Global;
 use std::io::{Read, Write};
+use std::mem::ManuallyDrop;
 
 /// Runs the script that the reader has, over a new store in memory, or checks it, as the mode says,
 /// and writes the report. Gives the exit status: 2 where the script was refused as a whole, or the
@@ -76,7 +76,7 @@ fn report_run<R: Read, W: Write>(
     ensures taken { TakesAtMost read_limit
         (R.remaining input.old.inner) (R.remaining input.new.inner) }
 {
-    let results = run_results(alloc, input)?;
+    let results: Vec<Result<Outcome, Refusal>> = run_results(alloc, input)?;
     write_report(alloc, out, results.as_slice())?;
     Ok(exit_status(results.as_slice()))
 }
@@ -97,7 +97,7 @@ fn report_audited<R: Read, W: Write>(
     ensures taken { TakesAtMost read_limit
         (R.remaining input.old.inner) (R.remaining input.new.inner) }
 {
-    let entries = audited_results(alloc, input)?;
+    let entries: Vec<Entry> = run_results(alloc, input)?;
     write_audited(alloc, out, entries.as_slice())?;
     Ok(audited_status(entries.as_slice()))
 }
@@ -123,13 +123,14 @@ fn report_check<R: Read, W: Write>(
     Ok(exit_status(results.as_slice()))
 }
 
-// The results of the script's statements.
-fn run_results<R: Read>(
+// What a run of the script over a new store keeps of its statements: their results, or with them the
+// audits of their answers.
+fn run_results<R: Read, K: Kept<MemoryStore> + Drop>(
     alloc: Global,
     input: &mut Tracked<R>,
-) -> Result<Vec<Result<Outcome, Refusal>>, RunFault>
-    ensures run { IfOk result
-        (λ results. AreOfReader IsRunOf (R.remaining input.old.inner) results.items) }
+) -> Result<Vec<K>, RunFault>
+    ensures run { IfOk result (λ results. AreOfReader (IsRunBy K.is_step (opened new_database))
+        (R.remaining input.old.inner) results.items) }
     ensures refused { IfErr result
         (MayEndSilently Mode.Run (R.remaining input.old.inner) input.new.has_failed) }
     ensures taken { TakesAtMost read_limit
@@ -139,28 +140,14 @@ fn run_results<R: Read>(
     let Ok(connection) = open_in_memory(alloc) else {
         return Err(RunFault::Memory);
     };
-    match run_last_script(alloc, connection, script.as_slice()) {
-        Ok(results) => Ok(results),
-        Err(refusal) => Err(RunFault::Script(refusal)),
-    }
-}
-
-// The results of the script's statements, with the audits of their answers.
-fn audited_results<R: Read>(alloc: Global, input: &mut Tracked<R>) -> Result<Vec<Entry>, RunFault>
-    ensures run { IfOk result
-        (λ entries. AreOfReader IsAuditedRunOf (R.remaining input.old.inner) entries.items) }
-    ensures refused { IfErr result
-        (MayEndSilently Mode.RunAudited (R.remaining input.old.inner) input.new.has_failed) }
-    ensures taken { TakesAtMost read_limit
-        (R.remaining input.old.inner) (R.remaining input.new.inner) }
-{
-    let script = read_script(alloc, input)?;
-    let Ok(connection) = open_in_memory(alloc) else {
-        return Err(RunFault::Memory);
-    };
-    match run_last_audited(alloc, connection, script.as_slice()) {
-        Ok(entries) => Ok(entries),
-        Err(refusal) => Err(RunFault::Script(refusal)),
+    match run(alloc, connection, script.as_slice()) {
+        Ok((results, engine)) => {
+            // The process ends soon. To give back many rows, one by one, would take a fifth of the
+            // time of the run.
+            let _left = ManuallyDrop::new(engine);
+            Ok(results)
+        }
+        Err((refusal, _connection)) => Err(RunFault::Script(refusal)),
     }
 }
 

@@ -18,9 +18,9 @@ pub(crate) struct Tree {
     root: Link,
 }
 
-/// A fork has beside it its height, modulo 256, and the number of its rows, so that a look at either
-/// reads no fork. Heights that are compared differ by two at most, and modulo 256 they still tell by
-/// how much. A number that is too large for 32 bits stands as the greatest.
+/// A fork has beside it its height, modulo 256, and the number of its rows, so that a look at
+/// either reads no fork. Heights that are compared differ by two at most, and modulo 256 they still
+/// tell by how much. A number that is too large for 32 bits stands as the greatest.
 #[cycle(tree)]
 #[derive(Drop)]
 pub(crate) enum Link {

@@ -24,7 +24,8 @@ use Rattle.sqlite.specs.Store.{Ghosts}
 use Rattle.period_keys.specs.Rows.{RowsByKey}
 use Rattle.version_store.specs.StoreState.{IsOnlyRead, IsUsable, StoreState}
 use Rattle.script_engine.specs.Headline.{IsSequencedAnswer}
-use Rattle.script_engine.specs.engine.Answering.{AreSeenBy, EachSees}
+use Rattle.script_engine.specs.engine.Answering.{EachSees, SeesRows}
+use Rattle.script_engine.specs.engine.Audits.{HaveSeenRows}
 use Rattle.script_engine.specs.engine.EngineState.{engine_of}
 use Rattle.script_engine.specs.engine.Stored.{EngineRepresents}
 use Rattle.script_engine.proofs.Loaded.{represents_still}
@@ -50,7 +51,7 @@ each_append history [] references (rows ∷ lists) others each more = absurd eac
 each_append history (reference ∷ before) references [] others each more = absurd each
 each_append history (reference ∷ before) references (rows ∷ lists) others each more = (each.0, each_append history before references lists others each.1 more)
 
-pub each_more : (history : History) (before : List QueryReference) (lists : List (List PeriodRow)) (reference : QueryReference) (rows : List PeriodRow) → EachSees history before lists → AreSeenBy history reference rows →
+pub each_more : (history : History) (before : List QueryReference) (lists : List (List PeriodRow)) (reference : QueryReference) (rows : List PeriodRow) → EachSees history before lists → SeesRows history reference rows →
     EachSees history (before ++ reference ∷ []) (lists ++ rows ∷ [])
 each_more history before lists reference rows each sees = each_append history before (reference ∷ []) lists (rows ∷ []) each (sees, tt)
 
@@ -61,7 +62,7 @@ at_length (first ∷ before) rows lists = at_length before rows lists
 
 -- where the places count up, a reference's list is in its place
 in_its_place : (history : History) (references : List QueryReference) (before lists : List (List PeriodRow)) → are_in_place (length before) references ≡ true → EachSees history references lists →
-    (reference : QueryReference) → Contains references reference → AreSeenBy history reference (rows_for (before ++ lists) reference)
+    (reference : QueryReference) → Contains references reference → SeesRows history reference (rows_for (before ++ lists) reference)
 in_its_place history [] before lists placed each reference among = absurd (Contains-nil reference among)
 in_its_place history (first ∷ references) before [] placed each reference among = absurd each
 in_its_place history (first ∷ references) before (rows ∷ lists) placed each reference among =
@@ -71,19 +72,23 @@ in_its_place history (first ∷ references) before (rows ∷ lists) placed each 
     let long : length before + 1 ≡ length (before ++ rows ∷ []) = (let both = length-append before (rows ∷ []) in omega (arith, both)) in
     let later : are_in_place (length (before ++ rows ∷ [])) references ≡ true = subst (λ (n : ℕ). are_in_place n references ≡ true) long behind in
     elim (Contains-cons_cases first references reference among) [
-      | inl same ↦ subst (λ (r : QueryReference). AreSeenBy history r (rows_for (before ++ rows ∷ lists) r)) same (subst (AreSeenBy history first) (sym its) each.0)
+      | inl same ↦ subst (λ (r : QueryReference). SeesRows history r (rows_for (before ++ rows ∷ lists) r)) same (subst (SeesRows history first) (sym its) each.0)
       | inr more ↦
-          subst (λ (l : List (List PeriodRow)). AreSeenBy history reference (rows_for l reference)) (append_assoc before (rows ∷ []) lists)
+          subst (λ (l : List (List PeriodRow)). SeesRows history reference (rows_for l reference)) (append_assoc before (rows ∷ []) lists)
           (in_its_place history references (before ++ rows ∷ []) lists later each.1 reference more)
     ]
 
--- the references see over the lists what they see in the history
-pub sees_alike : (history : History) (query : Query) (tables : List (List PeriodRow)) → fits query tables ≡ true → EachSees history (references_of query) tables → (day : ℤ) →
-    SeeAlike (TableSights tables day) (HistorySights history day) (references_of query)
-sees_alike history query tables fit each day reference among values =
+-- where the lists fit the query, each of its references has the list of the rows that it sees
+pub have_seen : (history : History) (query : Query) (tables : List (List PeriodRow)) → fits query tables ≡ true → EachSees history (references_of query) tables → HaveSeenRows history query tables
+have_seen history query tables fit each reference among =
     let (counted, kinds) = and_parts (are_in_place 0 (references_of query) && (length tables == length (references_of query))) (list_all (sees_its_kinds tables) (references_of query)) fit in
     let (placed, long) = and_parts (are_in_place 0 (references_of query)) (length tables == length (references_of query)) counted in
-    in_its_place history (references_of query) [] tables placed each reference among day values
+    in_its_place history (references_of query) [] tables placed each reference among
+
+-- the references see over the lists what they see in the history
+pub sees_alike : (history : History) (query : Query) (tables : List (List PeriodRow)) → HaveSeenRows history query tables → (day : ℤ) →
+    SeeAlike (TableSights tables day) (HistorySights history day) (references_of query)
+sees_alike history query tables seen day reference among values = (seen reference among).daily day values
 
 -- ---- answers
 
@@ -122,8 +127,8 @@ module _ (Sets Others : ℤ → List Value → Type 0) (same : (day : ℤ) (valu
     witnessed = each_along answer.rows answer.witnesses right.witnessed;
   }
 
-pub answer_in_history : (history : History) (query : Query) (tables : List (List PeriodRow)) (answer : Answer) → fits query tables ≡ true → EachSees history (references_of query) tables → IsSequencedAnswer (InAnswerOver query tables) answer →
+pub answer_in_history : (history : History) (query : Query) (tables : List (List PeriodRow)) (answer : Answer) → HaveSeenRows history query tables → IsSequencedAnswer (InAnswerOver query tables) answer →
     IsSequencedAnswer (InAnswerOn history query) answer
-answer_in_history history query tables answer fit each right =
+answer_in_history history query tables answer seen right =
     answer_along (InAnswerOver query tables) (InAnswerOn history query)
-    (λ day values. query_seen (TableSights tables day) (HistorySights history day) query (sees_alike history query tables fit each day) values) answer right
+    (λ day values. query_seen (TableSights tables day) (HistorySights history day) query (sees_alike history query tables seen day) values) answer right

@@ -19,7 +19,7 @@ use Rattle.history_model.specs.OrdinaryQuery.{InAnswerOn}
 use Rattle.snapshot_audit.specs.declared.verdict.Verdict.{Verdict}
 use Rattle.sqlite.specs.Store.{Ghosts}
 use Rattle.script_engine.specs.Headline.{IsSequencedAnswer}
-use Rattle.script_engine.specs.engine.Audits.{AreSeen, AuditedStepsTo, HasAudit, IsAuditOf, IsVerdictOver}
+use Rattle.script_engine.specs.engine.Audits.{AuditedStepsTo, HasAudit, HaveSeenRows, IsAuditOf, IsVerdictOver}
 use Rattle.script_engine.specs.engine.EngineState.{EngineState}
 use Rattle.script_engine.specs.engine.Runs.{Step, StepsTo}
 use Rattle.script_engine.specs.declared.engine.outcome.Outcome.{Outcome}
@@ -28,13 +28,13 @@ use Rattle.script_engine.specs.declared.engine.outcome.Outcome.TheVariants.{Answ
 use Rattle.script_engine.proofs.AuditLaws.{audits_agree}
 
 -- what an audit gives of a sequenced answer over what the query's references see
-audit_is : (history : History) (query : Query) (answer : Answer) (tables : List (List PeriodRow)) (audit : Result Verdict Refusal) → IsSequencedAnswer (InAnswerOn history query) answer → AreSeen history query tables →
+audit_is : (history : History) (query : Query) (answer : Answer) (tables : List (List PeriodRow)) (audit : Result Verdict Refusal) → IsSequencedAnswer (InAnswerOn history query) answer → HaveSeenRows history query tables →
     IfOk audit (IsVerdictOver query tables answer) → IfErr audit (λ refusal. refusal ≡ Memory) → IsAuditOf history query answer audit
 audit_is history query answer tables (Ok verdict) right seen over memory = record {
   tables = tables;
   seen = seen;
   over = over;
-  agrees = audits_agree history query answer verdict right tables seen over;
+  agrees = audits_agree history query answer verdict right tables (λ reference among. (seen reference among).daily) over;
 }
 audit_is history query answer tables (Err refusal) right seen over memory = memory
 
@@ -68,7 +68,7 @@ module _ {S : Type 0} (g : Ghosts S) (history : History) (s : Statement) (engine
   pub other_entry : (result : Result Outcome Refusal) → (IsSequenced s → ⊥) → StepsTo g history s result engine → AuditedStepsTo g history s (record { result = result; audit = None }) engine
   other_entry result other (new, step, kept) = (new, record { step = step; audit = no_answer history s result new other step }, kept)
 
-  pub answer_entry : (query : Query) (answer : Answer) (tables : List (List PeriodRow)) (audit : Result Verdict Refusal) → ResolvesQuery (catalog_of history) s query → IsSequencedAnswer (InAnswerOn history query) answer → AreSeen history query tables →
+  pub answer_entry : (query : Query) (answer : Answer) (tables : List (List PeriodRow)) (audit : Result Verdict Refusal) → ResolvesQuery (catalog_of history) s query → IsSequencedAnswer (InAnswerOn history query) answer → HaveSeenRows history query tables →
       IfOk audit (IsVerdictOver query tables answer) → IfErr audit (λ refusal. refusal ≡ Memory) → StepsTo g history s (Ok (Answered answer)) engine → AuditedStepsTo g history s (record { result = Ok (Answered answer); audit = Some audit }) engine
   answer_entry query answer tables audit resolved right seen over memory (new, step, kept) =
       (new, record { step = step; audit = (query, resolved, audit_is history query answer tables audit right seen over memory) }, kept)

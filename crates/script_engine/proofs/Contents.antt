@@ -1,5 +1,5 @@
 -- The contents of a store after each event go on being what the history says.
-use Rattle.std.proofs.Common.{◌≡◌, ◌++◌, ◌∷◌, ◌<ℤ◌, ◌≤ℤ◌, ◌==◌, ℕ, ℤ, Bool, true, false, not, List, [], map, nat_eq, refl, sym, ap, ap₂, ◌∙◌, append-nil, append_assoc, filter_map, fold, length, suc, subst, subst₂, inl, inr, arith}
+use Rattle.std.proofs.Common.{◌≡◌, ◌<◌, ◌++◌, ◌∷◌, ◌<ℤ◌, ◌≤ℤ◌, ◌==◌, ℕ, ℤ, Bool, true, false, not, List, [], map, nat_eq, refl, sym, ap, ap₂, ◌∙◌, append-nil, append_assoc, filter_map, fold, length, length-append, suc, zero, Some, subst, subst₂, inl, inr, arith}
 use Rattle.std.specs.List.{AllByRecursion, filter, flat_map}
 use Rattle.std.specs.List.Sorted.{IsPermutation}
 use Rattle.std.proofs.lemmas.Bool.Decides.{nat_tests}
@@ -7,6 +7,7 @@ use Rattle.std.proofs.lemmas.Int.{ints}
 use Rattle.std.proofs.lemmas.List.{map-append}
 use Rattle.std.proofs.lemmas.List.Concat.{flat_map-append}
 use Rattle.std.proofs.lemmas.List.Elements.{filter-append}
+use Rattle.std.proofs.lemmas.Option.{none-some}
 use Rattle.std.proofs.lemmas.List.Sorted.{IsPermutation-append_left, IsPermutation-filter_both, IsPermutation-map, IsPermutation-trans}
 use Rattle.sqlite_trees.proofs.ListLemmas.{IsPermutation-flat_map, IsPermutation-same, all-map, all_of, all_weaker, ascending-filter, filter_all, map-map}
 use Rattle.period_core.specs.Moments.{first_moment, forever}
@@ -15,12 +16,15 @@ use Rattle.period_core.specs.declared.version.VersionRow.{VersionRow}
 use Rattle.catalog_core.specs.declared.change.Action.{Action}
 use Rattle.catalog_core.specs.declared.change.Change.{Change}
 use Rattle.catalog_core.specs.declared.change.Plan.{Plan}
+use Rattle.catalog_core.specs.Limits.{most_tables}
+use Rattle.catalog_core.specs.create.Lawful.{IsLawful}
 use Rattle.catalog_core.specs.declared.table.TableDef.{TableDef}
+use Rattle.catalog_core.specs.table.TableWords.{table_of}
 use Rattle.version_tables.specs.Good.{AreMoments}
 use Rattle.version_store.specs.Changed.{is_ended, left_of, planned, with_clock, with_table}
 use Rattle.version_store.specs.Contents.{Contents, TableVersion, added_in, of_table, same_version, version_in}
 use Rattle.version_store.specs.DistinctKeys.{HaveDistinctKeys}
-use Rattle.version_store.specs.GoodStore.{AreLawful}
+use Rattle.version_store.specs.GoodStore.{AreLawful, IsGoodVersion}
 use Rattle.version_store.proofs.Spared.{other_tables}
 use Rattle.history_model.specs.Effects.{effect}
 use Rattle.history_model.specs.Histories.{Advanced, Asked, Changed, Created, Event, History, catalog_of, changed_until, created_by, last_state, with_event}
@@ -37,11 +41,12 @@ use Rattle.period_keys.specs.Versions.{begun}
 use Rattle.script_engine.specs.engine.InMemory.{AreCurrentOf}
 use Rattle.script_engine.specs.engine.Planned.{count_of, planned_count}
 use Rattle.script_engine.specs.engine.Stored.{AreOfHistory, HoldsTable}
-use Rattle.script_engine.proofs.Ended.{all_closed, closed_in, closed_plain, closed_row, none_closed, of_left, recorded_planned}
+use Rattle.script_engine.proofs.Ended.{all_closed, closed_in, closed_plain, closed_row, none_closed, of_left}
 use Rattle.script_engine.proofs.KeyFacts.{are_ended, distinct_along, rest_stays}
 use Rattle.script_engine.proofs.LastState.{IsLeft, lawful_changed, lawful_same, lawful_with_table}
 use Rattle.script_engine.proofs.LeftSteps.{left-advanced, left-asked, left-changed_elsewhere, left-changed_there, left-created, order-event}
 use Rattle.script_engine.proofs.PlanFacts.{counted, current_listed, hits_end, is_hit}
+use Rattle.script_engine.proofs.Recorded.{recorded_of}
 
 -- ---- AT
 
@@ -62,9 +67,19 @@ recorded_later clock later late v was =
       );
     }
 
+good_later : (tables : List TableDef) (clock later : ℤ) → clock ≤ℤ later → (v : TableVersion) → IsGoodVersion tables clock v → IsGoodVersion tables later v
+good_later tables clock later late v is = record {
+  definition = is.definition;
+  table = is.table;
+  values = is.values;
+  held = is.held;
+  days = is.days;
+  moments = recorded_later clock later late v is.moments;
+}
+
 -- what a history leaves, as the contents have it
 pub is_left : (history : History) (c : Contents) → AreOfHistory history c → IsLeft history c
-is_left history c said = record { order = said.order; versions = said.versions; is_clock = said.is_clock; recorded = said.recorded }
+is_left history c said = record { order = said.order; versions = said.versions; is_clock = said.good.clock; recorded = recorded_of c said.good }
 
 -- an event that adds no table and changes no row leaves the last state lawful
 lawful_still : (history : History) (event : Event) (c : Contents) → AreOfHistory history c → filter_map created_by (event ∷ []) ≡ [] → filter_map (changed_until last_moment) (event ∷ []) ≡ [] →
@@ -78,7 +93,7 @@ lawful_still history event c said no_table no_change =
 
 pub said-advanced : (history : History) (c : Contents) (moment : ℤ) → AreOfHistory history c → c.clock ≤ℤ moment → moment <ℤ forever → AreOfHistory (with_event history (Advanced moment)) (with_clock moment c)
 said-advanced history c moment said late before =
-    let first : first_moment ≤ℤ c.clock = said.is_clock.0 in
+    let first : first_moment ≤ℤ c.clock = said.good.clock.0 in
     record {
       order = order-event history (Advanced moment) said.order (subst (λ (k : ℤ). k ≤ℤ moment) said.clock late, before, tt);
       clock = sym (clock_of-event history (Advanced moment));
@@ -86,28 +101,54 @@ said-advanced history c moment said late before =
       versions = λ table.
           let holds = said.versions table in
           record { rows = holds.rows; left = left-advanced history moment table holds.rows holds.left; all = holds.all };
-      is_clock = (omega (arith, ints), before);
-      recorded = all_weaker (λ (v : TableVersion). AreMoments c.clock v.from v.to) (λ (v : TableVersion). AreMoments moment v.from v.to) (recorded_later c.clock moment late) c.versions said.recorded;
+      good = record {
+        clock = (omega (arith, ints), before);
+        few = said.good.few;
+        lawful = said.good.lawful;
+        versions = all_weaker (IsGoodVersion c.tables c.clock) (IsGoodVersion c.tables moment) (good_later c.tables c.clock moment late) c.versions said.good.versions;
+        constrained = tt;
+      };
       lawful = lawful_still history (Advanced moment) c said refl refl;
     }
 
 -- ---- CREATE
 
-pub said-created : (history : History) (c : Contents) (definition : TableDef) → AreLawful [] c.tables → ((day : ℤ) → last_state history (suc (length c.tables)) day ≡ []) → AreOfHistory history c → AreOfHistory (with_event history (Created definition)) (with_table definition c)
-said-created history c definition ordered none said = record {
+-- the tables of the numbers stay as they are behind one more
+more_tables : (tables : List TableDef) (definition : TableDef) (number : ℕ) (d : TableDef) → table_of tables number ≡ Some d → table_of (tables ++ definition ∷ []) number ≡ Some d
+more_tables tables definition zero d there = there
+more_tables [] definition (suc place) d there = absurd (none-some d there)
+more_tables (first ∷ tables) definition (suc zero) d there = there
+more_tables (first ∷ tables) definition (suc (suc place)) d there = more_tables tables definition (suc place) d there
+
+-- a definition that CREATE gives over lawful ones is lawful behind them
+lawful_more : (before tables : List TableDef) (definition : TableDef) → AreLawful before tables → IsLawful (before ++ tables) definition → AreLawful before (tables ++ definition ∷ [])
+lawful_more before [] definition lawful next = (subst (λ (l : List TableDef). IsLawful l definition) (append-nil before) next, tt)
+lawful_more before (first ∷ tables) definition lawful next =
+    (lawful.0, lawful_more (before ++ first ∷ []) tables definition lawful.1 (subst (λ (l : List TableDef). IsLawful l definition) (sym (append_assoc before (first ∷ []) tables)) next))
+
+pub said-created : (history : History) (c : Contents) (definition : TableDef) → length c.tables < most_tables → IsLawful c.tables definition → ((day : ℤ) → last_state history (suc (length c.tables)) day ≡ []) → AreOfHistory history c → AreOfHistory (with_event history (Created definition)) (with_table definition c)
+said-created history c definition room next none said = record {
   order = order-event history (Created definition) said.order tt;
   clock = said.clock ∙ sym (clock_of-event history (Created definition));
   tables = ap (λ (tables : List TableDef). tables ++ definition ∷ []) said.tables ∙ sym (catalog_of-event history (Created definition));
   versions = λ table.
       let holds = said.versions table in
       record { rows = holds.rows; left = left-created history definition table holds.rows holds.left; all = holds.all };
-  is_clock = said.is_clock;
-  recorded = said.recorded;
+  good = record {
+    clock = said.good.clock;
+    few = (let one = length-append c.tables (definition ∷ []) in omega (arith, one, room));
+    lawful = lawful_more [] c.tables definition said.good.lawful next;
+    versions =
+        all_weaker (IsGoodVersion c.tables c.clock) (IsGoodVersion (c.tables ++ definition ∷ []) c.clock)
+        (λ v is. record { definition = is.definition; table = more_tables c.tables definition v.table is.definition is.table; values = is.values; held = is.held; days = is.days; moments = is.moments })
+        c.versions said.good.versions;
+    constrained = tt;
+  };
   lawful =
       subst (λ (tables : List TableDef). IsLawfulState tables (last_state (with_event history (Created definition)))) (sym (catalog_of-event history (Created definition)))
       (lawful_same (catalog_of history ++ definition ∷ []) (last_state history) (last_state (with_event history (Created definition))) (λ table day. state_at-event history (Created definition) last_moment table day)
       (subst (λ (tables : List TableDef). IsLawfulState (tables ++ definition ∷ []) (last_state history)) said.tables
-      (lawful_with_table c.tables definition (last_state history) ordered none
+      (lawful_with_table c.tables definition (last_state history) said.good.lawful none
       (subst (λ (tables : List TableDef). IsLawfulState tables (last_state history)) (sym said.tables) said.lawful))));
 }
 
@@ -121,8 +162,7 @@ said-asked history c said = record {
   versions = λ table.
       let holds = said.versions table in
       record { rows = holds.rows; left = left-asked history table holds.rows holds.left; all = holds.all };
-  is_clock = said.is_clock;
-  recorded = said.recorded;
+  good = record { clock = said.good.clock; few = said.good.few; lawful = said.good.lawful; versions = said.good.versions; constrained = tt };
   lawful = lawful_still history Asked c said refl refl;
 }
 
@@ -272,15 +312,14 @@ module _ (history : History) (c : Contents) (change : Change) (plan : Plan) (sai
         subst (HoldsTable (with_event history (Changed c.clock change)) after.versions) same holds_there
     holds_after table holds false off = holds_elsewhere table holds off
 
-    pub said-changed : IsLawfulChange (catalog_of history) (last_state history) change → AreOfHistory (with_event history (Changed c.clock change)) after
-    said-changed allowed = record {
+    pub said-changed : IsLawfulChange (catalog_of history) (last_state history) change → AllByRecursion (IsGoodVersion c.tables c.clock) after.versions → AreOfHistory (with_event history (Changed c.clock change)) after
+    said-changed allowed good = record {
       order = order-event history (Changed c.clock change) said.order (said.clock, tt);
       clock = said.clock ∙ sym (clock_of-event history (Changed c.clock change));
       tables = said.tables ∙ sym (catalog_of-event history (Changed c.clock change) ∙ append-nil (catalog_of history));
       versions = λ table. holds_after table (said.versions table) (nat_eq table change.table) refl;
-      is_clock = said.is_clock;
-      recorded = recorded_planned c change.table plan.ended plan.added said.is_clock said.recorded;
+      good = record { clock = said.good.clock; few = said.good.few; lawful = said.good.lawful; versions = good; constrained = tt };
       lawful =
           subst (λ (tables : List TableDef). IsLawfulState tables (last_state (with_event history (Changed c.clock change)))) (sym (catalog_of-event history (Changed c.clock change) ∙ append-nil (catalog_of history)))
-          (lawful_changed history c.clock change said.is_clock.1 said.lawful allowed);
+          (lawful_changed history c.clock change said.good.clock.1 said.lawful allowed);
     }

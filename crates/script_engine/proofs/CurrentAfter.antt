@@ -98,7 +98,7 @@ module _ (history : History) (c : Contents) (change : Change) (plan : Plan) (sai
       filter-append is_current S (C ++ B)
       ∙ ap (λ (l : List VersionRow). staying ++ l)
       (filter-append is_current C B
-      ∙ ap₂ (λ (a b : List VersionRow). a ++ b) (filter_none is_current C (none_current c.clock said.is_clock.1 plan.ended)) (filter_all is_current B (all_begun c.clock plan.added))) in
+      ∙ ap₂ (λ (a b : List VersionRow). a ++ b) (filter_none is_current C (none_current c.clock said.good.clock.1 plan.ended)) (filter_all is_current B (all_begun c.clock plan.added))) in
       IsPermutation-trans (seen_of table Now after.versions) (map (version_in table) (current R)) (map (version_in table) (B ++ staying))
       (subst (IsPermutation (seen_of table Now after.versions)) (filter-map sees (version_in table) R) (IsPermutation-filter sees (of_table table after.versions) (map (version_in table) R) all))
       (IsPermutation-map (version_in table) (current R) (B ++ staying)

@@ -1,20 +1,24 @@
 -- What a plan leaves of the versions of a store.
-use Rattle.std.proofs.Common.{◌≡◌, ◌∷◌, ◌++◌, ◌∙◌, ◌==◌, ◌≤ℤ◌, ◌<ℤ◌, ℕ, ℤ, Bool, true, false, cond, List, [], map, refl, sym, ap, ap₂, inl, inr, arith}
+use Rattle.std.proofs.Common.{◌≡◌, ◌∷◌, ◌++◌, ◌∙◌, ◌==◌, ◌≤ℤ◌, ◌<ℤ◌, ℕ, ℤ, Bool, true, false, cond, List, [], Some, map, refl, sym, ap, ap₂, inl, inr, arith}
 use Rattle.std.specs.List.{All, AllByRecursion, filter, flat_map}
 use Rattle.std.specs.Ordering.{int_cmp, int_eq, is_eq}
 use Rattle.std.proofs.lemmas.Int.{by_lt_z, ints}
 use Rattle.std.proofs.lemmas.List.{map-append}
 use Rattle.std.proofs.lemmas.List.Elements.{All-head, All-tail, filter-append}
-use Rattle.sqlite_trees.proofs.ListLemmas.{all-append, all-flat_map, all-map, all_of, all_weaker}
+use Rattle.sqlite_trees.proofs.ListLemmas.{all-append, all-flat_map, all-map, all_both, all_weaker}
+use Rattle.period_core.specs.Encoding.{IsColumnValue}
 use Rattle.period_core.specs.Moments.{first_moment, forever}
 use Rattle.period_core.specs.declared.row.PeriodRow.{PeriodRow}
 use Rattle.period_core.specs.declared.version.VersionRow.{VersionRow}
+use Rattle.catalog_core.specs.declared.table.TableDef.{TableDef}
+use Rattle.catalog_core.specs.table.TableWords.{table_of}
 use Rattle.version_tables.specs.Good.{AreMoments, IsClock}
 use Rattle.version_store.specs.Changed.{closed_at, is_ended, left_of, planned}
 use Rattle.version_store.specs.Contents.{Contents, TableVersion, added_in, of_table, version_in}
 use Rattle.history_model.specs.Left.{closed_at as plain_closed}
 use Rattle.history_model.specs.Versions.{PlainVersion, plain_version}
-use Rattle.script_engine.specs.engine.Stored.{AreRecorded}
+use Rattle.version_store.specs.GoodStore.{IsGoodVersion}
+use Rattle.version_store.specs.RowValues.{are_row_values}
 use Rattle.script_engine.proofs.KeyFacts.{int_same}
 
 -- ---- by tables
@@ -118,12 +122,34 @@ recorded_now clock is =
       past = (omega (arith, ints), inr refl);
     }
 
--- after a plan at the clock each version is recorded
-pub recorded_planned : (c : Contents) (table : ℕ) (ended : List VersionRow) (added : List PeriodRow) → IsClock c.clock → AreRecorded c → AreRecorded (planned table c.clock ended added c)
-recorded_planned c table ended added is recorded =
-    all-append (λ (v : TableVersion). AreMoments c.clock v.from v.to) (flat_map (left_of table c.clock ended) c.versions) (map (added_in table c.clock forever) added)
-    (all-flat_map (λ (v : TableVersion). AreMoments c.clock v.from v.to) (left_of table c.clock ended) c.versions
-    (all_weaker (λ (v : TableVersion). AreMoments c.clock v.from v.to) (λ (v : TableVersion). AllByRecursion (λ (w : TableVersion). AreMoments c.clock w.from w.to) (left_of table c.clock ended v))
-    (left_recorded table c.clock ended is) c.versions recorded))
-    (all-map (λ (v : TableVersion). AreMoments c.clock v.from v.to) (added_in table c.clock forever) added
-    (all_of (λ (r : PeriodRow). AreMoments c.clock c.clock forever) (λ r. recorded_now c.clock is) added))
+-- ---- what is good
+
+-- what is left of a good version is good
+left_good : (tables : List TableDef) (table : ℕ) (clock : ℤ) (ended : List VersionRow) → IsClock clock → (v : TableVersion) → IsGoodVersion tables clock v → AllByRecursion (IsGoodVersion tables clock) (left_of table clock ended v)
+left_good tables table clock ended is v good = go (is_ended table ended v) (int_eq v.from clock) (left_recorded table clock ended is v good.moments)
+  where
+    go : (b e : Bool) → AllByRecursion (λ (w : TableVersion). AreMoments clock w.from w.to) (cond b (cond e [] (record v { to = clock } ∷ [])) (v ∷ [])) → AllByRecursion (IsGoodVersion tables clock) (cond b (cond e [] (record v { to = clock } ∷ [])) (v ∷ []))
+    go true true moments = tt
+    go true false moments =
+        (record { definition = good.definition; table = good.table; values = good.values; held = good.held; days = good.days; moments = moments.0 }, tt)
+    go false e moments = (good, tt)
+
+-- so after a plan at the clock each version is good, if the rows that it adds are of its table
+pub good_planned : (c : Contents) (table : ℕ) (d : TableDef) (ended : List VersionRow) (added : List PeriodRow) → table_of c.tables table ≡ Some d → IsClock c.clock → AllByRecursion (IsGoodVersion c.tables c.clock) c.versions →
+    AllByRecursion (λ (r : PeriodRow). are_row_values d r.values ≡ true) added → AllByRecursion (λ (r : PeriodRow). All IsColumnValue r.values) added → AllByRecursion (IsGoodVersion c.tables c.clock) (planned table c.clock ended added c).versions
+good_planned c table d ended added there is good fits held =
+    let IsGood : TableVersion → Type 0 = IsGoodVersion c.tables c.clock in
+    all-append IsGood (flat_map (left_of table c.clock ended) c.versions) (map (added_in table c.clock forever) added)
+    (all-flat_map IsGood (left_of table c.clock ended) c.versions
+    (all_weaker IsGood (λ (v : TableVersion). AllByRecursion IsGood (left_of table c.clock ended v)) (left_good c.tables table c.clock ended is) c.versions good))
+    (all-map IsGood (added_in table c.clock forever) added
+    (all_both (λ (r : PeriodRow). are_row_values d r.values ≡ true) (λ (r : PeriodRow). All IsColumnValue r.values) (λ (r : PeriodRow). IsGood (added_in table c.clock forever r))
+    (λ r fit hold. record {
+      definition = d;
+      table = there;
+      values = fit;
+      held = hold;
+      days = record { start_is = r.period.days.0; end_is = r.period.days.1; rise = r.period.ordered };
+      moments = recorded_now c.clock is;
+    })
+    added fits held))

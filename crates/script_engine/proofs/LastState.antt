@@ -41,9 +41,10 @@ use Rattle.period_keys.proofs.Pairs.{SomePair-permutation}
 use Rattle.period_keys.proofs.TableLists.{more_cases}
 use Rattle.script_engine.specs.engine.Faults.{current_state}
 use Rattle.script_engine.specs.engine.InMemory.{AreCurrentOf, HaveCurrentRows, keys_in, rows_in}
-use Rattle.script_engine.specs.engine.Stored.{AreRecorded, HoldsTable}
+use Rattle.script_engine.specs.engine.Stored.{HoldsTable}
 use Rattle.script_engine.proofs.InMemory.{some_rows}
 use Rattle.script_engine.proofs.PlanFacts.{current_listed}
+use Rattle.script_engine.proofs.Recorded.{AreRecorded}
 
 -- ---- what is recorded
 

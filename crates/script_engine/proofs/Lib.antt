@@ -1,11 +1,16 @@
 mod AnswerLaws
+mod AddedRows
 mod Answered
 mod Answering
+mod ChangeRefusals
+mod ColumnValues
 mod Changed
 mod CheckSteps
 mod PieceFacts
 mod PieceSteps
 mod PlanFacts
+mod Recorded
+mod SameInMemory
 mod Refused
 mod ScriptFacts
 mod Seen
@@ -26,6 +31,7 @@ mod LastState
 mod LeftSteps
 mod NewStore
 mod Openings
+mod AuditCounts
 mod AuditLaws
 mod Audited
 mod AuditedSteps

@@ -31,8 +31,7 @@ said_new = record {
   clock = refl;
   tables = refl;
   versions = holds_none;
-  is_clock = (omega (arith, ints), omega (arith, ints));
-  recorded = tt;
+  good = record { clock = (omega (arith, ints), omega (arith, ints)); few = omega arith; lawful = tt; versions = tt; constrained = tt };
   lawful = lawful_empty [] (last_state (opened new_database)) no_rows;
 }
 

@@ -3,15 +3,14 @@ use Rattle.std.proofs.Common.{◌≡◌, ◌<◌, ◌+◌, ◌==◌, ◌∷◌, 
 use Rattle.std.specs.List.{AllByRecursion}
 use Rattle.std.specs.List.Sorted.{IsPermutation}
 use Rattle.std.proofs.lemmas.Bool.Decides.{nat_tests}
-use Rattle.std.proofs.lemmas.List.Sorted.{IsPermutation-refl}
+use Rattle.std.proofs.lemmas.List.Sorted.{IsPermutation-refl, IsPermutation-sym}
 use Rattle.std.proofs.lemmas.Option.{none-some}
 use Rattle.sqlite_trees.proofs.ListLemmas.{all_weaker, filter_none}
 use Rattle.period_core.specs.declared.version.VersionRow.{VersionRow}
 use Rattle.catalog_core.specs.declared.table.TableDef.{TableDef}
 use Rattle.catalog_core.specs.table.TableWords.{table_of}
-use Rattle.version_tables.specs.Good.{AreMoments, IsClock}
 use Rattle.version_store.specs.Contents.{Contents, TableVersion, of_table, version_in}
-use Rattle.version_store.specs.GoodStore.{HaveTables, IsGoodStore, IsGoodVersion, NothingMore}
+use Rattle.version_store.specs.GoodStore.{AreGood, HaveTables, IsGoodStore, IsGoodVersion, NothingMore}
 use Rattle.sqlite.specs.Effect as sqlite
 use Rattle.sqlite.specs.Store.{Ghosts}
 use Rattle.history_model.specs.Histories.{Database, History, last_state, opened, versions_in}
@@ -19,8 +18,10 @@ use Rattle.history_model.specs.Versions.{plain_version}
 use Rattle.period_keys.specs.Lawful.{IsLawfulState}
 use Rattle.script_engine.specs.engine.EngineState.{EngineState}
 use Rattle.script_engine.specs.engine.Faults.{AreConstrained, current_state}
-use Rattle.script_engine.specs.engine.Stored.{AreOfHistory, AreRecorded, EngineRepresents, HasContents}
+use Rattle.script_engine.specs.engine.Stored.{AreOfHistory, EngineRepresents, HasContents}
+use Rattle.script_engine.proofs.Contents.{is_left}
 use Rattle.script_engine.proofs.LastState.{IsLeft, lawful_along, recorded_rows, state_said}
+use Rattle.script_engine.proofs.Recorded.{AreRecorded, recorded_of}
 
 -- a good version as a version row
 abbrev row : (tables : List TableDef) (clock : ℤ) (v : TableVersion) → IsGoodVersion tables clock v → VersionRow
@@ -98,7 +99,10 @@ nothing_beyond (list ∷ lists) zero out = absurd (out (omega arith))
 nothing_beyond (list ∷ lists) (suc place) out = nothing_beyond lists place (λ inside. out (omega arith))
 
 -- the opening that good contents are
-module _ (c : Contents) (clock : IsClock c.clock) (good : AllByRecursion (IsGoodVersion c.tables c.clock) c.versions) where
+module _ (c : Contents) (are_good : AreGood NothingMore c) where
+  abbrev good : AllByRecursion (IsGoodVersion c.tables c.clock) c.versions
+  good = are_good.versions
+
   pub its : Lists c.tables c.clock c.versions 0 (length c.tables)
   its = lists_from c.tables c.clock c.versions good (length c.tables) 0
 
@@ -120,12 +124,12 @@ module _ (c : Contents) (clock : IsClock c.clock) (good : AllByRecursion (IsGood
           ∙ ap (map (version_in (suc place))) (sym (nothing_beyond its.lists place (λ inside. off (subst (λ (n : ℕ). place < n) long inside))))
 
   recorded : AreRecorded c
-  recorded = all_weaker (IsGoodVersion c.tables c.clock) (λ (v : TableVersion). AreMoments c.clock v.from v.to) (λ v is. is.moments) c.versions good
+  recorded = recorded_of c are_good
 
   left-opened : IsLeft (opened opening) c
   left-opened = record {
     order = record {
-      before = clock.1;
+      before = are_good.clock.1;
       recorded = λ table. recorded_rows c table (versions_in opening table) recorded (subst (IsPermutation (of_table table c.versions)) (holds table) (IsPermutation-refl (of_table table c.versions)));
       events = tt;
     };
@@ -134,7 +138,7 @@ module _ (c : Contents) (clock : IsClock c.clock) (good : AllByRecursion (IsGood
       left = IsPermutation-refl (map plain_version (versions_in opening table));
       all = subst (IsPermutation (of_table table c.versions)) (holds table) (IsPermutation-refl (of_table table c.versions));
     };
-    is_clock = clock;
+    is_clock = are_good.clock;
     recorded = recorded;
   }
 
@@ -144,8 +148,7 @@ module _ (c : Contents) (clock : IsClock c.clock) (good : AllByRecursion (IsGood
     clock = refl;
     tables = sym (append-nil c.tables);
     versions = left-opened.versions;
-    is_clock = clock;
-    recorded = recorded;
+    good = are_good;
     lawful =
         subst (λ (tables : List TableDef). IsLawfulState tables (last_state (opened opening))) (sym (append-nil c.tables))
         (lawful_along c.tables (current_state c) (last_state (opened opening)) (λ table day. state_said (opened opening) c table day left-opened) lawful);
@@ -185,10 +188,27 @@ other_points good = record {
   constrained = tt;
 }
 
+-- its contents are good
+abbrev pub its_good : {db : sqlite.Database} (good : IsGoodStore NothingMore db) → AreGood NothingMore good.contents
+its_good good = record { clock = good.clock; few = good.few; lawful = good.lawful; versions = good.versions; constrained = tt }
+
 -- so a good store is one of the history to which nothing was done since it was opened
 pub good_history : {S : Type 0} (g : Ghosts S) (engine : EngineState S) (db : sqlite.Database) (good : IsGoodStore NothingMore db) → AreConstrained good.contents → HasContents g engine good.contents →
     (history : History) × EngineRepresents g history engine
 good_history g engine db good lawful has = (
-  opened (opening good.contents good.clock good.versions),
-  record { contents = good.contents; stored = has.stored; said = said-opened good.contents good.clock good.versions lawful; current = has.current },
+  opened (opening good.contents (its_good good)),
+  record { contents = good.contents; stored = has.stored; said = said-opened good.contents (its_good good) lawful; current = has.current },
 )
+
+-- what a history says is good, with keys and references
+pub constrained_good : (history : History) (c : Contents) → AreOfHistory history c → AreGood AreConstrained c
+constrained_good history c said = record {
+  clock = said.good.clock;
+  few = said.good.few;
+  lawful = said.good.lawful;
+  versions = said.good.versions;
+  constrained =
+      lawful_along c.tables (last_state history) (current_state c)
+      (λ table day. IsPermutation-sym (current_state c table day) (last_state history table day) (state_said history c table day (is_left history c said)))
+      (subst (λ (tables : List TableDef). IsLawfulState tables (last_state history)) (sym said.tables) said.lawful);
+}

@@ -1,11 +1,12 @@
 -- Worked rows: a sequenced query of a table with one row and of one with two that overlap, each as a step of the history.
 use Rattle.std.specs.List.Sorted.{IsPermutation}
 use Rattle.std.proofs.lemmas.List.Sorted.{Contains-permutation, IsPermutation-refl, IsPermutation-sym}
-use Rattle.std.proofs.Common.{◌≡◌, ◌==◌, ◌∷◌, ◌++◌, ◌↔◌, append-nil, eqb-true, [], ℕ, zero, suc, ℤ, pos, Bool, true, false, List, Option, None, Some, Ok, map, codes, refl, sym, ap, ap₂, ◌∙◌, subst, inl, inr, arith}
+use Rattle.std.proofs.Common.{lit≤, ◌≡◌, ◌==◌, ◌∷◌, ◌++◌, ◌↔◌, append-nil, eqb-true, [], ℕ, zero, suc, ℤ, pos, Bool, true, false, List, Option, None, Some, Ok, map, codes, refl, sym, ap, ap₂, ◌∙◌, subst, inl, inr, arith}
 use Rattle.std.proofs.lemmas.Int.{by_lt_z, ints}
 use Rattle.std.specs.List.{All, Contains}
 use Rattle.std.proofs.lemmas.Bool.{and_parts}
-use Rattle.std.proofs.lemmas.List.Elements.{All-nil}
+use Rattle.std.proofs.lemmas.List.Elements.{All-from_recursion, All-nil}
+use Rattle.period_core.specs.Encoding.{IsColumnValue}
 use Rattle.period_core.specs.Leasts.{NoneApplies}
 use Rattle.period_core.proofs.Periods.{period_over}
 use Rattle.period_core.specs.declared.answer.Answer.{Answer}
@@ -44,12 +45,13 @@ use Rattle.script_engine.specs.Headline.{IsSequencedAnswer}
 use Rattle.history_model.specs.Left.{AreLeftBy}
 use Rattle.history_model.proofs.LeftFacts.{left_hold}
 use Rattle.version_store.specs.Contents.{Contents, TableVersion, of_table, version_in}
+use Rattle.version_store.specs.GoodStore.{IsGoodVersion}
 use Rattle.script_engine.specs.engine.Stored.{AreOfHistory, HoldsTable}
 use Rattle.script_engine.specs.engine.Runs.{Step}
 use Rattle.script_engine.specs.declared.engine.outcome.Outcome.TheVariants.{Answer as Answered}
 use Rattle.script_engine.proofs.LastState.{lawful_changed, lawful_empty}
 use Rattle.script_engine.proofs.LawfulSteps.{lawful_alone}
-use Rattle.script_engine.proofs.StepExamples.{colleague, emp, inserted_row, no_references, none_if_no_first, with_row, with_rows, with_table, worker}
+use Rattle.script_engine.proofs.StepExamples.{colleague, emp, emp_lawful, inserted_row, no_references, none_if_no_first, with_row, with_rows, with_table, worker}
 use Rattle.script_engine.proofs.RunExamples.{Sets, is_answer, one_row, seven, two_rows, whole}
 use Rattle.catalog_core.specs.table.Naming.{matches_among, repeats}
 
@@ -299,6 +301,23 @@ left_elsewhere (suc place) off = rw off (IsPermutation-refl [])
 none_elsewhere : (table : ℕ) → (1 == table) ≡ false → of_table table kept_contents.versions ≡ []
 none_elsewhere table off = rw off refl
 
+-- the version is that of a row of the table
+good_version : IsGoodVersion (emp ∷ []) first_moment (version_in 1 kept_version)
+unfolding is_value_column
+good_version = record {
+  definition = emp;
+  table = refl;
+  values = refl;
+  held = All-from_recursion IsColumnValue worker ((omega (arith, ints), omega (arith, ints)), ((omega (arith, ints), omega (arith, ints)), tt));
+  days = record { start_is = kept_row.period.days.0; end_is = kept_row.period.days.1; rise = kept_row.period.ordered };
+  moments = record {
+    from_is = (omega (arith, ints), omega (arith, ints));
+    to_is = (omega (arith, ints), omega (arith, ints));
+    rise = omega (arith, ints);
+    past = (omega (arith, ints), inr refl);
+  };
+}
+
 -- what is kept is what the history says
 represented : AreOfHistory with_row kept_contents
 represented = record {
@@ -306,16 +325,7 @@ represented = record {
   clock = refl;
   tables = refl;
   versions = holds;
-  is_clock = (omega (arith, ints), omega (arith, ints));
-  recorded = (
-    record {
-      from_is = (omega (arith, ints), omega (arith, ints));
-      to_is = (omega (arith, ints), omega (arith, ints));
-      rise = omega (arith, ints);
-      past = (omega (arith, ints), inr refl);
-    },
-    tt,
-  );
+  good = record { clock = (omega (arith, ints), omega (arith, ints)); few = lit≤ tt; lawful = emp_lawful; versions = (good_version, tt); constrained = tt };
   lawful = lawful_changed with_table first_moment inserted_row (omega (arith, ints)) (lawful_empty (emp ∷ []) (last_state with_table) none_at_first) (lawful_alone (emp ∷ []) (last_state with_table) inserted_row no_references (λ day. omega arith));
 }
   where

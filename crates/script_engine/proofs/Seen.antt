@@ -18,11 +18,13 @@ use Rattle.history_model.specs.SystemWindows.{SeesThrough}
 use Rattle.history_model.specs.Versions.{row_of, values_seen}
 use Rattle.history_model.proofs.LeftFacts.{left_hold}
 use Rattle.history_model.proofs.Shown.{seen_at_moments}
-use Rattle.script_engine.specs.engine.Answering.{AreRowsSeen}
+use Rattle.catalog_core.specs.declared.query.resolved.QueryReference.{QueryReference}
+use Rattle.script_engine.specs.engine.Answering.{AreRowsSeen, SeesRows, seen_through}
 use Rattle.script_engine.specs.engine.InMemory.{HaveCurrentRows, rows_in}
 use Rattle.script_engine.specs.engine.Stored.{AreOfHistory}
 use Rattle.script_engine.proofs.LastState.{recorded_rows, values_along}
 use Rattle.script_engine.proofs.PlanFacts.{filtered_twice, seen_rows}
+use Rattle.script_engine.proofs.Recorded.{recorded_of}
 
 -- ---- what is kept is what the window sees
 
@@ -74,7 +76,7 @@ seen_values window versions day =
     ∙ map-map its_values row_of (filter holds (filter sees versions))
     ∙ ap (map (λ (v : VersionRow). v.values)) (filtered_twice sees holds versions)
 
-pub rows_seen_hold : (history : History) (c : Contents) (table : ℕ) (window : Window) (rows : List PeriodRow) → AreOfHistory history c → AreRowsSeen c table window rows → (day : ℤ) (values : List Value) →
+rows_seen_hold : (history : History) (c : Contents) (table : ℕ) (window : Window) (rows : List PeriodRow) → AreOfHistory history c → AreRowsSeen c table window rows → (day : ℤ) (values : List Value) →
     (InSnapshot rows day values ↔ SeesThrough history window day table values)
 rows_seen_hold history c table window rows said seen day values =
     let holds = said.versions table in
@@ -87,8 +89,22 @@ rows_seen_hold history c table window rows said seen day values =
     values_along ours (map row_of seen.versions) day (IsPermutation-map row_of (filter sees holds.rows) seen.versions versions) in
     let same : IsPermutation whole here = subst (λ (l : List PeriodRow). IsPermutation whole (values_on l day)) (sym seen.made) (subst (λ (l : List (List Value)). IsPermutation l (values_on (map row_of seen.versions) day)) (seen_values window holds.rows day) along) in
     let (there, back) =
-    seen_at_moments c.clock holds.rows said.is_clock.1 (recorded_rows c table holds.rows said.recorded holds.all) day (λ moment. state_at history moment table day)
+    seen_at_moments c.clock holds.rows said.good.clock.1 (recorded_rows c table holds.rows (recorded_of c said.good) holds.all) day (λ moment. state_at history moment table day)
     (λ moment before. left_hold history table holds.rows said.order holds.left moment day before) window values in (
       λ held. there (Contains-permutation here whole values (IsPermutation-sym whole here same) held),
       λ through. Contains-permutation whole here values same (back through),
     )
+
+-- so a reference sees the rows that it is handed
+pub sees_rows : (history : History) (c : Contents) (reference : QueryReference) (rows : List PeriodRow) → AreOfHistory history c → AreRowsSeen c reference.table reference.window rows → SeesRows history reference rows
+sees_rows history c reference rows said seen =
+    let holds = said.versions reference.table in
+    let its : List VersionRow = seen_through reference.window holds.rows in
+    record {
+      versions = holds.rows;
+      left = holds.left;
+      all =
+          subst (IsPermutation (map row_of its)) (sym seen.made)
+          (IsPermutation-map row_of its seen.versions (seen_rows reference.table reference.window c.versions holds.rows seen.versions holds.all seen.all));
+      daily = rows_seen_hold history c reference.table reference.window rows said seen;
+    }

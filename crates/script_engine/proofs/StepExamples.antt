@@ -36,6 +36,7 @@ use Rattle.catalog_core.specs.declared.change.Action.TheVariants.{Delete, Insert
 use Rattle.catalog_core.specs.declared.change.Change.{Change}
 use Rattle.catalog_core.specs.declared.table.ColumnKind.TheVariants as kind
 use Rattle.catalog_core.specs.declared.table.TableDef.{TableDef}
+use Rattle.version_store.specs.GoodStore.{AreLawful}
 use Rattle.script_engine.specs.engine.Runs.{StatementApplies, Step}
 use Rattle.script_engine.specs.declared.engine.outcome.Outcome.TheVariants.{Done}
 use Rattle.script_engine.specs.declared.engine.outcome.Word.TheVariants as word
@@ -125,6 +126,11 @@ created = (
     after = refl;
   },
 )
+
+-- so the table is one that a store may have
+pub emp_lawful : AreLawful [] (emp ∷ [])
+unfolding place_among declared_reference declared_kind number_of table_of_name
+emp_lawful = ((creation, creation_is_sound, record { name = refl; columns = refl; period = refl; key = refl; references = refl }), tt)
 
 -- no rows are counted
 created_counts_none : Step at_first (statement.create creation) (Ok (Done word.Create 1)) with_table → ⊥

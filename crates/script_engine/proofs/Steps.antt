@@ -1,5 +1,5 @@
 -- Each way in which the engine runs a statement is a step of the histories that it represents.
-use Rattle.std.proofs.Common.{◌≡◌, ◌<ℤ◌, ◌≤ℤ◌, ◌≤◌, ℤ, List, [], Result, Ok, Err, OnOk, refl, sym, ◌∙◌, subst, inl, inr}
+use Rattle.std.proofs.Common.{◌≡◌, ◌<◌, ◌<ℤ◌, ◌≤ℤ◌, ◌≤◌, ℤ, List, [], Result, Ok, Err, OnOk, length, refl, sym, ◌∙◌, subst, inl, inr}
 use Rattle.std.proofs.lemmas.Result.{on_ok_weaker}
 use Rattle.period_core.specs.Leasts.{MayAnswer, NoneApplies}
 use Rattle.period_core.specs.Moments.{forever}
@@ -13,7 +13,8 @@ use Rattle.catalog_core.specs.create.Definition.{Defines}
 use Rattle.catalog_core.specs.Judged.{Holds}
 use Rattle.catalog_core.specs.declared.table.TableDef.{TableDef}
 use Rattle.version_store.specs.Changed.{with_clock, with_table}
-use Rattle.version_store.specs.GoodStore.{AreLawful}
+use Rattle.catalog_core.specs.Limits.{most_tables}
+use Rattle.catalog_core.specs.create.Lawful.{IsLawful}
 use Rattle.version_store.specs.StoreState.{Changes, IsStoreRefusal, IsUsable}
 use Rattle.history_model.specs.Histories.{Advanced, Created, History, catalog_of, last_state, with_event}
 use Rattle.script_engine.specs.engine.Runs.{MayRefuse, MayRefuseStatement, StatementApplies, StepsTo}
@@ -24,6 +25,7 @@ use Rattle.script_engine.specs.declared.engine.outcome.Outcome.TheVariants.{Done
 use Rattle.script_engine.specs.declared.engine.outcome.Word.TheVariants as word
 use Rattle.script_engine.proofs.Contents.{is_left, said-advanced, said-created}
 use Rattle.script_engine.proofs.LastState.{nothing_beyond, state_said}
+use Rattle.script_engine.proofs.TableNumbers.{few_tables}
 
 -- where no refusal applies, a failure of the database may be answered
 pub may_refuse-store : (Applies : Refusal → Type 0) (refusal : Refusal) → IsStoreRefusal refusal → NoneApplies Applies → MayRefuse Applies refusal
@@ -81,9 +83,9 @@ unmade_step g history engine create refusal kept may =
     (inl (subst (λ (tables : List TableDef). MayAnswer (Holds (create_conditions tables create)) refusal) (tables_of g history engine kept) may))
 
 pub created_step : {S : Type 0} (g : Ghosts S) (history : History) (old new : EngineState S) (create : CreateTable) (definition : TableDef) (kept : EngineRepresents g history old) →
-    AreLawful [] old.catalog.tables → NoneApplies (Holds (create_conditions old.catalog.tables create)) → Defines old.catalog.tables create definition → HasContents g new (with_table definition kept.contents) →
+    NoneApplies (Holds (create_conditions old.catalog.tables create)) → Defines old.catalog.tables create definition → HasContents g new (with_table definition kept.contents) →
     StepsTo g history (statement.create create) (Ok (Done word.Create 0)) new
-created_step g history old new create definition kept ordered sound defined has = (
+created_step g history old new create definition kept sound defined has = (
   with_event history (Created definition),
   (
     subst (λ (tables : List TableDef). NoneApplies (Holds (create_conditions tables create))) (tables_of g history old kept) sound,
@@ -98,7 +100,8 @@ created_step g history old new create definition kept ordered sound defined has 
     contents = with_table definition kept.contents;
     stored = has.stored;
     said =
-        said-created history kept.contents definition (subst (AreLawful []) kept.stored.catalog ordered)
+        said-created history kept.contents definition (subst (λ (tables : List TableDef). length tables < most_tables) kept.stored.catalog (few_tables old.catalog.tables create sound))
+        (subst (λ (tables : List TableDef). IsLawful tables definition) kept.stored.catalog (create, sound, defined))
         (nothing_beyond kept.contents old.tables kept.current (last_state history) (λ table day. state_said history kept.contents table day (is_left history kept.contents kept.said)))
         kept.said;
     current = has.current;

@@ -20,10 +20,10 @@ ghost use Rattle.history_model.specs.Histories.{Advanced, History, state_at, wit
 ghost use Rattle.history_model.specs.Versions.{values_at};
 ghost use Rattle.script_engine.specs.engine.EngineState.{store_of};
 ghost use Rattle.script_engine.specs.engine.Faults.{AreConstrained};
-ghost use Rattle.script_engine.specs.engine.InMemory.{HaveRows, rows_in};
-ghost use Rattle.script_engine.specs.engine.Runs.{MayRefuseMoment, StepsTo};
+ghost use Rattle.script_engine.specs.engine.InMemory.{HaveRows, IsSameInMemory, rows_in};
+ghost use Rattle.script_engine.specs.engine.Runs.{MayRefuseMoment, MayRefuseOver, StepsTo};
 ghost use Rattle.script_engine.specs.engine.Stored.{DatabaseRepresents, EngineRepresents};
-ghost use Rattle.script_engine.specs.engine.Stored.{KeepsOnErr};
+ghost use Rattle.script_engine.specs.engine.Stored.{IsBadStore, KeepsOnErr, WasUsable};
 ghost use Rattle.sql_statements.specs.Plain.{plain, plain_query, plain_stored};
 ghost use Rattle.sql_statements.specs.Trees as statement;
 
@@ -80,7 +80,9 @@ impl<S: Alter> Model for Engine<S> {
 
 // What the clauses say of a store holds where its connection is usable as the call ends: its disk
 // is clean, and no failure has shut it. A store in memory always is. Without that each call is safe
-// and returns, and `open` and `at` still give only the refusals that they name.
+// and returns; `open` gives only the refusals that it names; and `at` and `execute` are refused only
+// for a condition that holds of the catalog and the clock in memory, which a refusal leaves as they
+// were.
 impl<S: Alter> Engine<S> {
     /// Opens a store: a new one in a database that has none of its three tables, or else the one
     /// that is there, if it is a good one. An `Err` hands the connection back: 60 for a store that
@@ -104,8 +106,7 @@ impl<S: Alter> Engine<S> {
             × ((history : History) × EngineRepresents S.Store history engine))) }
 
         ensures bad { IfErr result (λ failed. IsUsable S.Store failed.1 → failed.0 ≡ BadStore
-            → (¬ IsNoneThere (state S.Store connection).now.schema)
-            × ¬ IsGoodStore AreConstrained (state S.Store connection).now) }
+            → IsBadStore (state S.Store connection).now) }
         ensures none { IfErr result (λ failed. IsUsable S.Store failed.1
             → IsAsBefore (state S.Store connection) (state S.Store failed.1)) }
         ensures settled { IfErr result (λ failed. failed.1.in_transaction ≡ false) }
@@ -121,13 +122,20 @@ impl<S: Alter> Engine<S> {
         }
     }
 
-    /// The connection, on which no transaction is open.
+    /// The connection, on which no transaction is open. What the engine represents is a good store,
+    /// so `open` does not refuse it as a bad one.
     pub fn close(self) -> Connection<S>
         ensures same { result ≡ self.connection }
         ensures settled { result.in_transaction ≡ false }
+        ensures good { IsUsable S.Store result
+            → (history : History) → EngineRepresents S.Store history self
+            → IsGoodStore AreConstrained (state S.Store result).now }
     {
         let Engine { store, tables: _ } = self;
-        store.close()
+        let connection = store.close();
+        // For the proof alone: while a connection is open, no two rows share a key.
+        let _live = connection.schema();
+        connection
     }
 
     /// The clock: the moment of the last AT, in a new store the first moment.
@@ -173,6 +181,8 @@ impl<S: Alter> Engine<S> {
         ensures later { OnOk result ((self.old.clock ≤ℤ moment) × (moment <ℤ forever)) }
         ensures kept { KeepsOnErr S.Store self.old self.new result }
         ensures refused { IfErr result (MayRefuseMoment self.old.clock moment) }
+        ensures memory { OnErr result (IsSameInMemory self.old self.new) }
+        ensures usable { WasUsable S.Store self.old.connection self.new.connection }
     {
         match ClockMoment::new(moment) {
             Some(_) if moment < self.store.clock() => Err(Refusal::MomentBack),
@@ -187,6 +197,10 @@ impl<S: Alter> Engine<S> {
             → (history : History) → EngineRepresents S.Store history self.old
             → StepsTo S.Store history (statement.at moment) result self.new }
         ensures kept { KeepsOnErr S.Store self.old self.new result }
+        ensures refused { IfErr result
+            (MayRefuseOver self.old.catalog.tables self.old.clock (statement.at moment)) }
+        ensures memory { OnErr result (IsSameInMemory self.old self.new) }
+        ensures usable { WasUsable S.Store self.old.connection self.new.connection }
     {
         match self.at(moment.moment()) {
             Ok(()) => Ok(Outcome::Done(Word::At, 0)),
@@ -200,6 +214,10 @@ impl<S: Alter> Engine<S> {
             → (history : History) → EngineRepresents S.Store history self.old
             → StepsTo S.Store history (statement.create create.now) result self.new }
         ensures kept { KeepsOnErr S.Store self.old self.new result }
+        ensures refused { IfErr result
+            (MayRefuseOver self.old.catalog.tables self.old.clock (statement.create create.now)) }
+        ensures memory { OnErr result (IsSameInMemory self.old self.new) }
+        ensures usable { WasUsable S.Store self.old.connection self.new.connection }
     {
         let definition = match define(alloc, self.store.catalog(), create) {
             Ok(definition) => definition,
@@ -235,6 +253,9 @@ impl<S: Alter> Engine<S> {
             self.old.tables self.new.tables) }
         ensures none { OnErr result
             (HaveRows table (rows_in self.old.tables table) self.old.tables self.new.tables) }
+        ensures catalog { self.new.catalog ≡ self.old.catalog }
+        ensures clock { self.new.clock ≡ self.old.clock }
+        ensures usable { WasUsable S.Store self.old.connection self.new.connection }
         ensures named { IfErr result IsStoreRefusal }
     {
         if table == 0 {
@@ -254,6 +275,10 @@ impl<S: Alter> Engine<S> {
             → (history : History) → EngineRepresents S.Store history self.old
             → StepsTo S.Store history (plain statement.now) result self.new }
         ensures kept { KeepsOnErr S.Store self.old self.new result }
+        ensures refused { IfErr result
+            (MayRefuseOver self.old.catalog.tables self.old.clock (plain statement.now)) }
+        ensures memory { OnErr result (IsSameInMemory self.old self.new) }
+        ensures usable { WasUsable S.Store self.old.connection self.new.connection }
     {
         let change = match resolve_change(alloc, self.store.catalog(), statement) {
             Ok(change) => change,
@@ -281,6 +306,10 @@ impl<S: Alter> Engine<S> {
             → StepsTo S.Store history (statement.sequenced (plain_query query.now)) result
             self.new }
         ensures kept { KeepsOnErr S.Store self.old self.new result }
+        ensures refused { IfErr result
+            (MayRefuseOver self.old.catalog.tables self.old.clock (statement.sequenced (plain_query query.now))) }
+        ensures memory { OnErr result (IsSameInMemory self.old self.new) }
+        ensures usable { WasUsable S.Store self.old.connection self.new.connection }
     {
         let query = match resolve_sequenced(alloc, self.store.catalog(), query) {
             Ok(query) => query,
@@ -299,6 +328,10 @@ impl<S: Alter> Engine<S> {
             → StepsTo S.Store history (statement.stored (plain_stored query.now)) result
             self.new }
         ensures kept { KeepsOnErr S.Store self.old self.new result }
+        ensures refused { IfErr result
+            (MayRefuseOver self.old.catalog.tables self.old.clock (statement.stored (plain_stored query.now))) }
+        ensures memory { OnErr result (IsSameInMemory self.old self.new) }
+        ensures usable { WasUsable S.Store self.old.connection self.new.connection }
     {
         let query = match resolve_stored_query(alloc, self.store.catalog(), query) {
             Ok(query) => query,
@@ -329,6 +362,12 @@ impl<S: Alter> Engine<S> {
             → (history : History) → EngineRepresents S.Store history self.old
             → StepsTo S.Store history (plain statement.now) result self.new }
         ensures kept { KeepsOnErr S.Store self.old self.new result }
+
+        // And whatever the database holds:
+        ensures refused { IfErr result
+            (MayRefuseOver self.old.catalog.tables self.old.clock (plain statement.now)) }
+        ensures memory { OnErr result (IsSameInMemory self.old self.new) }
+        ensures usable { WasUsable S.Store self.old.connection self.new.connection }
     {
         match statement.form() {
             StatementForm::At(moment) => self.advance(*moment),

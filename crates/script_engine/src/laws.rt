@@ -3,7 +3,7 @@
 
 ghost use Rattle.script_engine.specs.Laws.{AnswersAreUnique, AnswersMapOneToOne};
 ghost use Rattle.script_engine.specs.Laws.{SameSnapshotsSameAnswers};
-ghost use Rattle.script_engine.specs.engine.Audits.{AuditsAgree};
+ghost use Rattle.script_engine.specs.engine.Audits.{AuditsAgree, AuditsCountOnce};
 
 /// A list with the same snapshots has a row of its own for each row of an answer, of the same
 /// values and first day. So no such list is shorter.
@@ -25,4 +25,10 @@ pub fn same_snapshots_same_answers()
 /// query see.
 pub fn audits_agree()
     ensures { AuditsAgree }
+{}
+
+/// Audits of an answer give one number of days: that of the rows that the references of its query
+/// see, and of the answer.
+pub fn audits_count_once()
+    ensures { AuditsCountOnce }
 {}

@@ -24,7 +24,6 @@ pub use report::check::{write_check, write_check_with_capacity};
 pub use report::writer::{ReportWriter, WriteRefused};
 pub use report::{ReportFault, write_report, write_report_with_capacity};
 pub use script::check::check_script;
-pub use script::{
-    MOST_BYTES, MOST_TOKENS, run_audited, run_last_audited, run_last_script, run_script,
-};
+pub use script::kept::Kept;
+pub use script::{MOST_BYTES, MOST_TOKENS, run, run_audited, run_script};
 pub use snapshot_audit::Verdict;

@@ -1,9 +1,11 @@
 //! Scripts: their text, their pieces, and the results of these.
 
-ghost use Rattle.std.specs.Prelude.{◌≡◌, ◌≤◌, All, IfErr, IfOk, OnOk, false, length, map};
+ghost use Rattle.std.specs.Prelude.{◌≡◌, ◌≤◌, [], All, IfErr, IfOk, OnOk, false, length, map};
+ghost use Rattle.std.specs.Prelude.{vec_capacity};
 ghost use Rattle.std.specs.Str.{IsUtf8};
 ghost use Rattle.period_core.specs.Leasts.{MayAnswer, NoneApplies};
-ghost use Rattle.period_core.specs.declared.refusal.Refusal.TheVariants.{NotUtf8, ScriptTooLarge};
+ghost use Rattle.period_core.specs.declared.refusal.Refusal.TheVariants.{BadStore, NotUtf8};
+ghost use Rattle.period_core.specs.declared.refusal.Refusal.TheVariants.{ScriptTooLarge};
 ghost use Rattle.sql_front.specs.Grammar.{IsStatement};
 ghost use Rattle.sql_statements.specs.Lexemes.{lexemes};
 ghost use Rattle.sql_statements.specs.Lexis.{TokensOf};
@@ -11,16 +13,18 @@ ghost use Rattle.sql_front.specs.Pieces.{IsWithin, spanned};
 ghost use Rattle.sql_statements.specs.Plain.{plain};
 ghost use Rattle.sqlite.specs.Held.{state};
 ghost use Rattle.version_store.specs.StoreState.{IsUsable};
+ghost use Rattle.version_tables.specs.Steps.{IsAsBefore};
 ghost use Rattle.history_model.specs.Histories.{History};
 ghost use Rattle.script_engine.specs.engine.Stored.{DatabaseRepresents, EngineRepresents};
-ghost use Rattle.script_engine.specs.engine.Stored.{IsAlwaysUsable, RepresentsSome};
+ghost use Rattle.script_engine.specs.engine.Stored.{IsAlwaysUsable, IsBadStore, RepresentsSome};
+ghost use Rattle.script_engine.specs.engine.Stored.{WasUsable};
 ghost use Rattle.script_engine.specs.script.AuditedRuns.{IsAuditedRunFrom, results_of};
-ghost use Rattle.script_engine.specs.script.Script.{IsRunBy, IsRunFrom, MayRefuseRun};
+ghost use Rattle.script_engine.specs.script.Script.{IsCutInto, IsRunBy, IsRunFrom, MayRefuseRun};
 ghost use Rattle.script_engine.specs.script.Script.{MayRefuseScript, StepPieces};
 ghost use Rattle.script_engine.specs.script.Script.{TextApplies, most_bytes};
 
 pub mod check;
-mod kept;
+pub mod kept;
 
 use crate::engine::Engine;
 use crate::engine::outcome::Outcome;
@@ -32,7 +36,6 @@ use sql_statements::{Statement, Token};
 use sqlite::Connection;
 use sqlite_trees::store::Alter;
 use std::alloc::Global;
-use std::mem::ManuallyDrop;
 use std::str;
 
 /// The most bytes that a script may have.
@@ -87,6 +90,32 @@ pub(crate) fn statement_of(
     parse(alloc, script, piece)
 }
 
+/// The pieces of a script: its tokens, and of each piece which of them it has.
+#[derive(Drop)]
+pub(crate) struct Pieces<'a> {
+    pub(crate) text: &'a str,
+    pub(crate) tokens: Vec<Token<'a>>,
+    pub(crate) spans: Vec<Span>,
+}
+
+/// The pieces of a script. An `Err` is the refusal of the whole script, or out of memory.
+pub(crate) fn script_pieces<'a>(alloc: Global, script: &'a [u8]) -> Result<Pieces<'a>, Refusal>
+    ensures cut { IfOk result (λ pieces. IsCutInto script.now
+        (map (spanned (lexemes pieces.tokens.items)) pieces.spans.items)) }
+    ensures within { IfOk result
+        (λ pieces. All (IsWithin (length pieces.tokens.items)) pieces.spans.items) }
+    ensures refused { IfErr result (MayRefuseScript script.now) }
+{
+    let text = script_text(script)?;
+    let tokens = script_tokens(alloc, text)?;
+    let spans = cut(alloc, tokens.as_slice())?;
+    Ok(Pieces {
+        text,
+        tokens,
+        spans,
+    })
+}
+
 /// What a run keeps of a piece of a script.
 fn run_piece<S: Alter, K: Kept<S>>(
     alloc: Global,
@@ -94,9 +123,10 @@ fn run_piece<S: Alter, K: Kept<S>>(
     script: &str,
     piece: &[Token<'_>],
 ) -> K
-    ensures { IsUsable S.Store engine.new.connection
+    ensures step { IsUsable S.Store engine.new.connection
         → (history : History) → EngineRepresents S.Store history engine.old
         → RepresentsSome S.Store (K.is_step history (lexemes piece.now) result) engine.new }
+    ensures usable { WasUsable S.Store engine.old.connection engine.new.connection }
 {
     let statement = match statement_of(alloc, script, piece) {
         Ok(statement) => statement,
@@ -109,64 +139,76 @@ fn run_piece<S: Alter, K: Kept<S>>(
 }
 
 /// What a run keeps of the pieces of a script, one after the other, from any history that the
-/// engine represents, over a store that is always usable.
+/// engine represents. It is kept in a list that has room for all of it.
 fn run_pieces<S: Alter, K: Kept<S> + Drop>(
     alloc: Global,
     engine: &mut Engine<S>,
     script: &str,
     tokens: &[Token<'_>],
     pieces: &[Span],
-) -> Result<Vec<K>, Refusal>
+    mut kept: Vec<K>,
+) -> Vec<K>
     requires within { All (IsWithin (length tokens.now)) pieces.now }
-    ensures run { IsAlwaysUsable S.Store
+    requires room { length pieces.now ≤ vec_capacity kept }
+    requires none { kept.items ≡ [] }
+    ensures run { IsUsable S.Store engine.new.connection
         → (history : History) → EngineRepresents S.Store history engine.old
-        → IfOk result (λ kept. (last : History)
-        × StepPieces K.is_step history (map (spanned (lexemes tokens.now)) pieces.now)
-        kept.items last) }
-    ensures memory { IfErr result (λ refusal. refusal ≡ Refusal.Memory) }
+        → RepresentsSome S.Store (StepPieces K.is_step history
+        (map (spanned (lexemes tokens.now)) pieces.now) result.items) engine.new }
+    ensures usable { WasUsable S.Store engine.old.connection engine.new.connection }
 {
-    let mut results = Vec::with_capacity(alloc, pieces.len())?;
     for piece in pieces {
         let result = run_piece(alloc, engine, script, &tokens[piece.start..piece.end]);
-        results.push_reserved(result);
+        kept.push_reserved(result);
     }
-    Ok(results)
+    kept
 }
 
-/// What a run of a script over the store of a connection keeps of its pieces, and the engine as it
-/// is then.
-pub(crate) fn run_kept<S: Alter + Drop, K: Kept<S> + Drop>(
+/// Runs a script over the store of a connection, a new one where there is none, and keeps of each
+/// of its pieces, in order, its result, or with it the audit of its answer. Gives what was kept,
+/// and the engine as it is then. An `Err` hands the connection back: it is the refusal of the whole
+/// script, of which nothing is run; out of memory; or, of a script that is sound, why the store is
+/// not opened: 60, 61 or 62. It changes nothing.
+pub fn run<S: Alter, K: Kept<S> + Drop>(
     alloc: Global,
     connection: Connection<S>,
     script: &[u8],
-) -> Result<(Vec<K>, Engine<S>), Refusal>
+) -> Result<(Vec<K>, Engine<S>), (Refusal, Connection<S>)>
     requires { connection.in_transaction ≡ false }
-    ensures run { IsAlwaysUsable S.Store
+
+    // Whatever history the database stood for, these are the results of a run from it on, and the
+    // engine represents the history to which the run leads.
+    ensures run { IfOk result (λ ran. IsUsable S.Store ran.1.connection
         → (history : History) → DatabaseRepresents history (state S.Store connection).now
-        → IfOk result (λ ran. IsRunBy K.is_step history script.now ran.0.items) }
-    ensures refused { IfErr result (MayRefuseRun script.now) }
+        → (made : IsRunBy K.is_step history script.now ran.0.items)
+        × EngineRepresents S.Store made.last ran.1) }
+
+    ensures refused { IfErr result (λ failed. MayRefuseRun script.now failed.0) }
+    ensures bad { IfErr result (λ failed. IsUsable S.Store failed.1 → failed.0 ≡ BadStore
+        → IsBadStore (state S.Store connection).now) }
+    ensures none { IfErr result (λ failed. IsUsable S.Store failed.1
+        → IsAsBefore (state S.Store connection) (state S.Store failed.1)) }
+    ensures settled { IfErr result (λ failed. failed.1.in_transaction ≡ false) }
 {
-    let text = script_text(script)?;
-    let tokens = script_tokens(alloc, text)?;
-    let pieces = cut(alloc, tokens.as_slice())?;
+    let pieces = match script_pieces(alloc, script) {
+        Ok(pieces) => pieces,
+        Err(refusal) => return Err((refusal, connection)),
+    };
+    let Ok(room) = Vec::with_capacity(alloc, pieces.spans.len()) else {
+        return Err((Refusal::Memory, connection));
+    };
     let mut engine = match Engine::open(alloc, connection) {
         Ok(engine) => engine,
-        Err((refusal, _connection)) => return Err(refusal),
+        Err(failed) => return Err(failed),
     };
-    let kept = run_pieces(
-        alloc,
-        &mut engine,
-        text,
-        tokens.as_slice(),
-        pieces.as_slice(),
-    )?;
+    let tokens = pieces.tokens.as_slice();
+    let spans = pieces.spans.as_slice();
+    let kept = run_pieces(alloc, &mut engine, pieces.text, tokens, spans, room);
     Ok((kept, engine))
 }
 
 /// Runs a script over the store of a connection, a new one where there is none. The results are
-/// those of its statements, refused ones too, in order; an `Err` is the refusal of the whole
-/// script, of which nothing is run; out of memory; or, of a script that is sound, why the store is
-/// not opened: 60, 61 or 62.
+/// those of its statements, refused ones too, in order; an `Err` is that of [`run`].
 pub fn run_script<S: Alter + Drop>(
     alloc: Global,
     connection: Connection<S>,
@@ -174,32 +216,18 @@ pub fn run_script<S: Alter + Drop>(
 ) -> Result<Vec<Result<Outcome, Refusal>>, Refusal>
     requires { connection.in_transaction ≡ false }
     // The connection is dropped, so this is said of stores that are always usable, as each in
-    // memory is.
+    // memory is. Of others `run` says it.
     ensures run { IsAlwaysUsable S.Store
         → (history : History) → DatabaseRepresents history (state S.Store connection).now
         → IfOk result (λ results. IsRunFrom history script.now results.items) }
     ensures refused { IfErr result (MayRefuseRun script.now) }
+    ensures bad { IsAlwaysUsable S.Store → IfErr result (λ refusal. refusal ≡ BadStore
+        → IsBadStore (state S.Store connection).now) }
 {
-    let (results, _engine) = run_kept(alloc, connection, script)?;
-    Ok(results)
-}
-
-/// The same, as the last that a process does: the memory of the store is left until that ends. To
-/// give back many rows, one by one, would take a fifth of the time of the run.
-pub fn run_last_script<S: Alter + Drop>(
-    alloc: Global,
-    connection: Connection<S>,
-    script: &[u8],
-) -> Result<Vec<Result<Outcome, Refusal>>, Refusal>
-    requires { connection.in_transaction ≡ false }
-    ensures run { IsAlwaysUsable S.Store
-        → (history : History) → DatabaseRepresents history (state S.Store connection).now
-        → IfOk result (λ results. IsRunFrom history script.now results.items) }
-    ensures refused { IfErr result (MayRefuseRun script.now) }
-{
-    let (results, engine) = run_kept(alloc, connection, script)?;
-    let _left = ManuallyDrop::new(engine);
-    Ok(results)
+    match run(alloc, connection, script) {
+        Ok((results, _engine)) => Ok(results),
+        Err((refusal, _connection)) => Err(refusal),
+    }
 }
 
 /// The same, with an audit of each answer at once, over the rows that were seen for it. The entries
@@ -218,27 +246,11 @@ pub fn run_audited<S: Alter + Drop>(
         → (history : History) → DatabaseRepresents history (state S.Store connection).now
         → IfOk result (λ entries. IsRunFrom history script.now (results_of entries.items)) }
     ensures refused { IfErr result (MayRefuseRun script.now) }
+    ensures bad { IsAlwaysUsable S.Store → IfErr result (λ refusal. refusal ≡ BadStore
+        → IsBadStore (state S.Store connection).now) }
 {
-    let (entries, _engine) = run_kept(alloc, connection, script)?;
-    Ok(entries)
-}
-
-/// The same, as the last that a process does, as [`run_last_script`] is.
-pub fn run_last_audited<S: Alter + Drop>(
-    alloc: Global,
-    connection: Connection<S>,
-    script: &[u8],
-) -> Result<Vec<Entry>, Refusal>
-    requires { connection.in_transaction ≡ false }
-    ensures audited { IsAlwaysUsable S.Store
-        → (history : History) → DatabaseRepresents history (state S.Store connection).now
-        → IfOk result (λ entries. IsAuditedRunFrom history script.now entries.items) }
-    ensures run { IsAlwaysUsable S.Store
-        → (history : History) → DatabaseRepresents history (state S.Store connection).now
-        → IfOk result (λ entries. IsRunFrom history script.now (results_of entries.items)) }
-    ensures refused { IfErr result (MayRefuseRun script.now) }
-{
-    let (entries, engine) = run_kept(alloc, connection, script)?;
-    let _left = ManuallyDrop::new(engine);
-    Ok(entries)
+    match run(alloc, connection, script) {
+        Ok((entries, _engine)) => Ok(entries),
+        Err((refusal, _connection)) => Err(refusal),
+    }
 }

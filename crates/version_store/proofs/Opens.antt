@@ -195,7 +195,7 @@ same_contents db c d hc hd =
     same_table_rows n ps qs same = same_tables (defined n ps) (defined n qs) (defined_table n ps) (defined_table n qs) same
 
 -- a database with good contents is a good store
-pub good_store : (db : Database) (c : Contents) → Has db c → KeepsKeys db → AreGood NothingMore c → IsGoodStore NothingMore db
+pub good_store : {Constrained : Contents → Type 0} (db : Database) (c : Contents) → Has db c → KeepsKeys db → AreGood Constrained c → IsGoodStore Constrained db
 good_store db c has keys good = record {
   contents = c;
   says = has.rows.says;

@@ -209,6 +209,8 @@ impl<S: Alter> VersionStore<S> {
             (self.new.catalog.tables ≡ self.old.catalog.tables ++ definition ∷ []) }
         ensures none { OnErr result (self.new.catalog.tables ≡ self.old.catalog.tables) }
         ensures clock { self.new.clock ≡ self.old.clock }
+        ensures usable { IsUsable S.Store self.new.connection
+            → IsUsable S.Store self.old.connection }
         ensures named { IfErr result IsStoreRefusal }
     {
         let Ok(bytes) = encode_def(alloc, &definition) else {
@@ -236,6 +238,8 @@ impl<S: Alter> VersionStore<S> {
         ensures catalog { self.new.catalog ≡ self.old.catalog }
         ensures advanced { OnOk result (self.new.clock ≡ moment) }
         ensures clock { OnErr result (self.new.clock ≡ self.old.clock) }
+        ensures usable { IsUsable S.Store self.new.connection
+            → IsUsable S.Store self.old.connection }
         ensures named { IfErr result IsStoreRefusal }
     {
         match write_clock(&mut self.connection, moment) {

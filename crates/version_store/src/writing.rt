@@ -83,6 +83,7 @@ pub(crate) fn write_table<S: Alter>(
     ensures made { CommitsWhere S.Store connection.old connection.new result
         (λ records. number ≡ length records.tables + 1) (with_definition definition.now) }
     ensures none { Undoes S.Store connection.old connection.new result }
+    ensures usable { IsUsable S.Store connection.new → IsUsable S.Store connection.old }
     ensures mode { connection.new.in_transaction ≡ false }
     ensures named { IfErr result IsStoreRefusal }
 {
@@ -103,6 +104,7 @@ pub(crate) fn write_clock<S: Alter>(
     requires { connection.old.in_transaction ≡ false }
     ensures made { Commits S.Store connection.old connection.new result (with_clock moment) }
     ensures none { Undoes S.Store connection.old connection.new result }
+    ensures usable { IsUsable S.Store connection.new → IsUsable S.Store connection.old }
     ensures mode { connection.new.in_transaction ≡ false }
     ensures named { IfErr result IsStoreRefusal }
 {

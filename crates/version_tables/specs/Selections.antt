@@ -17,7 +17,8 @@ selects (Overlapping start end) from to = int_lt from end && int_lt start to
 
 -- the versions of the table that are selected
 abbrev pub selected : ℕ → Selection → List Version → List Version
-selected table selection versions = filter (λ v. selects selection v.from v.to) (of_table table versions)
+selected table selection versions =
+    filter (λ v. selects selection v.from v.to) (of_table table versions)
 
 -- the text of the query
 abbrev pub select_text : Selection → List ℕ

@@ -58,7 +58,8 @@ impl Tree {
         requires { IsSeekable sought.now.order sought.now.row.now self.now.rows }
         ensures within { result ≤ length self.now.rows }
         ensures is { result < most
-            → from_key sought.now.order sought.now.row.now self.now.rows ≡ drop result self.now.rows }
+            → from_key sought.now.order sought.now.row.now self.now.rows
+            ≡ drop result self.now.rows }
     {
         let Link::Fork(_, _, fork) = &self.root else {
             return 0;
@@ -77,7 +78,8 @@ impl Tree {
         requires { IsSeekable sought.now.order sought.now.row.now self.now.rows }
         ensures within { result ≤ length self.now.rows }
         ensures is { result < most
-            → up_to_key sought.now.order sought.now.row.now self.now.rows ≡ take result self.now.rows }
+            → up_to_key sought.now.order sought.now.row.now self.now.rows
+            ≡ take result self.now.rows }
     {
         let Link::Fork(_, _, fork) = &self.root else {
             return 0;

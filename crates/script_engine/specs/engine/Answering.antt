@@ -1,7 +1,8 @@
 -- What a sequenced query is answered from: the rows that its table references see, and the columns of
 -- its answer.
-use Rattle.std.specs.Prelude.{◌≡◌, ◌↔◌, ℕ, ℤ, List, IsPermutation, map}
+use Rattle.std.specs.Prelude.{◌≡◌, ◌↔◌, ℕ, ℤ, List, IsPermutation, filter, map}
 use Rattle.std.specs.List.{AllZip}
+use Rattle.period_core.specs.Windows.{window_sees}
 use Rattle.period_core.specs.declared.row.PeriodRow.{PeriodRow}
 use Rattle.period_core.specs.declared.value.Value.{Value}
 use Rattle.period_core.specs.declared.version.VersionRow.{VersionRow}
@@ -11,6 +12,7 @@ use Rattle.catalog_core.specs.declared.query.AnswerColumn.{AnswerColumn}
 use Rattle.catalog_core.specs.declared.query.resolved.QueryReference.{QueryReference}
 use Rattle.catalog_core.specs.query.Queries.{Query, both, one}
 use Rattle.history_model.specs.Histories.{History}
+use Rattle.history_model.specs.Left.{AreLeftBy}
 use Rattle.history_model.specs.OrdinaryQuery.{HistorySights}
 use Rattle.history_model.specs.Versions.{row_of}
 use Rattle.version_store.specs.Contents.{Contents, version_in}
@@ -29,9 +31,23 @@ AreSeenBy history reference rows =
     (day : ℤ) (values : List Value)
     → (InSnapshot rows day values ↔ HistorySights history day reference values)
 
--- each list holds what the reference in its place sees
+-- the versions that the window sees
+abbrev pub seen_through : Window → List VersionRow → List VersionRow
+seen_through window = filter (λ (v : VersionRow). window_sees window v.from v.to)
+
+-- the reference sees these rows: of the versions that the history leaves of its table those that its
+-- window sees, without their system times, each once and in any order; so the rows hold on each day
+-- what it sees
+pub record SeesRows (history : History) (reference : QueryReference) (rows : List PeriodRow)
+    : Type 0 where
+  pub versions : List VersionRow
+  pub left : AreLeftBy history reference.table versions
+  pub all : IsPermutation (map row_of (seen_through reference.window versions)) rows
+  pub daily : AreSeenBy history reference rows
+
+-- each list has the rows that the reference in its place sees
 abbrev pub EachSees : History → List QueryReference → List (List PeriodRow) → Type 0
-EachSees history = AllZip (AreSeenBy history)
+EachSees history = AllZip (SeesRows history)
 
 -- the select list that names the columns of a query's answer: that of its leftmost select
 abbrev pub columns_of : Query → List AnswerColumn

@@ -1,5 +1,5 @@
 -- Audits of answers: what the audit of a statement's answer says, in a history.
-use Rattle.std.specs.Prelude.{◌≡◌, List, Option, None, Some, Result, Ok, Err, Contains, ⊤}
+use Rattle.std.specs.Prelude.{◌≡◌, ℕ, List, Option, None, Some, Result, Ok, Err, Contains, ⊤}
 use Rattle.period_core.specs.declared.answer.Answer.{Answer}
 use Rattle.period_core.specs.declared.refusal.Refusal.{Refusal}
 use Rattle.period_core.specs.declared.refusal.Refusal.TheVariants.{Memory}
@@ -16,7 +16,7 @@ use Rattle.snapshot_audit.specs.declared.verdict.Verdict.{Verdict}
 use Rattle.snapshot_audit.specs.declared.verdict.Verdict.TheVariants.{Agrees, BadWitness, Differs}
 use Rattle.sqlite.specs.Store.{Ghosts}
 use Rattle.script_engine.specs.Headline.{IsSequencedAnswer}
-use Rattle.script_engine.specs.engine.Answering.{AreSeenBy}
+use Rattle.script_engine.specs.engine.Answering.{AreSeenBy, SeesRows}
 use Rattle.script_engine.specs.engine.EngineState.{EngineState}
 use Rattle.script_engine.specs.engine.Runs.{Step}
 use Rattle.script_engine.specs.engine.Stored.{RepresentsSome}
@@ -31,6 +31,12 @@ AreSeen history query tables =
     (reference : QueryReference) → Contains (references_of query) reference
     → AreSeenBy history reference (rows_for tables reference)
 
+-- each reference of the query has the list of the rows that it sees
+abbrev pub HaveSeenRows : History → Query → List (List PeriodRow) → Type 0
+HaveSeenRows history query tables =
+    (reference : QueryReference) → Contains (references_of query) reference
+    → SeesRows history reference (rows_for tables reference)
+
 -- the verdict is that of an audit of the answer over these lists
 abbrev pub IsVerdictOver : Query → List (List PeriodRow) → Answer → Verdict → Type 0
 IsVerdictOver query tables answer =
@@ -42,11 +48,11 @@ IsAgreement (Agrees days) = ⊤
 IsAgreement (Differs day) = ⊥
 IsAgreement (BadWitness row) = ⊥
 
--- the verdict is that of an audit over what the query's references see; it finds no fault
+-- the verdict is that of an audit over the rows that the query's references see; it finds no fault
 pub record Confirms (history : History) (query : Query) (answer : Answer) (verdict : Verdict)
     : Type 0 where
   pub tables : List (List PeriodRow)
-  pub seen : AreSeen history query tables
+  pub seen : HaveSeenRows history query tables
   pub over : IsVerdictOver query tables answer verdict
   pub agrees : IsAgreement verdict
 
@@ -85,3 +91,11 @@ AuditsAgree =
     → IsSequencedAnswer (InAnswerOn history query) answer
     → (tables : List (List PeriodRow)) → AreSeen history query tables
     → IsVerdictOver query tables answer verdict → IsAgreement verdict
+
+-- the number of days that an audit of an answer gives is one: that of the change days of the answer
+-- and of the rows that the query's references see. This too is the contract of a function.
+abbrev pub AuditsCountOnce : Type 0
+AuditsCountOnce =
+    (history : History) (query : Query) (answer : Answer) (days others : ℕ)
+    → Confirms history query answer (Agrees days) → Confirms history query answer (Agrees others)
+    → days ≡ others

@@ -1,5 +1,5 @@
--- The current rows of each table in memory.
-use Rattle.std.specs.Prelude.{◌≡◌, ℕ, List, [], IsPermutation, length, map}
+-- What an engine has in memory: the current rows of each table, and what a refusal leaves of them.
+use Rattle.std.specs.Prelude.{◌≡◌, ℕ, List, [], IsPermutation, OnErr, Result, length, map}
 use Rattle.std.specs.Option.{option_map_or}
 use Rattle.period_core.specs.declared.version.VersionRow.{VersionRow}
 use Rattle.period_core.specs.declared.window.Window.TheVariants.{Now}
@@ -12,6 +12,7 @@ use Rattle.period_keys.specs.TableRows.{TableRows}
 use Rattle.version_store.specs.Contents.{Contents, version_in}
 use Rattle.version_store.specs.GoodStore.{AreLawful}
 use Rattle.version_store.specs.Scans.{seen_of}
+use Rattle.script_engine.specs.engine.EngineState.{EngineState}
 
 -- the rows are the current versions of the table, in any order
 abbrev pub AreCurrentOf : Contents → ℕ → List VersionRow → Type 0
@@ -45,3 +46,10 @@ pub record FollowCatalog (catalog : List TableDef) (tables : List TableRows) : T
   pub lawful : AreLawful [] catalog
   pub count : length tables ≡ length catalog
   pub indexed : HaveIndexes catalog tables
+
+-- what is in memory is as it was: the catalog, the clock, and of each table the current rows, in any
+-- order
+pub record IsSameInMemory {S : Type 0} (old new : EngineState S) : Type 0 where
+  pub catalog : new.catalog.tables ≡ old.catalog.tables
+  pub clock : new.clock ≡ old.clock
+  pub rows : (number : ℕ) → IsPermutation (rows_in old.tables number) (rows_in new.tables number)

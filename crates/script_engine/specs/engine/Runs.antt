@@ -6,7 +6,9 @@ use Rattle.period_core.specs.Leasts.{MayAnswer, NoneApplies}
 use Rattle.period_core.specs.Moments.{forever}
 use Rattle.period_core.specs.declared.answer.Answer.{Answer}
 use Rattle.period_core.specs.declared.refusal.Refusal.{Refusal}
-use Rattle.period_core.specs.declared.refusal.Refusal.TheVariants.{BadMoment, MomentBack, Store}
+use Rattle.period_core.specs.declared.refusal.Refusal.TheVariants.{BadMoment, KeyOverlap}
+use Rattle.period_core.specs.declared.refusal.Refusal.TheVariants.{MomentBack, PeriodReference}
+use Rattle.period_core.specs.declared.refusal.Refusal.TheVariants.{Store}
 use Rattle.period_core.specs.declared.version.VersionRow.{VersionRow}
 use Rattle.sql_statements.specs.declared.create.CreateTable.{CreateTable}
 use Rattle.sql_statements.specs.Trees.{Statement}
@@ -14,7 +16,8 @@ use Rattle.sql_statements.specs.Trees as statement
 use Rattle.catalog_core.specs.create.Creation.{create_conditions}
 use Rattle.catalog_core.specs.create.Definition.{Defines}
 use Rattle.catalog_core.specs.Judged.{Holds}
-use Rattle.catalog_core.specs.change.Resolution.{ResolvesChange, change_conditions, empty_period}
+use Rattle.catalog_core.specs.change.Resolution.{IsChange, ResolvesChange, change_conditions}
+use Rattle.catalog_core.specs.change.Resolution.{empty_period}
 use Rattle.catalog_core.specs.query.Queries.{Query}
 use Rattle.catalog_core.specs.query.Resolving.{ResolvesQuery, query_conditions}
 use Rattle.catalog_core.specs.stored.StoredQueries.{ResolvesStored, stored_conditions}
@@ -48,21 +51,21 @@ use Rattle.script_engine.specs.declared.engine.outcome.Word.TheVariants as word
 abbrev pub ChangeApplies : List TableDef → Statement → Refusal → Type 0
 ChangeApplies catalog s = Holds (change_conditions catalog s ++ empty_period catalog s ∷ [])
 
--- the condition of each refusal, for a statement in a history
+-- the condition of each refusal, for a statement over a catalog and a clock
+abbrev pub AppliesOver : List TableDef → ℤ → Statement → Refusal → Type 0
+AppliesOver catalog clock (statement.at moment) = Holds ((MomentBack, int_lt moment clock) ∷ [])
+AppliesOver catalog clock (statement.create c) = Holds (create_conditions catalog c)
+AppliesOver catalog clock (statement.insert i) = ChangeApplies catalog (statement.insert i)
+AppliesOver catalog clock (statement.update u) = ChangeApplies catalog (statement.update u)
+AppliesOver catalog clock (statement.delete d) = ChangeApplies catalog (statement.delete d)
+AppliesOver catalog clock (statement.sequenced q) =
+    Holds (query_conditions catalog (statement.sequenced q))
+AppliesOver catalog clock (statement.stored q) =
+    Holds (stored_conditions catalog (statement.stored q))
+
+-- in a history: over its tables and its clock
 abbrev pub StatementApplies : History → Statement → Refusal → Type 0
-StatementApplies history (statement.at moment) =
-    Holds ((MomentBack, int_lt moment (clock_of history)) ∷ [])
-StatementApplies history (statement.create c) = Holds (create_conditions (catalog_of history) c)
-StatementApplies history (statement.insert i) =
-    ChangeApplies (catalog_of history) (statement.insert i)
-StatementApplies history (statement.update u) =
-    ChangeApplies (catalog_of history) (statement.update u)
-StatementApplies history (statement.delete d) =
-    ChangeApplies (catalog_of history) (statement.delete d)
-StatementApplies history (statement.sequenced q) =
-    Holds (query_conditions (catalog_of history) (statement.sequenced q))
-StatementApplies history (statement.stored q) =
-    Holds (stored_conditions (catalog_of history) (statement.stored q))
+StatementApplies history = AppliesOver (catalog_of history) (clock_of history)
 
 -- no condition of 1 to 31 or 40 holds
 abbrev pub NoneBeforeStore : (Refusal → Type 0) → Type 0
@@ -73,6 +76,19 @@ NoneBeforeStore Applies = (refusal : Refusal) → Applies refusal → 40 < code_
 abbrev pub MayRefuse : (Refusal → Type 0) → Refusal → Type 0
 MayRefuse Applies refusal =
     MayAnswer Applies refusal ⊎ ((refusal ≡ Store) × NoneBeforeStore Applies)
+
+-- 42 or 43
+abbrev pub IsConstraintRefusal : Refusal → Type 0
+IsConstraintRefusal (KeyOverlap day) = Unit {0}
+IsConstraintRefusal (PeriodReference day) = Unit {0}
+IsConstraintRefusal _ = ⊥
+
+-- what a statement may be refused with whatever the database holds, over the catalog and the clock
+-- in memory: by a condition of its own; a change of which none of 1 to 41 holds also with 42 or 43
+abbrev pub MayRefuseOver : List TableDef → ℤ → Statement → Refusal → Type 0
+MayRefuseOver catalog clock s refusal =
+    MayRefuse (AppliesOver catalog clock s) refusal
+    ⊎ (IsChange s × IsConstraintRefusal refusal × NoneApplies (AppliesOver catalog clock s))
 
 -- what a moment may be refused with: 13 for FOREVER, 40 for one before the clock, and only for a
 -- later one out of memory or another failure of the database

@@ -1,14 +1,14 @@
 -- What an engine holds: what a history says, the versions in any order.
 use Rattle.std.specs.Prelude.{◌≡◌, ◌⊎◌, ℕ, List, map, IsPermutation, OnErr, Result}
-use Rattle.std.specs.List.{AllByRecursion}
 use Rattle.period_core.specs.declared.refusal.Refusal.{Refusal}
 use Rattle.period_core.specs.declared.version.VersionRow.{VersionRow}
 use Rattle.sqlite.specs.Effect.{Database}
 use Rattle.sqlite.specs.Held.{Held}
 use Rattle.sqlite.specs.Store.{Ghosts}
-use Rattle.version_tables.specs.Good.{AreMoments, IsClock}
+use Rattle.version_tables.specs.Presence.{IsNoneThere}
 use Rattle.version_tables.specs.Tables.{no_schema}
 use Rattle.version_store.specs.Contents.{Contents, TableVersion, of_table, version_in}
+use Rattle.version_store.specs.GoodStore.{AreGood, IsGoodStore, NothingMore}
 use Rattle.version_store.specs.StoreState.{IsUsable, StoreRepresents}
 use Rattle.version_store.specs.Written.{Has}
 use Rattle.history_model.specs.Histories.{History, IsInOrder, catalog_of, clock_of, new_database}
@@ -16,6 +16,7 @@ use Rattle.history_model.specs.Histories.{last_state, opened}
 use Rattle.history_model.specs.Left.{AreLeftBy}
 use Rattle.period_keys.specs.Lawful.{IsLawfulState}
 use Rattle.script_engine.specs.engine.EngineState.{EngineState, store_of}
+use Rattle.script_engine.specs.engine.Faults.{AreConstrained}
 use Rattle.script_engine.specs.engine.InMemory.{HaveCurrentRows}
 
 -- the versions of the table are, in any order, those that the history leaves of it
@@ -25,10 +26,6 @@ pub record HoldsTable (history : History) (versions : List TableVersion) (table 
     pub left : AreLeftBy history table rows
     pub all : IsPermutation (of_table table versions) (map (version_in table) rows)
 
--- the version is recorded: it began by the clock, and it ended by then or not at all
-abbrev pub AreRecorded : Contents → Type 0
-AreRecorded c = AllByRecursion (λ v. AreMoments c.clock v.from v.to) c.versions
-
 -- the contents are what the history says: its clock, its tables and, in any order, its versions
 pub record AreOfHistory (history : History) (c : Contents) : Type 0 where
   -- it is one that statements make: AT goes forward, and each change is made at the clock
@@ -36,9 +33,9 @@ pub record AreOfHistory (history : History) (c : Contents) : Type 0 where
   pub clock : c.clock ≡ clock_of history
   pub tables : c.tables ≡ catalog_of history
   pub versions : (table : ℕ) → HoldsTable history c.versions table
-  -- the clock is below FOREVER, and no version is recorded after it
-  pub is_clock : IsClock c.clock
-  pub recorded : AreRecorded c
+  -- a store may have them: the clock is below FOREVER, the tables are lawful, and each version has
+  -- the values of a row of a table that is there, and is recorded up to the clock
+  pub good : AreGood NothingMore c
   -- in the last state no two rows of a table share its key on any day, and each child row has its
   -- parent
   pub lawful : IsLawfulState (catalog_of history) (last_state history)
@@ -68,6 +65,14 @@ abbrev pub DatabaseRepresents : History → Database → Type 0
 DatabaseRepresents history db =
     ((db.schema ≡ no_schema) × (history ≡ opened new_database))
     ⊎ ((c : Contents) × Has db c × AreOfHistory history c)
+
+-- the database has some of the three tables, and is no good store
+abbrev pub IsBadStore : Database → Type 0
+IsBadStore db = (¬ IsNoneThere db.schema) × ¬ IsGoodStore AreConstrained db
+
+-- the connection was usable before if it is so now
+abbrev pub WasUsable : {S : Type 0} → Ghosts S → Held S → Held S → Type 0
+WasUsable g old new = IsUsable g new → IsUsable g old
 
 -- where a call is refused, the catalog, the clock and the versions are as they were, in memory and
 -- in the database

@@ -12,7 +12,7 @@ use Rattle.sql_statements.specs.Lexis.{StopsAt, TokensOf}
 use Rattle.sql_front.specs.Pieces.{HasPieces}
 use Rattle.sql_statements.specs.Trees.{Statement}
 use Rattle.history_model.specs.Histories.{History, new_database, opened}
-use Rattle.version_store.specs.StoreState.{IsOpenRefusal}
+use Rattle.version_store.specs.StoreState.{IsOpenRefusal, IsStoreRefusal}
 use Rattle.script_engine.specs.engine.Runs.{Step}
 use Rattle.script_engine.specs.declared.engine.outcome.Outcome.{Outcome}
 
@@ -74,6 +74,12 @@ abbrev pub MayRefuseRun : List ℕ → Refusal → Type 0
 MayRefuseRun script refusal =
     MayRefuseScript script refusal
     ⊎ (IsOpenRefusal refusal × NoneApplies (ScriptApplies script))
+
+-- which refusals it may get over a new store: that is never a bad one
+abbrev pub MayRefuseNewRun : List ℕ → Refusal → Type 0
+MayRefuseNewRun script refusal =
+    MayRefuseScript script refusal
+    ⊎ (IsStoreRefusal refusal × NoneApplies (ScriptApplies script))
 
 -- the script has tokens, and these are its pieces
 pub record IsCutInto (script : List ℕ) (pieces : List (List Lexeme)) : Type 0 where

@@ -18,9 +18,9 @@ ghost use Rattle.version_store.specs.Contents.{Contents};
 ghost use Rattle.version_store.specs.StoreState.{IsOnlyRead, IsStoreRefusal, IsUsable};
 ghost use Rattle.version_store.specs.StoreState.{StoreRepresents};
 ghost use Rattle.script_engine.specs.Headline.{IsSequencedAnswer};
-ghost use Rattle.script_engine.specs.engine.Answering.{AreRowsSeen, AreSeenBy, EachSees};
+ghost use Rattle.script_engine.specs.engine.Answering.{AreRowsSeen, EachSees, SeesRows};
 ghost use Rattle.script_engine.specs.engine.Answering.{columns_of};
-ghost use Rattle.script_engine.specs.engine.Audits.{AreSeen};
+ghost use Rattle.script_engine.specs.engine.Audits.{HaveSeenRows};
 ghost use Rattle.script_engine.specs.engine.EngineState.{engine_of};
 ghost use Rattle.script_engine.specs.engine.InMemory.{rows_in};
 ghost use Rattle.script_engine.specs.engine.Stored.{EngineRepresents};
@@ -140,7 +140,7 @@ fn seen_by<S: Alter>(
     ensures seen { IsUsable S.Store store.new.connection
         → (history : History)
         → EngineRepresents S.Store history (engine_of store.old (map rows_by_key tables.now))
-        → IfOk result (AreSeenBy history reference.now) }
+        → IfOk result (SeesRows history reference.now) }
     ensures read { IsOnlyRead S.Store store.old store.new }
     ensures named { IfErr result IsStoreRefusal }
 {
@@ -298,7 +298,7 @@ pub fn answered<S: Alter>(
     ensures seen { IsUsable S.Store store.new.connection
         → (history : History)
         → EngineRepresents S.Store history (engine_of store.old (map rows_by_key tables.now))
-        → IfOk result (λ found. AreSeen history (plain_query query.now) found.1) }
+        → IfOk result (λ found. HaveSeenRows history (plain_query query.now) found.1) }
     ensures columns { IfOk result (λ found. found.0.columns
         ≡ map (λ (item : Item). item.name) (columns_of (plain_query query.now))) }
     ensures read { IsOnlyRead S.Store store.old store.new }

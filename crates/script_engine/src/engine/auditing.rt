@@ -1,13 +1,15 @@
 //! Statements that are run with an audit of their answer, over the rows that were seen for it.
 
-ghost use Rattle.std.specs.Prelude.{◌≡◌, IfErr, IfOk};
+ghost use Rattle.std.specs.Prelude.{◌≡◌, IfErr, IfOk, OnErr};
 ghost use Rattle.catalog_core.specs.query.Queries.{plain_query as plain_resolved};
 ghost use Rattle.history_model.specs.Histories.{History};
 ghost use Rattle.sql_statements.specs.Plain.{plain, plain_query};
 ghost use Rattle.sql_statements.specs.Trees as statement;
 ghost use Rattle.version_store.specs.StoreState.{IsUsable};
 ghost use Rattle.script_engine.specs.engine.Audits.{AuditedStepsTo, IsVerdictOver};
-ghost use Rattle.script_engine.specs.engine.Stored.{EngineRepresents, KeepsOnErr};
+ghost use Rattle.script_engine.specs.engine.InMemory.{IsSameInMemory};
+ghost use Rattle.script_engine.specs.engine.Runs.{MayRefuseOver};
+ghost use Rattle.script_engine.specs.engine.Stored.{EngineRepresents, KeepsOnErr, WasUsable};
 
 use crate::engine::Engine;
 use crate::engine::answering::answered;
@@ -46,6 +48,10 @@ impl<S: Alter> Engine<S> {
             → AuditedStepsTo S.Store history (statement.sequenced (plain_query query.now)) result
             self.new }
         ensures kept { KeepsOnErr S.Store self.old self.new result.result }
+        ensures refused { IfErr result.result (MayRefuseOver self.old.catalog.tables self.old.clock
+            (statement.sequenced (plain_query query.now))) }
+        ensures memory { OnErr result.result (IsSameInMemory self.old self.new) }
+        ensures usable { WasUsable S.Store self.old.connection self.new.connection }
     {
         let query = match resolve_sequenced(alloc, self.store.catalog(), query) {
             Ok(query) => query,
@@ -72,6 +78,12 @@ impl<S: Alter> Engine<S> {
             → (history : History) → EngineRepresents S.Store history self.old
             → AuditedStepsTo S.Store history (plain statement.now) result self.new }
         ensures kept { KeepsOnErr S.Store self.old self.new result.result }
+
+        // And whatever the database holds:
+        ensures refused { IfErr result.result
+            (MayRefuseOver self.old.catalog.tables self.old.clock (plain statement.now)) }
+        ensures memory { OnErr result.result (IsSameInMemory self.old self.new) }
+        ensures usable { WasUsable S.Store self.old.connection self.new.connection }
     {
         match statement.form() {
             StatementForm::Sequenced(query) => self.answer_audited(alloc, query),

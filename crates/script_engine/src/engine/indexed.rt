@@ -21,6 +21,7 @@ ghost use Rattle.version_store.specs.StoreState.{Changes, IsOnlyRead, IsOpenRefu
 ghost use Rattle.version_store.specs.StoreState.{IsStoreRefusal, IsUsable, StoreRepresents};
 ghost use Rattle.script_engine.specs.engine.Faults.{AreConstrained};
 ghost use Rattle.script_engine.specs.engine.InMemory.{FollowCatalog, HaveCurrentRows};
+ghost use Rattle.script_engine.specs.engine.Stored.{WasUsable};
 
 use crate::engine::in_memory::load;
 use catalog_core::{Catalog, Plan, TableDef};
@@ -141,6 +142,8 @@ pub fn apply_plan<S: Alter>(
     ensures changes { Changes S.Store store.old store.new result
         (planned number store.old.clock plan.now.ended plan.now.added) }
     ensures catalog { store.new.catalog ≡ store.old.catalog }
+    ensures clock { store.new.clock ≡ store.old.clock }
+    ensures usable { WasUsable S.Store store.old.connection store.new.connection }
     ensures distinct { IsUsable S.Store store.new.connection
         → (c : Contents) → StoreRepresents S.Store store.old c
         → OnOk result (HaveDistinctKeys c.versions) }

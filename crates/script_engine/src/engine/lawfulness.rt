@@ -12,6 +12,7 @@ ghost use Rattle.period_keys.specs.Lawful.{IsLawfulChange, IsLawfulState};
 ghost use Rattle.period_keys.specs.Planned.{IsPlanOf};
 ghost use Rattle.script_engine.specs.engine.Faults.{IsFault};
 ghost use Rattle.script_engine.specs.engine.InMemory.{FollowCatalog, rows_in};
+ghost use Rattle.script_engine.specs.engine.Runs.{IsConstraintRefusal};
 
 use crate::engine::indexed::index_of_number;
 use catalog_core::{Catalog, Change, Plan};
@@ -38,10 +39,11 @@ fn judge_change(
         → IsLawfulState catalog.now.tables before
         → HoldCurrent catalog.now.tables before (map rows_by_key tables.now)
         → IsLawfulChange catalog.now.tables before change.now) }
-    ensures fault { IfErr result (λ refusal. (refusal ≡ refused.Memory) ⊎ ((before : State)
+    ensures fault { IfErr result (λ refusal. (refusal ≡ refused.Memory)
+        ⊎ (IsConstraintRefusal refusal × ((before : State)
         → IsLawfulState catalog.now.tables before
         → HoldCurrent catalog.now.tables before (map rows_by_key tables.now)
-        → IsFault catalog.now.tables before change.now refusal)) }
+        → IsFault catalog.now.tables before change.now refusal))) }
 {
     let Ok(found) = key_fault(alloc, table.rows(), change, plan) else {
         return Err(Refusal::Memory);
@@ -77,7 +79,8 @@ pub fn lawful_plan(
     ensures refused { IfErr result (λ refusal.
         ((refusal ≡ refused.EmptyPeriod) × IsTrue (has_empty_row change.now.action))
         ⊎ ((refusal ≡ refused.Memory)
-        ⊎ ((¬ IsTrue (has_empty_row change.now.action)) × ((before : State)
+        ⊎ ((¬ IsTrue (has_empty_row change.now.action)) × IsConstraintRefusal refusal
+        × ((before : State)
         → IsLawfulState catalog.now.tables before
         → HoldCurrent catalog.now.tables before (map rows_by_key tables.now)
         → IsFault catalog.now.tables before change.now refusal)))) }

@@ -7,7 +7,8 @@ ghost use Rattle.catalog_core.specs.declared.stored.Stored.{Stored as AnyStored}
 ghost use Rattle.period_core.specs.declared.refusal.Refusal.TheVariants.{Memory as OutOfMemory};
 ghost use Rattle.period_core.specs.declared.version.VersionRow.{VersionRow as AnyRow};
 ghost use Rattle.version_store.specs.Contents.{Contents};
-ghost use Rattle.version_store.specs.StoreState.{IsStoreRefusal, IsUsable, StoreRepresents};
+ghost use Rattle.version_store.specs.StoreState.{IsOnlyRead, IsStoreRefusal, IsUsable};
+ghost use Rattle.version_store.specs.StoreState.{StoreRepresents};
 ghost use Rattle.script_engine.specs.engine.Shown.{AreShownOf, cell_at, version_columns};
 
 use crate::engine::outcome::{Cell, VersionColumn};
@@ -145,10 +146,7 @@ pub fn shown_rows<S: Alter>(
     ensures shown { IsUsable S.Store store.new.connection
         → (c : Contents) → StoreRepresents S.Store store.old c
         → IfOk result (λ rows. AreShownOf c query rows.items) }
-    ensures same { IsUsable S.Store store.new.connection
-        → (c : Contents) → StoreRepresents S.Store store.old c
-        → StoreRepresents S.Store store.new c }
-    ensures catalog { store.new.catalog ≡ store.old.catalog }
+    ensures read { IsOnlyRead S.Store store.old store.new }
     ensures named { IfErr result IsStoreRefusal }
 {
     let (table, window) = (query.table, query.window);

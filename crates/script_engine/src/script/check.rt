@@ -7,9 +7,9 @@ ghost use Rattle.sql_front.specs.Pieces.{IsWithin, spanned};
 ghost use Rattle.script_engine.specs.script.Check.{IsCheckOf, IsPieceCheck};
 ghost use Rattle.script_engine.specs.script.Script.{MayRefuseScript};
 
-use crate::script::{script_text, script_tokens, statement_of};
+use crate::script::{script_pieces, statement_of};
 use period_core::Refusal;
-use sql_front::{Span, cut};
+use sql_front::Span;
 use sql_statements::Token;
 use std::alloc::Global;
 
@@ -54,8 +54,8 @@ pub fn check_script(alloc: Global, script: &[u8]) -> Result<Vec<Result<(), Refus
     ensures check { IfOk result (λ results. IsCheckOf script.now results.items) }
     ensures refused { IfErr result (MayRefuseScript script.now) }
 {
-    let text = script_text(script)?;
-    let tokens = script_tokens(alloc, text)?;
-    let pieces = cut(alloc, tokens.as_slice())?;
-    check_pieces(alloc, text, tokens.as_slice(), pieces.as_slice())
+    let pieces = script_pieces(alloc, script)?;
+    let tokens = pieces.tokens.as_slice();
+    let spans = pieces.spans.as_slice();
+    check_pieces(alloc, pieces.text, tokens, spans)
 }

@@ -7,7 +7,7 @@ ghost use Rattle.sql_statements.specs.Lexemes.{Lexeme};
 ghost use Rattle.sql_statements.specs.Plain.{plain};
 ghost use Rattle.history_model.specs.Histories.{History};
 ghost use Rattle.version_store.specs.StoreState.{IsUsable};
-ghost use Rattle.script_engine.specs.engine.Stored.{EngineRepresents, RepresentsSome};
+ghost use Rattle.script_engine.specs.engine.Stored.{EngineRepresents, RepresentsSome, WasUsable};
 ghost use Rattle.script_engine.specs.script.AuditedRuns.{AuditedPieceStep};
 ghost use Rattle.script_engine.specs.script.Script.{PieceStep, TextApplies};
 
@@ -20,7 +20,7 @@ use sqlite_trees::store::Alter;
 use std::alloc::Global;
 
 /// What is kept of a piece.
-pub(crate) trait Kept<S: Alter> {
+pub trait Kept<S: Alter> {
     /// When it may be kept of a piece in a history, and which history follows.
     ghost is_step: { History → List Lexeme → Self → History → Type 0 };
 
@@ -31,11 +31,12 @@ pub(crate) trait Kept<S: Alter> {
 
     /// Of a piece that spells this statement, which is run.
     fn executed(alloc: Global, engine: &mut Engine<S>, statement: &Statement) -> Self
-        ensures { IsUsable S.Store engine.new.connection
+        ensures step { IsUsable S.Store engine.new.connection
             → (history : History) → EngineRepresents S.Store history engine.old
             → (piece : List Lexeme) → NoneApplies (TextApplies piece)
             → IsStatement piece (plain statement.now)
-            → RepresentsSome S.Store (is_step history piece result) engine.new };
+            → RepresentsSome S.Store (is_step history piece result) engine.new }
+        ensures usable { WasUsable S.Store engine.old.connection engine.new.connection };
 }
 
 impl<S: Alter> Kept<S> for Result<Outcome, Refusal> {

@@ -1,17 +1,19 @@
-use Rattle.std.proofs.Common.{◌∙◌, ℕ, List, inl, refl, subst}
+use Rattle.std.proofs.Common.{◌∙◌, ℕ, List, refl, inl, subst}
 use Rattle.std.proofs.lemmas.Option.{IfSome_then}
 use Rattle.memory_store.specs.Connected.{memory_is_usable}
 use Rattle.history_model.specs.Histories.{new_database, opened}
-use Rattle.script_engine.specs.script.Script.{IsRunOf, MayRefuseRun}
+use Rattle.script_engine.specs.script.Script.{IsRunBy, MayRefuseNewRun}
+use Rattle.command_tool.proofs.NewStore.{never_bad}
 use Rattle.command_tool.proofs.tool.run_results.Goals as goal
 
-pub returns-in-Ok-run_last_script-clause-run : goal.returns-in-Ok-run_last_script-clause-run
-returns-in-Ok-run_last_script-clause-run g c =
-    let run = c.in-Ok-run_last_script.ensures.run memory_is_usable (opened new_database) (inl (c.in-Ok.ensures.empty.2, refl)) in
+pub returns-in-Ok-run-clause-run : goal.returns-in-Ok-run-clause-run
+returns-in-Ok-run-clause-run g c =
+    let run = (c.in-Ok-run.ensures.run (memory_is_usable c.in-Ok-run.engine.connection) (opened new_database) (inl (c.in-Ok.ensures.empty.2, refl))).0 in
     IfSome_then (g.R.Read.remaining c.args.input.now.inner) c.in_ok-script.ensures.bytes
-    (λ all bytes. subst (λ (script : List ℕ). IsRunOf script c.in-Ok-run_last_script.results.items) (c.as_slice.ensures.value ∙ bytes) run)
+    (λ all bytes. subst (λ (script : List ℕ). IsRunBy g.K.Kept.is_step (opened new_database) script c.in-Ok-run.results.items) (c.as_slice.ensures.value ∙ bytes) run)
 
-pub returns-clause-refused : goal.returns-clause-refused
-returns-clause-refused g c =
+pub returns-in-Err-clause-refused : goal.returns-in-Err-clause-refused
+returns-in-Err-clause-refused g c =
+    let may = never_bad c.as_slice.result.now c.in-Err.refusal _ c.in-Ok.ensures.empty.2 c.in-Err.ensures.refused (c.in-Err.ensures.bad (memory_is_usable c.in-Err._connection)) in
     IfSome_then (g.R.Read.remaining c.args.input.now.inner) c.in_ok-script.ensures.bytes
-    (λ all bytes. subst (λ (script : List ℕ). MayRefuseRun script c.in-Err.refusal) (c.as_slice.ensures.value ∙ bytes) c.in-Err.ensures.refused)
+    (λ all bytes. subst (λ (script : List ℕ). MayRefuseNewRun script c.in-Err.refusal) (c.as_slice.ensures.value ∙ bytes) may)

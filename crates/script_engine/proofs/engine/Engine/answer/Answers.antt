@@ -14,6 +14,11 @@ use Rattle.script_engine.specs.engine.Stored.{EngineRepresents, HasContents}
 use Rattle.script_engine.proofs.Answered.{answered_step, failed_answer}
 use Rattle.script_engine.proofs.Loaded.{represents_still}
 use Rattle.period_keys.specs.Current.{rows_by_key}
+use Rattle.std.proofs.Common.{◌≡◌, ◌∙◌, ap, inl}
+use Rattle.period_core.specs.Leasts.{MayAnswer}
+use Rattle.catalog_core.specs.declared.table.TableDef.{TableDef}
+use Rattle.script_engine.specs.engine.InMemory.{IsSameInMemory}
+use Rattle.script_engine.proofs.SameInMemory.{failed_over, read_memory, same_memory}
 use Rattle.script_engine.proofs.engine.Engine.answer.Goals as goal
 
 pub returns-in-Ok-answer_of-clause-step : goal.returns-in-Ok-answer_of-clause-step
@@ -51,3 +56,27 @@ returns-clause-step g c usable history kept =
     failed_answer g.S.Store history old asked was new c.in-Err-answer_of.refusal
     (subst (λ (k : Catalog). NoneApplies (Holds (query_conditions k.tables s))) c.catalog.ensures c.in-Ok.ensures.sound)
     has c.in-Err-answer_of.ensures.named
+
+pub returns-in-Err-clause-refused : goal.returns-in-Err-clause-refused
+returns-in-Err-clause-refused g c =
+    let s : Statement = statement.sequenced (plain_query c.args.query.now) in
+    let same : c.catalog.result.now.tables ≡ c.args.self.now.catalog.tables = ap (λ (k : Catalog). k.tables) c.catalog.ensures ∙ ap (λ s. s.catalog.tables) c.self.view_is in
+    inl (inl (subst (λ (tables : List TableDef). MayAnswer (Holds (query_conditions tables s)) c.in-Err.refusal) same c.in-Err.ensures.refused))
+
+pub returns-in-Err-clause-memory : goal.returns-in-Err-clause-memory
+returns-in-Err-clause-memory g c = same_memory c.args.self.now
+
+pub returns-clause-refused : goal.returns-clause-refused
+returns-clause-refused g c =
+    let s : Statement = statement.sequenced (plain_query c.args.query.now) in
+    let old : EngineState g.row.S.Denot = c.args.self.now in
+    let same : c.catalog.result.now.tables ≡ old.catalog.tables = ap (λ (k : Catalog). k.tables) c.catalog.ensures ∙ ap (λ s. s.catalog.tables) c.self.view_is in
+    failed_over old.catalog.tables old.clock s c.in-Err-answer_of.refusal
+    (subst (λ (tables : List TableDef). NoneApplies (Holds (query_conditions tables s))) same c.in-Ok.ensures.sound)
+    c.in-Err-answer_of.ensures.named
+
+pub returns-clause-memory : goal.returns-clause-memory
+returns-clause-memory g c =
+    let tables : List RowsByKey = map rows_by_key c.self.inside.tables.items in
+    let new : EngineState g.row.S.Denot = engine_of c.answer_of.new.store tables in
+    subst (λ (e : EngineState g.row.S.Denot). IsSameInMemory e new) c.self.view_is (read_memory g.S.Store c.self.inside.store c.answer_of.new.store tables c.in-Err-answer_of.ensures.read)

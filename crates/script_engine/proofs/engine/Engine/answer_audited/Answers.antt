@@ -19,6 +19,12 @@ use Rattle.script_engine.proofs.Answered.{answered_step, failed_answer}
 use Rattle.script_engine.proofs.Audited.{answer_entry, refused_entry}
 use Rattle.script_engine.proofs.Loaded.{represents_still}
 use Rattle.script_engine.proofs.Steps.{tables_of}
+use Rattle.std.proofs.Common.{◌≡◌, ◌∙◌, ap, inl}
+use Rattle.std.specs.Prelude.{IfErr, OnErr}
+use Rattle.period_core.specs.Leasts.{MayAnswer}
+use Rattle.script_engine.specs.engine.InMemory.{IsSameInMemory}
+use Rattle.script_engine.specs.engine.Runs.{MayRefuseOver}
+use Rattle.script_engine.proofs.SameInMemory.{failed_over, read_memory, same_memory}
 use Rattle.script_engine.proofs.engine.Engine.answer_audited.Goals as goal
 
 pub returns-in-Ok-answered-clause-step : goal.returns-in-Ok-answered-clause-step
@@ -62,3 +68,30 @@ returns-clause-step g c usable history kept =
     (refused_entry g.S.Store history s new c.in-Err-answered.refusal
     (failed_answer g.S.Store history old asked was new c.in-Err-answered.refusal
     (subst (λ (k : Catalog). NoneApplies (Holds (query_conditions k.tables s))) c.catalog.ensures c.in-Ok.ensures.sound) has c.in-Err-answered.ensures.named))
+
+pub returns-in-Err-clause-refused : goal.returns-in-Err-clause-refused
+returns-in-Err-clause-refused g c =
+    let s : Statement = statement.sequenced (plain_query c.args.query.now) in
+    let same : c.catalog.result.now.tables ≡ c.args.self.now.catalog.tables = ap (λ (k : Catalog). k.tables) c.catalog.ensures ∙ ap (λ s. s.catalog.tables) c.self.view_is in
+    subst (λ (entry : Entry). IfErr entry.result (MayRefuseOver c.args.self.now.catalog.tables c.args.self.now.clock s)) (sym c.unaudited.ensures)
+    (inl (inl (subst (λ (tables : List TableDef). MayAnswer (Holds (query_conditions tables s)) c.in-Err.refusal) same c.in-Err.ensures.refused)))
+
+pub returns-in-Err-clause-memory : goal.returns-in-Err-clause-memory
+returns-in-Err-clause-memory g c = subst (λ (entry : Entry). OnErr entry.result (IsSameInMemory c.args.self.now c.args.self.now)) (sym c.unaudited.ensures) (same_memory c.args.self.now)
+
+pub returns-clause-refused : goal.returns-clause-refused
+returns-clause-refused g c =
+    let s : Statement = statement.sequenced (plain_query c.args.query.now) in
+    let old : EngineState g.row.S.Denot = c.args.self.now in
+    let same : c.catalog.result.now.tables ≡ old.catalog.tables = ap (λ (k : Catalog). k.tables) c.catalog.ensures ∙ ap (λ s. s.catalog.tables) c.self.view_is in
+    subst (λ (entry : Entry). IfErr entry.result (MayRefuseOver old.catalog.tables old.clock s)) (sym c.unaudited-in-Err-answered.ensures)
+    (failed_over old.catalog.tables old.clock s c.in-Err-answered.refusal
+    (subst (λ (tables : List TableDef). NoneApplies (Holds (query_conditions tables s))) same c.in-Ok.ensures.sound)
+    c.in-Err-answered.ensures.named)
+
+pub returns-clause-memory : goal.returns-clause-memory
+returns-clause-memory g c =
+    let tables : List RowsByKey = map rows_by_key c.self.inside.tables.items in
+    let new : EngineState g.row.S.Denot = engine_of c.answered.new.store tables in
+    subst (λ (entry : Entry). OnErr entry.result (IsSameInMemory c.args.self.now new)) (sym c.unaudited-in-Err-answered.ensures)
+    (subst (λ (e : EngineState g.row.S.Denot). IsSameInMemory e new) c.self.view_is (read_memory g.S.Store c.self.inside.store c.answered.new.store tables c.in-Err-answered.ensures.read))

@@ -1,9 +1,14 @@
-use Rattle.std.proofs.Common.{◌≤ℤ◌, ◌<ℤ◌, map, refl, rules, subst, sym}
+use Rattle.std.proofs.Common.{◌≤ℤ◌, ◌<ℤ◌, ap, map, refl, rules, subst, sym}
 use Rattle.period_core.specs.Moments.{forever}
 use Rattle.period_keys.specs.Current.{rows_by_key}
 use Rattle.script_engine.specs.engine.EngineState.{engine_of}
 use Rattle.script_engine.specs.engine.Stored.{EngineRepresents}
 use Rattle.script_engine.proofs.Steps.{moved}
+use Rattle.script_engine.proofs.SameInMemory.{list_memory, same_memory}
+use Rattle.std.specs.Prelude.{OnErr}
+use Rattle.std.proofs.lemmas.Result.{on_err_weaker}
+use Rattle.script_engine.specs.engine.EngineState.{EngineState}
+use Rattle.script_engine.specs.engine.InMemory.{IsSameInMemory}
 use Rattle.script_engine.proofs.engine.Engine.at.Goals as goal
 
 pub returns-in-Some-2-clause-moved : goal.returns-in-Some-2-clause-moved
@@ -12,3 +17,16 @@ returns-in-Some-2-clause-moved g c usable history kept =
     let late : c.self.inside.store.clock ≤ℤ c.args.moment = search rules in
     let before : c.args.moment <ℤ forever = search rules in
     moved g.S.Store history (engine_of c.self.inside.store (map rows_by_key c.self.inside.tables.items)) (engine_of c.advance.new.self (map rows_by_key c.self.inside.tables.items)) c.advance.result c.args.moment c.advance.ensures.changes refl late before usable was
+
+pub returns-in-Some-clause-memory : goal.returns-in-Some-clause-memory
+returns-in-Some-clause-memory g c = same_memory c.args.self.now
+
+pub returns-in-Some-2-clause-memory : goal.returns-in-Some-2-clause-memory
+returns-in-Some-2-clause-memory g c =
+    let tables = map rows_by_key c.self.inside.tables.items in
+    let new : EngineState g.row.S.Denot = engine_of c.advance.new.self tables in
+    subst (λ (e : EngineState g.row.S.Denot). OnErr c.advance.result (IsSameInMemory e new)) c.self.view_is
+    (on_err_weaker c.advance.result (λ same. list_memory (engine_of c.self.inside.store tables) new (ap (λ k. k.tables) c.advance.ensures.catalog) same refl) c.advance.ensures.none)
+
+pub returns-in-None-clause-memory : goal.returns-in-None-clause-memory
+returns-in-None-clause-memory g c = same_memory c.args.self.now

@@ -1,4 +1,5 @@
-use Rattle.std.proofs.Common.{◌≡◌, ◌∙◌, List, Ok, ap, inl, inr, map, subst, subst₂, sym}
+use Rattle.std.proofs.lemmas.Bool.{false≢true}
+use Rattle.std.proofs.Common.{◌≡◌, ◌∙◌, false, List, Ok, ap, inl, inr, map, subst, subst₂, sym}
 use Rattle.period_core.specs.Leasts.{MayAnswer, NoneApplies}
 use Rattle.sql_statements.specs.Plain.{plain}
 use Rattle.catalog_core.specs.Judged.{Holds}
@@ -18,6 +19,10 @@ use Rattle.script_engine.specs.declared.engine.outcome.Outcome.{Outcome}
 use Rattle.script_engine.proofs.Changed.{changed_step, hold_before, lawful_before, resolved_table, unchanged_step, unlawful_step, unplanned_step, unresolved_step}
 use Rattle.script_engine.proofs.Indexed.{ended_there}
 use Rattle.script_engine.proofs.InMemory.{current-kept}
+use Rattle.script_engine.specs.engine.InMemory.{IsSameInMemory}
+use Rattle.script_engine.proofs.ChangeRefusals.{constrained, none_without_empty, unplanned, unresolved}
+use Rattle.script_engine.proofs.Refused.{days-planned}
+use Rattle.script_engine.proofs.SameInMemory.{failed_over, rows_memory, same_memory}
 use Rattle.script_engine.proofs.engine.Engine.change.Goals as goal
 
 pub returns-in-Err-clause-step : goal.returns-in-Err-clause-step
@@ -66,7 +71,7 @@ returns-in-Err-lawful_plan-clause-step g c usable history kept =
         | inr unlawful ↦
             unlawful_step g.S.Store history old s c.requires kept change sound empty refusal resolved unlawful.0
             (subst (λ (k : Catalog). IsFault k.tables (last_state history) change refusal) judged
-            (unlawful.1 (last_state history)
+            (unlawful.2 (last_state history)
             (subst (λ (k : Catalog). IsLawfulState k.tables (last_state history)) (sym judged) (lawful_before g.S.Store history old s c.requires kept))
             (subst₂ (λ (k : Catalog) (ts : List RowsByKey). HoldCurrent k.tables (last_state history) ts) (sym judged) (sym tables) (hold_before g.S.Store history old s c.requires kept))))
       ]
@@ -125,3 +130,52 @@ returns-clause-kept g c = λ usable contents has.
       stored = (c.in-Err-apply.ensures.changes usable contents has.stored).1;
       current = current-kept contents c.in-Ok.change.table c.args.self.now.tables c.apply.new.self.tables c.in-Err-apply.ensures.none has.current;
     }
+
+pub returns-in-Err-clause-refused : goal.returns-in-Err-clause-refused
+returns-in-Err-clause-refused g c =
+    let s = plain c.args.statement.now in
+    let same : c.catalog.result.now.tables ≡ c.args.self.now.catalog.tables = ap (λ (k : Catalog). k.tables) c.catalog.ensures ∙ ap (λ s. s.catalog.tables) c.self.view_is in
+    inl (unresolved c.args.self.now.catalog.tables c.args.self.now.clock s c.requires c.in-Err.refusal
+    (subst (λ (tables : List TableDef). MayAnswer (Holds (change_conditions tables s)) c.in-Err.refusal) same c.in-Err.ensures.refused))
+
+pub returns-in-Err-clause-memory : goal.returns-in-Err-clause-memory
+returns-in-Err-clause-memory g c = same_memory c.args.self.now
+
+pub returns-in-Err-lawful_plan-clause-refused : goal.returns-in-Err-lawful_plan-clause-refused
+returns-in-Err-lawful_plan-clause-refused g c =
+    let s = plain c.args.statement.now in
+    let change = c.in-Ok.change in
+    let refusal = c.in-Err-lawful_plan.refusal in
+    let old : EngineState g.row.S.Denot = c.args.self.now in
+    let catalog : c.catalog.result.now ≡ old.catalog = c.catalog.ensures ∙ ap (λ (e : EngineState g.row.S.Denot). e.catalog) c.self.view_is in
+    let sound = subst (λ (k : Catalog). NoneApplies (Holds (change_conditions k.tables s))) catalog c.in-Ok.ensures.sound in
+    let empty = subst (λ (k : Catalog). (empty_period k.tables s).1 ≡ has_empty_row change.action) catalog c.in-Ok.ensures.empty in
+    elim c.in-Err-lawful_plan.ensures.refused [
+      | inl none ↦ inl (unplanned old.catalog.tables old.clock s c.requires change.action sound empty refusal (inl none))
+      | inr other ↦ elim other [
+        | inl memory ↦ inl (unplanned old.catalog.tables old.clock s c.requires change.action sound empty refusal (inr (inl memory)))
+        | inr unlawful ↦ constrained old.catalog.tables old.clock s c.requires change.action sound empty refusal unlawful.0 unlawful.1
+      ]
+    ]
+
+pub returns-in-Err-lawful_plan-clause-memory : goal.returns-in-Err-lawful_plan-clause-memory
+returns-in-Err-lawful_plan-clause-memory g c = same_memory c.args.self.now
+
+pub returns-clause-refused : goal.returns-clause-refused
+returns-clause-refused g c =
+    let s = plain c.args.statement.now in
+    let change = c.in-Ok.change in
+    let plan = c.in-Ok-lawful_plan.plan in
+    let old : EngineState g.row.S.Denot = c.args.self.now in
+    let catalog : c.catalog.result.now ≡ old.catalog = c.catalog.ensures ∙ ap (λ (e : EngineState g.row.S.Denot). e.catalog) c.self.view_is in
+    let sound = subst (λ (k : Catalog). NoneApplies (Holds (change_conditions k.tables s))) catalog c.in-Ok.ensures.sound in
+    let empty = subst (λ (k : Catalog). (empty_period k.tables s).1 ≡ has_empty_row change.action) catalog c.in-Ok.ensures.empty in
+    let of = c.in-Ok-lawful_plan.ensures.plan in
+    failed_over old.catalog.tables old.clock s c.in-Err-apply.refusal
+    (none_without_empty old.catalog.tables old.clock s c.requires change.action sound empty
+    (λ found. let off : has_empty_row change.action ≡ false = days-planned change.action of.listed plan of.plans in absurd (false≢true (sym off ∙ found))))
+    c.in-Err-apply.ensures.named
+
+pub returns-clause-memory : goal.returns-clause-memory
+returns-clause-memory g c =
+    rows_memory c.args.self.now c.apply.new.self c.in-Ok.change.table c.apply.ensures.catalog c.apply.ensures.clock c.in-Err-apply.ensures.none

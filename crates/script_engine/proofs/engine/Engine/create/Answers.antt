@@ -17,6 +17,10 @@ use Rattle.script_engine.specs.engine.Stored.{EngineRepresents, HasContents}
 use Rattle.script_engine.proofs.InMemory.{current-created}
 use Rattle.script_engine.proofs.Steps.{created_step, uncreated_step, unmade_step}
 use Rattle.script_engine.proofs.TableNumbers.{few_tables}
+use Rattle.std.proofs.Common.{inl}
+use Rattle.sql_statements.specs.Trees as statement
+use Rattle.script_engine.specs.engine.InMemory.{IsSameInMemory}
+use Rattle.script_engine.proofs.SameInMemory.{failed_over, list_memory, same_memory}
 use Rattle.script_engine.proofs.engine.Engine.create.Goals as goal
 
 -- a table without rows
@@ -49,7 +53,7 @@ returns-in-Ok-add_table-clause-step g c usable history kept =
     let create = c.args.create.now in
     let definition = c.in-Ok.definition in
     let was : EngineRepresents g.S.Store history old = subst (λ s. EngineRepresents g.S.Store history s) (sym c.self.view_is) kept in
-    created_step g.S.Store history old new create definition was c.self.invariant.lawful
+    created_step g.S.Store history old new create definition was
     (subst (λ (k : Catalog). NoneApplies (Holds (create_conditions k.tables create))) c.catalog.ensures c.in-Ok.ensures.sound)
     (subst (λ (k : Catalog). Defines k.tables create definition) c.catalog.ensures c.in-Ok.ensures.defined)
     (record {
@@ -82,3 +86,28 @@ returns-in-Err-add_table-clause-kept g c = λ usable contents has.
       stored = (c.in-Err-add_table.ensures.changes usable contents was.stored).1;
       current = subst (HaveCurrentRows contents) (sym (c.remove_last.ensures.rows ts (without_rows c.in-Ok.definition) c.in-Ok-add_index.ensures.rows)) was.current;
     }
+
+pub returns-in-Err-clause-refused : goal.returns-in-Err-clause-refused
+returns-in-Err-clause-refused g c =
+    let same : c.catalog.result.now.tables ≡ c.args.self.now.catalog.tables = ap (λ (k : Catalog). k.tables) c.catalog.ensures ∙ ap (λ s. s.catalog.tables) c.self.view_is in
+    inl (inl (subst (λ (tables : List TableDef). MayAnswer (Holds (create_conditions tables c.args.create.now)) c.in-Err.refusal) same c.in-Err.ensures.refused))
+
+pub returns-in-Err-clause-memory : goal.returns-in-Err-clause-memory
+returns-in-Err-clause-memory g c = same_memory c.args.self.now
+
+pub returns-in-Err-add_table-clause-refused : goal.returns-in-Err-add_table-clause-refused
+returns-in-Err-add_table-clause-refused g c =
+    let old : EngineState g.row.S.Denot = c.args.self.now in
+    let same : c.catalog.result.now.tables ≡ old.catalog.tables = ap (λ (k : Catalog). k.tables) c.catalog.ensures ∙ ap (λ s. s.catalog.tables) c.self.view_is in
+    failed_over old.catalog.tables old.clock (statement.create c.args.create.now) c.in-Err-add_table.refusal
+    (subst (λ (tables : List TableDef). NoneApplies (Holds (create_conditions tables c.args.create.now))) same c.in-Ok.ensures.sound)
+    c.in-Err-add_table.ensures.named
+
+pub returns-in-Err-add_table-clause-memory : goal.returns-in-Err-add_table-clause-memory
+returns-in-Err-add_table-clause-memory g c =
+    let ts : List RowsByKey = map rows_by_key c.self.inside.tables.items in
+    let old : EngineState g.row.S.Denot = engine_of c.self.inside.store ts in
+    let new : EngineState g.row.S.Denot = engine_of c.add_table.new.self (map rows_by_key c.remove_last.new.tables.items) in
+    subst (λ (e : EngineState g.row.S.Denot). IsSameInMemory e new) c.self.view_is
+    (list_memory old new c.in-Err-add_table.ensures.none c.in-Err-add_table.ensures.clock
+    (c.remove_last.ensures.rows ts (without_rows c.in-Ok.definition) c.in-Ok-add_index.ensures.rows))

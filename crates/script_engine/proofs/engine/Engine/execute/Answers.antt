@@ -4,6 +4,8 @@ use Rattle.sql_statements.specs.Trees.{Statement}
 use Rattle.sql_statements.specs.Trees as statement
 use Rattle.catalog_core.specs.change.Resolution.{IsChange}
 use Rattle.script_engine.specs.engine.Runs.{StepsTo}
+use Rattle.std.specs.Prelude.{IfErr}
+use Rattle.script_engine.specs.engine.Runs.{MayRefuseOver}
 use Rattle.script_engine.proofs.engine.Engine.execute.Goals as goal
 
 pub returns-in-Sequenced-clause-step : goal.returns-in-Sequenced-clause-step
@@ -30,3 +32,23 @@ returns-in-Stored-clause-step g c usable history kept =
 
 pub change-requires : goal.change-requires
 change-requires g c = subst IsChange (ap plain_form (sym c.in-Insert.is) ∙ c.form.ensures) tt
+
+pub returns-in-Sequenced-clause-refused : goal.returns-in-Sequenced-clause-refused
+returns-in-Sequenced-clause-refused g c =
+    let said : statement.sequenced (plain_query c.in-Sequenced.query) ≡ plain c.args.statement.now = ap plain_form (sym c.in-Sequenced.is) ∙ c.form.ensures in
+    subst (λ (s : Statement). IfErr c.answer.result (MayRefuseOver c.args.self.now.catalog.tables c.args.self.now.clock s)) said c.answer.ensures.refused
+
+pub returns-in-At-clause-refused : goal.returns-in-At-clause-refused
+returns-in-At-clause-refused g c =
+    let said : statement.at c.in-At.moment ≡ plain c.args.statement.now = ap plain_form (sym c.in-At.is) ∙ c.form.ensures in
+    subst (λ (s : Statement). IfErr c.advance.result (MayRefuseOver c.args.self.now.catalog.tables c.args.self.now.clock s)) said c.advance.ensures.refused
+
+pub returns-in-Create-clause-refused : goal.returns-in-Create-clause-refused
+returns-in-Create-clause-refused g c =
+    let said : statement.create c.table.result.now ≡ plain c.args.statement.now = ap statement.create c.table.ensures.value ∙ ap plain_form (sym c.in-Create.is) ∙ c.form.ensures in
+    subst (λ (s : Statement). IfErr c.create.result (MayRefuseOver c.args.self.now.catalog.tables c.args.self.now.clock s)) said c.create.ensures.refused
+
+pub returns-in-Stored-clause-refused : goal.returns-in-Stored-clause-refused
+returns-in-Stored-clause-refused g c =
+    let said : statement.stored (plain_stored c.in-Stored.query) ≡ plain c.args.statement.now = ap plain_form (sym c.in-Stored.is) ∙ c.form.ensures in
+    subst (λ (s : Statement). IfErr c.show.result (MayRefuseOver c.args.self.now.catalog.tables c.args.self.now.clock s)) said c.show.ensures.refused

@@ -6,6 +6,9 @@ use Rattle.catalog_core.specs.query.Resolving.{IsSequenced}
 use Rattle.script_engine.specs.engine.Audits.{AuditedStepsTo}
 use Rattle.script_engine.specs.declared.entry.Entry.{Entry}
 use Rattle.script_engine.proofs.Audited.{not_sequenced, other_entry}
+use Rattle.std.specs.Prelude.{IfErr, OnErr}
+use Rattle.script_engine.specs.engine.InMemory.{IsSameInMemory}
+use Rattle.script_engine.specs.engine.Runs.{MayRefuseOver}
 use Rattle.script_engine.proofs.engine.Engine.execute_audited.Goals as goal
 
 pub returns-in-Sequenced-clause-step : goal.returns-in-Sequenced-clause-step
@@ -19,3 +22,16 @@ returns-in_default-clause-step g c usable history kept =
     let other : IsSequenced s → ⊥ = subst (λ (t : Statement). IsSequenced t → ⊥) c.form.ensures (not_sequenced c.form.result.now c.in_default.not-Sequenced) in
     subst (λ (entry : Entry). AuditedStepsTo g.S.Store history s entry c.execute.new.self) (sym c.unaudited.ensures)
     (other_entry g.S.Store history s c.execute.new.self c.execute.result other (c.execute.ensures.step usable history kept))
+
+pub returns-in-Sequenced-clause-refused : goal.returns-in-Sequenced-clause-refused
+returns-in-Sequenced-clause-refused g c =
+    let said : statement.sequenced (plain_query c.in-Sequenced.query) ≡ plain c.args.statement.now = ap plain_form (sym c.in-Sequenced.is) ∙ c.form.ensures in
+    subst (λ (s : Statement). IfErr c.answer_audited.result.result (MayRefuseOver c.args.self.now.catalog.tables c.args.self.now.clock s)) said c.answer_audited.ensures.refused
+
+pub returns-in_default-clause-refused : goal.returns-in_default-clause-refused
+returns-in_default-clause-refused g c =
+    subst (λ (entry : Entry). IfErr entry.result (MayRefuseOver c.args.self.now.catalog.tables c.args.self.now.clock (plain c.args.statement.now))) (sym c.unaudited.ensures) c.execute.ensures.refused
+
+pub returns-in_default-clause-memory : goal.returns-in_default-clause-memory
+returns-in_default-clause-memory g c =
+    subst (λ (entry : Entry). OnErr entry.result (IsSameInMemory c.args.self.now c.execute.new.self)) (sym c.unaudited.ensures) c.execute.ensures.memory

@@ -12,6 +12,14 @@ use Rattle.script_engine.specs.engine.InMemory.{FollowCatalog}
 use Rattle.script_engine.specs.engine.Stored.{EngineRepresents, HasContents}
 use Rattle.script_engine.proofs.Shown.{failed_show, shown_step}
 use Rattle.script_engine.proofs.engine.Engine.show.Goals.{in-Ok-shown_rows, in-Err-shown_rows}
+use Rattle.std.proofs.Common.{◌∙◌, List, ap, inl}
+use Rattle.period_core.specs.Leasts.{MayAnswer}
+use Rattle.sql_statements.specs.Trees as statement
+use Rattle.catalog_core.specs.declared.table.TableDef.{TableDef}
+use Rattle.period_keys.specs.Rows.{RowsByKey}
+use Rattle.script_engine.specs.engine.InMemory.{IsSameInMemory}
+use Rattle.script_engine.proofs.Loaded.{represents_still}
+use Rattle.script_engine.proofs.SameInMemory.{failed_over, read_memory, same_memory}
 use Rattle.script_engine.proofs.engine.Engine.show.Goals as goal
 
 pub returns-clause-step : goal.returns-clause-step
@@ -22,7 +30,7 @@ returns-clause-step g c usable history kept =
     let query = c.in-Ok.query in
     let definition = c.in-Some.table.now in
     let was : EngineRepresents g.S.Store history (engine_of c.self.inside.store (map rows_by_key c.self.inside.tables.items)) = subst (λ s. EngineRepresents g.S.Store history s) (sym c.self.view_is) kept in
-    let has : HasContents g.S.Store new was.contents = record { stored = c.shown_rows.ensures.same usable was.contents was.stored; current = was.current } in
+    let has : HasContents g.S.Store new was.contents = record { stored = represents_still g.S.Store c.self.inside.store c.shown_rows.new.store was.contents c.shown_rows.ensures.read usable was.stored; current = was.current } in
     let sound = subst (λ (k : Catalog). NoneApplies (Holds (stored_query_conditions k.tables asked))) c.catalog.ensures c.in-Ok.ensures.sound in
     elim c.match-shown_rows.branch [
       | in-Ok-shown_rows w ↦ rw w.result-is (
@@ -39,4 +47,34 @@ returns-clause-step g c usable history kept =
     ]
 
 pub invariant_of-self : goal.invariant_of-self
-invariant_of-self g c = subst (λ (k : Catalog). FollowCatalog k.tables c.self.inside.tables.items) (sym c.shown_rows.ensures.catalog) c.self.invariant
+invariant_of-self g c = subst (λ (k : Catalog). FollowCatalog k.tables c.self.inside.tables.items) (sym c.shown_rows.ensures.read.catalog) c.self.invariant
+
+pub returns-in-Err-clause-refused : goal.returns-in-Err-clause-refused
+returns-in-Err-clause-refused g c =
+    let same : c.catalog.result.now.tables ≡ c.args.self.now.catalog.tables = ap (λ (k : Catalog). k.tables) c.catalog.ensures ∙ ap (λ s. s.catalog.tables) c.self.view_is in
+    inl (inl (subst (λ (tables : List TableDef). MayAnswer (Holds (stored_query_conditions tables (plain_stored c.args.query.now))) c.in-Err.refusal) same c.in-Err.ensures.refused))
+
+pub returns-in-Err-clause-memory : goal.returns-in-Err-clause-memory
+returns-in-Err-clause-memory g c = same_memory c.args.self.now
+
+pub returns-clause-refused : goal.returns-clause-refused
+returns-clause-refused g c =
+    let old : EngineState g.row.S.Denot = c.args.self.now in
+    let asked = plain_stored c.args.query.now in
+    let same : c.catalog.result.now.tables ≡ old.catalog.tables = ap (λ (k : Catalog). k.tables) c.catalog.ensures ∙ ap (λ s. s.catalog.tables) c.self.view_is in
+    let sound = subst (λ (tables : List TableDef). NoneApplies (Holds (stored_query_conditions tables asked))) same c.in-Ok.ensures.sound in
+    elim c.match-shown_rows.branch [
+      | in-Ok-shown_rows w ↦ rw w.result-is tt
+      | in-Err-shown_rows w ↦ rw w.result-is (failed_over old.catalog.tables old.clock (statement.stored asked) w.in-Err-shown_rows.refusal sound w.in-Err-shown_rows.ensures.named)
+    ]
+
+pub returns-clause-memory : goal.returns-clause-memory
+returns-clause-memory g c =
+    let tables : List RowsByKey = map rows_by_key c.self.inside.tables.items in
+    let new : EngineState g.row.S.Denot = engine_of c.shown_rows.new.store tables in
+    let same : IsSameInMemory c.args.self.now new =
+    subst (λ (e : EngineState g.row.S.Denot). IsSameInMemory e new) c.self.view_is (read_memory g.S.Store c.self.inside.store c.shown_rows.new.store tables c.shown_rows.ensures.read) in
+    elim c.match-shown_rows.branch [
+      | in-Ok-shown_rows w ↦ rw w.result-is tt
+      | in-Err-shown_rows w ↦ rw w.result-is same
+    ]

@@ -2,7 +2,7 @@ use Rattle.std.proofs.Common.{List, map, subst, sym}
 use Rattle.period_core.specs.declared.row.PeriodRow.{PeriodRow}
 use Rattle.period_core.specs.declared.window.Window.{Window}
 use Rattle.script_engine.specs.engine.Answering.{AreRowsSeen}
-use Rattle.script_engine.proofs.Seen.{current_seen, rows_seen_hold}
+use Rattle.script_engine.proofs.Seen.{current_seen, sees_rows}
 use Rattle.period_keys.specs.Current.{rows_by_key}
 use Rattle.script_engine.proofs.engine.answering.seen_by.Goals as goal
 
@@ -12,10 +12,10 @@ returns-in-Ok-clause-seen g c usable history kept =
     let rows : List PeriodRow = c.in-Ok.rows.items in
     let seen = current_seen kept.contents (map rows_by_key c.args.tables.now) reference.table rows kept.current c.in-Ok.ensures in
     let through : AreRowsSeen kept.contents reference.table reference.window rows = subst (λ (w : Window). AreRowsSeen kept.contents reference.table w rows) (sym c.in-Now.is) seen in
-    rows_seen_hold history kept.contents reference.table reference.window c.from_vec.result kept.said (subst (AreRowsSeen kept.contents reference.table reference.window) (sym c.from_vec.ensures) through)
+    sees_rows history kept.contents reference c.from_vec.result kept.said (subst (AreRowsSeen kept.contents reference.table reference.window) (sym c.from_vec.ensures) through)
 
 pub returns-in-Ok-scanned_rows-clause-seen : goal.returns-in-Ok-scanned_rows-clause-seen
 returns-in-Ok-scanned_rows-clause-seen g c usable history kept =
     let reference = c.args.reference.now in
     let seen = c.in-Ok-scanned_rows.ensures.seen usable kept.contents kept.stored in
-    rows_seen_hold history kept.contents reference.table reference.window c.from_vec-in-Ok-scanned_rows.result kept.said (subst (AreRowsSeen kept.contents reference.table reference.window) (sym c.from_vec-in-Ok-scanned_rows.ensures) seen)
+    sees_rows history kept.contents reference c.from_vec-in-Ok-scanned_rows.result kept.said (subst (AreRowsSeen kept.contents reference.table reference.window) (sym c.from_vec-in-Ok-scanned_rows.ensures) seen)

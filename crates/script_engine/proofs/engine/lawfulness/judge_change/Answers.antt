@@ -8,7 +8,7 @@ use Rattle.script_engine.proofs.Judged.{is_planned, is_planned_in, key_is}
 use Rattle.script_engine.proofs.engine.lawfulness.judge_change.Goals as goal
 
 pub returns-in-Some-clause-fault : goal.returns-in-Some-clause-fault
-returns-in-Some-clause-fault c = inr (λ before lawful hold.
+returns-in-Some-clause-fault c = inr (tt, λ before lawful hold.
     let catalog : List TableDef = c.args.catalog.now.tables in
     let (def, is) = c.requires.defined in
     subst (IsLeastOf (IsKeyFault catalog before c.args.change.now)) c.in-Some.is
@@ -40,7 +40,7 @@ returns-in-Ok-None-clause-lawful c = λ before lawful hold.
     }
 
 pub returns-in-Ok-Some-clause-fault : goal.returns-in-Ok-Some-clause-fault
-returns-in-Ok-Some-clause-fault c = inr (λ before lawful hold.
+returns-in-Ok-Some-clause-fault c = inr (tt, λ before lawful hold.
     let catalog : List TableDef = c.args.catalog.now.tables in
     let (def, is) = c.requires.defined in (
       subst (IsLeastOf (IsKeyFault catalog before c.args.change.now)) (none_if_not_some c.in-Ok.found (λ day there. c.in_default-found.not-Some day there))

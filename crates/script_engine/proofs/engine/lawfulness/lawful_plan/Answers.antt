@@ -12,6 +12,7 @@ returns-in-Err-judge_change-clause-refused c =
         λ empty.
             let days : has_empty_row c.args.change.now.action ≡ false = days-planned c.args.change.now.action c.in-Ok.ensures.plan.listed c.in-Ok.plan c.in-Ok.ensures.plan.plans in
             false≢true (sym days ∙ empty),
-        fault,
+        fault.0,
+        fault.1,
       ))
     ]
