@@ -1,10 +1,10 @@
 -- The rows that a change adds are of its table: a value for each of its columns.
-use Rattle.std.proofs.Common.{◌≡◌, ◌∷◌, ◌++◌, ◌||◌, ◌∙◌, ℤ, Bool, true, false, List, [], Option, None, Some, ap, inl, inr, map, refl, subst, sym}
+use Rattle.std.proofs.Common.{◌≡◌, ◌∷◌, ◌||◌, ◌∙◌, ℤ, Bool, true, false, List, [], Option, None, Some, ap, inl, inr, map, refl, subst, sym}
 use Rattle.std.specs.Prelude.{◌==◌, int_lt, slice_get, if◌then◌else◌}
 use Rattle.std.specs.Int.{int_max, int_min}
-use Rattle.std.specs.List.{AllByRecursion, filter, list_all, list_any}
+use Rattle.std.specs.List.{AllByRecursion, list_all, list_any}
 use Rattle.std.specs.List.Sorted.{IsPermutation}
-use Rattle.std.proofs.lemmas.Bool.{false≢true, or_parts}
+use Rattle.std.proofs.lemmas.Bool.{or_parts}
 use Rattle.std.proofs.lemmas.Option.{same_Some}
 use Rattle.sqlite_trees.proofs.ListLemmas.{all-append, all-filter, all-flat_map, all-map, all-permutation, all_from_map, all_of, all_weaker}
 use Rattle.period_core.specs.Leasts.{NoneApplies}
@@ -43,7 +43,7 @@ use Rattle.history_model.specs.Effects.{with_set}
 use Rattle.history_model.specs.Portions.{PlainRow, added, leftovers, part, plain_given, plain_row, replacements, touches, within}
 use Rattle.history_model.specs.Versions.{current}
 use Rattle.portion_dml.specs.Plans.{Plans, version_row}
-use Rattle.version_store.specs.Contents.{Contents, TableVersion, of_table, version_in}
+use Rattle.version_store.specs.Contents.{TableVersion, of_table, version_in}
 use Rattle.version_store.specs.GoodStore.{IsGoodVersion}
 use Rattle.version_store.specs.RowValues.{are_row_values, is_of_column}
 use Rattle.script_engine.proofs.ColumnValues.{fits_row, fits_set, set_each}

@@ -1,6 +1,6 @@
 -- The number of days that an audit gives is that of the rows that the query's references see: it is the same in each audit.
-use Rattle.std.proofs.Common.{◌≡◌, ◌∷◌, ◌<ℤ◌, ◌⊎◌, ◌∙◌, ℤ, List, [], ap, arith, inl, inr, length, map, refl, suc, subst, sym}
-use Rattle.std.specs.List.{AllPairs, Contains, filter}
+use Rattle.std.proofs.Common.{◌≡◌, ◌∷◌, ◌<ℤ◌, ◌∙◌, ℤ, List, [], ap, arith, inl, inr, length, map, refl, suc, subst, sym}
+use Rattle.std.specs.List.{AllPairs, Contains}
 use Rattle.std.specs.List.Sorted.{IsPermutation}
 use Rattle.std.proofs.lemmas.Int.{ints}
 use Rattle.std.proofs.lemmas.List.Sorted.{Contains-permutation, IsPermutation-map, IsPermutation-sym, IsPermutation-trans}

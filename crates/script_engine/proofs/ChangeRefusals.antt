@@ -1,5 +1,5 @@
 -- What a change may be refused with over a catalog, as it is resolved and planned.
-use Rattle.std.proofs.Common.{◌≡◌, ◌∷◌, ◌++◌, ◌<◌, ◌⊎◌, ◌∙◌, ℤ, Bool, true, false, List, [], refl, sym, subst, inl, inr, arith}
+use Rattle.std.proofs.Common.{◌≡◌, ◌∷◌, ◌++◌, ◌<◌, ◌⊎◌, ◌∙◌, ℤ, Bool, true, List, [], refl, sym, subst, inl, inr, arith}
 use Rattle.period_core.specs.Codes.{code_of}
 use Rattle.period_core.specs.Leasts.{MayAnswer, NoneApplies}
 use Rattle.period_core.specs.declared.refusal.Refusal.{Refusal}

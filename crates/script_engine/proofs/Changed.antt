@@ -1,11 +1,10 @@
 -- A change that is run is a step of the histories that the engine represents.
-use Rattle.std.proofs.Common.{◌≡◌, ◌∷◌, ◌++◌, ◌<◌, ◌⊎◌, ℤ, Bool, true, false, List, [], Ok, Err, Some, map, refl, sym, ap, ◌∙◌, subst, inl, inr, arith}
+use Rattle.std.proofs.Common.{◌≡◌, ◌∷◌, ◌++◌, ◌⊎◌, ℤ, true, false, List, [], Ok, Err, Some, map, refl, sym, ap, subst, inr}
 use Rattle.std.specs.List.{All, AllByRecursion, flat_map, list_all}
 use Rattle.std.specs.List.Sorted.{IsPermutation}
 use Rattle.sqlite_trees.proofs.ListLemmas.{all_from_map}
 use Rattle.period_core.specs.Encoding.{IsColumnValue}
 use Rattle.period_core.specs.Moments.{forever}
-use Rattle.period_core.specs.Codes.{code_of}
 use Rattle.period_core.specs.Leasts.{MayAnswer, NoneApplies}
 use Rattle.period_core.specs.declared.refusal.Refusal.{Refusal}
 use Rattle.period_core.specs.declared.refusal.Refusal.TheVariants.{EmptyPeriod}
@@ -14,7 +13,7 @@ use Rattle.sqlite.specs.Store.{Ghosts}
 use Rattle.sql_statements.specs.Trees.{Statement}
 use Rattle.sql_statements.specs.Trees as statement
 use Rattle.catalog_core.specs.Judged.{Holds}
-use Rattle.catalog_core.specs.change.Resolution.{IsChange, ResolvesChange, change_conditions, empty_period, has_empty_row}
+use Rattle.catalog_core.specs.change.Resolution.{IsChange, ResolvesChange, change_conditions, has_empty_row}
 use Rattle.catalog_core.specs.table.TableWords.{has_distinct_names, table_of}
 use Rattle.catalog_core.specs.declared.change.Change.{Change}
 use Rattle.catalog_core.specs.declared.change.Plan.{Plan}

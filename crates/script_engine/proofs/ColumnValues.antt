@@ -1,7 +1,7 @@
 -- A value that no condition of a change refuses is one of its column.
-use Rattle.std.proofs.Common.{◌≡◌, ◌<◌, ◌+◌, ◌++◌, ◌∷◌, ◌||◌, ◌&&◌, ◌∙◌, ℕ, zero, suc, Bool, true, false, not, List, [], Option, None, Some, append_assoc, arith, ap, bytes_eq, cond, filter, fold, get_or, length, length-append, map, refl, set, subst, sym}
+use Rattle.std.proofs.Common.{◌≡◌, ◌<◌, ◌+◌, ◌++◌, ◌∷◌, ◌&&◌, ◌∙◌, ℕ, zero, suc, Bool, true, false, not, List, [], Option, None, Some, append_assoc, arith, ap, bytes_eq, cond, fold, get_or, length, length-append, map, refl, set, subst, sym}
 use Rattle.std.specs.Prelude.{slice_get}
-use Rattle.std.specs.List.{AllByRecursion, enumerate_from, find, list_any, position}
+use Rattle.std.specs.List.{AllByRecursion, enumerate_from, find, list_any}
 use Rattle.std.specs.Option.{option_map}
 use Rattle.std.proofs.lemmas.Bool.{and_parts, false≢true, or_parts}
 use Rattle.std.proofs.lemmas.Bool.Decides.{nat_tests}
@@ -21,7 +21,7 @@ use Rattle.catalog_core.specs.change.Insertion.{given_value, given_values, gives
 use Rattle.catalog_core.specs.query.Selection.{value_position}
 use Rattle.catalog_core.specs.table.Kinds.{differ, kind_of_column, kind_of_value, same_kind}
 use Rattle.catalog_core.specs.table.Naming.{Name, find_among, place_among}
-use Rattle.catalog_core.specs.table.TableWords.{def_kind, def_place, has_distinct_names, is_value_column, value_columns, value_names}
+use Rattle.catalog_core.specs.table.TableWords.{def_kind, has_distinct_names, is_value_column, value_columns, value_names}
 use Rattle.catalog_core.specs.declared.change.Assignment.{Assignment}
 use Rattle.catalog_core.specs.declared.change.insert_values.Wrong.TheVariants as wrong
 use Rattle.catalog_core.specs.declared.flaw.Flaw.TheVariants.{OtherKind, TooLong}

@@ -1,5 +1,4 @@
 -- The versions of good contents are recorded up to the clock.
-use Rattle.std.proofs.Common.{◌≡◌}
 use Rattle.std.specs.List.{AllByRecursion}
 use Rattle.sqlite_trees.proofs.ListLemmas.{all_weaker}
 use Rattle.version_tables.specs.Good.{AreMoments}

@@ -1,5 +1,5 @@
 -- What a refusal leaves in memory, and what a statement may be refused with over it, whatever the database holds.
-use Rattle.std.proofs.Common.{◌≡◌, ◌≤◌, ◌∷◌, ◌<ℤ◌, ◌≤ℤ◌, ◌⊎◌, ◌∙◌, ℕ, ℤ, Bool, true, false, List, [], ap, inl, inr, map, nat_eq, refl, sym, subst, arith}
+use Rattle.std.proofs.Common.{◌≡◌, ◌≤◌, ◌<ℤ◌, ◌≤ℤ◌, ◌∙◌, ℕ, ℤ, Bool, true, false, List, ap, inl, inr, nat_eq, refl, sym, subst, arith}
 use Rattle.std.specs.Prelude.{int_lt}
 use Rattle.std.specs.List.Sorted.{IsPermutation}
 use Rattle.std.proofs.lemmas.Bool.{false≢true}
@@ -8,10 +8,9 @@ use Rattle.std.proofs.lemmas.Int.{ints}
 use Rattle.std.proofs.lemmas.List.Sorted.{IsPermutation-refl, IsPermutation-sym}
 use Rattle.sqlite.specs.Store.{Ghosts}
 use Rattle.period_core.specs.Codes.{code_of}
-use Rattle.period_core.specs.Leasts.{MayAnswer, NoneApplies}
+use Rattle.period_core.specs.Leasts.{NoneApplies}
 use Rattle.period_core.specs.Moments.{forever}
 use Rattle.period_core.specs.declared.refusal.Refusal.{Refusal}
-use Rattle.period_core.specs.declared.refusal.Refusal.TheVariants.{BadMoment, MomentBack}
 use Rattle.period_core.specs.declared.version.VersionRow.{VersionRow}
 use Rattle.sql_statements.specs.Trees.{Statement}
 use Rattle.sql_statements.specs.Trees as statement

@@ -39,7 +39,7 @@ use crate::engine::answering::answer_of;
 use crate::engine::indexed::{add_index, apply_plan, load_lawful, remove_last, rows_of_number};
 use crate::engine::lawfulness::lawful_plan;
 use crate::engine::outcome::{Outcome, VersionList, Word, done};
-use crate::engine::shown::{shown_rows, table_of_number, version_columns};
+use crate::engine::shown::{shown_rows, version_columns};
 use catalog_core::{
     Catalog, Plan, define, resolve_change, resolve_sequenced, resolve_stored_query,
 };
@@ -337,7 +337,7 @@ impl<S: Alter> Engine<S> {
             Ok(query) => query,
             Err(refusal) => return Err(refusal),
         };
-        let Some(table) = table_of_number(self.store.catalog(), query.table) else {
+        let Some(table) = self.store.catalog().def(query.table) else {
             unreachable!()
         };
         let Ok(columns) = version_columns(alloc, table) else {

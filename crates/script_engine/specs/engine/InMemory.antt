@@ -1,5 +1,5 @@
 -- What an engine has in memory: the current rows of each table, and what a refusal leaves of them.
-use Rattle.std.specs.Prelude.{◌≡◌, ℕ, List, [], IsPermutation, OnErr, Result, length, map}
+use Rattle.std.specs.Prelude.{◌≡◌, ℕ, List, [], IsPermutation, length, map}
 use Rattle.std.specs.Option.{option_map_or}
 use Rattle.period_core.specs.declared.version.VersionRow.{VersionRow}
 use Rattle.period_core.specs.declared.window.Window.TheVariants.{Now}

@@ -24,30 +24,19 @@ ghost use Rattle.script_engine.specs.engine.InMemory.{FollowCatalog, HaveCurrent
 ghost use Rattle.script_engine.specs.engine.Stored.{WasUsable};
 
 use crate::engine::in_memory::load;
-use catalog_core::{Catalog, Plan, TableDef};
+use catalog_core::{Catalog, Plan, TableDef, of_number};
 use period_core::{Memory, Refusal};
 use period_keys::{CurrentRows, TableIndex, add_table, is_lawful, rows_of, tables_of};
 use sqlite_trees::store::Alter;
 use std::alloc::Global;
 use version_store::VersionStore;
 
-/// The table of a number.
-pub fn index_of_number(tables: &[TableIndex], number: u8) -> Option<&TableIndex>
-    ensures { MatchOption result (table_of tables.now number ≡ None)
-        (λ table. table_of tables.now number ≡ Some table.now) }
-{
-    if number == 0 {
-        return None;
-    }
-    tables.get(usize::from(number) - 1)
-}
-
 /// The current rows of the table of a number.
 pub fn rows_of_number(tables: &[TableIndex], number: u8) -> Option<&CurrentRows>
     ensures { MatchOption result (table_of (map rows_by_key tables.now) number ≡ None)
         (λ rows. table_of (map rows_by_key tables.now) number ≡ Some rows.now) }
 {
-    match index_of_number(tables, number) {
+    match of_number(tables, number) {
         Some(table) => Some(table.rows()),
         None => None,
     }

@@ -14,8 +14,7 @@ ghost use Rattle.script_engine.specs.engine.Faults.{IsFault};
 ghost use Rattle.script_engine.specs.engine.InMemory.{FollowCatalog, rows_in};
 ghost use Rattle.script_engine.specs.engine.Runs.{IsConstraintRefusal};
 
-use crate::engine::indexed::index_of_number;
-use catalog_core::{Catalog, Change, Plan};
+use catalog_core::{Catalog, Change, Plan, of_number};
 use period_core::Refusal;
 use period_keys::{TableIndex, key_fault, plan_change, reference_fault};
 use std::alloc::Global;
@@ -85,7 +84,7 @@ pub fn lawful_plan(
         → HoldCurrent catalog.now.tables before (map rows_by_key tables.now)
         → IsFault catalog.now.tables before change.now refusal)))) }
 {
-    let Some(table) = index_of_number(tables, change.table) else {
+    let Some(table) = of_number(tables, change.table) else {
         unreachable!()
     };
     let plan = match plan_change(alloc, table.rows(), change) {

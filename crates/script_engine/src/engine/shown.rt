@@ -1,8 +1,7 @@
 //! Lists of versions: the columns of a table, and a visitor that keeps what a stored query shows.
 
-ghost use Rattle.std.specs.Prelude.{◌≡◌, ◌++◌, ◌∷◌, [], IfErr, IfOk, List, None, MatchOption, Some};
+ghost use Rattle.std.specs.Prelude.{◌≡◌, ◌++◌, ◌∷◌, [], IfErr, IfOk, List};
 ghost use Rattle.catalog_core.specs.stored.StoredAnswers.{shown_versions};
-ghost use Rattle.catalog_core.specs.table.TableWords.{table_of};
 ghost use Rattle.catalog_core.specs.declared.stored.Stored.{Stored as AnyStored};
 ghost use Rattle.period_core.specs.declared.refusal.Refusal.TheVariants.{Memory as OutOfMemory};
 ghost use Rattle.period_core.specs.declared.version.VersionRow.{VersionRow as AnyRow};
@@ -12,22 +11,11 @@ ghost use Rattle.version_store.specs.StoreState.{StoreRepresents};
 ghost use Rattle.script_engine.specs.engine.Shown.{AreShownOf, cell_at, version_columns};
 
 use crate::engine::outcome::{Cell, VersionColumn};
-use catalog_core::{Catalog, Column, ColumnKind, Stored, TableDef, is_value_column, meets};
+use catalog_core::{Column, ColumnKind, Stored, TableDef, is_value_column, meets};
 use period_core::{Items, Memory, Refusal, VersionRow};
 use sqlite_trees::store::Alter;
 use std::alloc::Global;
 use version_store::{RowVisitor, VersionStore};
-
-/// The definition of the table of a number.
-pub fn table_of_number(catalog: &Catalog, number: u8) -> Option<&TableDef>
-    ensures { MatchOption result (table_of catalog.now.tables number ≡ None)
-        (λ table. table_of catalog.now.tables number ≡ Some table.now) }
-{
-    if number == 0 {
-        return None;
-    }
-    catalog.tables.as_slice().get(usize::from(number) - 1)
-}
 
 /// The cell of the column that is declared at a place, where its value has this position.
 fn cell_at(table: &TableDef, place: usize, kind: ColumnKind, position: usize) -> Cell

@@ -1,4 +1,4 @@
-use Rattle.std.proofs.Common.{◌≡◌, ◌∙◌, List, inr, map, subst, subst₂, sym}
+use Rattle.std.proofs.Common.{List, inr, map, subst₂, sym}
 use Rattle.sql_front.specs.Pieces.{spanned}
 use Rattle.sql_front.specs.declared.pieces.Span.{Span}
 use Rattle.sql_statements.specs.Lexemes.{lexemes}

@@ -1,4 +1,3 @@
-use Rattle.std.proofs.Common.{refl}
 use Rattle.script_engine.proofs.ScriptFacts.{cut_of}
 use Rattle.script_engine.proofs.script.script_pieces.Goals as goal
 

@@ -26,7 +26,7 @@ returns-in-Some-2-clause-memory g c =
     let tables = map rows_by_key c.self.inside.tables.items in
     let new : EngineState g.row.S.Denot = engine_of c.advance.new.self tables in
     subst (λ (e : EngineState g.row.S.Denot). OnErr c.advance.result (IsSameInMemory e new)) c.self.view_is
-    (on_err_weaker c.advance.result (λ same. list_memory (engine_of c.self.inside.store tables) new (ap (λ k. k.tables) c.advance.ensures.catalog) same refl) c.advance.ensures.none)
+    (on_err_weaker c.advance.result (λ same. list_memory (engine_of c.self.inside.store tables) new (ap (λ k. k.tables) c.advance.ensures.catalog) same refl) c.advance.ensures.clock)
 
 pub returns-in-None-clause-memory : goal.returns-in-None-clause-memory
 returns-in-None-clause-memory g c = same_memory c.args.self.now

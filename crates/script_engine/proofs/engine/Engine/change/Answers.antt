@@ -19,7 +19,6 @@ use Rattle.script_engine.specs.declared.engine.outcome.Outcome.{Outcome}
 use Rattle.script_engine.proofs.Changed.{changed_step, hold_before, lawful_before, resolved_table, unchanged_step, unlawful_step, unplanned_step, unresolved_step}
 use Rattle.script_engine.proofs.Indexed.{ended_there}
 use Rattle.script_engine.proofs.InMemory.{current-kept}
-use Rattle.script_engine.specs.engine.InMemory.{IsSameInMemory}
 use Rattle.script_engine.proofs.ChangeRefusals.{constrained, none_without_empty, unplanned, unresolved}
 use Rattle.script_engine.proofs.Refused.{days-planned}
 use Rattle.script_engine.proofs.SameInMemory.{failed_over, rows_memory, same_memory}

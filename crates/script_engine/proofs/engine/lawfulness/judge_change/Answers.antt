@@ -8,15 +8,18 @@ use Rattle.script_engine.proofs.Judged.{is_planned, is_planned_in, key_is}
 use Rattle.script_engine.proofs.engine.lawfulness.judge_change.Goals as goal
 
 pub returns-in-Some-clause-fault : goal.returns-in-Some-clause-fault
-returns-in-Some-clause-fault c = inr (tt, λ before lawful hold.
-    let catalog : List TableDef = c.args.catalog.now.tables in
-    let (def, is) = c.requires.defined in
-    subst (IsLeastOf (IsKeyFault catalog before c.args.change.now)) c.in-Some.is
-    (c.in-Ok.ensures catalog before
-    (subst (IsKeyOf catalog c.args.change.now.table) (sym c.rows.ensures.positions)
-    (key_is catalog c.args.tables.now c.args.table.now c.args.change.now c.args.plan.now def c.requires.follow is c.requires.table c.requires.plan before lawful hold))
-    (subst (λ (rows : List VersionRow). IsPlanned catalog before c.args.change.now rows c.args.plan.now) (sym c.rows.ensures.rows)
-    (is_planned catalog c.args.tables.now c.args.table.now c.args.change.now c.args.plan.now def c.requires.follow is c.requires.table c.requires.plan before lawful hold))))
+returns-in-Some-clause-fault c = inr (
+  tt,
+  λ before lawful hold.
+      let catalog : List TableDef = c.args.catalog.now.tables in
+      let (def, is) = c.requires.defined in
+      subst (IsLeastOf (IsKeyFault catalog before c.args.change.now)) c.in-Some.is
+      (c.in-Ok.ensures catalog before
+      (subst (IsKeyOf catalog c.args.change.now.table) (sym c.rows.ensures.positions)
+      (key_is catalog c.args.tables.now c.args.table.now c.args.change.now c.args.plan.now def c.requires.follow is c.requires.table c.requires.plan before lawful hold))
+      (subst (λ (rows : List VersionRow). IsPlanned catalog before c.args.change.now rows c.args.plan.now) (sym c.rows.ensures.rows)
+      (is_planned catalog c.args.tables.now c.args.table.now c.args.change.now c.args.plan.now def c.requires.follow is c.requires.table c.requires.plan before lawful hold))),
+)
 
 none_if_not_some : {X : Type 0} (found : Option X) → ((x : X) → found ≡ Some x → ⊥) → found ≡ None
 none_if_not_some None off = refl
@@ -40,15 +43,18 @@ returns-in-Ok-None-clause-lawful c = λ before lawful hold.
     }
 
 pub returns-in-Ok-Some-clause-fault : goal.returns-in-Ok-Some-clause-fault
-returns-in-Ok-Some-clause-fault c = inr (tt, λ before lawful hold.
-    let catalog : List TableDef = c.args.catalog.now.tables in
-    let (def, is) = c.requires.defined in (
-      subst (IsLeastOf (IsKeyFault catalog before c.args.change.now)) (none_if_not_some c.in-Ok.found (λ day there. c.in_default-found.not-Some day there))
-          (c.in-Ok.ensures catalog before
-          (subst (IsKeyOf catalog c.args.change.now.table) (sym c.rows.ensures.positions)
-          (key_is catalog c.args.tables.now c.args.table.now c.args.change.now c.args.plan.now def c.requires.follow is c.requires.table c.requires.plan before lawful hold))
-          (subst (λ (rows : List VersionRow). IsPlanned catalog before c.args.change.now rows c.args.plan.now) (sym c.rows.ensures.rows)
-          (is_planned catalog c.args.tables.now c.args.table.now c.args.change.now c.args.plan.now def c.requires.follow is c.requires.table c.requires.plan before lawful hold))),
-      subst (IsLeastOf (IsReferenceFault catalog before c.args.change.now)) c.in-Ok-Some.field-0-is
-          (c.in-Ok-Some.ensures before (is_planned_in catalog c.args.tables.now c.args.table.now c.args.change.now c.args.plan.now def c.requires.follow is c.requires.table c.requires.plan before lawful hold)),
-    ))
+returns-in-Ok-Some-clause-fault c = inr (
+  tt,
+  λ before lawful hold.
+      let catalog : List TableDef = c.args.catalog.now.tables in
+      let (def, is) = c.requires.defined in (
+        subst (IsLeastOf (IsKeyFault catalog before c.args.change.now)) (none_if_not_some c.in-Ok.found (λ day there. c.in_default-found.not-Some day there))
+            (c.in-Ok.ensures catalog before
+            (subst (IsKeyOf catalog c.args.change.now.table) (sym c.rows.ensures.positions)
+            (key_is catalog c.args.tables.now c.args.table.now c.args.change.now c.args.plan.now def c.requires.follow is c.requires.table c.requires.plan before lawful hold))
+            (subst (λ (rows : List VersionRow). IsPlanned catalog before c.args.change.now rows c.args.plan.now) (sym c.rows.ensures.rows)
+            (is_planned catalog c.args.tables.now c.args.table.now c.args.change.now c.args.plan.now def c.requires.follow is c.requires.table c.requires.plan before lawful hold))),
+        subst (IsLeastOf (IsReferenceFault catalog before c.args.change.now)) c.in-Ok-Some.field-0-is
+            (c.in-Ok-Some.ensures before (is_planned_in catalog c.args.tables.now c.args.table.now c.args.change.now c.args.plan.now def c.requires.follow is c.requires.table c.requires.plan before lawful hold)),
+      ),
+)
