@@ -7,7 +7,7 @@ use crate::fixtures::{
 use crate::stores::MOVES;
 use memory_store::{MemoryStore, open_in_memory};
 use period_core::{Answer, Moment, Refusal};
-use script_engine::{Cell, Engine, Outcome, Verdict, Word};
+use script_engine::{Cell, Engine, Outcome, Verdict, Word, run};
 use sqlite::{Connection, params};
 use std::alloc::Global;
 use std::test::Fail;
@@ -128,6 +128,31 @@ fn store_of_another_form(rt: HostRuntime) -> Result<(), Fail> {
     let mut connection = engine_of_moves(alloc)?.close();
     assert_eq!(rt; change_form(&mut connection, 9)?, 1);
     assert_eq!(rt; refused(alloc, connection)?, Refusal::BadStore);
+    Ok(())
+}
+
+// What a run of a script keeps and leaves, or its refusal with the connection.
+type Ran = Result<(Vec<Result<Outcome, Refusal>>, InMemory), (Refusal, Connection<MemoryStore>)>;
+
+#[test]
+fn runs_of_scripts(rt: HostRuntime) -> Result<(), Fail> {
+    let alloc = rt.alloc();
+    // refused as a whole, a script hands the connection back
+    let ran: Ran = run(alloc, engine_of_moves(alloc)?.close(), b"\xff");
+    let (refusal, connection) = ran.err().ok_or("the script was run")?;
+    assert_eq!(rt; refusal, Refusal::NotUtf8);
+    let script = b"INSERT INTO EMP VALUES (1, 3, DATE '2024-01-01', DATE '2024-02-01'); SELECT 1";
+    let ran: Ran = run(alloc, connection, script);
+    let (results, mut engine) = ran.ok().ok_or("the script was refused")?;
+    let [first, second] = results.as_slice() else {
+        return Err("another number of results")?;
+    };
+    assert!(rt; matches!(first, Ok(Outcome::Done(Word::Insert, 1))));
+    assert!(rt; matches!(second, Err(Refusal::Syntax)));
+    let held: Held<'_> = (&[1, 3], "2024-01-01", "2024-02-01");
+    let inserted: Recorded<'_> = (held, "2024-01-02 00:00:00", FOREVER);
+    let wanted = [inserted, MOVES[0], MOVES[1], MOVES[2], MOVES[3]];
+    assert!(rt; has_versions(alloc, &mut engine, &wanted)?);
     Ok(())
 }
 

@@ -75,6 +75,7 @@
 //!   `engines::store_of_another_form`, `engines::insert_with_column_list`; `at`: `engines::clocks`
 //! - `execute`: `engines::portions`, `engines::stored_versions`; `execute_audited`:
 //!   `engines::audited_statements`
+//! - `run`: `engines::runs_of_scripts`
 //! - `run_script`, `run_audited`, `write_report`, `write_audited`: `scripts::one_after_the_other`,
 //!   `scripts::refused_as_a_whole`
 //! - `check_script`, `write_check`: `statements::checked`

@@ -1,8 +1,7 @@
 //! The version store by calls, over a database in memory: its changes, its rows, and who visits
 //! them.
 
-ghost use Rattle.std.specs.Prelude.{◌≡◌, ◌++◌, ◌∷◌, [], List};
-ghost use Rattle.period_core.specs.declared.refusal.Refusal.TheVariants.{Memory as OutOfMemory};
+ghost use Rattle.std.specs.Prelude.{◌++◌, ◌∷◌, [], List};
 ghost use Rattle.period_core.specs.declared.version.VersionRow.{VersionRow as AnyRow};
 
 use crate::fixtures::{EMP, FOREVER, Recorded, are_versions, defined, moment};
@@ -172,7 +171,7 @@ fn windows(rt: HostRuntime) -> Result<(), Fail> {
     Ok(())
 }
 
-// A visitor that keeps two rows, and has no memory for a third.
+// A visitor that keeps two rows, and refuses a third.
 #[derive(Drop)]
 struct FirstTwo {
     rows: Vec<VersionRow>,
@@ -185,13 +184,13 @@ impl RowVisitor for FirstTwo {
 
     ghost next = { λ rows row. rows ++ row ∷ [] };
 
-    ghost may_refuse = { λ refusal. refusal ≡ OutOfMemory };
+    ghost may_refuse = { λ _. Unit {0} };
 
     ghost answered = { λ _ _. Unit {0} };
 
     fn visit(&mut self, row: VersionRow) -> Result<(), Refusal> {
         if self.rows.len() == 2 {
-            return Err(Refusal::Memory);
+            return Err(Refusal::LimitReached);
         }
         match self.rows.push(row) {
             Ok(()) => Ok(()),
@@ -209,7 +208,7 @@ fn a_visitor_that_refuses_the_third_row(rt: HostRuntime) -> Result<(), Fail> {
         rows: Vec::new(alloc),
     };
     let result = store.scan(alloc, 1, always, &mut two);
-    assert_eq!(rt; result, Err(Refusal::Memory));
+    assert_eq!(rt; result, Err(Refusal::LimitReached));
     assert!(rt; are_versions(alloc, two.rows.as_slice(), &MOVES[..2])?);
     let found = seen(alloc, &mut store, always)?;
     assert!(rt; are_versions(alloc, found.as_slice(), &MOVES)?);
