@@ -67,9 +67,11 @@ fn rows_selected_one_at_a_time(rt: HostRuntime) -> Result<(), Fail> {
     assert!(rt; found.is_empty());
     select_into(alloc, &mut found, &first, &is_at(1, 3), &[0])?;
     select_into(alloc, &mut found, &first, &is_at(0, 1), &[1, 1])?;
-    let wanted: [Held<'_>; 2] = [
+    select_into(alloc, &mut found, &first, &is_at(1, 3), &[1])?;
+    let wanted: [Held<'_>; 3] = [
         (&[1], "2024-01-01", "2024-01-09"),
         (&[3, 3], "2024-01-01", "2024-01-09"),
+        (&[3], "2024-01-01", "2024-01-09"),
     ];
     assert!(rt; are_rows(alloc, found.as_slice(), &wanted)?);
     Ok(())

@@ -1,6 +1,6 @@
 //! Values, rows and versions: their order, their runs and their copies.
 
-use crate::fixtures::{FOREVER, Held, integers, row, rows, version};
+use crate::fixtures::{Held, integers, row, rows, version};
 use period_core::{Day, Text, Value, run_end};
 use std::alloc::Global;
 use std::test::Fail;
@@ -22,7 +22,8 @@ fn copies(rt: HostRuntime) -> Result<(), Fail> {
     let held: Held<'_> = (&[22_217, 3], "2010-01-01", "2011-11-12");
     let one = row(alloc, held)?;
     assert!(rt; one.copy(alloc)? == one);
-    let recorded = version(alloc, (held, "2024-01-01 00:00:00", FOREVER))?;
+    let (from, to) = ("2024-01-01 00:00:00", "2024-01-02 00:00:00");
+    let recorded = version(alloc, (held, from, to))?;
     assert!(rt; recorded.copy(alloc)? == recorded);
     Ok(())
 }
