@@ -7,7 +7,7 @@ use Rattle.period_core.specs.declared.row.PeriodRow.{PeriodRow}
 use Rattle.period_core.specs.declared.value.Value.{Value}
 use Rattle.temporal_model.specs.Snapshot.{InSnapshot}
 use Rattle.sql_statements.specs.declared.tree.SetOperator.{SetOperator}
-use Rattle.sql_statements.specs.declared.tree.SetOperator.TheVariants.{Union, Except}
+use Rattle.sql_statements.specs.declared.tree.SetOperator.TheVariants.{Union, Except, Intersect}
 use Rattle.sql_statements.specs.declared.tree.Tree.{Tree}
 use Rattle.catalog_core.specs.Conditions.{meets}
 use Rattle.catalog_core.specs.declared.condition.CompareValues.{CompareValues}
@@ -53,6 +53,7 @@ abbrev pub InCombined
     : SetOperator → (List Value → Type 0) → (List Value → Type 0) → List Value → Type 0
 InCombined Union Left Right row = Left row ⊎ Right row
 InCombined Except Left Right row = Left row × (Right row → ⊥)
+InCombined Intersect Left Right row = Left row × Right row
 
 -- a query's set
 abbrev pub InQuery : Sights → Query → List Value → Type 0

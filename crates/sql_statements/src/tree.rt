@@ -12,13 +12,15 @@ pub enum Tree<T> {
     Test(T),
 }
 
-/// What a set operator does with the rows of its two sides. Both give each row once.
+/// What a set operator does with the rows of its two sides. Each gives a row once.
 #[derive(Clone, Copy, Debug, PartialEq, Eq)]
 pub enum SetOperator {
     /// The rows of either side.
     Union,
     /// The rows of the left side that the right side lacks.
     Except,
+    /// The rows of both sides.
+    Intersect,
 }
 
 /// A query over selects.
