@@ -9,4 +9,5 @@ pub mod Shown
 pub mod ModelExamples
 pub mod ChangeExamples
 pub mod Sights
+pub mod Parts
 pub mod QueryExamples

@@ -4,6 +4,7 @@ pub mod Versions
 pub mod Histories
 pub mod SystemWindows
 pub mod OrdinaryQuery
+pub mod Slices
 pub mod Left
 pub mod Represents
 pub mod Laws

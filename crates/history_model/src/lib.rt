@@ -11,6 +11,7 @@ ghost use Rattle.history_model.specs.Laws.{CurrentVersionsHold, EarlierStatesSta
 ghost use Rattle.history_model.specs.Laws.{HistoriesLeaveOneList, OpeningsAreRepresented};
 ghost use Rattle.history_model.specs.Laws.{QueriesChangeNothing, VersionsHoldTheStates};
 ghost use Rattle.history_model.specs.Laws.{WindowsSeeStates};
+ghost use Rattle.history_model.specs.Slices.{SlicesMakeTheWhole};
 
 /// Whatever a store keeps, it represents the history that opens with it. So what is said of each
 /// history that a store represents is said of one at the least.
@@ -71,4 +72,11 @@ pub fn earlier_states_stay()
 /// A query changes neither the clock nor the catalog nor the state at any moment.
 pub fn queries_change_nothing()
     ensures { QueriesChangeNothing }
+{}
+
+/// A query may be asked of tables that are cut into slices of the days, of each slice alone: what
+/// it gives over the slices is on each day, taken together, what it gives over the whole tables,
+/// whatever the borders.
+pub fn slices_make_the_whole()
+    ensures { SlicesMakeTheWhole }
 {}

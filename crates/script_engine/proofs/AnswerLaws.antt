@@ -11,9 +11,13 @@ use Rattle.temporal_model.proofs.Certificate.{same_rows, unique}
 use Rattle.temporal_model.proofs.Members.{Contains-nil, Contains-cons_cases}
 use Rattle.temporal_model.proofs.OneToOne.{maps_one_to_one}
 use Rattle.temporal_model.proofs.Witnesses.{certified_by_witnesses}
-use Rattle.history_model.specs.OrdinaryQuery.{InAnswerOn}
+use Rattle.temporal_model.specs.Snapshot.{InSnapshot}
+use Rattle.history_model.specs.OrdinaryQuery.{InAnswerOn, InAnswerOver}
+use Rattle.history_model.specs.Slices.{all_rows}
+use Rattle.history_model.proofs.Parts.{slices_make_the_whole}
 use Rattle.script_engine.specs.Headline.{IsSequencedAnswer}
-use Rattle.script_engine.specs.Laws.{AnswersAreUnique, AnswersMapOneToOne, SameSnapshotsSameAnswers}
+use Rattle.script_engine.specs.Laws.{AnswersAreUnique, AnswersMapOneToOne, SameSnapshotsSameAnswers, SlicesJoinToTheAnswer}
+use Rattle.script_engine.proofs.Answering.{answer_along}
 
 -- a row's witness is its first day and the day before
 its_witness : (sets : ℤ → List Value → Type 0) (rows : List PeriodRow) (witnesses : List Witness) → WitnessEachRow sets rows witnesses → (row : PeriodRow) → Contains rows row → IsWitness sets row (witness_of row)
@@ -38,3 +42,8 @@ are_unique history query answer right = unique answer.rows (certified (InAnswerO
 pub same_answers : SameSnapshotsSameAnswers
 same_answers history later query other answer another right also =
     same_rows answer.rows another.rows (certified (InAnswerOn history query) answer right) right.ordered also.shortest also.ordered
+
+pub join_to_the_answer : SlicesJoinToTheAnswer
+join_to_the_answer query tables parts borders answer named each right =
+    answer_along (InSnapshot (all_rows parts)) (InAnswerOver query tables)
+    (slices_make_the_whole query tables parts borders named each) answer right

@@ -2,7 +2,7 @@
 //! a law.
 
 ghost use Rattle.script_engine.specs.Laws.{AnswersAreUnique, AnswersMapOneToOne};
-ghost use Rattle.script_engine.specs.Laws.{SameSnapshotsSameAnswers};
+ghost use Rattle.script_engine.specs.Laws.{SameSnapshotsSameAnswers, SlicesJoinToTheAnswer};
 ghost use Rattle.script_engine.specs.engine.Audits.{AuditsAgree, AuditsCountOnce};
 
 /// A list with the same snapshots has a row of its own for each row of an answer, of the same
@@ -19,6 +19,12 @@ pub fn answers_are_unique()
 /// Two answers with the same snapshots have the same rows in the same order.
 pub fn same_snapshots_same_answers()
     ensures { SameSnapshotsSameAnswers }
+{}
+
+/// A query may be asked of tables that are cut into slices of the days, of each slice alone. What it
+/// gives over them, joined where equal rows meet at a border, is its answer over the whole tables.
+pub fn slices_join_to_the_answer()
+    ensures { SlicesJoinToTheAnswer }
 {}
 
 /// An audit of a sequenced answer agrees: there is no other verdict over what the references of its
