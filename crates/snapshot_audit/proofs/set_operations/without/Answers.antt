@@ -6,7 +6,7 @@ use Rattle.period_core.specs.Order.{values_cmp}
 use Rattle.std.specs.declared.cmp.Ordering.TheVariants.{Less}
 use Rattle.temporal_model.proofs.Members.{AllPairs-tail}
 use Rattle.snapshot_audit.specs.Sets.{IsAscending}
-use Rattle.snapshot_audit.proofs.SetSteps.{IsDoneWith, AreNotBelow, IsDifference, done_with_none, done_with_more, among_right, difference_none, difference_kept, difference_dropped}
+use Rattle.snapshot_audit.proofs.SetSteps.{AreKept, AreNotBelow, IsDoneWith, Lacks, among_right, done_with_more, done_with_none, kept_none, one_dropped, one_kept}
 use Rattle.snapshot_audit.proofs.set_operations.without.Goals as goal
 
 pub loop-values-init : goal.loop-values-init
@@ -16,7 +16,7 @@ loop-values-init c =
       all = refl;
       ascending = c.requires.left;
       others = done_with_none c.args.right.now c.args.left.items c.requires.right;
-      set = difference_none c.args.right.now c.args.left.items;
+      set = kept_none (Lacks c.args.right.now) c.args.left.items;
     })
 
 pub loop-values-preserved : goal.loop-values-preserved
@@ -36,8 +36,8 @@ loop-values-preserved c =
       all = append_assoc done (values ∷ []) left ∙ ap (λ l. done ++ l) (sym is) ∙ c.loop-values.invariant.all;
       ascending = AllPairs-tail (λ a b. values_cmp a b ≡ Less) values left up;
       others = done_with_more right c.loop-values.others.now c.not_below-others.result.now left values up before by;
-      set = difference_dropped right done left c.loop-values.set.items values (among.0 (c.is_first.ensures.0 c.if-not-is_first.false))
-          (subst (λ l. IsDifference right done l c.loop-values.set.items) is c.loop-values.invariant.set);
+      set = one_dropped (Lacks right) done left c.loop-values.set.items values (λ lacks. lacks (among.0 (c.is_first.ensures.0 c.if-not-is_first.false)))
+          (subst (λ l. AreKept (Lacks right) done l c.loop-values.set.items) is c.loop-values.invariant.set);
     }
 
 pub loop-values-preserved-in-Continue-1 : goal.loop-values-preserved-in-Continue-1
@@ -57,8 +57,8 @@ loop-values-preserved-in-Continue-1 c =
       all = append_assoc done (values ∷ []) left ∙ ap (λ l. done ++ l) (sym is) ∙ c.loop-values.invariant.all;
       ascending = AllPairs-tail (λ a b. values_cmp a b ≡ Less) values left up;
       others = done_with_more right c.loop-values.others.now c.not_below-others.result.now left values up before by;
-      set = difference_kept right done left c.loop-values.set.items values up (λ h. let wrong = c.if-not-is_first.ensures.1 (among.1 h) in cc)
-          (subst (λ l. IsDifference right done l c.loop-values.set.items) is c.loop-values.invariant.set);
+      set = one_kept (Lacks right) done left c.loop-values.set.items values up (λ h. let wrong = c.if-not-is_first.ensures.1 (among.1 h) in cc)
+          (subst (λ l. AreKept (Lacks right) done l c.loop-values.set.items) is c.loop-values.invariant.set);
     })
 
 pub returns : goal.returns

@@ -1,6 +1,6 @@
 use Rattle.std.proofs.Common.{◌≡◌, ◌++◌}
 use Rattle.snapshot_audit.specs.Sets.{IsAscending}
-use Rattle.snapshot_audit.proofs.SetSteps.{IsDoneWith, IsDifference}
+use Rattle.snapshot_audit.proofs.SetSteps.{AreKept, IsDoneWith, Lacks}
 use Rattle.snapshot_audit.proofs.set_operations.without.Given as goal
 
 abbrev pub invariant-loop-values : goal.invariant-loop-values
@@ -8,5 +8,5 @@ invariant-loop-values l = record {
   all : l.yielded ++ l.values-iterator.rest.items ≡ l.fn.left.items;
   ascending : IsAscending l.values-iterator.rest.items;
   others : IsDoneWith l.right l.others l.values-iterator.rest.items;
-  set : IsDifference l.right l.yielded l.values-iterator.rest.items l.set.items;
+  set : AreKept (Lacks l.right) l.yielded l.values-iterator.rest.items l.set.items;
 }
