@@ -1,7 +1,7 @@
 -- What a query gives over tables that are cut to slices.
-use Rattle.std.proofs.Common.{◌↔◌, ◌⊎◌, ◌≡◌, ◌≢◌, ◌≤ℤ◌, ◌<ℤ◌, ◌++◌, inl, inr, refl, sym, subst, ℤ, List, [], ◌∷◌, arith}
+use Rattle.std.proofs.Common.{◌↔◌, ◌⊎◌, ◌≢◌, ◌≤ℤ◌, ◌<ℤ◌, ◌++◌, inl, inr, refl, sym, subst, ℤ, List, [], ◌∷◌}
 use Rattle.std.specs.List.{AllZip, Contains}
-use Rattle.std.proofs.lemmas.Int.{ints, by_lt_z}
+use Rattle.std.proofs.lemmas.Int.{by_lt_z}
 use Rattle.std.proofs.lemmas.List.Elements.{Contains-append_left, Contains-append_right, Contains-append_cases}
 use Rattle.period_core.specs.Calendar.{last_day}
 use Rattle.period_core.specs.declared.row.PeriodRow.{PeriodRow}

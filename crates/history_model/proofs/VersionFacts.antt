@@ -1,5 +1,5 @@
 -- What versions hold as of a moment: those that began then, and those that have not ended.
-use Rattle.std.proofs.Common.{◌≡◌, ◌&&◌, ◌<ℤ◌, ◌≤ℤ◌, ◌+◌, ℤ, Bool, true, false, cond, List, [], ◌∷◌, ◌++◌, map, filter, inl, inr, refl, sym, ◌∙◌, ap, arith}
+use Rattle.std.proofs.Common.{◌≡◌, ◌&&◌, ◌<ℤ◌, ◌≤ℤ◌, ℤ, Bool, true, false, cond, List, [], ◌∷◌, map, filter, inl, inr, refl, sym, ◌∙◌, ap, arith}
 use Rattle.std.specs.Prelude.{int_lt, int_le}
 use Rattle.std.specs.Ordering.{int_cmp, int_eq, is_eq}
 use Rattle.std.specs.declared.cmp.Ordering.{Ordering}
