@@ -24,9 +24,6 @@
 //!   `values::bytes_of_no_values`
 //! - `code`, `name` of `Refusal`: `refusals::numbers_and_names`
 //!
-//! sql_statements
-//! - `select_alone`: `statements::queries_of_one_select`
-//!
 //! sql_front
 //! - `lex`: `statements::tokens`; `cut`: `statements::pieces`
 //! - `parse`: `statements::refusals`, `statements::names_in_upper_case`

@@ -4,7 +4,7 @@ use crate::fixtures::statement;
 use period_core::Refusal;
 use script_engine::{check_script, write_check};
 use sql_front::{LexFault, Span, cut, lex, parse};
-use sql_statements::{Statement, StatementForm, TokenKind, select_alone};
+use sql_statements::{Statement, StatementForm, TokenKind};
 use std::alloc::Global;
 use std::test::Fail;
 
@@ -100,33 +100,6 @@ fn names_in_upper_case(rt: HostRuntime) -> Result<(), Fail> {
     let is_shown = shows(&statement, "T");
     drop(statement);
     assert!(rt; is_shown);
-    Ok(())
-}
-
-// How many columns a sequenced query gives, if it is one select.
-fn columns_of_one_select(statement: &Statement) -> Option<usize> {
-    match statement.form() {
-        StatementForm::Sequenced(query) => select_alone(query).map(|select| select.items.len()),
-        _ => None,
-    }
-}
-
-#[test]
-fn queries_of_one_select(rt: HostRuntime) -> Result<(), Fail> {
-    let texts = [
-        ("VALIDTIME SELECT DISTINCT ENO, DEPT FROM EMP", Some(2)),
-        ("VALIDTIME (SELECT DISTINCT ENO, DEPT FROM EMP)", None),
-        (
-            "VALIDTIME SELECT DISTINCT ENO FROM EMP UNION SELECT DISTINCT DNO FROM DEP",
-            None,
-        ),
-    ];
-    for (text, wanted) in texts {
-        let statement = statement(rt.alloc(), text)?;
-        let found = columns_of_one_select(&statement);
-        drop(statement);
-        assert_eq!(rt; found, wanted, "of {text}");
-    }
     Ok(())
 }
 

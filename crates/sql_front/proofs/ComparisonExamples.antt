@@ -15,7 +15,7 @@ use Rattle.sql_front.specs.reading.LeafValues.{day_of_token, day_value}
 use Rattle.sql_front.specs.reading.Leaves.{date_read, literal_read, name_read, number_read, unsigned_read}
 use Rattle.sql_front.specs.reading.ConditionReaders.{column_read, compare_read, comparison_read, condition_read, conjunction_read, factor_read, operand_read, test_read, where_read}
 use Rattle.sql_front.specs.reading.WindowReaders.{for_window_read}
-use Rattle.sql_front.specs.reading.QueryReaders.{chain_read, item_read, joins_read, new_name_read, primary_read, query_read, reference_read, select_read, sequenced_read, step_read, steps_read, selected_read, from_read}
+use Rattle.sql_front.specs.reading.QueryReaders.{chain_read, item_read, joins_read, new_name_read, primary_read, query_read, reference_read, select_read, sequenced_read, step_read, steps_read, selected_read, from_read, intersections_read, term_read}
 use Rattle.sql_front.specs.reading.ChangeReaders.{delete_read, portion_read, deleted_read}
 use Rattle.sql_front.specs.reading.StatementReaders.{statement_read, later_statement_read, query_statement_read}
 use Rattle.sql_front.specs.reading.Reading.{bounded_read, whole_read}
@@ -103,7 +103,7 @@ not_below_tree = selected_where
     (Some (condition_of (record { left = Column (column_of (codes "T") (codes "B")); comparison = GreaterOrEqual; right = Literal (value.Text []) })))
 
 not_below_is_read : whole_read (statement_read 0) not_below ≡ Some not_below_tree
-unfolding statement_read later_statement_read query_statement_read sequenced_read query_read primary_read steps_read step_read select_read selected_read from_read item_read chain_read joins_read reference_read new_name_read for_window_read where_read condition_read conjunction_read factor_read test_read compare_read operand_read comparison_read column_read literal_read name_read bounded_read is_plain_word is_reserved
+unfolding statement_read later_statement_read query_statement_read sequenced_read query_read term_read intersections_read primary_read steps_read step_read select_read selected_read from_read item_read chain_read joins_read reference_read new_name_read for_window_read where_read condition_read conjunction_read factor_read test_read compare_read operand_read comparison_read column_read literal_read name_read bounded_read is_plain_word is_reserved
 not_below_is_read = refl
 
 pub not_below_spelled : IsStatement not_below not_below_tree

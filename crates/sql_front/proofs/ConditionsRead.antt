@@ -132,7 +132,7 @@ starts_compare = starts_built compare_of (starts_sequence (Sequence IsComparison
 -- ---- what may follow
 
 abbrev pub condition_ends : List Sort
-condition_ends = sign (codes ")") ∷ sign (codes ",") ∷ word (codes "JOIN") ∷ word (codes "INNER") ∷ word (codes "WHERE") ∷ word (codes "UNION") ∷ word (codes "EXCEPT") ∷ []
+condition_ends = sign (codes ")") ∷ sign (codes ",") ∷ word (codes "JOIN") ∷ word (codes "INNER") ∷ word (codes "WHERE") ∷ word (codes "INTERSECT") ∷ word (codes "UNION") ∷ word (codes "EXCEPT") ∷ []
 
 abbrev pub conjunction_ends : List Sort
 conjunction_ends = word (codes "OR") ∷ condition_ends
@@ -141,7 +141,7 @@ abbrev pub test_ends : List Sort
 test_ends = word (codes "AND") ∷ conjunction_ends
 
 abbrev pub where_ends : List Sort
-where_ends = sign (codes ")") ∷ word (codes "UNION") ∷ word (codes "EXCEPT") ∷ []
+where_ends = sign (codes ")") ∷ word (codes "INTERSECT") ∷ word (codes "UNION") ∷ word (codes "EXCEPT") ∷ []
 
 -- ---- conditions over tests that are read
 

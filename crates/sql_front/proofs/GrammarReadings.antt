@@ -10,14 +10,14 @@ use Rattle.sql_statements.specs.declared.statement.PeriodOperand.TheVariants.{Na
 use Rattle.sql_statements.specs.declared.statement.PeriodPredicate.TheVariants.{Overlaps, Equals, Contains, Precedes, Succeeds, ImmediatelyPrecedes, ImmediatelySucceeds}
 use Rattle.sql_statements.specs.declared.statement.StoredTest.TheVariants.{Values}
 use Rattle.sql_statements.specs.declared.statement.SystemTime.TheVariants.{AsOf}
-use Rattle.sql_statements.specs.declared.tree.SetOperator.TheVariants.{Union, Except}
+use Rattle.sql_statements.specs.declared.tree.SetOperator.TheVariants.{Union, Except, Intersect}
 use Rattle.sql_front.specs.Language.{Language, keyword, symbol, or_test, Fixed, Preceded, PrecededOrNot, Separated, StandsFor}
 use Rattle.sql_statements.specs.Trees.{Condition, Query, Statement, negated, simple, test, at, create, delete, insert, sequenced, stored, update}
 use Rattle.sql_front.specs.Literals.{any_value, exact}
 use Rattle.sql_front.specs.StandIns.{stand_in}
 use Rattle.sql_statements.specs.Names.{upper}
-use Rattle.sql_front.specs.Builders.{column_of, period_of, system_of, key_of, reference_of, table_of, column_reference_of, compare_of, all_of, any_of, from_to_of, between_of, table_reference_of, join_of, chain_of, item_of, select_of, combined_of, dates_of, periods_of, contains_day_of, stored_of, rows_of, portion_of, assignment_of, update_of, delete_of, column_element, period_element, system_element, key_element, reference_element}
-use Rattle.sql_front.specs.Grammar.{ConditionBelow, IsCondition, IsConjunction, IsFactor, IsTest, IsWhere, IsName, IsNames, IsLength, IsType, IsGenerated, IsNotNull, IsColumnElement, IsPair, IsPeriodElement, IsSystemElement, IsWithoutOverlaps, IsKeyElement, IsReferenceList, IsReferenceElement, IsElement, IsVersioning, IsCreate, IsColumn, IsOperand, IsComparison, IsCompare, IsWindow, IsForWindow, IsNewName, IsReference, IsJoin, IsChain, IsItem, IsSelect, IsPrimary, IsStep, QueryBelow, IsSequenced, IsPeriodOperand, IsRelation, IsPredicate, IsStoredTest, IsStored, IsInsert, IsPortion, IsAssignment, IsUpdate, IsDelete, IsAt, StatementBelow, comma, Spells}
+use Rattle.sql_front.specs.Builders.{column_of, period_of, system_of, key_of, reference_of, table_of, column_reference_of, compare_of, all_of, any_of, from_to_of, between_of, table_reference_of, join_of, chain_of, item_of, select_of, term_of, combined_of, dates_of, periods_of, contains_day_of, stored_of, rows_of, portion_of, assignment_of, update_of, delete_of, column_element, period_element, system_element, key_element, reference_element}
+use Rattle.sql_front.specs.Grammar.{ConditionBelow, IsCondition, IsConjunction, IsFactor, IsTest, IsWhere, IsName, IsNames, IsLength, IsType, IsGenerated, IsNotNull, IsColumnElement, IsPair, IsPeriodElement, IsSystemElement, IsWithoutOverlaps, IsKeyElement, IsReferenceList, IsReferenceElement, IsElement, IsVersioning, IsCreate, IsColumn, IsOperand, IsComparison, IsCompare, IsWindow, IsForWindow, IsNewName, IsReference, IsJoin, IsChain, IsItem, IsSelect, IsPrimary, IsIntersection, IsTerm, IsStep, QueryBelow, IsSequenced, IsPeriodOperand, IsRelation, IsPredicate, IsStoredTest, IsStored, IsInsert, IsPortion, IsAssignment, IsUpdate, IsDelete, IsAt, StatementBelow, comma, Spells}
 use Rattle.sql_front.proofs.LiteralReadings.{comma_no_minus, readings_clock_moment, readings_date, readings_literal, readings_moment, readings_number, readings_tuple}
 use Rattle.sql_front.proofs.Readings.{NoFault, Readings, keyword_no_minus, name_no_minus, symbol_no_minus, readings_built, readings_choice, readings_enclosed, readings_fixed, readings_one, readings_optional, readings_preceded, readings_preceded_or_not, readings_repetition, readings_separated, readings_sequence, readings_stands}
 
@@ -227,16 +227,24 @@ readings_select n =
 readings_primary : (n : ℕ) {E S Y : Language Query} → Readings E S Y → Readings (IsPrimary exact n E) (IsPrimary stand_in n S) (IsPrimary any_value n Y)
 readings_primary n r = readings_choice (readings_enclosed r) (readings_built simple (readings_select n))
 
+readings_intersection : (n : ℕ) {E S Y : Language Query} → Readings E S Y → Readings (IsIntersection exact n E) (IsIntersection stand_in n S) (IsIntersection any_value n Y)
+readings_intersection n r =
+    readings_sequence (word_for Intersect (codes "INTERSECT")) (after_or_not (codes "DISTINCT") (readings_primary n r))
+
+readings_term : (n : ℕ) {E S Y : Language Query} → Readings E S Y → Readings (IsTerm exact n E) (IsTerm stand_in n S) (IsTerm any_value n Y)
+readings_term n r =
+    readings_built term_of (readings_sequence (readings_primary n r) (readings_repetition (readings_intersection n r)))
+
 readings_step : (n : ℕ) {E S Y : Language Query} → Readings E S Y → Readings (IsStep exact n E) (IsStep stand_in n S) (IsStep any_value n Y)
 readings_step n r =
     readings_sequence (readings_choice (word_for Union (codes "UNION")) (word_for Except (codes "EXCEPT")))
-    (after_or_not (codes "DISTINCT") (readings_primary n r))
+    (after_or_not (codes "DISTINCT") (readings_term n r))
 
 readings_query : (n : ℕ) → Readings (QueryBelow exact n) (QueryBelow stand_in n) (QueryBelow any_value n)
 unfolding QueryBelow
 readings_query zero = record { sharp = λ x a f h. absurd h; known = λ x a h. h; loose = λ x a h. h; some = λ x a h. absurd h }
 readings_query (suc n) =
-    readings_built combined_of (readings_sequence (readings_primary (suc n) (readings_query n)) (readings_repetition (readings_step (suc n) (readings_query n))))
+    readings_built combined_of (readings_sequence (readings_term (suc n) (readings_query n)) (readings_repetition (readings_step (suc n) (readings_query n))))
 
 readings_sequenced : (n : ℕ) → Readings (IsSequenced exact n) (IsSequenced stand_in n) (IsSequenced any_value n)
 readings_sequenced n =

@@ -1,17 +1,17 @@
 -- Queries are read.
 use Rattle.std.proofs.Common.{◌≡◌, ℕ, zero, suc, true, List, [], ◌∷◌, refl, codes}
 use Rattle.sql_statements.specs.declared.tree.SetOperator.{SetOperator}
-use Rattle.sql_statements.specs.declared.tree.SetOperator.TheVariants.{Union, Except}
+use Rattle.sql_statements.specs.declared.tree.SetOperator.TheVariants.{Union, Except, Intersect}
 use Rattle.sql_statements.specs.Lexemes.{Lexeme}
 use Rattle.sql_front.specs.Language.{keyword, symbol, Choice, Enclosed, Fixed, Built, Optional, Preceded, PrecededOrNot, Repetition, Separated, Sequence, StandsFor}
 use Rattle.sql_statements.specs.Trees.{Query, simple}
-use Rattle.sql_front.specs.Builders.{chain_of, combined_of, item_of, join_of, select_of, table_reference_of}
+use Rattle.sql_front.specs.Builders.{chain_of, combined_of, item_of, join_of, select_of, table_reference_of, term_of}
 use Rattle.sql_front.specs.Grammar.{comma, ConditionBelow, IsWhere}
 use Rattle.sql_front.specs.Grammar.{QueryBelow}
 use Rattle.sql_front.specs.StandIns.{stand_in}
-use Rattle.sql_front.proofs.ReadGrammar.{IsChain, IsCompare, IsItem, IsJoin, IsNewName, IsPrimary, IsQuery, IsReference, IsSelect, IsSequenced, IsStep}
+use Rattle.sql_front.proofs.ReadGrammar.{IsChain, IsCompare, IsIntersection, IsItem, IsJoin, IsNewName, IsPrimary, IsQuery, IsReference, IsSelect, IsSequenced, IsStep, IsTerm}
 use Rattle.sql_front.specs.reading.Reading.{Reader}
-use Rattle.sql_front.specs.reading.QueryReaders.{chain_read, inner_query_read, item_read, join_read, joins_read, new_name_read, operator_read, primary_read, primary_with, query_read, query_with, reference_read, select_read, sequenced_read, step_read, step_with, steps_read, steps_with, selected_read, from_read, joined_read}
+use Rattle.sql_front.specs.reading.QueryReaders.{chain_read, inner_query_read, intersection_read, intersection_with, intersections_read, intersections_with, item_read, join_read, joins_read, new_name_read, operator_read, primary_read, primary_with, query_of_primaries, query_read, reference_read, select_read, sequenced_read, step_read, step_with, steps_read, steps_with, selected_read, from_read, joined_read, term_of_primaries, term_read}
 use Rattle.sql_front.proofs.First.{Starts, starts_built, starts_choice, starts_preceded, starts_preceded_or_not, starts_sequence, starts_stands}
 use Rattle.period_core.proofs.OptionFacts.{none_some}
 use Rattle.sql_front.proofs.Laws.{Any, Reads, reads_both, reads_built, reads_preceded, reads_preceded_or_not, reads_stands}
@@ -25,8 +25,11 @@ use Rattle.sql_front.proofs.WindowsRead.{reads_for_window}
 abbrev pub query_ends : List Sort
 query_ends = sign (codes ")") ∷ []
 
+abbrev term_ends : List Sort
+term_ends = word (codes "UNION") ∷ word (codes "EXCEPT") ∷ query_ends
+
 abbrev pub select_ends : List Sort
-select_ends = word (codes "UNION") ∷ word (codes "EXCEPT") ∷ query_ends
+select_ends = word (codes "INTERSECT") ∷ term_ends
 
 abbrev chains_ends : List Sort
 chains_ends = word (codes "WHERE") ∷ select_ends
@@ -151,17 +154,38 @@ module _ (n : ℕ) {L : List Lexeme → Query → Type 0} {inner : Reader Query}
       reads_choice_next (sign (codes "(") ∷ []) (word (codes "SELECT") ∷ []) refl opened selected
       (reads_next select_ends (reads_enclosed_next query_ends refl r)) (reads_built simple (reads_select n))
 
+  abbrev primary : Reader Query
+  primary = primary_with (select_read n) inner
+
+  starts_intersection : Starts (any_of (word (codes "INTERSECT") ∷ [])) (IsIntersection (suc n) L)
+  starts_intersection =
+      starts_sequence (PrecededOrNot (keyword (codes "DISTINCT")) (IsPrimary (suc n) L)) (starts_stands Intersect (keyword (codes "INTERSECT")))
+
+  reads_intersection : Reads (IsIntersection (suc n) L) (Next select_ends) (intersection_with primary)
+  reads_intersection =
+      reads_both (reads_stands Intersect (keyword (codes "INTERSECT")))
+      (reads_preceded_or_not starts_primary (apart_lists primary_firsts (word (codes "DISTINCT") ∷ []) refl) reads_primary)
+
+  reads_intersections : Reads (Repetition (IsIntersection (suc n) L)) (Next term_ends) (intersections_with (intersection_with primary))
+  reads_intersections = reads_repetition_next (word (codes "INTERSECT") ∷ []) term_ends select_ends refl refl refl starts_intersection reads_intersection
+
+  starts_term : Starts (any_of primary_firsts) (IsTerm (suc n) L)
+  starts_term = starts_built term_of (starts_sequence (Repetition (IsIntersection (suc n) L)) starts_primary)
+
+  reads_term : Reads (IsTerm (suc n) L) (Next term_ends) (term_of_primaries primary)
+  reads_term = reads_built term_of (reads_both_next reads_primary reads_intersections (leads_repetition (word (codes "INTERSECT") ∷ []) select_ends term_ends refl refl starts_intersection))
+
   starts_step : Starts (any_of step_firsts) (IsStep (suc n) L)
-  starts_step = starts_sequence (PrecededOrNot (keyword (codes "DISTINCT")) (IsPrimary (suc n) L)) starts_operator
+  starts_step = starts_sequence (PrecededOrNot (keyword (codes "DISTINCT")) (IsTerm (suc n) L)) starts_operator
 
-  reads_step : Reads (IsStep (suc n) L) (Next select_ends) (step_with (primary_with (select_read n) inner))
-  reads_step = reads_both reads_operator (reads_preceded_or_not starts_primary (apart_lists primary_firsts (word (codes "DISTINCT") ∷ []) refl) reads_primary)
+  reads_step : Reads (IsStep (suc n) L) (Next term_ends) (step_with (term_of_primaries primary))
+  reads_step = reads_both reads_operator (reads_preceded_or_not starts_term (apart_lists primary_firsts (word (codes "DISTINCT") ∷ []) refl) reads_term)
 
-  reads_steps : Reads (Repetition (IsStep (suc n) L)) (Next query_ends) (steps_with (step_with (primary_with (select_read n) inner)))
-  reads_steps = reads_repetition_next step_firsts query_ends select_ends refl refl refl starts_step reads_step
+  reads_steps : Reads (Repetition (IsStep (suc n) L)) (Next query_ends) (steps_with (step_with (term_of_primaries primary)))
+  reads_steps = reads_repetition_next step_firsts query_ends term_ends refl refl refl starts_step reads_step
 
-  reads_query_of : Reads (IsQuery (suc n) L) (Next query_ends) (query_with (primary_with (select_read n) inner) (steps_with (step_with (primary_with (select_read n) inner))))
-  reads_query_of = reads_built combined_of (reads_both_next reads_primary reads_steps (leads_repetition step_firsts select_ends query_ends refl refl starts_step))
+  reads_query_of : Reads (IsQuery (suc n) L) (Next query_ends) (query_of_primaries primary)
+  reads_query_of = reads_built combined_of (reads_both_next reads_term reads_steps (leads_repetition step_firsts term_ends query_ends refl refl starts_step))
 
 -- at any depth
 pub reads_inner_query : (n : ℕ) → Reads (QueryBelow stand_in n) (Next query_ends) (inner_query_read n)
@@ -170,7 +194,7 @@ reads_inner_query zero = record { found = λ ts x e. absurd (none_some x e); aga
 reads_inner_query (suc n) = reads_query_of n (reads_inner_query n)
 
 pub reads_query : (n : ℕ) → Reads (QueryBelow stand_in (suc n)) (Next query_ends) (query_read n)
-unfolding QueryBelow query_read steps_read step_read primary_read
+unfolding QueryBelow query_read steps_read step_read term_read intersections_read intersection_read primary_read
 reads_query n = reads_query_of n (reads_inner_query n)
 
 pub starts_sequenced : (n : ℕ) → Starts (any_of (word (codes "VALIDTIME") ∷ [])) (IsSequenced n)

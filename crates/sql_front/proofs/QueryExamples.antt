@@ -17,7 +17,7 @@ use Rattle.sql_front.specs.reading.LeafValues.{clock_of_token, clock_value, mome
 use Rattle.sql_front.specs.reading.Leaves.{clock_moment_read, name_read}
 use Rattle.sql_front.specs.reading.ConditionReaders.{column_read, compare_read, comparison_read, condition_read, conjunction_read, factor_read, operand_read, test_read, where_read}
 use Rattle.sql_front.specs.reading.WindowReaders.{for_window_read}
-use Rattle.sql_front.specs.reading.QueryReaders.{chain_read, item_read, join_read, joins_read, new_name_read, primary_read, query_read, reference_read, select_read, sequenced_read, step_read, steps_read, selected_read, from_read, joined_read}
+use Rattle.sql_front.specs.reading.QueryReaders.{chain_read, item_read, join_read, joins_read, new_name_read, primary_read, query_read, reference_read, select_read, sequenced_read, step_read, steps_read, selected_read, from_read, joined_read, intersections_read, term_read}
 use Rattle.sql_front.specs.reading.ChangeReaders.{at_read}
 use Rattle.sql_front.specs.reading.StatementReaders.{statement_read, later_statement_read, query_statement_read}
 use Rattle.sql_front.specs.reading.Reading.{bounded_read, whole_read}
@@ -76,7 +76,7 @@ renamed =
     None
 
 renaming_is_read : whole_read (statement_read 0) renaming ≡ Some renamed
-unfolding statement_read later_statement_read query_statement_read sequenced_read query_read primary_read steps_read step_read select_read selected_read from_read item_read chain_read joins_read reference_read new_name_read for_window_read where_read column_read name_read bounded_read is_plain_word is_reserved
+unfolding statement_read later_statement_read query_statement_read sequenced_read query_read term_read intersections_read primary_read steps_read step_read select_read selected_read from_read item_read chain_read joins_read reference_read new_name_read for_window_read where_read column_read name_read bounded_read is_plain_word is_reserved
 renaming_is_read = refl
 
 pub renaming_spelled : IsStatement renaming renamed
@@ -118,7 +118,7 @@ joined = selected_from (record {
 } ∷ [])
 
 joining_is_read : whole_read (statement_read 0) joining ≡ Some joined
-unfolding statement_read later_statement_read query_statement_read sequenced_read query_read primary_read steps_read step_read select_read selected_read from_read item_read chain_read join_read joined_read joins_read reference_read new_name_read for_window_read where_read condition_read conjunction_read factor_read test_read compare_read operand_read comparison_read column_read name_read bounded_read is_plain_word is_reserved
+unfolding statement_read later_statement_read query_statement_read sequenced_read query_read term_read intersections_read primary_read steps_read step_read select_read selected_read from_read item_read chain_read join_read joined_read joins_read reference_read new_name_read for_window_read where_read condition_read conjunction_read factor_read test_read compare_read operand_read comparison_read column_read name_read bounded_read is_plain_word is_reserved
 joining_is_read = refl
 
 pub joining_spelled : IsStatement joining joined
@@ -146,7 +146,7 @@ listed = selected_from (
     ∷ [])
 
 listing_is_read : whole_read (statement_read 0) listing ≡ Some listed
-unfolding statement_read later_statement_read query_statement_read sequenced_read query_read primary_read steps_read step_read select_read selected_read from_read item_read chain_read join_read joined_read joins_read reference_read new_name_read for_window_read where_read condition_read conjunction_read factor_read test_read compare_read operand_read comparison_read column_read name_read bounded_read is_plain_word is_reserved
+unfolding statement_read later_statement_read query_statement_read sequenced_read query_read term_read intersections_read primary_read steps_read step_read select_read selected_read from_read item_read chain_read join_read joined_read joins_read reference_read new_name_read for_window_read where_read condition_read conjunction_read factor_read test_read compare_read operand_read comparison_read column_read name_read bounded_read is_plain_word is_reserved
 listing_is_read = refl
 
 pub listing_spelled : IsStatement listing listed

@@ -1,13 +1,13 @@
 -- A query whose parentheses are not too deep is read at that depth.
 use Rattle.std.proofs.Common.{ℕ, zero, suc, List, codes}
-use Rattle.sql_statements.specs.declared.tree.SetOperator.TheVariants.{Union, Except}
+use Rattle.sql_statements.specs.declared.tree.SetOperator.TheVariants.{Union, Except, Intersect}
 use Rattle.sql_statements.specs.Lexemes.{Lexeme}
 use Rattle.sql_front.specs.Language.{Enclosed}
 use Rattle.sql_statements.specs.Trees.{Query, simple}
-use Rattle.sql_front.specs.Builders.{chain_of, combined_of, item_of, join_of, select_of, table_reference_of}
+use Rattle.sql_front.specs.Builders.{chain_of, combined_of, item_of, join_of, select_of, table_reference_of, term_of}
 use Rattle.sql_front.specs.Grammar.{QueryBelow}
 use Rattle.sql_front.specs.StandIns.{stand_in}
-use Rattle.sql_front.proofs.ReadGrammar.{IsChain, IsItem, IsJoin, IsNewName, IsPrimary, IsQuery, IsReference, IsSelect, IsSequenced}
+use Rattle.sql_front.proofs.ReadGrammar.{IsChain, IsItem, IsJoin, IsNewName, IsPrimary, IsQuery, IsReference, IsSelect, IsSequenced, IsTerm}
 use Rattle.sql_front.proofs.Levels.{Level, level_built, level_choice, level_closed, level_enclosed, level_optional, level_preceded, level_preceded_or_not, level_repetition, level_separated, level_sequence, level_stands, plain_keyword}
 use Rattle.sql_front.proofs.NamesRead.{level_name, plain_comma}
 use Rattle.sql_front.proofs.ConditionLevels.{level_column, level_compare, level_condition, level_where}
@@ -39,8 +39,11 @@ level_select n k =
 level_query_of : (n k : ℕ) (L M : List Lexeme → Query → Type 0) → Level k (Enclosed L) (Enclosed M) → Level k (IsQuery n L) (IsQuery (suc k) M)
 level_query_of n k L M r =
     let primary : Level k (IsPrimary n L) (IsPrimary (suc k) M) = level_choice r (level_built simple (level_select n k)) in
+    let intersect = level_stands k Intersect (plain_keyword (codes "INTERSECT")) in
+    let term : Level k (IsTerm n L) (IsTerm (suc k) M) =
+    level_built term_of (level_sequence primary (level_repetition (level_sequence intersect (level_preceded_or_not (plain_keyword (codes "DISTINCT")) primary)))) in
     let operator = level_choice (level_stands k Union (plain_keyword (codes "UNION"))) (level_stands k Except (plain_keyword (codes "EXCEPT"))) in
-    level_built combined_of (level_sequence primary (level_repetition (level_sequence operator (level_preceded_or_not (plain_keyword (codes "DISTINCT")) primary))))
+    level_built combined_of (level_sequence term (level_repetition (level_sequence operator (level_preceded_or_not (plain_keyword (codes "DISTINCT")) term))))
 
 -- a query with so much room is one of that depth
 pub level_query : (n k : ℕ) → Level k (QueryBelow stand_in n) (QueryBelow stand_in (suc k))

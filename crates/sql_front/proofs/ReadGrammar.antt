@@ -137,6 +137,12 @@ IsSelect = grammar.IsSelect stand_in
 abbrev pub IsPrimary : ℕ → Language Query → Language Query
 IsPrimary = grammar.IsPrimary stand_in
 
+abbrev pub IsIntersection : ℕ → Language Query → Language (SetOperator × Query)
+IsIntersection = grammar.IsIntersection stand_in
+
+abbrev pub IsTerm : ℕ → Language Query → Language Query
+IsTerm = grammar.IsTerm stand_in
+
 abbrev pub IsStep : ℕ → Language Query → Language (SetOperator × Query)
 IsStep = grammar.IsStep stand_in
 

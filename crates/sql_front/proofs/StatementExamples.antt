@@ -5,7 +5,7 @@ use Rattle.sql_statements.specs.declared.statement.Compare.{Compare}
 use Rattle.sql_statements.specs.declared.statement.Comparison.TheVariants.{Equal}
 use Rattle.sql_statements.specs.declared.statement.Operand.TheVariants.{Column, Literal}
 use Rattle.sql_statements.specs.declared.token.TokenKind.TheVariants.{Word, Number, Text, Symbol}
-use Rattle.sql_statements.specs.declared.tree.SetOperator.TheVariants.{Except, Union}
+use Rattle.sql_statements.specs.declared.tree.SetOperator.TheVariants.{Except, Intersect, Union}
 use Rattle.sql_statements.specs.Lexemes.{Lexeme}
 use Rattle.sql_statements.specs.Names.{is_plain_word}
 use Rattle.sql_statements.specs.Words.{is_reserved}
@@ -17,7 +17,7 @@ use Rattle.sql_front.specs.reading.LeafValues.{day_of_token, day_value}
 use Rattle.sql_front.specs.reading.Leaves.{date_read, literal_read, name_read, number_read, tuple_read, unsigned_read}
 use Rattle.sql_front.specs.reading.ConditionReaders.{column_read, compare_read, comparison_read, condition_read, conjunction_read, factor_read, operand_read, test_read, where_read}
 use Rattle.sql_front.specs.reading.WindowReaders.{for_window_read}
-use Rattle.sql_front.specs.reading.QueryReaders.{chain_read, inner_query_read, item_read, joins_read, new_name_read, operator_read, primary_read, query_read, reference_read, select_read, sequenced_read, step_read, steps_read, selected_read, from_read}
+use Rattle.sql_front.specs.reading.QueryReaders.{chain_read, inner_query_read, item_read, joins_read, new_name_read, operator_read, primary_read, query_read, reference_read, select_read, sequenced_read, step_read, steps_read, selected_read, from_read, intersection_read, intersections_read, term_read}
 use Rattle.sql_front.specs.reading.ChangeReaders.{assignment_read, columns_read, delete_read, in_portion_read, insert_read, portion_read, update_read, named_portion_read, bounds_read, inserted_read, values_read, deleted_read, set_read}
 use Rattle.sql_front.specs.reading.StatementReaders.{statement_read, stored_read, stored_table_read, later_statement_read, query_statement_read}
 use Rattle.sql_front.specs.reading.Reading.{bounded_read, whole_read}
@@ -58,7 +58,7 @@ abbrev query : List Lexeme
 query = word (codes "VALIDTIME") ∷ select (codes "eno") (codes "emp")
 
 query_is_read : whole_read (statement_read 0) query ≡ Some (sequenced (one_select (codes "ENO") (codes "EMP")))
-unfolding statement_read later_statement_read query_statement_read sequenced_read query_read primary_read steps_read step_read select_read selected_read from_read item_read chain_read joins_read reference_read new_name_read for_window_read where_read column_read name_read bounded_read is_plain_word is_reserved
+unfolding statement_read later_statement_read query_statement_read sequenced_read query_read term_read intersections_read primary_read steps_read step_read select_read selected_read from_read item_read chain_read joins_read reference_read new_name_read for_window_read where_read column_read name_read bounded_read is_plain_word is_reserved
 query_is_read = refl
 
 pub query_spelled : IsStatement query (sequenced (one_select (codes "ENO") (codes "EMP")))
@@ -69,7 +69,7 @@ abbrev undistinct : List Lexeme
 undistinct = word (codes "VALIDTIME") ∷ word (codes "SELECT") ∷ word (codes "ENO") ∷ word (codes "FROM") ∷ word (codes "EMP") ∷ []
 
 undistinct_is_not_read : whole_read (statement_read 5) undistinct ≡ None
-unfolding statement_read later_statement_read query_statement_read sequenced_read query_read primary_read select_read selected_read from_read
+unfolding statement_read later_statement_read query_statement_read sequenced_read query_read term_read primary_read select_read selected_read from_read
 undistinct_is_not_read = refl
 
 pub undistinct_spells_none : SpellsNone undistinct
@@ -89,7 +89,7 @@ chained =
     (step Except (simple (selected (codes "A") (codes "U"))) (step Union (simple (selected (codes "A") (codes "V"))) last))
 
 chain_is_read : whole_read (statement_read 0) chain ≡ Some (sequenced chained)
-unfolding statement_read later_statement_read query_statement_read sequenced_read query_read primary_read operator_read steps_read step_read select_read selected_read from_read item_read chain_read joins_read reference_read new_name_read for_window_read where_read column_read name_read bounded_read is_plain_word is_reserved
+unfolding statement_read later_statement_read query_statement_read sequenced_read query_read term_read intersections_read primary_read operator_read steps_read step_read select_read selected_read from_read item_read chain_read joins_read reference_read new_name_read for_window_read where_read column_read name_read bounded_read is_plain_word is_reserved
 chain_is_read = refl
 
 pub operators_apply_from_left_to_right : IsStatement chain (sequenced chained)
@@ -107,11 +107,49 @@ grouping =
     (step Except (combined (simple (selected (codes "A") (codes "U"))) (step Union (simple (selected (codes "A") (codes "V"))) last)) last)
 
 grouped_is_read : whole_read (statement_read 1) grouped ≡ Some (sequenced grouping)
-unfolding statement_read later_statement_read query_statement_read sequenced_read query_read inner_query_read primary_read operator_read steps_read step_read select_read selected_read from_read item_read chain_read joins_read reference_read new_name_read for_window_read where_read column_read name_read bounded_read is_plain_word is_reserved
+unfolding statement_read later_statement_read query_statement_read sequenced_read query_read inner_query_read term_read intersections_read primary_read operator_read steps_read step_read select_read selected_read from_read item_read chain_read joins_read reference_read new_name_read for_window_read where_read column_read name_read bounded_read is_plain_word is_reserved
 grouped_is_read = refl
 
 pub parentheses_group : IsStatement grouped (sequenced grouping)
 parentheses_group = spelled_if_read 1 grouped (sequenced grouping) grouped_is_read refl refl refl
+
+-- INTERSECT binds tighter than EXCEPT, which stands before it
+abbrev tighter : List Lexeme
+tighter =
+    word (codes "VALIDTIME") ∷ select (codes "A") (codes "T") ++ word (codes "EXCEPT") ∷ select (codes "A") (codes "U")
+    ++ word (codes "INTERSECT") ∷ select (codes "A") (codes "V")
+
+-- its right side is what INTERSECT gives
+abbrev tied : Query
+tied =
+    combined (simple (selected (codes "A") (codes "T")))
+    (step Except (combined (simple (selected (codes "A") (codes "U"))) (step Intersect (simple (selected (codes "A") (codes "V"))) last)) last)
+
+tighter_is_read : whole_read (statement_read 0) tighter ≡ Some (sequenced tied)
+unfolding statement_read later_statement_read query_statement_read sequenced_read query_read term_read intersections_read intersection_read primary_read operator_read steps_read step_read select_read selected_read from_read item_read chain_read joins_read reference_read new_name_read for_window_read where_read column_read name_read bounded_read is_plain_word is_reserved
+tighter_is_read = refl
+
+pub intersect_binds_tighter : IsStatement tighter (sequenced tied)
+intersect_binds_tighter = spelled_if_read 0 tighter (sequenced tied) tighter_is_read refl refl refl
+
+-- one INTERSECT after another, from left to right, and UNION after both
+abbrev intersections : List Lexeme
+intersections =
+    word (codes "VALIDTIME") ∷ select (codes "A") (codes "T") ++ word (codes "INTERSECT") ∷ select (codes "A") (codes "U")
+    ++ word (codes "intersect") ∷ word (codes "DISTINCT") ∷ select (codes "A") (codes "V") ++ word (codes "UNION") ∷ select (codes "A") (codes "W")
+
+abbrev intersected : Query
+intersected =
+    combined
+    (combined (simple (selected (codes "A") (codes "T"))) (step Intersect (simple (selected (codes "A") (codes "U"))) (step Intersect (simple (selected (codes "A") (codes "V"))) last)))
+    (step Union (simple (selected (codes "A") (codes "W"))) last)
+
+intersections_are_read : whole_read (statement_read 0) intersections ≡ Some (sequenced intersected)
+unfolding statement_read later_statement_read query_statement_read sequenced_read query_read term_read intersections_read intersection_read primary_read operator_read steps_read step_read select_read selected_read from_read item_read chain_read joins_read reference_read new_name_read for_window_read where_read column_read name_read bounded_read is_plain_word is_reserved
+intersections_are_read = refl
+
+pub intersections_apply_from_left_to_right : IsStatement intersections (sequenced intersected)
+intersections_apply_from_left_to_right = spelled_if_read 0 intersections (sequenced intersected) intersections_are_read refl refl refl
 
 -- ---- conditions
 

@@ -13,7 +13,7 @@ use Rattle.sql_front.specs.reading.LeafValues.{clock_of_token, clock_value, mome
 use Rattle.sql_front.specs.reading.Leaves.{clock_moment_read, moment_read, name_read}
 use Rattle.sql_front.specs.reading.ConditionReaders.{column_read, where_read}
 use Rattle.sql_front.specs.reading.WindowReaders.{for_window_read, window_read, two_moments_read}
-use Rattle.sql_front.specs.reading.QueryReaders.{chain_read, item_read, joins_read, new_name_read, primary_read, query_read, reference_read, select_read, sequenced_read, step_read, steps_read, selected_read, from_read}
+use Rattle.sql_front.specs.reading.QueryReaders.{chain_read, item_read, joins_read, new_name_read, primary_read, query_read, reference_read, select_read, sequenced_read, step_read, steps_read, selected_read, from_read, intersections_read, term_read}
 use Rattle.sql_front.specs.reading.StatementReaders.{statement_read, stored_read, stored_table_read, later_statement_read, query_statement_read}
 use Rattle.sql_front.specs.reading.Reading.{bounded_read, whole_read}
 use Rattle.sql_front.proofs.Spelling.{spelled_if_read}
@@ -111,7 +111,7 @@ abbrev old_tree : Statement
 old_tree = selected_from (record { first = record { table = codes "T"; window = Some (AsOf (pos 1_704_067_200)); new_name = Some (codes "X") }; joins = [] } ∷ [])
 
 old_is_read : whole_read (statement_read 0) old ≡ Some old_tree
-unfolding statement_read later_statement_read query_statement_read sequenced_read query_read primary_read steps_read step_read select_read selected_read from_read item_read chain_read joins_read reference_read new_name_read for_window_read window_read two_moments_read clock_moment_read clock_value clock_of_token moment_of_token moment_of_text date_at time_at date_parts_of time_parts_of is_date is_time where_read column_read name_read bounded_read is_plain_word is_reserved
+unfolding statement_read later_statement_read query_statement_read sequenced_read query_read term_read intersections_read primary_read steps_read step_read select_read selected_read from_read item_read chain_read joins_read reference_read new_name_read for_window_read window_read two_moments_read clock_moment_read clock_value clock_of_token moment_of_token moment_of_text date_at time_at date_parts_of time_parts_of is_date is_time where_read column_read name_read bounded_read is_plain_word is_reserved
 old_is_read = refl
 
 pub old_spelled : IsStatement old old_tree
@@ -132,7 +132,7 @@ several_tree = selected_from (
     ∷ [])
 
 several_is_read : whole_read (statement_read 0) several ≡ Some several_tree
-unfolding statement_read later_statement_read query_statement_read sequenced_read query_read primary_read steps_read step_read select_read selected_read from_read item_read chain_read joins_read reference_read new_name_read for_window_read window_read two_moments_read moment_read moment_value moment_of_token moment_of_text date_at time_at date_parts_of time_parts_of is_date is_time where_read column_read name_read bounded_read is_plain_word is_reserved
+unfolding statement_read later_statement_read query_statement_read sequenced_read query_read term_read intersections_read primary_read steps_read step_read select_read selected_read from_read item_read chain_read joins_read reference_read new_name_read for_window_read window_read two_moments_read moment_read moment_value moment_of_token moment_of_text date_at time_at date_parts_of time_parts_of is_date is_time where_read column_read name_read bounded_read is_plain_word is_reserved
 several_is_read = refl
 
 pub several_spelled : IsStatement several several_tree

@@ -1,5 +1,5 @@
 -- What the productions of the grammar build of their parts.
-use Rattle.std.specs.Prelude.{ℕ, ℤ, pos, List, Option, Some, None, filter_map}
+use Rattle.std.specs.Prelude.{ℕ, ℤ, pos, List, [], ◌∷◌, Option, Some, None, filter_map}
 use Rattle.period_core.specs.declared.value.Value.{Value}
 use Rattle.period_core.specs.declared.value.Value.TheVariants as value
 use Rattle.sql_statements.specs.declared.create.ColumnElement.{ColumnElement}
@@ -163,6 +163,11 @@ item_of v = record { column = v.0; new_name = v.1 }
 -- a select by its items, its chains and its condition
 abbrev pub select_of : List SelectItem × (List JoinChain × Option (Condition Compare)) → Select
 select_of v = record { items = v.0; chains = v.1.0; condition = v.1.1 }
+
+-- a term by its first part, and the intersections after it: without one it is that part
+abbrev pub term_of : Query × List (SetOperator × Query) → Query
+term_of (first, []) = first
+term_of (first, s ∷ more) = combined first (steps_of (s ∷ more))
 
 -- a query by its first part, and the set operators with the queries after them
 abbrev pub combined_of : Query × List (SetOperator × Query) → Query

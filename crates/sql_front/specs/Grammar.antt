@@ -41,7 +41,7 @@ use Rattle.sql_statements.specs.declared.statement.SystemTime.{SystemTime}
 use Rattle.sql_statements.specs.declared.statement.SystemTime.TheVariants.{AsOf}
 use Rattle.sql_statements.specs.declared.statement.TableReference.{TableReference}
 use Rattle.sql_statements.specs.declared.tree.SetOperator.{SetOperator}
-use Rattle.sql_statements.specs.declared.tree.SetOperator.TheVariants.{Union, Except}
+use Rattle.sql_statements.specs.declared.tree.SetOperator.TheVariants.{Union, Except, Intersect}
 use Rattle.sql_statements.specs.Lexemes.{Lexeme}
 use Rattle.sql_statements.specs.Names.{is_plain_word, upper}
 use Rattle.sql_front.specs.Language.{Language, is_word, keyword, symbol, text, OneToken, Fixed}
@@ -55,9 +55,9 @@ use Rattle.sql_front.specs.Builders.{reference_of, Element, column_element, peri
 use Rattle.sql_front.specs.Builders.{system_element, key_element, reference_element, table_of}
 use Rattle.sql_front.specs.Builders.{column_reference_of, compare_of, all_of, any_of, from_to_of}
 use Rattle.sql_front.specs.Builders.{between_of, table_reference_of, join_of, chain_of, item_of}
-use Rattle.sql_front.specs.Builders.{select_of, combined_of, dates_of, periods_of, contains_day_of}
-use Rattle.sql_front.specs.Builders.{stored_of, rows_of, portion_of, assignment_of, update_of}
-use Rattle.sql_front.specs.Builders.{delete_of}
+use Rattle.sql_front.specs.Builders.{select_of, term_of, combined_of, dates_of, periods_of}
+use Rattle.sql_front.specs.Builders.{contains_day_of, stored_of, rows_of, portion_of}
+use Rattle.sql_front.specs.Builders.{assignment_of, update_of, delete_of}
 use Rattle.sql_front.specs.Literals.{Literals, exact}
 
 -- a word that is not reserved
@@ -315,16 +315,27 @@ module _ (literals : Literals) where
   abbrev pub IsPrimary : ℕ → Language Query → Language Query
   IsPrimary n Inner = Choice (Enclosed Inner) (Built simple (IsSelect n))
 
-  -- ( UNION | EXCEPT ) [ DISTINCT ] primary
+  -- INTERSECT [ DISTINCT ] primary
+  abbrev pub IsIntersection : ℕ → Language Query → Language (SetOperator × Query)
+  IsIntersection n Inner =
+      Sequence (StandsFor Intersect (keyword (codes "INTERSECT")))
+      (PrecededOrNot (keyword (codes "DISTINCT")) (IsPrimary n Inner))
+
+  -- term = primary { INTERSECT [ DISTINCT ] primary }
+  abbrev pub IsTerm : ℕ → Language Query → Language Query
+  IsTerm n Inner =
+      Built term_of (Sequence (IsPrimary n Inner) (Repetition (IsIntersection n Inner)))
+
+  -- ( UNION | EXCEPT ) [ DISTINCT ] term
   abbrev pub IsStep : ℕ → Language Query → Language (SetOperator × Query)
   IsStep n Inner =
       Sequence (Choice (StandsFor Union (keyword (codes "UNION")))
       (StandsFor Except (keyword (codes "EXCEPT"))))
-      (PrecededOrNot (keyword (codes "DISTINCT")) (IsPrimary n Inner))
+      (PrecededOrNot (keyword (codes "DISTINCT")) (IsTerm n Inner))
 
-  -- query = primary { ( UNION | EXCEPT ) [ DISTINCT ] primary }, over what is in parentheses
+  -- query = term { ( UNION | EXCEPT ) [ DISTINCT ] term }, over what is in parentheses
   abbrev pub IsQuery : ℕ → Language Query → Language Query
-  IsQuery n Inner = Built combined_of (Sequence (IsPrimary n Inner) (Repetition (IsStep n Inner)))
+  IsQuery n Inner = Built combined_of (Sequence (IsTerm n Inner) (Repetition (IsStep n Inner)))
 
   -- a query whose parentheses nest less than so deep, its conditions' too
   unfoldable pub QueryBelow : ℕ → Language Query

@@ -1,15 +1,17 @@
 //! Queries, read from the front.
 
 ghost use Rattle.std.specs.Prelude.{◌≡◌, ◌≤◌, ◌<◌, List, [], ℕ, Some, length, map, IfOk};
+ghost use Rattle.sql_front.specs.Builders.{term_of};
 ghost use Rattle.sql_front.specs.reading.Gives.{Gives};
 ghost use Rattle.sql_statements.specs.Lexemes.{lexemes};
 ghost use Rattle.sql_statements.specs.Plain.{plain_query, plain_select, plain_step, steps_of};
 ghost use Rattle.sql_front.specs.reading.Reading.{begins};
 ghost use Rattle.sql_statements.specs.Trees as trees;
 ghost use Rattle.sql_front.specs.reading.QueryReaders.{begins_step, inner_query_read};
-ghost use Rattle.sql_front.specs.reading.QueryReaders.{operator_read, primary_read};
-ghost use Rattle.sql_front.specs.reading.QueryReaders.{query_read, sequenced_read, step_read};
-ghost use Rattle.sql_front.specs.reading.QueryReaders.{steps_read};
+ghost use Rattle.sql_front.specs.reading.QueryReaders.{intersection_read, intersections_read};
+ghost use Rattle.sql_front.specs.reading.QueryReaders.{operator_read};
+ghost use Rattle.sql_front.specs.reading.QueryReaders.{primary_read, query_read, sequenced_read};
+ghost use Rattle.sql_front.specs.reading.QueryReaders.{step_read, steps_read, term_read};
 
 use crate::mark::{Mark, after, skip, skip_optional, starts};
 use crate::selects::read_select;
@@ -19,14 +21,14 @@ use sql_statements::token::Token;
 use sql_statements::tree::{QueryTree, SetOperator};
 use std::alloc::Global;
 
-/// Does a set operator come next?
+/// Does UNION or EXCEPT come next?
 fn starts_step(tokens: &[Token<'_>]) -> bool
     ensures { result ≡ begins begins_step (lexemes tokens.now) }
 {
     starts(tokens, Mark::Keyword("UNION")) || starts(tokens, Mark::Keyword("EXCEPT"))
 }
 
-/// A set operator, and the tokens after it.
+/// UNION or EXCEPT, and the tokens after it.
 #[tactic(auto, unfolding(crate::specs::reading::QueryReaders::operator_read))]
 fn read_operator<'a, 'b>(tokens: &'b [Token<'a>]) -> Result<(SetOperator, &'b [Token<'a>]), Unread>
     ensures value { Gives (λ x. (x.0, lexemes x.1.now)) result
@@ -60,6 +62,21 @@ fn combined(
     Ok(QueryTree::Combined(Box::new(alloc, first)?, steps))
 }
 
+/// The query of a term: its first part, alone where no intersections come after it.
+fn term(
+    alloc: Global,
+    first: QueryTree<SelectDistinct>,
+    steps: Vec<(SetOperator, QueryTree<SelectDistinct>)>,
+) -> Result<QueryTree<SelectDistinct>, Unread>
+    ensures { Gives plain_query result
+        (Some (term_of (plain_query first, map plain_step steps.items))) }
+{
+    if steps.is_empty() {
+        return Ok(first);
+    }
+    combined(alloc, first, steps)
+}
+
 /// A query, and the tokens after it. At most `depth` parentheses open in it.
 #[cycle(queries)]
 #[tactic(auto, unfolding(crate::specs::reading::QueryReaders::query_read))]
@@ -72,7 +89,7 @@ pub fn read_query<'a, 'b>(
         (query_read depth (lexemes tokens.now)) }
     ensures rest { IfOk result (λ x. length x.1.now ≤ length tokens.now) }
 {
-    let (first, rest) = read_primary(alloc, depth, tokens)?;
+    let (first, rest) = read_term(alloc, depth, tokens)?;
     match read_steps(alloc, depth, rest) {
         Ok((steps, rest)) => Ok((combined(alloc, first, steps)?, rest)),
         Err(unread) => {
@@ -97,7 +114,7 @@ fn no_steps<'a, 'b>(
     (Vec::new(alloc), tokens)
 }
 
-/// Set operators with the queries behind them, or none, and the tokens after them.
+/// UNION and EXCEPT with the terms behind them, or none, and the tokens after them.
 #[cycle(queries)]
 fn read_steps<'a, 'b>(
     alloc: Global,
@@ -123,7 +140,7 @@ fn read_steps<'a, 'b>(
     Ok((items, rest))
 }
 
-/// A set operator with the query behind it, and the tokens after them.
+/// UNION or EXCEPT with the term behind it, and the tokens after them.
 #[cycle(queries)]
 #[tactic(auto, unfolding(crate::specs::reading::QueryReaders::step_read))]
 fn read_step<'a, 'b>(
@@ -136,9 +153,77 @@ fn read_step<'a, 'b>(
     ensures rest { IfOk result (λ x. length x.1.now < length tokens.now) }
 {
     let (operator, rest) = read_operator(tokens)?;
+    let term = skip_optional(rest, Mark::Keyword("DISTINCT"));
+    let (next, rest) = read_term(alloc, depth, term)?;
+    Ok(((operator, next), rest))
+}
+
+/// A term, and the tokens after it: what INTERSECT combines before UNION and EXCEPT do.
+#[cycle(queries)]
+#[tactic(auto, unfolding(crate::specs::reading::QueryReaders::term_read))]
+fn read_term<'a, 'b>(
+    alloc: Global,
+    depth: usize,
+    tokens: &'b [Token<'a>],
+) -> Result<(QueryTree<SelectDistinct>, &'b [Token<'a>]), Unread>
+    ensures value { Gives (λ x. (plain_query x.0, lexemes x.1.now)) result
+        (term_read depth (lexemes tokens.now)) }
+    ensures rest { IfOk result (λ x. length x.1.now ≤ length tokens.now) }
+{
+    let (first, rest) = read_primary(alloc, depth, tokens)?;
+    match read_intersections(alloc, depth, rest) {
+        Ok((steps, rest)) => Ok((term(alloc, first, steps)?, rest)),
+        Err(unread) => {
+            // By a call: the proof of an implicit drop goes through the whole of a query.
+            drop(first);
+            Err(unread)
+        }
+    }
+}
+
+/// Each INTERSECT with the select or query in parentheses behind it, or none, and the tokens after
+/// them.
+#[cycle(queries)]
+fn read_intersections<'a, 'b>(
+    alloc: Global,
+    depth: usize,
+    tokens: &'b [Token<'a>],
+) -> Result<
+    (
+        Vec<(SetOperator, QueryTree<SelectDistinct>)>,
+        &'b [Token<'a>],
+    ),
+    Unread,
+>
+    ensures value { Gives (λ x. (map plain_step x.0.items, lexemes x.1.now)) result
+        (intersections_read depth (lexemes tokens.now)) }
+    ensures rest { IfOk result (λ x. length x.1.now ≤ length tokens.now) }
+{
+    let (mut items, mut rest) = no_steps(alloc, tokens);
+    'items: while starts(rest, Mark::Keyword("INTERSECT")) {
+        let (next, after) = read_intersection(alloc, depth, rest)?;
+        items.push(next)?;
+        rest = after;
+    }
+    Ok((items, rest))
+}
+
+/// INTERSECT with the select or query in parentheses behind it, and the tokens after them.
+#[cycle(queries)]
+#[tactic(auto, unfolding(crate::specs::reading::QueryReaders::intersection_read))]
+fn read_intersection<'a, 'b>(
+    alloc: Global,
+    depth: usize,
+    tokens: &'b [Token<'a>],
+) -> Result<((SetOperator, QueryTree<SelectDistinct>), &'b [Token<'a>]), Unread>
+    ensures value { Gives (λ x. (plain_step x.0, lexemes x.1.now)) result
+        (intersection_read depth (lexemes tokens.now)) }
+    ensures rest { IfOk result (λ x. length x.1.now < length tokens.now) }
+{
+    let rest = skip(tokens, Mark::Keyword("INTERSECT"))?;
     let primary = skip_optional(rest, Mark::Keyword("DISTINCT"));
     let (next, rest) = read_primary(alloc, depth, primary)?;
-    Ok(((operator, next), rest))
+    Ok(((SetOperator::Intersect, next), rest))
 }
 
 /// A select, or a query in parentheses, and the tokens after it.

@@ -2,5 +2,4 @@ pub mod Counting
 pub mod FrontEnds
 pub mod NameFacts
 pub mod QueryViews
-pub mod OnlySelects
 pub mod WordsFacts

@@ -6,4 +6,3 @@ pub mod Names
 pub mod Trees
 pub mod Elements
 pub mod Plain
-pub mod OnlySelect

@@ -11,7 +11,6 @@ pub mod create;
 pub mod lexeme;
 pub mod name;
 pub mod nonempty;
-mod only_select;
 pub mod scan;
 pub mod statement;
 pub mod token;
@@ -26,7 +25,6 @@ pub use create::{
 };
 pub use name::Name;
 pub use nonempty::NonEmpty;
-pub use only_select::select_alone;
 pub use statement::{
     Assignment, ColumnReference, Compare, Comparison, DeleteRows, InsertRows, Join, JoinChain,
     Operand, PeriodOperand, PeriodPredicate, Portion, SelectDistinct, SelectItem, Statement,

@@ -3,13 +3,13 @@ use Rattle.std.specs.Prelude.{ℕ, zero, suc, List, codes, Option, None, Bool}
 use Rattle.sql_statements.specs.declared.statement.SelectItem.{SelectItem}
 use Rattle.sql_statements.specs.declared.statement.TableReference.{TableReference}
 use Rattle.sql_statements.specs.declared.tree.SetOperator.{SetOperator}
-use Rattle.sql_statements.specs.declared.tree.SetOperator.TheVariants.{Union, Except}
+use Rattle.sql_statements.specs.declared.tree.SetOperator.TheVariants.{Union, Except, Intersect}
 use Rattle.sql_statements.specs.Lexemes.{Lexeme}
 use Rattle.sql_front.specs.Language.{keyword, symbol, or_test}
 use Rattle.sql_statements.specs.declared.statement.Compare.{Compare}
 use Rattle.sql_statements.specs.Trees.{Condition, Join, JoinChain, Select, Query, simple}
 use Rattle.sql_front.specs.Builders.{table_reference_of, join_of, chain_of, item_of, select_of}
-use Rattle.sql_front.specs.Builders.{combined_of}
+use Rattle.sql_front.specs.Builders.{term_of, combined_of}
 use Rattle.sql_front.specs.Grammar.{name, comma}
 use Rattle.sql_front.specs.reading.Reading.{Reader, begins, sequence_read, built_read, choice_read}
 use Rattle.sql_front.specs.reading.Reading.{optional_read, repetition_read, preceded_read}
@@ -78,13 +78,13 @@ select_read n =
 
 -- ---- queries
 
+-- UNION or EXCEPT
 unfoldable pub operator_read : Reader SetOperator
 operator_read =
     choice_read (begins (keyword (codes "UNION")))
     (stands_read Union (keyword (codes "UNION")))
     (stands_read Except (keyword (codes "EXCEPT")))
 
--- a set operator
 abbrev pub begins_step : Lexeme → Bool
 begins_step = or_test (keyword (codes "UNION")) (keyword (codes "EXCEPT"))
 
@@ -92,34 +92,62 @@ abbrev pub primary_with : Reader Select → Reader Query → Reader Query
 primary_with select inner =
     choice_read (begins (symbol (codes "("))) (enclosed_read inner) (built_read simple select)
 
+abbrev pub intersection_with : Reader Query → Reader (SetOperator × Query)
+intersection_with primary =
+    sequence_read (stands_read Intersect (keyword (codes "INTERSECT")))
+    (preceded_or_not_read (keyword (codes "DISTINCT")) primary)
+
+abbrev pub intersections_with : Reader (SetOperator × Query) → Reader (List (SetOperator × Query))
+intersections_with intersection =
+    repetition_read (begins (keyword (codes "INTERSECT"))) intersection
+
+abbrev pub term_with : Reader Query → Reader (List (SetOperator × Query)) → Reader Query
+term_with primary intersections = built_read term_of (sequence_read primary intersections)
+
 abbrev pub step_with : Reader Query → Reader (SetOperator × Query)
-step_with primary =
-    sequence_read operator_read (preceded_or_not_read (keyword (codes "DISTINCT")) primary)
+step_with term =
+    sequence_read operator_read (preceded_or_not_read (keyword (codes "DISTINCT")) term)
 
 abbrev pub steps_with : Reader (SetOperator × Query) → Reader (List (SetOperator × Query))
 steps_with step = repetition_read (begins begins_step) step
 
 abbrev pub query_with : Reader Query → Reader (List (SetOperator × Query)) → Reader Query
-query_with primary steps = built_read combined_of (sequence_read primary steps)
+query_with term steps = built_read combined_of (sequence_read term steps)
+
+-- a term and a query, by their primaries
+abbrev pub term_of_primaries : Reader Query → Reader Query
+term_of_primaries primary = term_with primary (intersections_with (intersection_with primary))
+
+abbrev pub query_of_primaries : Reader Query → Reader Query
+query_of_primaries primary =
+    query_with (term_of_primaries primary) (steps_with (step_with (term_of_primaries primary)))
 
 -- a query whose parentheses nest less than n deep
 unfoldable pub inner_query_read : ℕ → Reader Query
 inner_query_read zero ts = None
 inner_query_read (suc n) ts =
-    query_with (primary_with (select_read n) (inner_query_read n))
-    (steps_with (step_with (primary_with (select_read n) (inner_query_read n)))) ts
+    query_of_primaries (primary_with (select_read n) (inner_query_read n)) ts
 
 unfoldable pub primary_read : ℕ → Reader Query
 primary_read n = primary_with (select_read n) (inner_query_read n)
 
+unfoldable pub intersection_read : ℕ → Reader (SetOperator × Query)
+intersection_read n = intersection_with (primary_read n)
+
+unfoldable pub intersections_read : ℕ → Reader (List (SetOperator × Query))
+intersections_read n = intersections_with (intersection_read n)
+
+unfoldable pub term_read : ℕ → Reader Query
+term_read n = term_with (primary_read n) (intersections_read n)
+
 unfoldable pub step_read : ℕ → Reader (SetOperator × Query)
-step_read n = step_with (primary_read n)
+step_read n = step_with (term_read n)
 
 unfoldable pub steps_read : ℕ → Reader (List (SetOperator × Query))
 steps_read n = steps_with (step_read n)
 
 unfoldable pub query_read : ℕ → Reader Query
-query_read n = query_with (primary_read n) (steps_read n)
+query_read n = query_with (term_read n) (steps_read n)
 
 unfoldable pub sequenced_read : ℕ → Reader Query
 sequenced_read n = preceded_read (keyword (codes "VALIDTIME")) (query_read n)
