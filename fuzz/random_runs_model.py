@@ -30,7 +30,7 @@ Stored = collections.namedtuple('Stored', 'table window where')  # the last two 
 Query = collections.namedtuple('Query', 'query')  # a Select or a SetOperators
 Select = collections.namedtuple('Select', 'items chains where')  # the last may be None
 SetOperators = collections.namedtuple('SetOperators', 'first rest')  # a query, and Operands
-Operand = collections.namedtuple('Operand', 'operator query')  # UNION or EXCEPT, and to what
+Operand = collections.namedtuple('Operand', 'operator query')  # a word of OPERATORS, and to what
 Item = collections.namedtuple('Item', 'column new_name')  # the last may be None
 Chain = collections.namedtuple('Chain', 'table joins')  # a TableReference and Joins
 Join = collections.namedtuple('Join', 'table on')
@@ -73,6 +73,10 @@ COMPARISONS = {
     '=': lambda left, right: left == right, '<>': lambda left, right: left != right,
     '<': lambda left, right: left < right, '<=': lambda left, right: left <= right,
     '>': lambda left, right: left > right, '>=': lambda left, right: left >= right}
+# Of two sets of rows.
+OPERATORS = {
+    'UNION': lambda left, right: left | right, 'EXCEPT': lambda left, right: left - right,
+    'INTERSECT': lambda left, right: left & right}
 # Of two periods, each a start and an end.
 PREDICATES = {
     'OVERLAPS': lambda xs, xe, ys, ye: xs < ye and ys < xe,
@@ -645,11 +649,22 @@ class Model:
         """The days with the set of rows that the ordinary query gives on each."""
         if isinstance(query, Select):
             return self.selected(query)
-        days = self.asked(query.first)
+        terms = [(None, self.asked(query.first))]  # what UNION and EXCEPT are between, and after
         for operator, operand in query.rest:
-            days = [(first, left | right if operator == 'UNION' else left - right)
-                    for first, (left, right) in together([days, self.asked(operand)])]
+            days = self.asked(operand)
+            if operator == 'INTERSECT':
+                before, term = terms.pop()
+                terms.append((before, self.combined(operator, term, days)))
+            else:
+                terms.append((operator, days))
+        (_, days), *rest = terms
+        for operator, term in rest:
+            days = self.combined(operator, days, term)
         return days
+
+    def combined(self, operator, left, right):
+        """The days of two queries with a set operator between them."""
+        return [(first, OPERATORS[operator](*sets)) for first, sets in together([left, right])]
 
     def selected(self, select):
         references = self.references_of(select)

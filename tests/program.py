@@ -30,6 +30,32 @@ def got(words, given=b'', **how):
     return run.returncode, run.stdout, run.stderr
 
 
+def commands(block):
+    """The commands of a block of a page, each with what it prints: `$ COMMAND`, with a backslash at
+    the end of a line that goes on, and the lines behind it."""
+    found = []
+    for line in block.splitlines(keepends=True):
+        if line.startswith('$ '):
+            found.append([line[2:], ''])
+        elif found[-1][0].endswith('\\\n'):
+            found[-1][0] += line
+        else:
+            found[-1][1] += line
+    return found
+
+
+def folder_for_commands(name):
+    """Fills a folder in which the commands of a page find what they name: `./bitemporal` is the
+    program."""
+    folder = pathlib.Path(name)
+    for part in ('tools', 'examples', 'docs'):
+        (folder / part).symlink_to(ROOT / part)
+    start = folder / 'bitemporal'
+    start.write_text(f'#!/bin/sh\nexec "{pathlib.Path(PROGRAM).resolve()}" "$@"\n')
+    start.chmod(0o755)
+    return folder
+
+
 class Tests:
     """Counts the tests that passed, and tells the others."""
 

@@ -1,6 +1,7 @@
 """The text about each refused statement of a script, and about a script refused as a whole."""
 import collections
 
+from profile_data.report import NotOfScript
 from profile_sql.lexis import Places, decoded, lexed, pieces
 from profile_sql.refusals import NAMES, Refused
 from profile_sql.script import Statement
@@ -8,7 +9,7 @@ from profile_sql.script import Statement
 from . import bad_tokens, clashes
 from .causes import CAUSES, NO_STATEMENT, WHAT_TO_DO
 from .mends import Mending
-from .report import NotOfScript, Report
+from .report import Report
 from .texts import shown, wrapped
 
 MOST_PLACES, MOST_CAUSES = 3, 8  # of one kind, and of what a definition lacks

@@ -17,6 +17,7 @@ Slip = collections.namedtuple('Slip', 'pattern put what expects')
 
 NAME = r"[A-Z_]\w*"
 COLUMN = rf"{NAME} (?:\. {NAME} )?"
+SET_OPERATOR = "UNION|EXCEPT|INTERSECT"
 LITERAL = r"(?:[-+] )?0 |' |DATE ' "
 OPERAND = rf"(?:{LITERAL}|{COLUMN})"
 INTEGER_TYPES = "INT|INT2|INT4|INT8|BIGINT|SMALLINT|TINYINT|MEDIUMINT|SERIAL|BIGSERIAL"
@@ -59,13 +60,13 @@ BEGINNINGS = [
      " alone, without VALIDTIME.)"),
     (rf"^(?P<out>SELECT \* )FROM (?P<table>\w+) (?:{WINDOW})?"
      r"@ (?:(?:AS )?(?P<new>(?!LEFT|RIGHT|FULL|CROSS|INNER|JOIN)[A-Z_]\w*) )?"
-     r"(?:JOIN|INNER|LEFT|RIGHT|FULL|CROSS|,|UNION|EXCEPT|INTERSECT) ", rewriting.columns_of_first,
+     rf"(?:JOIN|INNER|LEFT|RIGHT|FULL|CROSS|,|{SET_OPERATOR}) ", rewriting.columns_of_first,
      "SELECT * is of one table alone. Write VALIDTIME SELECT DISTINCT and the value columns: {put}"
      " FROM {table} .."),
     (r"^(?P<out>SELECT @ (?:DISTINCT |ALL )?)", "VALIDTIME SELECT DISTINCT",
      "Begin a query of columns with VALIDTIME SELECT DISTINCT. Without VALIDTIME there is"
      " SELECT * FROM table alone."),
-    (r"(?:VALIDTIME|UNION|EXCEPT|INTERSECT|DISTINCT|\() SELECT @ (?P<out>(?:ALL )?)", "DISTINCT",
+    (rf"(?:VALIDTIME|{SET_OPERATOR}|DISTINCT|\() SELECT @ (?P<out>(?:ALL )?)", "DISTINCT",
      "Write DISTINCT after each SELECT of a sequenced query."),
     (rf"^(?!@ )(?:\S+ )+@ (?P<word>{STATEMENT})", CUT,
      "With {word} another statement begins: put a semicolon before it."),
@@ -206,14 +207,7 @@ QUERIES = [
      "ON {one}.{by} = {two}.{by}", "Write {put} for {out}."),
     (rf"JOIN {NAME} (?:(?:AS )?{NAME} )?@ (?P<out>WHERE )", "ON",
      "Write ON for WHERE: each JOIN has its condition after ON.", "ON"),
-    (r"^(?P<out>VALIDTIME (?P<one>SELECT (?:(?!UNION|EXCEPT|INTERSECT)\S+ )*)@ INTERSECT "
-     r"(?:DISTINCT )?(?P<two>SELECT (?:(?!UNION|EXCEPT|INTERSECT)\S+ )*))$",
-     "VALIDTIME {one} EXCEPT ({one} EXCEPT {two})",
-     "There is no INTERSECT yet. A EXCEPT (A EXCEPT B) gives the same rows: {put}."),
-    (r"@ (?P<out>INTERSECT )", "EXCEPT",
-     "There is no INTERSECT yet: A EXCEPT (A EXCEPT B) gives the same rows as A INTERSECT B, A and"
-     " B two queries."),
-    (r"(?:UNION|EXCEPT) @ (?P<out>ALL )", "", "Leave out ALL: an answer has no duplicates."),
+    (rf"(?:{SET_OPERATOR}) @ (?P<out>ALL )", "", "Leave out ALL: an answer has no duplicates."),
     (r"(?P<out>AS @ OF |@ AS OF )", "FOR SYSTEM_TIME AS OF", "Write FOR SYSTEM_TIME before AS OF."),
     (r"FOR SYSTEM_TIME @ (?P<out>ALL )",
      "FROM TIMESTAMP '0001-01-01 00:00:00' TO TIMESTAMP '9999-12-31 23:59:59'",
@@ -228,7 +222,8 @@ QUERIES = [
      "{table} {window} {where}", "Write {window} right after the table's name, before WHERE."),
     (rf"(?P<out>(?P<new>(?:AS )?{NAME} )@ (?P<window>{WINDOW}))", "{window} {new}",
      "Write the new name after FOR SYSTEM_TIME: {put}."),
-    (rf"@ (?P<out>(?P<where>WHERE .*?)(?P<from>FROM {NAME} (?:(?:AS )?(?!UNION|EXCEPT){NAME} )?))",
+    (rf"@ (?P<out>(?P<where>WHERE .*?)"
+     rf"(?P<from>FROM {NAME} (?:(?:AS )?(?!{SET_OPERATOR}){NAME} )?))",
      "{from} {where}", "Write FROM before WHERE."),
 ]
 

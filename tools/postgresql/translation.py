@@ -8,7 +8,6 @@ rows decide, by PostgreSQL.
 import collections
 
 from profile_sql.catalog import Catalog
-from profile_sql.query_parser import HAS_INTERSECT
 from profile_sql.refusals import NAMES
 from profile_sql.script import judge
 from profile_sql.tree import At, Create, Sequenced, Stored
@@ -35,12 +34,12 @@ CREATE FUNCTION "#field"(text) RETURNS text LANGUAGE sql IMMUTABLE AS $field$
 """
 
 
-def translated(text, options, has_intersect=HAS_INTERSECT):
+def translated(text, options):
     """The parts of the script of psql for a script's text."""
     catalog = Catalog()
     if not options.is_bare:
         yield PRELUDE.format(schema=name_sql(options.schema))
-    for statement in judge(text, has_intersect):
+    for statement in judge(text):
         if not statement.faults:
             catalog.take(statement.tree)
         made = (bare_sql if options.is_bare else statement_sql)(statement, catalog, options)

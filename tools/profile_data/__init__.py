@@ -1,9 +1,10 @@
 """Data into the program and out of it, for the tools: CSV files, reports, and what is made of them.
 
     records        the records of docs/PROFILE.md section 9: fields to a line of CSV, and back
-    report         a report read beside its script: what became of each statement command_line
-    what the tools do alike: files that are read and written, faults that end them shown
-    texts for spreadsheets and terminals: formulas and control characters made harmless
+    report         a report read beside its script: what became of each statement
+    command_line   what the tools do alike: files that are read and written, faults that end them
+    shown          texts for spreadsheets and terminals: formulas and control characters made
+                   harmless
 
     answer_tables, answer_texts    answers as tables; tables as CSV, aligned text and a web page
     databases      versions of rows as files that other databases load

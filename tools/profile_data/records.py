@@ -26,8 +26,22 @@ def record(fields):
 
 def records(text):
     """The records of a text, each a list of texts."""
-    at, fields, number = 0, [], 1
+    at, number = 0, 1
     while at < len(text):
+        end = text.find('\n', at)
+        line = text[at:end]
+        if end < 0 or '"' in line or '\r' in line:
+            fields, at = record_at(text, at, number)
+        else:
+            fields, at = line.split(','), end + 1
+        yield fields
+        number += 1
+
+
+def record_at(text, at, number):
+    """The fields of a record that has quotes, and where it ends."""
+    fields = []
+    while True:
         found = FIELD.match(text, at)
         if not found:
             raise BadRecord(number)
@@ -35,7 +49,4 @@ def records(text):
         fields.append(plain if in_quotes is None else in_quotes.replace('""', '"'))
         at = found.end()
         if end == '\n':
-            yield fields
-            fields, number = [], number + 1
-    if fields:
-        raise BadRecord(number)
+            return fields, at

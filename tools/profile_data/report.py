@@ -1,8 +1,8 @@
 """A report read beside its script: what became of each statement.
 
-`read` gives the statements of a script in turn. Each has its number, its tree (of profile_sql), the
-lines of the comment above it, its text, and an outcome: Done, Refused, Answer or Versions. A report
-that isn't that of the script is a Fault.
+A `Reader` gives the outcome of each statement in turn: Done, Refused, Answer or Versions. `read`
+gives the statements of a script with them: each has its number, its tree (of profile_sql), the
+lines of the comment above it, and its text. A report that isn't that of the script is NotOfScript.
 """
 import collections
 import sys
@@ -10,11 +10,13 @@ import sys
 from profile_sql.catalog import Catalog
 from profile_sql.lexis import lexed, pieces
 from profile_sql.parser import parsed
+from profile_sql.literals import date_of
+from profile_sql.refusals import NAMES
 from profile_sql.refusals import Refused as RefusedScript
 from profile_sql.tree import At, Create, Delete, Insert, Sequenced, Stored, Update
 
 from .command_line import Fault, read_text
-from .records import BadRecord, records
+from .records import BadRecord, record, records
 
 Done = collections.namedtuple('Done', 'what rows')
 Refused = collections.namedtuple('Refused', 'number name day')
@@ -28,6 +30,12 @@ Statement = collections.namedtuple('Statement', 'number tree comment text outcom
 
 DONE = {At: 'at', Create: 'create', Insert: 'insert', Update: 'update', Delete: 'delete'}
 FIRST_DAY, LAST_DAY = '0001-01-01', '9999-12-31'
+WHOLE_SCRIPT, OF_A_STORE, WITH_DAY = (1, 2, 3), (60,), (42, 43)
+MOST_SHOWN = 96  # characters of a record
+
+
+class NotOfScript(Exception):
+    """The report is none, or that of another script: why."""
 
 
 def read(script_path, report_path):
@@ -35,9 +43,11 @@ def read(script_path, report_path):
     text = read_text(script_path)
     try:
         tokens = list(pieces(lexed(text)))
+        return statements(text, tokens, Reader(read_text(report_path), len(tokens)))
     except RefusedScript as refused:
         raise Fault(f'{script_path} is refused as a whole: {refused}') from None
-    return statements(text, tokens, Reader(read_text(report_path), script_path))
+    except NotOfScript as why:
+        raise Fault(f'{script_path}: {why}') from None
 
 
 def statements(text, tokens, reader):
@@ -71,56 +81,77 @@ def comment_above(text, is_first):
     return comment
 
 
-class Reader:
-    """Reads the records of a report one after the other."""
+def shown(fields):
+    """A record for a line of a terminal."""
+    text = ''.join(letter if letter.isprintable() else ' ' for letter in record(fields).rstrip())
+    return repr(text if len(text) <= MOST_SHOWN else text[:MOST_SHOWN - 3] + ' ..')
 
-    def __init__(self, text, script_path):
-        self.script_path, self.at = script_path, 0
+
+class Reader:
+    """Reads the records of a report one after the other. Its script has `count` statements."""
+
+    def __init__(self, text, count):
+        self.count, self.at = count, 0
         try:
             self.records = list(records(text))
         except BadRecord as bad:
-            raise Fault(f'record {bad} of the report is no CSV record') from None
+            raise NotOfScript(f'the report is not CSV in its record {bad}') from None
 
-    def fault(self):
-        if not self.records:
-            return Fault(f'the report is empty, and {self.script_path} has statements: the program'
-                         ' refused the whole script, or another wrote this report')
-        where = f'record {self.at}' if self.at else 'the end'
-        return Fault(f'this is no report of {self.script_path} ({where} of the report)')
+    def fail(self, why):
+        raise NotOfScript(f'the report is not of this script, which has {self.count} statements:'
+                          f' {why}')
+
+    def fail_at(self, number):
+        """The next record is none of this statement."""
+        if self.at < len(self.records):
+            self.fail(f'it has the record {shown(self.records[self.at])} in the place of statement'
+                      f' {number}')
+        self.fail(f'it has no outcome of statement {number}')
 
     def take(self, kind, number, count):
         """The fields of the next record behind its kind and number, so many."""
-        if self.at >= len(self.records):
-            self.at = 0
-            raise self.fault()
-        fields = self.records[self.at]
-        self.at += 1
+        fields = self.records[self.at] if self.at < len(self.records) else []
         if fields[:2] != [kind, str(number)] or len(fields) != 2 + count:
-            raise self.fault()
+            self.fail_at(number)
+        self.at += 1
         return fields[2:]
 
     def next_kind(self):
         return self.records[self.at][0] if self.at < len(self.records) else ''
 
+    def refusal(self, number):
+        """The number, the name and the day of the next record, which is a refused one."""
+        fields = self.records[self.at]
+        if fields[:2] != ['refused', str(number)]:
+            self.fail_at(number)
+        for code, name in NAMES.items():
+            if fields[2:4] == [str(code), name] and len(fields) == 5 and \
+                    code not in (*WHOLE_SCRIPT, *OF_A_STORE):
+                if date_of(fields[4]) if code in WITH_DAY else not fields[4]:
+                    self.at += 1
+                    return Refused(*fields[2:])
+        raise NotOfScript(f'unknown record {shown(fields)}')
+
     def outcome(self, number, tree, catalog):
         kind = self.next_kind()
         if kind == 'refused':
-            code, name, day = self.take(kind, number, 3)
-            return Refused(code, name, day)
+            return self.refusal(number)
         if isinstance(tree, Sequenced) and kind == 'answer':
             return self.answer(number)
         if isinstance(tree, Stored) and kind == 'versions':
             return self.versions(number, catalog.tables.get(tree.table))
         what, rows = self.take('done', number, 2)
-        if what != DONE.get(type(tree)) or not rows.isdigit():
-            raise self.fault()
+        if what != DONE.get(type(tree)) or not is_count(rows):
+            self.at -= 1
+            self.fail_at(number)
         return Done(what, int(rows))
 
     def size(self, kind, number):
         """How many columns and rows the next record promises."""
         columns, rows = self.take(kind, number, 2)
-        if not (columns.isdigit() and rows.isdigit()):
-            raise self.fault()
+        if not (is_count(columns) and is_count(rows)):
+            self.at -= 1
+            self.fail_at(number)
         return int(columns), int(rows)
 
     def answer(self, number):
@@ -138,13 +169,16 @@ class Reader:
         names = self.take('columns', number, columns)
         rows = [self.take('version', number, columns) for _ in range(count)]
         if table is None or names != [column.name for column in table.columns]:
-            raise self.fault()
+            self.fail(f'it has not the columns of statement {number}')
         return Versions(names, rows, table)
 
     def ends(self):
         if self.at < len(self.records):
-            self.at += 1
-            raise self.fault()
+            self.fail(f'it has the record {shown(self.records[self.at])} after the last')
+
+
+def is_count(text):
+    return text.isascii() and text.isdigit() and len(text) < 20
 
 
 def tell_refused(name, statements, script_path):

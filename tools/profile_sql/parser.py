@@ -2,7 +2,7 @@
 of too many tokens."""
 import collections
 
-from .query_parser import HAS_INTERSECT, QueryParser
+from .query_parser import QueryParser
 from .reader import NoStatement
 from .refusals import MOST_OPEN, MOST_TOKENS, Fault
 from .tree import (Assignment, At, Column, Create, Delete, Insert, Key, Name, Period, Portion,
@@ -153,7 +153,7 @@ def too_deep(tokens):
     return None
 
 
-def parsed(tokens, has_intersect=HAS_INTERSECT):
+def parsed(tokens):
     """What the piece of these tokens is."""
     if len(tokens) > MOST_TOKENS:
         fault = Fault(21, tokens[MOST_TOKENS].offset, f'The statement has {len(tokens):,} tokens,'
@@ -164,7 +164,7 @@ def parsed(tokens, has_intersect=HAS_INTERSECT):
         fault = Fault(11, deep.offset, f'Here parenthesis number {MOST_OPEN + 1} is opened, and'
                                        f' {MOST_OPEN} open ones are the most.')
         return Parsed(None, [fault], None, [])
-    parser = Parser(tokens, has_intersect)
+    parser = Parser(tokens)
     try:
         tree = parser.statement()
     except NoStatement:

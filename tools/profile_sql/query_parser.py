@@ -3,8 +3,6 @@ from .reader import NoStatement, Reader
 from .tree import (And, ColumnReference, Comparison, ContainsDay, Item, Not, On, Operand, Or,
                    Predicate, Select, SetOperators, Span, TableReference, Window)
 
-# Whether INTERSECT is a set operator, stronger than UNION and EXCEPT. The program refuses it today.
-HAS_INTERSECT = False
 PREDICATES = (('OVERLAPS',), ('EQUALS',), ('PRECEDES',), ('SUCCEEDS',),
               ('IMMEDIATELY', 'PRECEDES'), ('IMMEDIATELY', 'SUCCEEDS'))
 COMPARISONS = ('=', '<>', '<', '<=', '>', '>=')
@@ -13,28 +11,25 @@ COMPARISONS = ('=', '<>', '<', '<=', '>', '>=')
 class QueryParser(Reader):
     """Reads queries. A condition may have period predicates where `has_predicates`."""
 
-    def __init__(self, tokens, has_intersect=HAS_INTERSECT):
+    def __init__(self, tokens):
         super().__init__(tokens)
-        self.has_intersect, self.has_predicates = has_intersect, False
+        self.has_predicates = False
 
     def query(self):
-        first, rest = self.term(), []
+        return self.joined(self.term, 'UNION', 'EXCEPT')
+
+    def term(self):
+        return self.joined(self.primary, 'INTERSECT')
+
+    def joined(self, side, *operators):
+        """One side, or several with set operators of one strength between them."""
+        first, rest = side(), []
         while True:
-            offset, operator = self.offset(), self.takes_one_of('UNION', 'EXCEPT')
+            offset, operator = self.offset(), self.takes_one_of(*operators)
             if not operator:
                 return SetOperators(first, rest) if rest else first
             self.takes('DISTINCT')
-            rest.append(Operand(operator, self.term(), offset))
-
-    def term(self):
-        first, rest = self.primary(), []
-        while self.has_intersect:
-            offset = self.offset()
-            if not self.takes('INTERSECT'):
-                break
-            self.takes('DISTINCT')
-            rest.append(Operand('INTERSECT', self.primary(), offset))
-        return SetOperators(first, rest) if rest else first
+            rest.append(Operand(operator, side(), offset))
 
     def primary(self):
         if self.takes('('):

@@ -5,7 +5,6 @@ from .definitions import faults_of_create
 from .lexis import lexed, pieces
 from .parser import parsed
 from .queries import faults_of_sequenced, faults_of_stored
-from .query_parser import HAS_INTERSECT
 from .tree import At, Create, Delete, Insert, Sequenced, Stored, Update
 
 JUDGES = {At: faults_of_at, Create: faults_of_create, Insert: faults_of_insert,
@@ -18,9 +17,9 @@ class Statement:
     and all faults that the script alone decides. Of a piece that is refused by 10 `stop` is the
     place of the first token that no statement can have there, and `expected` is what could be."""
 
-    def __init__(self, number, tokens, has_intersect=HAS_INTERSECT):
+    def __init__(self, number, tokens):
         self.number, self.tokens = number, tokens
-        self.tree, self.faults, self.stop, self.expected = parsed(tokens, has_intersect)
+        self.tree, self.faults, self.stop, self.expected = parsed(tokens)
 
     @property
     def syntax_refusal(self):
@@ -44,12 +43,12 @@ class Statement:
             self.faults = list(JUDGES[type(self.tree)](self.tree, catalog))
 
 
-def judge(text, has_intersect=HAS_INTERSECT):
+def judge(text):
     """The statements of a script's text, in turn. Each is judged over the tables and the clock that
     those before it leave. `refusals.Refused` where the whole script is refused."""
     catalog, statements = Catalog(), []
     for number, tokens in enumerate(pieces(lexed(text)), 1):
-        statement = Statement(number, tokens, has_intersect)
+        statement = Statement(number, tokens)
         statement.judge(catalog)
         if not statement.faults:
             catalog.take(statement.tree)

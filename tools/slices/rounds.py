@@ -21,7 +21,8 @@ class RefusedRows(Exception):
 
 def settled(slices, numbers, run, told):
     """Runs the slices, and gives the fields of the refused record of each statement that rows
-    decide to refuse. `run` runs slices, `told` gets a line for each round after the first."""
+    decide to refuse. `run` runs slices; before each round after the first `told` gets the number of
+    the statement, and the slices that are run again without it."""
     refused, again = {}, slices
     while True:
         run(again)
@@ -35,8 +36,7 @@ def settled(slices, numbers, run, told):
                  and part.outcomes[number].kind != 'refused']
         for part in again:
             part.take_out(number)
-        told(f'statement {number} is refused in some slices and not in {len(again)} others, which'
-             ' are run again without it')
+        told(number, again)
 
 
 def check_loaded(part):

@@ -4,15 +4,15 @@ from profile_sql.refusals import MOST_BYTES
 
 class SliceFile:
     """The slice of the days from `low` on and before `high`. `report` is where the report of its
-    last run is, `outcomes` what that says."""
+    last run is, `outcomes` what that says. Where `spans` are given, the file is written already."""
 
-    def __init__(self, folder, low, high):
+    def __init__(self, folder, low, high, spans=None):
         self.low, self.high = low, high
         self.path, self.report = folder / f'{low}.sql', folder / f'{low}.report'
         self.outcomes = None
-        self.spans = []  # of each statement that is in it: its number, its place and its length
+        self.spans = spans or []  # of each statement in it: its number, its place and its length
         self.size = 0
-        self.file = open(self.path, 'wb')
+        self.file = open(self.path, 'wb') if spans is None else None
 
     def add(self, number, text):
         """Adds a statement of this number, or an INSERT of loaded rows."""

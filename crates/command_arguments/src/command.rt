@@ -12,7 +12,8 @@ ghost use Rattle.command_arguments.specs.CommandLine.{bitemporal, file_word, run
 ghost use Rattle.command_arguments.specs.CommandLine.{script_command};
 
 use crate::help::{
-    ABOUT, AUDIT_HELP, CHECK_ABOUT, FILE_HELP, REFUSALS, RUN_ABOUT, STATUSES, VERSION,
+    ABOUT, AUDIT_HELP, CHECK_ABOUT, CHECK_STATUSES, EXAMPLES, FILE_HELP, REFUSALS, RUN_ABOUT,
+    RUN_STATUSES, VERSION,
 };
 use clap::error::ErrorKind;
 use clap::{Arg, ArgAction, ArgMatches, Command};
@@ -61,17 +62,18 @@ fn audit_argument<'a>(alloc: Global) -> Arg<'a>
         .action(ArgAction::SetTrue)
 }
 
-// A subcommand that takes a script.
+// A subcommand that takes a script, with its exit statuses below its help.
 fn script_subcommand<'a>(
     alloc: Global,
     name: &'a str,
     about: &'a str,
+    statuses: &'a str,
 ) -> Result<Command<'a>, AllocError>
     ensures app { IfOk result (λ c. app_of c ≡ script_command name.now) }
     ensures local { IfOk result (λ c. (out-Command c).has_globals ≡ false) }
 {
     let file = file_argument(alloc);
-    let named = Command::new(alloc, name).about(about).after_help(STATUSES);
+    let named = Command::new(alloc, name).about(about).after_help(statuses);
     let whole = named.arg(file)?;
     Ok(whole)
 }
@@ -82,7 +84,7 @@ fn run_subcommand<'a>(alloc: Global) -> Result<Command<'a>, AllocError>
     ensures local { IfOk result (λ c. (out-Command c).has_globals ≡ false) }
 {
     let audit = audit_argument(alloc);
-    let plain = script_subcommand(alloc, "run", RUN_ABOUT)?;
+    let plain = script_subcommand(alloc, "run", RUN_ABOUT, RUN_STATUSES)?;
     let whole = plain.arg(audit)?;
     Ok(whole)
 }
@@ -92,7 +94,7 @@ fn command<'a>(alloc: Global, after: &'a str) -> Result<Command<'a>, AllocError>
     ensures { IfOk result (λ c. app_of c ≡ bitemporal) }
 {
     let run = run_subcommand(alloc)?;
-    let check = script_subcommand(alloc, "check", CHECK_ABOUT)?;
+    let check = script_subcommand(alloc, "check", CHECK_ABOUT, CHECK_STATUSES)?;
     let named = Command::new(alloc, "bitemporal")
         .about(ABOUT)
         .version(VERSION)
@@ -162,7 +164,7 @@ pub fn command_line<S: AsStr>(
         (λ chosen. Chooses (subcommand_of bitemporal (map S.text words.now)) chosen.0
         (option_map string_bytes chosen.1)) }
 {
-    let Ok(after) = format!(in alloc; "{STATUSES}\n\n{REFUSALS}") else {
+    let Ok(after) = format!(in alloc; "{EXAMPLES}\n\n{RUN_STATUSES}\n\n{REFUSALS}") else {
         return Err(CommandFault::Memory);
     };
     let Ok(mut command) = command(alloc, after.as_str()) else {

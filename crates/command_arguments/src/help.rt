@@ -19,8 +19,25 @@ pub const CHECK_ABOUT: &str = "Checks the syntax of a script without running it.
 /// What FILE is.
 pub const FILE_HELP: &str = "The script; without it, standard input is read";
 
-/// The exit statuses, below the help of each subcommand.
-pub const STATUSES: &str = "\
+/// How the program is called, first below its own help.
+pub const EXAMPLES: &str = "\
+Examples:
+  bitemporal run examples/overview.sql
+  bitemporal run --audit examples/overview.sql   checks each answer too, day by day
+  bitemporal check examples/overview.sql         checks the syntax alone
+  bitemporal run < examples/overview.sql         reads standard input";
+
+/// The exit statuses of a check, below its help.
+pub const CHECK_STATUSES: &str = "\
+Exit status:
+  0  every statement has the right syntax
+  1  a statement is refused: by 10 to 14, or by 21 where it has more than 10,000 tokens
+  2  the command line, the file, the whole script or the output was refused, or memory was
+
+A refusal has a number and a name. docs/PROFILE.md lists them all.";
+
+/// The exit statuses of a run, below its help and the program's own.
+pub const RUN_STATUSES: &str = "\
 Exit status:
   0  every statement was accepted
   1  a statement was refused

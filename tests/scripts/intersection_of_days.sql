@@ -1,0 +1,80 @@
+-- What INTERSECT gives of rows that overlap, nest, meet, repeat, and leave gaps. Each V is a case of its own.
+CREATE TABLE T (ID INTEGER, G INTEGER, V INTEGER, S DATE, E DATE,
+ SS TIMESTAMP GENERATED ALWAYS AS ROW START, SE TIMESTAMP GENERATED ALWAYS AS ROW END,
+ PERIOD FOR P (S, E), PERIOD FOR SYSTEM_TIME (SS, SE),
+ PRIMARY KEY (ID, P WITHOUT OVERLAPS)) WITH SYSTEM VERSIONING;
+INSERT INTO T VALUES
+ -- one inside the other
+ (1, 1, 1, DATE '2024-01-01', DATE '2024-01-09'),
+ (2, 2, 1, DATE '2024-01-03', DATE '2024-01-06'),
+ -- one over two that meet
+ (3, 1, 2, DATE '2024-01-01', DATE '2024-01-05'),
+ (4, 1, 2, DATE '2024-01-05', DATE '2024-01-09'),
+ (5, 2, 2, DATE '2024-01-04', DATE '2024-01-06'),
+ -- the two sides meet
+ (6, 1, 3, DATE '2024-01-01', DATE '2024-01-05'),
+ (7, 2, 3, DATE '2024-01-05', DATE '2024-01-09'),
+ -- one over a gap
+ (8, 1, 4, DATE '2024-01-01', DATE '2024-01-04'),
+ (9, 1, 4, DATE '2024-01-06', DATE '2024-01-09'),
+ (10, 2, 4, DATE '2024-01-02', DATE '2024-01-08'),
+ -- two that meet inside of one
+ (11, 1, 5, DATE '2024-01-01', DATE '2024-01-09'),
+ (12, 2, 5, DATE '2024-01-02', DATE '2024-01-04'),
+ (13, 2, 5, DATE '2024-01-04', DATE '2024-01-06'),
+ -- two that overlap inside of one
+ (14, 1, 6, DATE '2024-01-01', DATE '2024-01-09'),
+ (15, 2, 6, DATE '2024-01-02', DATE '2024-01-05'),
+ (16, 2, 6, DATE '2024-01-03', DATE '2024-01-07'),
+ -- in the left side alone
+ (17, 1, 7, DATE '2024-01-01', DATE '2024-01-09'),
+ -- in the right side alone
+ (18, 2, 8, DATE '2024-01-01', DATE '2024-01-09'),
+ -- the same days
+ (19, 1, 9, DATE '2024-01-01', DATE '2024-01-09'),
+ (20, 2, 9, DATE '2024-01-01', DATE '2024-01-09'),
+ -- each in the gaps of the other
+ (21, 1, 10, DATE '2024-01-01', DATE '2024-01-03'),
+ (22, 1, 10, DATE '2024-01-04', DATE '2024-01-06'),
+ (23, 2, 10, DATE '2024-01-03', DATE '2024-01-04'),
+ (24, 2, 10, DATE '2024-01-06', DATE '2024-01-09'),
+ -- all of time, and its first and last days
+ (25, 1, 11, DATE '0001-01-01', DATE '9999-12-31'),
+ (26, 2, 11, DATE '0001-01-01', DATE '0001-01-02'),
+ (27, 2, 11, DATE '9999-12-30', DATE '9999-12-31'),
+ -- the last day alone
+ (28, 1, 12, DATE '2024-01-01', DATE '2024-01-09'),
+ (29, 2, 12, DATE '2024-01-08', DATE '2024-01-09'),
+ -- the days before and after
+ (30, 1, 13, DATE '2024-01-01', DATE '2024-01-09'),
+ (31, 2, 13, DATE '2023-12-31', DATE '2024-01-01'),
+ (32, 2, 13, DATE '2024-01-09', DATE '2024-01-12');
+
+-- the days of both
+VALIDTIME SELECT DISTINCT V FROM T WHERE G = 1
+ INTERSECT SELECT DISTINCT V FROM T WHERE G = 2;
+
+-- whichever comes first
+VALIDTIME SELECT DISTINCT V FROM T WHERE G = 2
+ INTERSECT DISTINCT SELECT DISTINCT V FROM T WHERE G = 1;
+
+-- by its definition: what is left without what the right side lacks
+VALIDTIME SELECT DISTINCT V FROM T WHERE G = 1
+ EXCEPT (SELECT DISTINCT V FROM T WHERE G = 1 EXCEPT SELECT DISTINCT V FROM T WHERE G = 2);
+
+-- with itself
+VALIDTIME SELECT DISTINCT V FROM T WHERE G = 1 INTERSECT SELECT DISTINCT V FROM T WHERE G = 1;
+
+-- with nothing
+VALIDTIME SELECT DISTINCT V FROM T WHERE G = 1 INTERSECT SELECT DISTINCT V FROM T WHERE G = 3;
+
+-- of nothing
+VALIDTIME SELECT DISTINCT V FROM T WHERE G = 3
+ INTERSECT SELECT DISTINCT V FROM T WHERE G = 1;
+
+-- of what is on both sides by their groups too
+VALIDTIME SELECT DISTINCT G, V FROM T WHERE G = 1 INTERSECT SELECT DISTINCT G, V FROM T WHERE G = 2;
+
+-- three of them: the first, and all rows twice
+VALIDTIME SELECT DISTINCT V FROM T WHERE G = 1 INTERSECT SELECT DISTINCT V FROM T
+ INTERSECT SELECT DISTINCT V FROM T WHERE V > 11;
