@@ -14,7 +14,8 @@ use Rattle.sql_statements.specs.declared.statement.Operand.{Operand}
 use Rattle.sql_statements.specs.declared.statement.Operand.TheVariants as operand
 use Rattle.sql_statements.specs.declared.statement.SelectItem.{SelectItem}
 use Rattle.sql_statements.specs.declared.statement.TableReference.{TableReference}
-use Rattle.sql_statements.specs.declared.tree.SetOperator.TheVariants.{Union, Except}
+use Rattle.sql_statements.specs.declared.tree.SetOperator.{SetOperator}
+use Rattle.sql_statements.specs.declared.tree.SetOperator.TheVariants.{Union, Except, Intersect}
 use Rattle.catalog_core.proofs.lemmas.examples.Tables.{dep}
 use Rattle.catalog_core.specs.Judged.{first_holding}
 use Rattle.catalog_core.specs.table.Kinds.{differ, kind_of_column, same_kind}
@@ -94,10 +95,10 @@ numbers = select (column DNO ∷ []) (alone (table DEP) ∷ []) None
 abbrev names : written.Select
 names = select (column NAME ∷ []) (alone (table DEP) ∷ []) None
 
--- UNION of the query so many times
-abbrev unions : ℕ → Query → Steps
-unions zero query = last
-unions (suc n) query = step Union query (unions n query)
+-- this operator with the query so many times
+abbrev times : SetOperator → ℕ → Query → Steps
+times operator zero query = last
+times operator (suc n) query = step operator query (times operator n query)
 
 -- FROM DEP Z, DEP X JOIN DEP Y ON ..
 abbrev three : Condition Compare → Option (Condition Compare) → written.Select
@@ -121,8 +122,13 @@ record Refused : Type 0 where
   period_column : refusal (from_dep (column (codes "S") ∷ [])) ≡ Some PeriodColumn
   four_tables : refusal (simple (select (of X DNO ∷ []) (map alone (map known_as (X ∷ Y ∷ Z ∷ DEP ∷ []))) None)) ≡ None
   five_tables : refusal (simple (select (of X DNO ∷ []) (map alone (map known_as (X ∷ Y ∷ Z ∷ DEP ∷ DNO ∷ []))) None)) ≡ Some LimitReached
-  sixteen : refusal (combined (simple numbers) (unions 16 (simple numbers))) ≡ None
-  seventeen : refusal (combined (combined (simple numbers) (unions 9 (simple numbers))) (unions 8 (simple numbers))) ≡ Some LimitReached
+  sixteen : refusal (combined (simple numbers) (times Union 16 (simple numbers))) ≡ None
+  seventeen : refusal (combined (combined (simple numbers) (times Union 9 (simple numbers))) (times Union 8 (simple numbers))) ≡ Some LimitReached
+  -- INTERSECT counts, and its two sides are judged
+  sixteen_operators : refusal (combined (combined (simple numbers) (times Intersect 7 (simple numbers))) (times Union 9 (simple numbers))) ≡ None
+  seventeen_operators : refusal (combined (combined (simple numbers) (times Intersect 8 (simple numbers))) (times Union 9 (simple numbers))) ≡ Some LimitReached
+  other_count_intersected : refusal (combined (combined (from_dep (column DNO ∷ [])) (step Intersect (from_dep (column DNO ∷ column DNO ∷ [])) last)) last) ≡ Some ColumnCount
+  other_kind_intersected : refusal (combined (simple numbers) (step Union (combined (simple numbers) (step Intersect (simple names) last)) last)) ≡ Some TypeMismatch
   other_count : refusal (combined (from_dep (column DNO ∷ [])) (step Except (from_dep (column DNO ∷ column DNO ∷ [])) last)) ≡ Some ColumnCount
   other_kind : refusal (combined (simple numbers) (step Except (simple names) last)) ≡ Some TypeMismatch
   compared : refusal (simple (select (column DNO ∷ []) (alone (table DEP) ∷ []) (Some (equal (operand.Column (column DNO)) (operand.Literal (Text (codes "a"))))))) ≡ Some TypeMismatch
@@ -146,6 +152,10 @@ refused = record {
   five_tables = refl;
   sixteen = refl;
   seventeen = refl;
+  sixteen_operators = refl;
+  seventeen_operators = refl;
+  other_count_intersected = refl;
+  other_kind_intersected = refl;
   other_count = refl;
   other_kind = refl;
   compared = refl;
@@ -173,3 +183,8 @@ positions = record { conjuncts = refl; alone = refl; items = refl; reference = r
 from_left : (a b c : written.Select) (x y z : Select) → ResolvesSelect catalog a x → ResolvesSelect catalog b y → ResolvesSelect catalog c z
     → ResolvesTree catalog (combined (simple a) (step Except (simple b) (step Union (simple c) last))) (both Union (both Except (one x) (one y)) (one z))
 from_left a b c x y z at_a at_b at_c = (one x, at_a, (one y, at_b, (one z, at_c, refl)))
+
+-- INTERSECT before EXCEPT: a EXCEPT b INTERSECT c is a without the intersection of b and c
+intersected_first : (a b c : written.Select) (x y z : Select) → ResolvesSelect catalog a x → ResolvesSelect catalog b y → ResolvesSelect catalog c z
+    → ResolvesTree catalog (combined (simple a) (step Except (combined (simple b) (step Intersect (simple c) last)) last)) (both Except (one x) (both Intersect (one y) (one z)))
+intersected_first a b c x y z at_a at_b at_c = (one x, at_a, (both Intersect (one y) (one z), (one y, at_b, (one z, at_c, refl)), refl))
