@@ -71,6 +71,9 @@ const SEVEN: [Held<'static>; 3] = [
 const ALONE: &str = "VALIDTIME SELECT DISTINCT DEPT FROM EMP WHERE ENO = 1 \
     EXCEPT SELECT DISTINCT DEPT FROM EMP WHERE ENO > 1";
 
+const SHARED: &str = "VALIDTIME SELECT DISTINCT DEPT FROM EMP WHERE ENO = 1 \
+    INTERSECT SELECT DISTINCT DEPT FROM EMP WHERE ENO > 1";
+
 const DEPARTMENTS: &str = "VALIDTIME SELECT DISTINCT DEPT FROM EMP";
 
 #[test]
@@ -137,6 +140,20 @@ fn except_audited(rt: HostRuntime) -> Result<(), Fail> {
 }
 
 #[test]
+fn intersect_audited(rt: HostRuntime) -> Result<(), Fail> {
+    let alloc = rt.alloc();
+    let asked = asked(alloc, SHARED, &[&SEVEN, &SEVEN])?;
+    let common: Held<'_> = (&[7], "2024-01-03", "2024-01-06");
+    let found = verdict(alloc, &asked, &[common], &["2024-01-03"])?;
+    assert_eq!(rt; found, Verdict::Agrees(6));
+    // the left side as a whole, as a union would give it
+    let whole: Held<'_> = (&[7], "2024-01-01", "2024-01-09");
+    let found = verdict(alloc, &asked, &[whole], &["2024-01-01"])?;
+    assert_eq!(rt; found, Verdict::Differs(day("2024-01-01")?));
+    Ok(())
+}
+
+#[test]
 fn all_of_time_audited(rt: HostRuntime) -> Result<(), Fail> {
     let alloc = rt.alloc();
     let (first, end) = ("0001-01-01", "9999-12-31");
@@ -167,6 +184,22 @@ fn sets_on_a_day(rt: HostRuntime) -> Result<(), Fail> {
         ("2024-01-03", [].as_slice()),
         ("2024-01-05", [].as_slice()),
         ("2024-01-06", [[7].as_slice()].as_slice()),
+    ] {
+        let found = evaluated(alloc, &asked, date)?;
+        assert!(rt; are_values(alloc, found.as_slice(), wanted)?, "on {date}");
+    }
+    Ok(())
+}
+
+#[test]
+fn common_sets_on_a_day(rt: HostRuntime) -> Result<(), Fail> {
+    let alloc = rt.alloc();
+    let asked = asked(alloc, SHARED, &[&SEVEN, &SEVEN])?;
+    for (date, wanted) in [
+        ("2024-01-02", [].as_slice()),
+        ("2024-01-03", [[7].as_slice()].as_slice()),
+        ("2024-01-05", [[7].as_slice()].as_slice()),
+        ("2024-01-06", [].as_slice()),
     ] {
         let found = evaluated(alloc, &asked, date)?;
         assert!(rt; are_values(alloc, found.as_slice(), wanted)?, "on {date}");

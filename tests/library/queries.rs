@@ -94,6 +94,19 @@ fn changed_departments(rt: HostRuntime) -> Result<(), Fail> {
 }
 
 #[test]
+fn common_days(rt: HostRuntime) -> Result<(), Fail> {
+    let query = "VALIDTIME SELECT DISTINCT ENO FROM EMP WHERE DEPT = 3 \
+        INTERSECT SELECT DISTINCT ENO FROM EMP WHERE DEPT = 3";
+    let wanted: [Held<'_>; 2] = [
+        (&[22_217], "2010-01-01", "2011-02-03"),
+        (&[22_217], "2011-09-10", "2011-11-12"),
+    ];
+    assert!(rt; gives(rt.alloc(), query, &[&BEFORE, &NOW], &wanted)?);
+    assert!(rt; gives(rt.alloc(), query, &[&NOW, &BEFORE], &wanted)?);
+    Ok(())
+}
+
+#[test]
 fn tables_of_a_query(rt: HostRuntime) -> Result<(), Fail> {
     let alloc = rt.alloc();
     let catalog = catalog_of(alloc, &[EMP])?;

@@ -1,5 +1,5 @@
--- Worked rows of the ordinary query on a day: a join, a union and a difference, over lists of period
--- rows and over a history.
+-- Worked rows of the ordinary query on a day: a join, a union, a difference and an intersection, over
+-- lists of period rows and over a history.
 use Rattle.std.proofs.Common.{◌∷◌, ◌++◌, ℕ, pos, true, List, [], inr, codes, refl, arith}
 use Rattle.std.proofs.lemmas.Bool.{and_from}
 use Rattle.period_core.proofs.Periods.{period_over}
@@ -10,7 +10,7 @@ use Rattle.period_core.specs.declared.value.Value.TheVariants.{Int, Text}
 use Rattle.period_core.specs.declared.window.Window.{Window}
 use Rattle.period_core.specs.declared.window.Window.TheVariants.{Now, AsOf}
 use Rattle.sql_statements.specs.declared.statement.Comparison.TheVariants.{Equal}
-use Rattle.sql_statements.specs.declared.tree.SetOperator.TheVariants.{Union, Except}
+use Rattle.sql_statements.specs.declared.tree.SetOperator.TheVariants.{Union, Except, Intersect}
 use Rattle.sql_statements.specs.declared.tree.Tree.TheVariants.{Test}
 use Rattle.catalog_core.proofs.lemmas.conditions.Truth.{test_truth}
 use Rattle.catalog_core.specs.Conditions.{compares, meets}
@@ -102,9 +102,12 @@ second =
           ∷ [];
     }
 
+in_second : InAnswerOver (one second) tables (pos 10) answer_row
+in_second = (shop, (shop, [], (0, omega arith, refl), refl, refl), refl, refl)
+
 in_difference : InAnswerOver (both Except (one second) (one joined)) tables (pos 10) answer_row
 in_difference = (
-  (shop, (shop, [], (0, omega arith, refl), refl, refl), refl, refl),
+  in_second,
   λ h. not_in_join answer_row h,
 )
 
@@ -113,6 +116,17 @@ not_turned_round
     : (row : List Value)
     → InAnswerOver (both Except (one joined) (one second)) tables (pos 10) row → ⊥
 not_turned_round row h = not_in_join row h.0
+
+-- on day 6 both selects give the row, on day 10 the second alone
+in_intersection : InAnswerOver (both Intersect (one joined) (one second)) tables (pos 6) answer_row
+in_intersection = (
+  in_join,
+  (shop, (shop, [], (0, omega arith, refl), refl, refl), refl, refl),
+)
+
+not_in_intersection
+    : InAnswerOver (both Intersect (one second) (one joined)) tables (pos 10) answer_row → ⊥
+not_in_intersection h = not_in_join answer_row h.1
 
 -- ---- over a history: the past of an employee with the present
 

@@ -6,7 +6,7 @@ use Rattle.std.proofs.lemmas.List.Elements.{Contains-append_left, Contains-appen
 use Rattle.temporal_model.proofs.Members.{Contains-here, Contains-there}
 use Rattle.period_core.specs.declared.value.Value.{Value}
 use Rattle.sql_statements.specs.declared.tree.SetOperator.{SetOperator}
-use Rattle.sql_statements.specs.declared.tree.SetOperator.TheVariants.{Union, Except}
+use Rattle.sql_statements.specs.declared.tree.SetOperator.TheVariants.{Union, Except, Intersect}
 use Rattle.catalog_core.specs.declared.query.resolved.QueryReference.{QueryReference}
 use Rattle.catalog_core.specs.query.Queries.{Query, one, both, references_of}
 use Rattle.history_model.specs.OrdinaryQuery.{InCombined, InProduct, InQuery, Sights}
@@ -47,6 +47,10 @@ combined_seen Union A B C D left right row = (
 combined_seen Except A B C D left right row = (
   λ (a, none). ((left row).0 a, λ d. none ((right row).1 d)),
   λ (c, none). ((left row).1 c, λ b. none ((right row).0 b)),
+)
+combined_seen Intersect A B C D left right row = (
+  λ (a, b). ((left row).0 a, (right row).0 b),
+  λ (c, d). ((left row).1 c, (right row).1 d),
 )
 
 -- the query's set is the same

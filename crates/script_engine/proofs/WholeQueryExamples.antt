@@ -1,4 +1,5 @@
--- Worked rows: a union and a difference of two selects, and a table as it was, each as a step of the history.
+-- Worked rows: a union, an intersection and a difference of two selects, and a table as it was, each as a step of
+-- the history.
 use Rattle.std.proofs.Common.{◌≡◌, ◌∷◌, ◌↔◌, [], ℤ, pos, Bool, true, false, List, None, Some, Ok, codes, refl, subst, inl, inr, arith}
 use Rattle.std.proofs.lemmas.Int.{ints}
 use Rattle.std.specs.List.{Contains}
@@ -13,7 +14,7 @@ use Rattle.sql_statements.specs.Trees.{combined, last, simple, step}
 use Rattle.sql_statements.specs.declared.statement.SystemTime.TheVariants.{AsOf}
 use Rattle.sql_statements.specs.declared.statement.TableReference.{TableReference}
 use Rattle.sql_statements.specs.declared.tree.SetOperator.{SetOperator}
-use Rattle.sql_statements.specs.declared.tree.SetOperator.TheVariants.{Except, Union}
+use Rattle.sql_statements.specs.declared.tree.SetOperator.TheVariants.{Except, Intersect, Union}
 use Rattle.catalog_core.specs.Judged.{Holds}
 use Rattle.catalog_core.specs.query.Queries.{Query, both, one}
 use Rattle.catalog_core.specs.query.Refusals.{compares_kinds, have_other_count, have_other_kinds, is_too_long, lacks_table, names_period, names_twice, some_column_matches}
@@ -67,6 +68,29 @@ united = (
       resolved = twice_resolved Union;
       columns = refl;
       right = right_by (InAnswerOn with_row (both_of Union)) union_daily;
+      after = refl;
+    },
+  ),
+)
+
+-- so is their intersection
+intersected_daily : (day : ℤ) (values : List Value) → (Sets day values ↔ InAnswerOn with_row (both_of Intersect) day values)
+intersected_daily day values = (
+  λ among. ((daily day values).0 among, (daily day values).0 among),
+  λ (left, right). (daily day values).1 left,
+)
+
+pub intersected : Step with_row (statement.sequenced (twice Intersect)) (Ok (Answered answer)) (with_event with_row Asked)
+intersected = (
+  twice_is_sound Intersect,
+  (
+    answer,
+    refl,
+    record {
+      query = both_of Intersect;
+      resolved = twice_resolved Intersect;
+      columns = refl;
+      right = right_by (InAnswerOn with_row (both_of Intersect)) intersected_daily;
       after = refl;
     },
   ),

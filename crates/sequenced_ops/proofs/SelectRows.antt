@@ -4,7 +4,7 @@ use Rattle.std.proofs.Common.{◌∙◌, ap, subst, append_assoc}
 use Rattle.std.specs.Prelude.{slice_get}
 use Rattle.period_core.specs.declared.row.PeriodRow.{PeriodRow}
 use Rattle.period_core.specs.declared.value.Value.{Value}
-use Rattle.sql_statements.specs.declared.tree.SetOperator.TheVariants.{Union, Except}
+use Rattle.sql_statements.specs.declared.tree.SetOperator.TheVariants.{Union, Except, Intersect}
 use Rattle.temporal_model.specs.Snapshot.{InSnapshot}
 use Rattle.catalog_core.specs.declared.query.AnswerColumn.{AnswerColumn}
 use Rattle.catalog_core.specs.declared.query.resolved.QueryReference.{QueryReference}
@@ -12,8 +12,8 @@ use Rattle.catalog_core.specs.declared.query.resolved.Select.{Select}
 use Rattle.catalog_core.specs.query.Queries.{Query, both, one, rows_for}
 use Rattle.history_model.specs.OrdinaryQuery.{InAnswerOver, InProduct, TableSights, meets_all}
 use Rattle.history_model.specs.OrdinaryQuery.{read_items}
-use Rattle.sequenced_ops.specs.Operations.{Cond, InDifference, InPairs, InProjection, InUnion}
-use Rattle.sequenced_ops.specs.Operations.{SnapshotsAre}
+use Rattle.sequenced_ops.specs.Operations.{Cond, InDifference, InIntersection, InPairs}
+use Rattle.sequenced_ops.specs.Operations.{InProjection, InUnion, SnapshotsAre}
 use Rattle.sequenced_ops.specs.Planning.{InJoined, InMeeting, IsPruned}
 
 append-nil : (l : List Value) → l ++ [] ≡ l
@@ -166,4 +166,17 @@ difference_rows tables left right first second rows a b are day values = (
       let (x, none) = (are day values).0 h in
       ((a day values).0 x, λ y. none ((b day values).1 y)),
   λ (x, none). (are day values).1 ((a day values).1 x, λ y. none ((b day values).0 y)),
+)
+
+pub intersection_rows
+    : (tables : List (List PeriodRow)) (left right : Query) (first second rows : List PeriodRow)
+    → SnapshotsAre (InAnswerOver left tables) first
+    → SnapshotsAre (InAnswerOver right tables) second
+    → SnapshotsAre (InIntersection first second) rows
+    → SnapshotsAre (InAnswerOver (both Intersect left right) tables) rows
+intersection_rows tables left right first second rows a b are day values = (
+  λ h.
+      let (x, y) = (are day values).0 h in
+      ((a day values).0 x, (b day values).0 y),
+  λ (x, y). (are day values).1 ((a day values).1 x, (b day values).1 y),
 )

@@ -8,6 +8,7 @@ ghost use Rattle.history_model.specs.OrdinaryQuery.{InAnswerOver};
 ghost use Rattle.sequenced_ops.specs.Operations.{InProjection, SnapshotsAre};
 ghost use Rattle.sequenced_ops.specs.Planning.{InJoined};
 
+use crate::inner_sweep::intersection;
 use crate::joining::join_next;
 use crate::pruning::{copy_pruned, rules_some_out};
 use crate::selecting::select_meeting;
@@ -101,6 +102,7 @@ fn run_part(alloc: Global, query: &Query, tables: &Tables) -> Result<Vec<PeriodR
             match operator {
                 SetOperator::Union => union(first, second),
                 SetOperator::Except => difference(alloc, first, second),
+                SetOperator::Intersect => intersection(alloc, first, second),
             }
         }
     }

@@ -4,7 +4,7 @@ use Rattle.std.proofs.lemmas.Int.{ints}
 use Rattle.period_core.specs.declared.row.PeriodRow.{PeriodRow}
 use Rattle.period_core.specs.declared.value.Value.{Value}
 use Rattle.period_core.specs.declared.window.Window.TheVariants.{Now}
-use Rattle.sql_statements.specs.declared.tree.SetOperator.TheVariants.{Except}
+use Rattle.sql_statements.specs.declared.tree.SetOperator.TheVariants.{Except, Intersect}
 use Rattle.temporal_model.specs.Snapshot.{InSnapshot}
 use Rattle.temporal_model.proofs.Members.{Contains-here, Contains-one, Contains-cons_cases}
 use Rattle.temporal_model.proofs.Snapshots.{held}
@@ -46,6 +46,9 @@ two_lists = refl
 -- on day 3 the department is in both sets, so not in the difference
 lost : InAnswerOver (one (department 1)) tables (pos 3) seven
 lost = (seven, (seven, [], Contains-here seven [], refl, refl), refl, refl)
+
+shared : InAnswerOver (both Intersect (one (department 0)) (one (department 1))) tables (pos 3) seven
+shared = ((seven, (seven, [], Contains-here seven [], refl, refl), refl, refl), lost)
 
 -- the one list holds nothing else
 only_seven : (day : ℤ) (values : List Value) → InSnapshot (long ∷ []) day values → seven ≡ values

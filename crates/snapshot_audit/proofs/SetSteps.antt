@@ -1,16 +1,16 @@
--- The steps of a difference: two ascending lists, each gone over once.
-use Rattle.std.proofs.Common.{◌≡◌, ◌↔◌, ◌⊎◌, List, [], ◌∷◌, ◌++◌, get_or, inl, inr, sym, subst, arith}
+-- The steps of a difference and of an intersection: two ascending lists, each gone over once.
+use Rattle.std.proofs.Common.{◌≡◌, ◌↔◌, ◌⊎◌, List, [], ◌∷◌, ◌++◌, length, get_or, inl, inr, refl, sym, ◌∙◌, ap, subst, arith, append_assoc, append-nil}
 use Rattle.std.specs.List.{Contains}
 use Rattle.std.specs.declared.cmp.Ordering.TheVariants.{Less, Equal}
 use Rattle.std.proofs.lemmas.List.Elements.{Contains-append_left, Contains-push, Contains-push_cases}
-use Rattle.std.proofs.lemmas.List.{get_or_default}
+use Rattle.std.proofs.lemmas.List.{get_or_default, nil_from_length}
 use Rattle.std.proofs.lemmas.List.Quantifiers.{all_pairs_push}
 use Rattle.period_core.specs.Order.{values_cmp}
 use Rattle.period_core.specs.OrderLaws.{values_cmp_total, values_cmp-refl}
 use Rattle.period_core.specs.declared.value.Value.{Value}
 use Rattle.temporal_model.proofs.Members.{Contains-here, Contains-there, Contains-nil, Contains-cons_cases, AllPairs-head, AllPairs-tail}
 use Rattle.sql_statements.specs.declared.tree.SetOperator.{SetOperator}
-use Rattle.sql_statements.specs.declared.tree.SetOperator.TheVariants.{Union, Except}
+use Rattle.sql_statements.specs.declared.tree.SetOperator.TheVariants.{Union, Except, Intersect}
 use Rattle.history_model.specs.OrdinaryQuery.{InCombined}
 use Rattle.snapshot_audit.specs.Sets.{IsAscending, ListsSet, NoneBelow}
 
@@ -73,23 +73,28 @@ among_right right others next rest values is by = (
   ],
 )
 
--- the values of the left set so far that the right set lacks
-pub record IsDifference (right done rest set : List (List Value)) : Type 0 where
+-- the other set lacks the values
+abbrev pub Lacks : List (List Value) → List Value → Type 0
+Lacks right values = Contains right values → ⊥
+
+-- the values of the left set so far that are kept
+pub record AreKept (Keeps : List Value → Type 0) (done rest set : List (List Value)) : Type 0 where
   pub ascending : IsAscending set
   pub below : (a b : List Value) → Contains set a → Contains rest b → values_cmp a b ≡ Less
-  pub members : (values : List Value) → (Contains set values ↔ (Contains done values × (Contains right values → ⊥)))
+  pub members : (values : List Value) → (Contains set values ↔ (Contains done values × Keeps values))
 
-pub difference_none : (right rest : List (List Value)) → IsDifference right [] rest []
-difference_none right rest = record {
+pub kept_none : (Keeps : List Value → Type 0) (rest : List (List Value)) → AreKept Keeps [] rest []
+kept_none Keeps rest = record {
   ascending = λ i j d lt below. absurd (omega arith);
   below = λ a b c k. absurd (Contains-nil a c);
-  members = λ values. (λ c. absurd (Contains-nil values c), λ (c, none). absurd (Contains-nil values c));
+  members = λ values. (λ c. absurd (Contains-nil values c), λ (c, keeps). absurd (Contains-nil values c));
 }
 
-pub difference_kept :
-    (right done rest set : List (List Value)) (values : List Value) → IsAscending (values ∷ rest) → (Contains right values → ⊥)
-    → IsDifference right done (values ∷ rest) set → IsDifference right (done ++ values ∷ []) rest (set ++ values ∷ [])
-difference_kept right done rest set values up none is = record {
+pub one_kept :
+    (Keeps : List Value → Type 0) (done rest set : List (List Value)) (values : List Value) → IsAscending (values ∷ rest)
+    → Keeps values → AreKept Keeps done (values ∷ rest) set
+    → AreKept Keeps (done ++ values ∷ []) rest (set ++ values ∷ [])
+one_kept Keeps done rest set values up keeps is = record {
   ascending = all_pairs_push (λ a b. values_cmp a b ≡ Less) set values is.ascending
       (λ k d h. is.below (get_or set k d) values (k, h, get_or_default set k (get_or set k d) d h) (Contains-here values rest));
   below = λ a b c k. elim (Contains-push_cases set values a c) [
@@ -98,30 +103,85 @@ difference_kept right done rest set values up none is = record {
   ];
   members = λ other. (
     λ c. elim (Contains-push_cases set values other c) [
-      | inl before ↦ let (there, lacks) = (is.members other).0 before in (Contains-append_left done (values ∷ []) other there, lacks)
-      | inr same ↦ subst (λ v. Contains (done ++ values ∷ []) v × (Contains right v → ⊥)) same (Contains-push done values, none)
+      | inl before ↦ let (there, kept) = (is.members other).0 before in (Contains-append_left done (values ∷ []) other there, kept)
+      | inr same ↦ subst (λ v. Contains (done ++ values ∷ []) v × Keeps v) same (Contains-push done values, keeps)
     ],
-    λ (c, lacks). elim (Contains-push_cases done values other c) [
-      | inl before ↦ Contains-append_left set (values ∷ []) other ((is.members other).1 (before, lacks))
+    λ (c, kept). elim (Contains-push_cases done values other c) [
+      | inl before ↦ Contains-append_left set (values ∷ []) other ((is.members other).1 (before, kept))
       | inr same ↦ subst (Contains (set ++ values ∷ [])) same (Contains-push set values)
     ],
   );
 }
 
-pub difference_dropped :
-    (right done rest set : List (List Value)) (values : List Value) → Contains right values
-    → IsDifference right done (values ∷ rest) set → IsDifference right (done ++ values ∷ []) rest set
-difference_dropped right done rest set values there is = record {
+pub one_dropped :
+    (Keeps : List Value → Type 0) (done rest set : List (List Value)) (values : List Value) → (Keeps values → ⊥)
+    → AreKept Keeps done (values ∷ rest) set → AreKept Keeps (done ++ values ∷ []) rest set
+one_dropped Keeps done rest set values drops is = record {
   ascending = is.ascending;
   below = λ a b c k. is.below a b c (Contains-there values rest b k);
   members = λ other. (
-    λ c. let (inside, lacks) = (is.members other).0 c in (Contains-append_left done (values ∷ []) other inside, lacks),
-    λ (c, lacks). elim (Contains-push_cases done values other c) [
-      | inl before ↦ (is.members other).1 (before, lacks)
-      | inr same ↦ absurd (lacks (subst (Contains right) same there))
+    λ c. let (inside, kept) = (is.members other).0 c in (Contains-append_left done (values ∷ []) other inside, kept),
+    λ (c, kept). elim (Contains-push_cases done values other c) [
+      | inl before ↦ (is.members other).1 (before, kept)
+      | inr same ↦ absurd (drops (subst Keeps (sym same) kept))
     ],
   );
 }
+
+-- ---- the whole of it
+
+-- of the left set what is done and what is left, of the right set the others, and the values kept
+pub record ArePicked (Keeps : List Value → Type 0) (left right done rest others set : List (List Value)) : Type 0 where
+  pub all : done ++ rest ≡ left
+  pub ascending : IsAscending rest
+  pub done_with : IsDoneWith right others rest
+  pub kept : AreKept Keeps done rest set
+
+module _ (Keeps : List Value → Type 0) (left right : List (List Value)) where
+  pub picked_none : IsAscending left → IsAscending right → ArePicked Keeps left right [] left right []
+  picked_none up down = record { all = refl; ascending = up; done_with = done_with_none right left down; kept = kept_none Keeps left }
+
+  module _ (done was rest others next set : List (List Value)) (values : List Value) where
+    -- the next values are in the right set where they are among the others that are left
+    pub picked_among :
+        was ≡ values ∷ rest → AreNotBelow values others next → ArePicked Keeps left right done was others set
+        → (Contains next values ↔ Contains right values)
+    picked_among is by old = among_right right others next rest values (subst (IsDoneWith right others) is old.done_with) by
+
+    pub picked_one :
+        was ≡ values ∷ rest → AreNotBelow values others next → ArePicked Keeps left right done was others set
+        → Keeps values → ArePicked Keeps left right (done ++ values ∷ []) rest next (set ++ values ∷ [])
+    picked_one is by old keeps =
+        let up : IsAscending (values ∷ rest) = subst IsAscending is old.ascending in
+        record {
+          all = append_assoc done (values ∷ []) rest ∙ ap (λ l. done ++ l) (sym is) ∙ old.all;
+          ascending = AllPairs-tail (λ a b. values_cmp a b ≡ Less) values rest up;
+          done_with = done_with_more right others next rest values up (subst (IsDoneWith right others) is old.done_with) by;
+          kept = one_kept Keeps done rest set values up keeps (subst (λ l. AreKept Keeps done l set) is old.kept);
+        }
+
+    pub picked_not :
+        was ≡ values ∷ rest → AreNotBelow values others next → ArePicked Keeps left right done was others set
+        → (Keeps values → ⊥) → ArePicked Keeps left right (done ++ values ∷ []) rest next set
+    picked_not is by old drops =
+        let up : IsAscending (values ∷ rest) = subst IsAscending is old.ascending in
+        record {
+          all = append_assoc done (values ∷ []) rest ∙ ap (λ l. done ++ l) (sym is) ∙ old.all;
+          ascending = AllPairs-tail (λ a b. values_cmp a b ≡ Less) values rest up;
+          done_with = done_with_more right others next rest values up (subst (IsDoneWith right others) is old.done_with) by;
+          kept = one_dropped Keeps done rest set values drops (subst (λ l. AreKept Keeps done l set) is old.kept);
+        }
+
+  pub picked_all :
+      (done rest others set : List (List Value)) → length rest ≡ 0 → ArePicked Keeps left right done rest others set
+      → ListsSet (λ values. Contains left values × Keeps values) set
+  picked_all done rest others set none old =
+      let is : rest ≡ [] = nil_from_length rest none in
+      let all : done ≡ left = sym (append-nil done) ∙ ap (λ l. done ++ l) (sym is) ∙ old.all in
+      record {
+        ascending = old.kept.ascending;
+        members = λ values. subst (λ l. Contains set values ↔ (Contains l values × Keeps values)) all (old.kept.members values);
+      }
 
 -- the others without some of the first ones, which are less than the values
 pub record ArePassed (values : List Value) (others rest : List (List Value)) : Type 0 where
@@ -173,5 +233,12 @@ combined_lists Except InLeft InRight left right set l r is = record {
   members = λ values. (
     λ h. let (a, none) = (is.members values).0 h in ((l.members values).0 a, λ b. none ((r.members values).1 b)),
     λ (a, none). (is.members values).1 ((l.members values).1 a, λ b. none ((r.members values).0 b)),
+  );
+}
+combined_lists Intersect InLeft InRight left right set l r is = record {
+  ascending = is.ascending;
+  members = λ values. (
+    λ h. let (a, b) = (is.members values).0 h in ((l.members values).0 a, (r.members values).0 b),
+    λ (a, b). (is.members values).1 ((l.members values).1 a, (r.members values).1 b),
   );
 }

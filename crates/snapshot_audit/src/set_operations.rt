@@ -1,4 +1,4 @@
-//! Union and difference of sets as lists. A difference goes over both lists once.
+//! Union, difference and intersection of sets as lists. The last two go over both lists once.
 
 ghost use Rattle.std.specs.Prelude.{◌≡◌, ◌↔◌, ◌⊎◌, List, Contains, IfOk, IsTrue};
 ghost use Rattle.std.specs.declared.cmp.Ordering.TheVariants.{Less};
@@ -73,6 +73,24 @@ fn without(alloc: Global, left: Vec<Values>, right: &[Values]) -> Result<Vec<Val
     Ok(set)
 }
 
+// The values that both sets have.
+fn common(alloc: Global, left: Vec<Values>, right: &[Values]) -> Result<Vec<Values>, Memory>
+    requires left { IsAscending left.items }
+    requires right { IsAscending right.now }
+    ensures { IfOk result (λ set. ListsSet
+        (λ values. Contains left.items values × Contains right.now values) set.items) }
+{
+    let mut set = Vec::new(alloc);
+    let mut others = right;
+    for values in left {
+        others = not_below(others, &values);
+        if is_first(&values, others) {
+            set.push(values)?;
+        }
+    }
+    Ok(set)
+}
+
 // The values of either set.
 fn either(left: Vec<Values>, right: Vec<Values>) -> Result<Vec<Values>, Memory>
     ensures { IfOk result (λ set. ListsSet
@@ -100,5 +118,6 @@ pub(crate) fn combined(
     match operator {
         SetOperator::Union => either(left, right),
         SetOperator::Except => without(alloc, left, right.as_slice()),
+        SetOperator::Intersect => common(alloc, left, right.as_slice()),
     }
 }
