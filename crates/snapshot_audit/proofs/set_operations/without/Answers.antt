@@ -1,4 +1,4 @@
-use Rattle.std.proofs.Common.{◌≡◌, ◌↔◌, List, length, refl, arith}
+use Rattle.std.proofs.Common.{◌≡◌, ◌↔◌, List, length, arith}
 use Rattle.std.specs.List.{Contains}
 use Rattle.period_core.specs.declared.value.Value.{Value}
 use Rattle.snapshot_audit.proofs.SetSteps.{AreNotBelow, Lacks, picked_all, picked_among, picked_none, picked_not, picked_one}
