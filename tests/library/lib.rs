@@ -50,17 +50,19 @@
 //! - `join`: `operators::changed_departments`, `operators::pairs_of_rows`
 //! - `union`: `operators::unions`; `difference`: `operators::differences_in_every_order`;
 //!   `intersection`: `operators::intersections`
-//! - `run_query`: `queries::first_answer`, `queries::changed_departments`
+//! - `run_query`: `queries::first_answer`, `queries::changed_departments`, `queries::common_days`
 //!
 //! coalesce_core
 //! - `coalesce`: `operators::shortest_lists`; `Coalesce::new`:
 //!   `operators::rows_coalesced_one_at_a_time`; `witnesses`: `operators::days_that_witness`
 //!
 //! snapshot_audit
-//! - `rows_on`: `audits::snapshots`; `eval_on`: `audits::sets_on_a_day`
+//! - `rows_on`: `audits::snapshots`; `eval_on`: `audits::sets_on_a_day`,
+//!   `audits::common_sets_on_a_day`
 //! - `change_days`: `audits::days_of_change`, `audits::all_of_time_audited`
 //! - `check_witnesses`: `audits::checker_and_audit_by_calls`
-//! - `audit`: `audits::verdicts`, `audits::checker_and_audit_by_calls`, `audits::except_audited`
+//! - `audit`: `audits::verdicts`, `audits::checker_and_audit_by_calls`, `audits::except_audited`,
+//!   `audits::intersect_audited`
 //!
 //! version_store
 //! - `open`, `catalog`, `clock`, `rows` of `VersionStore`: `stores::new_stores`

@@ -12,9 +12,10 @@
 mod columns;
 mod conjuncts;
 mod deciding;
+mod differences;
 mod equalities;
 mod filters;
-mod inner_sweep;
+mod intersections;
 mod joining;
 mod joins;
 mod keyed;
@@ -23,12 +24,11 @@ mod projecting;
 mod pruning;
 mod running;
 mod selecting;
-mod sweep;
-mod unite;
+mod unions;
 
-pub use inner_sweep::intersection;
+pub use differences::difference;
+pub use intersections::intersection;
 pub use joining::join;
 pub use running::run_query;
 pub use selecting::{select, select_into};
-pub use sweep::difference;
-pub use unite::union;
+pub use unions::union;

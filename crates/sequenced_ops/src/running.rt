@@ -8,12 +8,12 @@ ghost use Rattle.history_model.specs.OrdinaryQuery.{InAnswerOver};
 ghost use Rattle.sequenced_ops.specs.Operations.{InProjection, SnapshotsAre};
 ghost use Rattle.sequenced_ops.specs.Planning.{InJoined};
 
-use crate::inner_sweep::intersection;
+use crate::differences::difference;
+use crate::intersections::intersection;
 use crate::joining::join_next;
 use crate::pruning::{copy_pruned, rules_some_out};
 use crate::selecting::select_meeting;
-use crate::sweep::difference;
-use crate::unite::union;
+use crate::unions::union;
 use catalog_core::resolved::{Query, QueryReference, Select, Tables};
 use catalog_core::{AnswerColumn, Cond};
 use period_core::{Memory, PeriodRow};

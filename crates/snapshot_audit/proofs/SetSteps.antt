@@ -1,9 +1,9 @@
 -- The steps of a difference and of an intersection: two ascending lists, each gone over once.
-use Rattle.std.proofs.Common.{◌≡◌, ◌↔◌, ◌⊎◌, List, [], ◌∷◌, ◌++◌, get_or, inl, inr, sym, subst, arith}
+use Rattle.std.proofs.Common.{◌≡◌, ◌↔◌, ◌⊎◌, List, [], ◌∷◌, ◌++◌, length, get_or, inl, inr, refl, sym, ◌∙◌, ap, subst, arith, append_assoc, append-nil}
 use Rattle.std.specs.List.{Contains}
 use Rattle.std.specs.declared.cmp.Ordering.TheVariants.{Less, Equal}
 use Rattle.std.proofs.lemmas.List.Elements.{Contains-append_left, Contains-push, Contains-push_cases}
-use Rattle.std.proofs.lemmas.List.{get_or_default}
+use Rattle.std.proofs.lemmas.List.{get_or_default, nil_from_length}
 use Rattle.std.proofs.lemmas.List.Quantifiers.{all_pairs_push}
 use Rattle.period_core.specs.Order.{values_cmp}
 use Rattle.period_core.specs.OrderLaws.{values_cmp_total, values_cmp-refl}
@@ -127,6 +127,61 @@ one_dropped Keeps done rest set values drops is = record {
     ],
   );
 }
+
+-- ---- the whole of it
+
+-- of the left set what is done and what is left, of the right set the others, and the values kept
+pub record ArePicked (Keeps : List Value → Type 0) (left right done rest others set : List (List Value)) : Type 0 where
+  pub all : done ++ rest ≡ left
+  pub ascending : IsAscending rest
+  pub done_with : IsDoneWith right others rest
+  pub kept : AreKept Keeps done rest set
+
+module _ (Keeps : List Value → Type 0) (left right : List (List Value)) where
+  pub picked_none : IsAscending left → IsAscending right → ArePicked Keeps left right [] left right []
+  picked_none up down = record { all = refl; ascending = up; done_with = done_with_none right left down; kept = kept_none Keeps left }
+
+  module _ (done was rest others next set : List (List Value)) (values : List Value) where
+    -- the next values are in the right set where they are among the others that are left
+    pub picked_among :
+        was ≡ values ∷ rest → AreNotBelow values others next → ArePicked Keeps left right done was others set
+        → (Contains next values ↔ Contains right values)
+    picked_among is by old = among_right right others next rest values (subst (IsDoneWith right others) is old.done_with) by
+
+    pub picked_one :
+        was ≡ values ∷ rest → AreNotBelow values others next → ArePicked Keeps left right done was others set
+        → Keeps values → ArePicked Keeps left right (done ++ values ∷ []) rest next (set ++ values ∷ [])
+    picked_one is by old keeps =
+        let up : IsAscending (values ∷ rest) = subst IsAscending is old.ascending in
+        record {
+          all = append_assoc done (values ∷ []) rest ∙ ap (λ l. done ++ l) (sym is) ∙ old.all;
+          ascending = AllPairs-tail (λ a b. values_cmp a b ≡ Less) values rest up;
+          done_with = done_with_more right others next rest values up (subst (IsDoneWith right others) is old.done_with) by;
+          kept = one_kept Keeps done rest set values up keeps (subst (λ l. AreKept Keeps done l set) is old.kept);
+        }
+
+    pub picked_not :
+        was ≡ values ∷ rest → AreNotBelow values others next → ArePicked Keeps left right done was others set
+        → (Keeps values → ⊥) → ArePicked Keeps left right (done ++ values ∷ []) rest next set
+    picked_not is by old drops =
+        let up : IsAscending (values ∷ rest) = subst IsAscending is old.ascending in
+        record {
+          all = append_assoc done (values ∷ []) rest ∙ ap (λ l. done ++ l) (sym is) ∙ old.all;
+          ascending = AllPairs-tail (λ a b. values_cmp a b ≡ Less) values rest up;
+          done_with = done_with_more right others next rest values up (subst (IsDoneWith right others) is old.done_with) by;
+          kept = one_dropped Keeps done rest set values drops (subst (λ l. AreKept Keeps done l set) is old.kept);
+        }
+
+  pub picked_all :
+      (done rest others set : List (List Value)) → length rest ≡ 0 → ArePicked Keeps left right done rest others set
+      → ListsSet (λ values. Contains left values × Keeps values) set
+  picked_all done rest others set none old =
+      let is : rest ≡ [] = nil_from_length rest none in
+      let all : done ≡ left = sym (append-nil done) ∙ ap (λ l. done ++ l) (sym is) ∙ old.all in
+      record {
+        ascending = old.kept.ascending;
+        members = λ values. subst (λ l. Contains set values ↔ (Contains l values × Keeps values)) all (old.kept.members values);
+      }
 
 -- the others without some of the first ones, which are less than the values
 pub record ArePassed (values : List Value) (others rest : List (List Value)) : Type 0 where

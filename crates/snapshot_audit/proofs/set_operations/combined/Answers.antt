@@ -19,4 +19,4 @@ returns-in-Except c =
 pub returns-in-Intersect : goal.returns-in-Intersect
 returns-in-Intersect c =
     IfOk-weaker c.common.result _ _ (λ set is. subst (λ (o : SetOperator). ListsSet (InCombined o (Contains c.args.left.items) (Contains c.args.right.items)) set.items) (sym c.in-Intersect.is)
-    (subst (λ right. ListsSet (InCombined Intersect (Contains c.args.left.items) (Contains right)) set.items) c.as_slice.ensures.value is)) c.common.ensures
+    (subst (λ right. ListsSet (InCombined Intersect (Contains c.args.left.items) (Contains right)) set.items) c.as_slice-in-Intersect.ensures.value is)) c.common.ensures

@@ -1,75 +1,40 @@
-use Rattle.std.proofs.Common.{◌≡◌, ◌↔◌, ◌++◌, ◌∷◌, [], ◌∙◌, ap, List, length, refl, sym, subst, arith, append_assoc, append-nil}
+use Rattle.std.proofs.Common.{◌≡◌, ◌↔◌, List, length, arith}
 use Rattle.std.specs.List.{Contains}
-use Rattle.std.proofs.lemmas.List.{nil_from_length}
 use Rattle.period_core.specs.declared.value.Value.{Value}
-use Rattle.period_core.specs.Order.{values_cmp}
-use Rattle.std.specs.declared.cmp.Ordering.TheVariants.{Less}
-use Rattle.temporal_model.proofs.Members.{AllPairs-tail}
-use Rattle.snapshot_audit.specs.Sets.{IsAscending}
-use Rattle.snapshot_audit.proofs.SetSteps.{AreKept, AreNotBelow, IsDoneWith, Lacks, among_right, done_with_more, done_with_none, kept_none, one_dropped, one_kept}
+use Rattle.snapshot_audit.proofs.SetSteps.{AreNotBelow, Lacks, picked_all, picked_among, picked_none, picked_not, picked_one}
 use Rattle.snapshot_audit.proofs.set_operations.without.Goals as goal
 
 pub loop-values-init : goal.loop-values-init
 loop-values-init c =
-    let its : c.into_iter-values-iterator.result.rest.items ≡ c.args.left.items = c.into_iter-values-iterator.ensures.into_iter_gives.0 in
-    rw (c.new-set.ensures.items, its) (record {
-      all = refl;
-      ascending = c.requires.left;
-      others = done_with_none c.args.right.now c.args.left.items c.requires.right;
-      set = kept_none (Lacks c.args.right.now) c.args.left.items;
-    })
+    rw (c.new-set.ensures.items, c.into_iter-values-iterator.ensures.into_iter_gives.0)
+    (picked_none (Lacks c.args.right.now) c.args.left.items c.args.right.now c.requires.left c.requires.right)
 
 pub loop-values-preserved : goal.loop-values-preserved
 loop-values-preserved c =
     let right : List (List Value) = c.args.right.now in
-    let done : List (List Value) = c.loop-values.yielded in
-    let rest : List (List Value) = c.loop-values.values-iterator.rest.items in
-    let left : List (List Value) = c.next.new.self.rest.items in
-    let values : List Value = c.in-Some.values in
-    let is : rest ≡ values ∷ left = c.in-Some.ensures.steps.0 in
-    let up : IsAscending (values ∷ left) = subst IsAscending is c.loop-values.invariant.ascending in
-    let before : IsDoneWith right c.loop-values.others.now (values ∷ left) = subst (IsDoneWith right c.loop-values.others.now) is c.loop-values.invariant.others in
-    let by : AreNotBelow values c.loop-values.others.now c.not_below-others.result.now =
+    let set : List (List Value) = c.loop-values.set.items in
+    let others : List (List Value) = c.not_below-others.result.now in
+    let by : AreNotBelow c.in-Some.values c.loop-values.others.now others =
     record { ascending = c.not_below-others.ensures.ascending; inside = c.not_below-others.ensures.inside; passed = c.not_below-others.ensures.passed; bound = c.not_below-others.ensures.bound } in
-    let among = among_right right c.loop-values.others.now c.not_below-others.result.now left values before by in
-    record {
-      all = append_assoc done (values ∷ []) left ∙ ap (λ l. done ++ l) (sym is) ∙ c.loop-values.invariant.all;
-      ascending = AllPairs-tail (λ a b. values_cmp a b ≡ Less) values left up;
-      others = done_with_more right c.loop-values.others.now c.not_below-others.result.now left values up before by;
-      set = one_dropped (Lacks right) done left c.loop-values.set.items values (λ lacks. lacks (among.0 (c.is_first.ensures.0 c.if-not-is_first.false)))
-          (subst (λ l. AreKept (Lacks right) done l c.loop-values.set.items) is c.loop-values.invariant.set);
-    }
+    let among : Contains others c.in-Some.values ↔ Contains right c.in-Some.values =
+    picked_among (Lacks right) c.args.left.items right c.loop-values.yielded _ _ _ others set c.in-Some.values c.in-Some.ensures.steps.0 by c.loop-values.invariant in
+    picked_not (Lacks right) c.args.left.items right c.loop-values.yielded _ _ _ others set c.in-Some.values c.in-Some.ensures.steps.0 by c.loop-values.invariant
+    (λ lacks. lacks (among.0 (c.is_first.ensures.0 c.if-not-is_first.false)))
 
 pub loop-values-preserved-in-Continue-1 : goal.loop-values-preserved-in-Continue-1
 loop-values-preserved-in-Continue-1 c =
     let right : List (List Value) = c.args.right.now in
-    let done : List (List Value) = c.loop-values.yielded in
-    let rest : List (List Value) = c.loop-values.values-iterator.rest.items in
-    let left : List (List Value) = c.next.new.self.rest.items in
-    let values : List Value = c.in-Some.values in
-    let is : rest ≡ values ∷ left = c.in-Some.ensures.steps.0 in
-    let up : IsAscending (values ∷ left) = subst IsAscending is c.loop-values.invariant.ascending in
-    let before : IsDoneWith right c.loop-values.others.now (values ∷ left) = subst (IsDoneWith right c.loop-values.others.now) is c.loop-values.invariant.others in
-    let by : AreNotBelow values c.loop-values.others.now c.not_below-others.result.now =
+    let set : List (List Value) = c.loop-values.set.items in
+    let others : List (List Value) = c.not_below-others.result.now in
+    let by : AreNotBelow c.in-Some.values c.loop-values.others.now others =
     record { ascending = c.not_below-others.ensures.ascending; inside = c.not_below-others.ensures.inside; passed = c.not_below-others.ensures.passed; bound = c.not_below-others.ensures.bound } in
-    let among = among_right right c.loop-values.others.now c.not_below-others.result.now left values before by in
-    rw c.in_ok-push.ensures.items (record {
-      all = append_assoc done (values ∷ []) left ∙ ap (λ l. done ++ l) (sym is) ∙ c.loop-values.invariant.all;
-      ascending = AllPairs-tail (λ a b. values_cmp a b ≡ Less) values left up;
-      others = done_with_more right c.loop-values.others.now c.not_below-others.result.now left values up before by;
-      set = one_kept (Lacks right) done left c.loop-values.set.items values up (λ h. let wrong = c.if-not-is_first.ensures.1 (among.1 h) in cc)
-          (subst (λ l. AreKept (Lacks right) done l c.loop-values.set.items) is c.loop-values.invariant.set);
-    })
+    let among : Contains others c.in-Some.values ↔ Contains right c.in-Some.values =
+    picked_among (Lacks right) c.args.left.items right c.loop-values.yielded _ _ _ others set c.in-Some.values c.in-Some.ensures.steps.0 by c.loop-values.invariant in
+    rw c.in_ok-push.ensures.items
+    (picked_one (Lacks right) c.args.left.items right c.loop-values.yielded _ _ _ others set c.in-Some.values c.in-Some.ensures.steps.0 by c.loop-values.invariant
+    (λ h. let wrong = c.if-not-is_first.ensures.1 (among.1 h) in cc))
 
 pub returns : goal.returns
 returns c =
-    let right : List (List Value) = c.args.right.now in
-    let done : List (List Value) = c.loop-values.yielded in
-    let rest : List (List Value) = c.loop-values.values-iterator.rest.items in
-    let none : length rest ≡ 0 = omega (arith, c.in-None.ensures.steps.0) in
-    let is : rest ≡ [] = nil_from_length rest none in
-    let all : done ≡ c.args.left.items = sym (append-nil done) ∙ ap (λ l. done ++ l) (sym is) ∙ c.loop-values.invariant.all in
-    record {
-      ascending = c.loop-values.invariant.set.ascending;
-      members = λ values. subst (λ l. Contains c.loop-values.set.items values ↔ (Contains l values × (Contains right values → ⊥))) all (c.loop-values.invariant.set.members values);
-    }
+    let none : length c.loop-values.values-iterator.rest.items ≡ 0 = omega (arith, c.in-None.ensures.steps.0) in
+    picked_all (Lacks c.args.right.now) c.args.left.items c.args.right.now c.loop-values.yielded _ c.loop-values.others.now c.loop-values.set.items none c.loop-values.invariant

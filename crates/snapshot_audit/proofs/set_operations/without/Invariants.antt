@@ -1,12 +1,6 @@
-use Rattle.std.proofs.Common.{◌≡◌, ◌++◌}
-use Rattle.snapshot_audit.specs.Sets.{IsAscending}
-use Rattle.snapshot_audit.proofs.SetSteps.{AreKept, IsDoneWith, Lacks}
+use Rattle.snapshot_audit.proofs.SetSteps.{ArePicked, Lacks}
 use Rattle.snapshot_audit.proofs.set_operations.without.Given as goal
 
 abbrev pub invariant-loop-values : goal.invariant-loop-values
-invariant-loop-values l = record {
-  all : l.yielded ++ l.values-iterator.rest.items ≡ l.fn.left.items;
-  ascending : IsAscending l.values-iterator.rest.items;
-  others : IsDoneWith l.right l.others l.values-iterator.rest.items;
-  set : AreKept (Lacks l.right) l.yielded l.values-iterator.rest.items l.set.items;
-}
+invariant-loop-values l =
+    ArePicked (Lacks l.right) l.fn.left.items l.right l.yielded l.values-iterator.rest.items l.others l.set.items
