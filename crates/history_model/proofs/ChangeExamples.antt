@@ -1,5 +1,5 @@
 -- Worked rows of UPDATE and DELETE: a day, the rows in the place of one, the versions that a history leaves, windows.
-use Rattle.std.proofs.Common.{◌≡◌, ℕ, ℤ, pos, true, false, List, [], ◌∷◌, Some, None, refl, arith}
+use Rattle.std.proofs.Common.{◌≡◌, ℕ, ℤ, pos, false, List, [], ◌∷◌, Some, None, refl, arith}
 use Rattle.std.proofs.lemmas.Int.{ints}
 use Rattle.period_core.proofs.Periods.{period_over}
 use Rattle.period_core.specs.Moments.{forever}
@@ -12,7 +12,7 @@ use Rattle.catalog_core.specs.declared.change.Action.TheVariants.{Delete, Insert
 use Rattle.catalog_core.specs.declared.change.Assignment.{Assignment}
 use Rattle.catalog_core.specs.declared.change.Change.{Change}
 use Rattle.history_model.specs.Effects.{Kept, effect, traced}
-use Rattle.history_model.specs.Histories.{Advanced, Changed, History, last_state, new_database, state_at}
+use Rattle.history_model.specs.Histories.{Advanced, Changed, History, new_database, state_at}
 use Rattle.history_model.specs.Left.{closed_at, versions_of}
 use Rattle.history_model.specs.Portions.{PlainRow, replacements, touches}
 use Rattle.history_model.specs.SystemWindows.{SeesThrough}
@@ -46,21 +46,12 @@ deleting = record { table = 1; action = Delete (Some portion) None }
 
 -- ---- a day
 
--- the row is changed on the portion's first day and on its last, and not on the day before or at its end
-first_day : effect updating 1 (pos 12) (worker ∷ []) ≡ promoted ∷ []
-first_day = refl
-
+-- the row is changed on the portion's last day, and not at its end
 last_day : effect updating 1 (pos 14) (worker ∷ []) ≡ promoted ∷ []
 last_day = refl
 
-day_before : effect updating 1 (pos 11) (worker ∷ []) ≡ worker ∷ []
-day_before = refl
-
 at_its_end : effect updating 1 (pos 15) (worker ∷ []) ≡ worker ∷ []
 at_its_end = refl
-
-other_table : effect updating 2 (pos 12) (worker ∷ []) ≡ worker ∷ []
-other_table = refl
 
 -- without a portion every day is changed
 every_day : effect (record { table = 1; action = Update None (to_4 ∷ []) None }) 1 (pos 99) (worker ∷ []) ≡ promoted ∷ []
@@ -69,16 +60,9 @@ every_day = refl
 removed : effect deleting 1 (pos 12) (worker ∷ []) ≡ []
 removed = refl
 
-spared : effect deleting 1 (pos 15) (worker ∷ []) ≡ worker ∷ []
-spared = refl
-
 -- each row keeps its origin, also where two become equal
 origins : traced update (pos 12) (worker ∷ promoted ∷ []) ≡ record { origin = Kept worker; row = promoted } ∷ record { origin = Kept promoted; row = promoted } ∷ []
 origins = refl
-
--- a later assignment to one position counts
-twice : effect (record { table = 1; action = Update None (record { position = 1; value = Int (pos 5) } ∷ to_4 ∷ []) None }) 1 (pos 12) (worker ∷ []) ≡ promoted ∷ []
-twice = refl
 
 -- ---- the rows in the place of one
 
@@ -89,28 +73,9 @@ over values start end = record { values = values; start = pos start; end = pos e
 split : replacements update (over worker 10 20) ≡ over worker 10 12 ∷ over worker 15 20 ∷ over promoted 12 15 ∷ []
 split = refl
 
-left_of_it : replacements update (over worker 10 13) ≡ over worker 10 12 ∷ over promoted 12 13 ∷ []
-left_of_it = refl
-
--- a row inside the portion is not split
-inside : replacements update (over worker 12 15) ≡ over promoted 12 15 ∷ []
-inside = refl
-
-whole : replacements (Update None (to_4 ∷ []) None) (over worker 10 20) ≡ over promoted 10 20 ∷ []
-whole = refl
-
-deleted : replacements (Delete (Some portion) None) (over worker 10 20) ≡ over worker 10 12 ∷ over worker 15 20 ∷ []
-deleted = refl
-
 -- a row that meets the portion only at an edge is not touched
 ends_at_start : touches update (over worker 10 12) ≡ false
 ends_at_start = refl
-
-starts_at_end : touches update (over worker 15 20) ≡ false
-starts_at_end = refl
-
-shares_a_day : touches update (over worker 14 20) ≡ true
-shares_a_day = refl
 
 -- ---- a history: INSERT at moment 100, and at 200 an UPDATE of a portion
 
@@ -138,12 +103,6 @@ just_before = refl
 updated : state_at history (pos 200) 1 (pos 12) ≡ promoted ∷ []
 updated = refl
 
-outside : state_at history (pos 200) 1 (pos 15) ≡ worker ∷ []
-outside = refl
-
-last : last_state history 1 (pos 12) ≡ promoted ∷ []
-last = refl
-
 -- ---- windows
 
 pub sees_now : SeesThrough history Now (pos 12) 1 promoted
@@ -151,12 +110,6 @@ sees_now = (last_moment, omega (arith, ints), refl, (0, omega arith, refl))
 
 pub saw : SeesThrough history (AsOf (pos 199)) (pos 12) 1 worker
 saw = (pos 199, omega (arith, ints), refl, (0, omega arith, refl))
-
-saw_old : SeesThrough history (FromTo (pos 150) (pos 201)) (pos 12) 1 worker
-saw_old = (pos 150, omega (arith, ints), (omega (arith, ints), omega (arith, ints)), (0, omega arith, refl))
-
-saw_new : SeesThrough history (FromTo (pos 150) (pos 201)) (pos 12) 1 promoted
-saw_new = (pos 200, omega (arith, ints), (omega (arith, ints), omega (arith, ints)), (0, omega arith, refl))
 
 between : SeesThrough history (Between (pos 200) (pos 200)) (pos 12) 1 promoted
 between = (pos 200, omega (arith, ints), (omega (arith, ints), omega (arith, ints)), (0, omega arith, refl))

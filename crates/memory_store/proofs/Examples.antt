@@ -6,8 +6,8 @@ use Rattle.sqlite_trees.specs.declared.store.Shape.TheVariants.{Table}
 use Rattle.sqlite_trees.specs.Listing.{no_heading}
 use Rattle.ordered_rows.specs.declared.undo.Change.TheVariants.{Out}
 use Rattle.ordered_rows.specs.declared.undo.Undo.{Undo as RowsUndo}
-use Rattle.memory_store.specs.declared.undo.Undo.TheVariants.{Grown, Listed, Mark, Nothing, Rows, Version}
-use Rattle.memory_store.specs.Stands.{IsNewestMark, Stand, before, before_all, marked, shows}
+use Rattle.memory_store.specs.declared.undo.Undo.TheVariants.{Grown, Listed, Mark, Rows, Version}
+use Rattle.memory_store.specs.Stands.{Stand, before, marked, shows}
 
 abbrev two : Row
 two = Int (pos 2) ∷ []
@@ -26,10 +26,6 @@ without_five = record { change = Out 1; low = omega arith }
 row-out : before (Rows 0 without_five) now ≡ record now { rows = (two ∷ []) ∷ [] ∷ [] }
 row-out = refl
 
--- there is no tree with this number
-row-nowhere : before (Rows 9 without_five) now ≡ now
-row-nowhere = refl
-
 number-back : before Grown now ≡ record now { headings = (Table, 0, []) ∷ []; rows = (two ∷ five ∷ []) ∷ [] }
 number-back = refl
 
@@ -37,14 +33,7 @@ number-back = refl
 listed-back : before (Listed 0 two 3) now ≡ record now { headings = (Table, 3, two) ∷ no_heading ∷ [] }
 listed-back = refl
 
--- the oldest entry is undone last
-oldest-last : before_all (Version 3 ∷ Version 5 ∷ []) now ≡ record now { version = 3 }
-oldest-last = refl
-
 -- two savepoints: the older goes back to version 5, the newer to the rows without 5
 two-marks : marked (Version 3 ∷ Mark ∷ Version 5 ∷ Mark ∷ Rows 0 without_five ∷ []) now
     ≡ shows (record now { rows = (two ∷ []) ∷ [] ∷ []; version = 5 }) ∷ shows (record now { rows = (two ∷ []) ∷ [] ∷ [] }) ∷ []
 two-marks = refl
-
-newest : IsNewestMark (Mark ∷ Version 3 ∷ Mark ∷ Nothing ∷ []) 2
-newest = record { within = omega arith; mark = refl; newest = (refl, tt) }

@@ -11,8 +11,8 @@
 mod content;
 mod edit;
 mod history;
-pub mod opening;
-pub mod store;
+mod opening;
+mod store;
 mod tree;
 mod undo;
 

@@ -3,14 +3,14 @@
 //! what takes it back, and taking it back needs no memory.
 #![tactic(auto)]
 
-pub mod cursor;
+mod cursor;
 mod head;
 mod kept;
 pub mod laws;
 mod place;
-pub mod rows;
+mod rows;
 mod tree;
-pub mod undo;
+mod undo;
 
 pub use cursor::RowCursor;
 pub use rows::OrderedRows;

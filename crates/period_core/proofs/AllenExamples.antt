@@ -1,5 +1,5 @@
--- Allen's thirteen relations, each between the days 10 to 19 and another period, and what the
--- predicates say of it.
+-- Six of Allen's thirteen relations, each between the days 10 to 19 and another period, and what
+-- the predicates say of it.
 use Rattle.std.proofs.Common.{◌≡◌, pos, Bool, true, false, List, [], ◌∷◌, refl}
 use Rattle.period_core.specs.PeriodPredicates.{contains, equals, immediately_precedes, immediately_succeeds, overlaps, precedes, succeeds}
 use Rattle.period_core.specs.declared.period.Period.{Period}
@@ -18,35 +18,14 @@ before = refl
 meets : said (period_over (pos 20) (pos 30) refl) ≡ false ∷ false ∷ false ∷ true ∷ false ∷ true ∷ false ∷ []
 meets = refl
 
-overlapping : said (period_over (pos 15) (pos 30) refl) ≡ true ∷ false ∷ false ∷ false ∷ false ∷ false ∷ false ∷ []
-overlapping = refl
-
-finished_by : said (period_over (pos 15) (pos 20) refl) ≡ true ∷ false ∷ true ∷ false ∷ false ∷ false ∷ false ∷ []
-finished_by = refl
-
-containing : said (period_over (pos 12) (pos 18) refl) ≡ true ∷ false ∷ true ∷ false ∷ false ∷ false ∷ false ∷ []
-containing = refl
-
 starting : said (period_over (pos 10) (pos 30) refl) ≡ true ∷ false ∷ false ∷ false ∷ false ∷ false ∷ false ∷ []
 starting = refl
 
 equal : said (period_over (pos 10) (pos 20) refl) ≡ true ∷ true ∷ true ∷ false ∷ false ∷ false ∷ false ∷ []
 equal = refl
 
-started_by : said (period_over (pos 10) (pos 15) refl) ≡ true ∷ false ∷ true ∷ false ∷ false ∷ false ∷ false ∷ []
-started_by = refl
-
-during : said (period_over (pos 5) (pos 30) refl) ≡ true ∷ false ∷ false ∷ false ∷ false ∷ false ∷ false ∷ []
-during = refl
-
 finishing : said (period_over (pos 5) (pos 20) refl) ≡ true ∷ false ∷ false ∷ false ∷ false ∷ false ∷ false ∷ []
 finishing = refl
 
-overlapped_by : said (period_over (pos 5) (pos 15) refl) ≡ true ∷ false ∷ false ∷ false ∷ false ∷ false ∷ false ∷ []
-overlapped_by = refl
-
 met_by : said (period_over (pos 5) (pos 10) refl) ≡ false ∷ false ∷ false ∷ false ∷ true ∷ false ∷ true ∷ []
 met_by = refl
-
-after : said (period_over (pos 2) (pos 5) refl) ≡ false ∷ false ∷ false ∷ false ∷ true ∷ false ∷ false ∷ []
-after = refl

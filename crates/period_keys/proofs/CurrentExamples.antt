@@ -11,10 +11,8 @@ use Rattle.catalog_core.specs.declared.table.Column.{Column}
 use Rattle.catalog_core.specs.declared.table.Reference.{Reference}
 use Rattle.catalog_core.specs.declared.table.TableDef.{TableDef}
 use Rattle.history_model.specs.Histories.{State}
-use Rattle.period_keys.specs.Current.{IsIndexed}
 use Rattle.period_keys.specs.Faults.{IsFaultBy}
-use Rattle.period_keys.specs.Lawful.{own_positions, parent_positions}
-use Rattle.period_keys.specs.TableRows.{TableRows}
+use Rattle.period_keys.specs.Lawful.{own_positions}
 
 -- the columns of a period and of the system time, and then these
 abbrev with_periods : List Column → List Column
@@ -56,24 +54,6 @@ workers =
 own-second : own_positions workers to_department ≡ 1 ∷ []
 unfolding is_value_column
 own-second = refl
-
-keys-first : parent_positions departments to_department ≡ 0 ∷ []
-unfolding is_value_column
-keys-first = refl
-
-abbrev in_memory : List TableRows
-in_memory =
-    record { positions = 0 ∷ []; rows = []; indexed = (0 ∷ []) ∷ [] }
-    ∷ record { positions = 0 ∷ []; rows = []; indexed = (1 ∷ []) ∷ [] }
-    ∷ []
-
--- the indexes that the reference needs
-indexed-both : IsIndexed in_memory 2 workers to_department departments
-unfolding is_value_column
-indexed-both = record {
-  children = (record { positions = 0 ∷ []; rows = []; indexed = (1 ∷ []) ∷ [] }, refl, Contains-here (1 ∷ []) []);
-  parents = (record { positions = 0 ∷ []; rows = []; indexed = (0 ∷ []) ∷ [] }, refl, Contains-here (0 ∷ []) []);
-}
 
 -- on each day department 5 and a worker of it
 abbrev before : State

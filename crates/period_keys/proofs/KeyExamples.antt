@@ -1,15 +1,11 @@
 -- Worked rows: two rows that meet share no day of their key, two that overlap by a day share it; a child is uncovered on the day after its parent's last.
-use Rattle.std.proofs.Common.{◌≡◌, ◌<ℤ◌, ◌≤ℤ◌, zero, suc, ℤ, pos, true, Some, None, map, [], ◌∷◌, refl, ap, arith}
+use Rattle.std.proofs.Common.{◌≡◌, ◌<ℤ◌, ◌≤ℤ◌, zero, suc, ℤ, pos, true, [], ◌∷◌, refl, ap, arith}
 use Rattle.std.proofs.lemmas.Int.{ints}
 use Rattle.period_core.specs.declared.value.Value.TheVariants.{Int}
 use Rattle.period_core.specs.declared.row.PeriodRow.{PeriodRow}
 use Rattle.period_core.proofs.Periods.{are_ends, period_over}
 use Rattle.temporal_model.proofs.Members.{Contains-here, Contains-one}
-use Rattle.period_core.specs.declared.period.Period.{Period}
 use Rattle.period_keys.specs.Keys.{key_values, ShareKeyOn, IsKeyClash, IsUncovered}
-use Rattle.period_keys.specs.Index.{earlier, periods_of_key}
-use Rattle.period_keys.specs.Leading.{first_integer}
-use Rattle.period_keys.specs.Repeats.{key_row}
 
 -- key 1 with the department, over a period
 abbrev row_over : (department start end : ℤ) → are_ends start end ≡ true → PeriodRow
@@ -23,16 +19,6 @@ meeting = row_over (pos 4) (pos 32) (pos 60) refl
 
 abbrev overlapping : PeriodRow
 overlapping = row_over (pos 4) (pos 31) (pos 60) refl
-
-key-first : key_values (0 ∷ []) first ≡ Int (pos 1) ∷ []
-key-first = refl
-
--- what is kept of a key beside its values
-leading-first : first_integer (Int (pos 1) ∷ []) ≡ Some (pos 1)
-leading-first = refl
-
-leading-none : first_integer [] ≡ None
-leading-none = refl
 
 -- positions stand in any order
 key-turned : key_values (1 ∷ 0 ∷ []) first ≡ Int (pos 3) ∷ Int (pos 1) ∷ []
@@ -64,25 +50,3 @@ uncovered-after_end = (
   λ (parent, there, same, (from, to)).
       let end : pos 32 ≡ parent.period.end = ap (λ (r : PeriodRow). r.period.end) (Contains-one first parent there) in omega (arith, ints),
 )
-
--- of two days that may be there the earlier is answered
-first-of_two : earlier (Some (pos 45)) (Some (pos 31)) ≡ Some (pos 31)
-first-of_two = refl
-
-first-of_one : earlier None (Some (pos 31)) ≡ Some (pos 31)
-first-of_one = refl
-
--- a row of keys alone, by the second column
-key-row : (key_row (1 ∷ []) first).values ≡ Int (pos 3) ∷ []
-key-row = refl
-
--- a position past the last value gives none
-key-past : key_values (0 ∷ 7 ∷ []) first ≡ Int (pos 1) ∷ []
-key-past = refl
-
--- of the rows of a key the periods, in any order of the rows
-periods-of_key : map (λ (period : Period). period.start) (periods_of_key (0 ∷ []) (overlapping ∷ first ∷ []) (Int (pos 1) ∷ [])) ≡ pos 31 ∷ pos 1 ∷ []
-periods-of_key = refl
-
-periods-of_none : periods_of_key (0 ∷ []) (overlapping ∷ first ∷ []) (Int (pos 2) ∷ []) ≡ []
-periods-of_none = refl

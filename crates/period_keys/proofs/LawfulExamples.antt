@@ -18,14 +18,6 @@ worker number department = Int number ∷ Int department ∷ []
 abbrev given : GivenRow
 given = record { values = worker (pos 1) (pos 3); start = pos 10; end = pos 20 }
 
--- on a day of its period the given row is beside the one that was there
-inserted-traced : traced (Insert (given ∷ [])) (pos 12) (worker (pos 1) (pos 3) ∷ []) ≡ kept (worker (pos 1) (pos 3)) ∷ given_row (0, given) ∷ []
-inserted-traced = refl
-
--- on the day on which its period ends it is not
-inserted-ended : traced (Insert (given ∷ [])) (pos 20) (worker (pos 1) (pos 3) ∷ []) ≡ kept (worker (pos 1) (pos 3)) ∷ []
-inserted-ended = refl
-
 origins_apart : (values : List Value) (i : ℕ) → Kept values ≡ Given i → ⊥
 origins_apart values i e = cc
 
@@ -39,10 +31,6 @@ same_row_clashes =
 -- SET gives the first column the value 1
 abbrev renumber : Assignment
 renumber = record { position = 0; value = Int (pos 1) }
-
-renumbered-traced : traced (Update None (renumber ∷ []) None) (pos 12) (worker (pos 1) (pos 3) ∷ worker (pos 2) (pos 3) ∷ [])
-    ≡ (record { origin = Kept (worker (pos 1) (pos 3)); row = worker (pos 1) (pos 3) }) ∷ (record { origin = Kept (worker (pos 2) (pos 3)); row = worker (pos 1) (pos 3) }) ∷ []
-renumbered-traced = refl
 
 numbers_apart : Kept (worker (pos 1) (pos 3)) ≡ Kept (worker (pos 2) (pos 3)) → ⊥
 numbers_apart e = cc

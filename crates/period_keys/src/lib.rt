@@ -40,14 +40,9 @@ mod table_index;
 mod table_list;
 mod tables;
 
-pub use clashes::{index_of, index_of_current, index_of_versions, key_clash_after};
 pub use current_rows::CurrentRows;
-pub use faults::{child_fault, key_fault, parent_fault, rows_of, rows_of_current};
-pub use fixed_keys::fixed_key;
-pub use key::Key;
+pub use faults::{key_fault, rows_of, rows_of_current};
 pub use key_laws::{clashes_after_change, clashes_are_of_days, uncovered_are_of_days};
-pub use keyed_periods::KeyedPeriods;
-pub use keys::{key_of, values_of};
 pub use lawful_laws::{
     changes_break_their_own_references, key_faults_are_clashes, lacking_parents_are_uncovered,
     states_stay_lawful,
@@ -56,7 +51,6 @@ pub use lawful_states::is_lawful;
 pub use planning::plan_change;
 pub use positions::positions_of;
 pub use reference_faults::reference_fault;
-pub use references::{uncovered_by_children, uncovered_by_parents};
-pub use table_index::{TableIndex, TouchedKeys};
+pub use table_index::TableIndex;
 pub use table_list::{add_table, tables_of};
 pub use tables::{key_clash, uncovered};

@@ -46,9 +46,6 @@ either_on_day_2 = inr (Contains-here _ [])
 second_before_first : ReadsColumns (1 ∷ 0 ∷ []) (Int (pos 7) ∷ Int (pos 9) ∷ []) (Int (pos 9) ∷ Int (pos 7) ∷ [])
 second_before_first = refl
 
-first_again : ReadsColumns (0 ∷ 0 ∷ []) (Int (pos 7) ∷ Int (pos 9) ∷ []) (Int (pos 7) ∷ Int (pos 7) ∷ [])
-first_again = refl
-
 no_third : (read : List Value) → ReadsColumns (2 ∷ []) (Int (pos 7) ∷ Int (pos 9) ∷ []) read → ⊥
 no_third [] reads = cc
 no_third (v ∷ read) reads = cc

@@ -1,10 +1,8 @@
 -- Worked rows: the value 7 over a few days, faults of witnesses, change days, a first difference.
-use Rattle.std.proofs.Common.{◌≡◌, ◌<ℤ◌, true, zero, suc, ℤ, pos, Some, None, List, [], ◌∷◌, ap, refl, sym, ◌∙◌, subst, inl, inr, arith}
-use Rattle.std.specs.List.{AllPairs, Contains}
+use Rattle.std.proofs.Common.{◌≡◌, true, ℤ, pos, neg_ℤ, List, [], ◌∷◌, ap, refl, sym, ◌∙◌, subst, inl, inr, arith}
+use Rattle.std.specs.List.{Contains}
 use Rattle.std.proofs.lemmas.Int.{ints}
-use Rattle.std.proofs.lemmas.Option.{same_Some}
 use Rattle.period_core.proofs.Periods.{are_ends, period_over}
-use Rattle.period_core.specs.Calendar.{first_day}
 use Rattle.period_core.specs.declared.value.Value.{Value}
 use Rattle.period_core.specs.declared.value.Value.TheVariants.{Int}
 use Rattle.period_core.specs.declared.row.PeriodRow.{PeriodRow}
@@ -13,9 +11,8 @@ use Rattle.temporal_model.specs.Snapshot.{InSnapshot}
 use Rattle.temporal_model.specs.Witness.{witness_of}
 use Rattle.temporal_model.proofs.Members.{Contains-here, Contains-there, Contains-nil, Contains-one, Contains-cons_cases}
 use Rattle.temporal_model.proofs.Snapshots.{held, in_snapshot}
-use Rattle.snapshot_audit.specs.ChangeDays.{AreChangeDays, IsChangeDay}
+use Rattle.snapshot_audit.specs.ChangeDays.{IsChangeDay}
 use Rattle.snapshot_audit.specs.Faults.{IsSound, SoundBelow, IsFirstFault, IsFaultless}
-use Rattle.snapshot_audit.specs.Gaps.{HasGaps}
 use Rattle.snapshot_audit.specs.Sets.{ListsSet}
 use Rattle.snapshot_audit.specs.Verdicts.{IsFirstDifference}
 use Rattle.snapshot_audit.proofs.Sound.{sound_more}
@@ -69,29 +66,6 @@ spare-counted = record {
   fault = inr (refl, omega arith);
 }
 
--- without a witness it is that of the row
-none-counted : IsFirstFault (whole ∷ []) [] 1
-none-counted = record {
-  place = 0;
-  counted = refl;
-  before = nothing_below (whole ∷ []) [];
-  fault = inl (whole, refl, λ sound. (let none : None ≡ Some (witness_of whole) = sound.witness in cc));
-}
-
--- and so with a witness that has no day before
-wrong-counted : IsFirstFault (whole ∷ []) (record { held = pos 1; absent = None } ∷ []) 1
-wrong-counted = record {
-  place = 0;
-  counted = refl;
-  before = nothing_below (whole ∷ []) (record { held = pos 1; absent = None } ∷ []);
-  fault = inl (
-    whole,
-    refl,
-    λ sound. (let same : record { held = pos 1; absent = None } ≡ witness_of whole = same_Some (record { held = pos 1; absent = None }) (witness_of whole) sound.witness in
-        let none : None ≡ Some (pos 0) = ap (λ (w : Witness). w.absent) same in cc),
-  );
-}
-
 early-sound : (other : PeriodRow) → (InSnapshot (early ∷ other ∷ []) (pos 0) seven → ⊥)
     → IsSound (early ∷ other ∷ []) (witness_of early ∷ witness_of other ∷ []) 0 early
 early-sound other none = record {
@@ -120,9 +94,6 @@ meeting-counted = record {
   fault = inl (late, refl, λ sound. sound.anew.absent_before (Contains-here seven []));
 }
 
-meeting-no_gap : HasGaps (early ∷ late ∷ []) → ⊥
-meeting-no_gap gaps = let gap : pos 3 <ℤ pos 3 = (gaps 0 1 early (omega arith) (omega arith)).1 refl in omega (arith, ints)
-
 -- ---- sets
 
 -- what two rows hold is there once in the set
@@ -140,51 +111,19 @@ held_twice-once = record {
 
 -- ---- days
 
--- the audit of the row over a table that has it looks at three days
-three-change_days : AreChangeDays ((whole ∷ []) ∷ (whole ∷ []) ∷ []) (first_day ∷ pos 1 ∷ pos 5 ∷ [])
-three-change_days = record {
-  ascending = λ i j d lt below. up i j d lt below;
-  members = λ day. (there day, back day);
-} where
-  lists : List (List PeriodRow)
-  lists = (whole ∷ []) ∷ (whole ∷ []) ∷ []
+-- the day on which a row ends is one of change
+end-change_day : IsChangeDay ((whole ∷ []) ∷ []) (pos 5)
+end-change_day = inr (whole ∷ [], Contains-here (whole ∷ []) [], (whole, Contains-here whole [], inr refl))
 
-  up : AllPairs (λ a b. a <ℤ b) (first_day ∷ pos 1 ∷ pos 5 ∷ [])
-  up zero zero d lt below = absurd (omega arith)
-  up zero (suc zero) d lt below = omega (arith, ints)
-  up zero (suc (suc zero)) d lt below = omega (arith, ints)
-  up zero (suc (suc (suc j))) d lt below = absurd (omega arith)
-  up (suc i) zero d lt below = absurd (omega arith)
-  up (suc zero) (suc zero) d lt below = absurd (omega arith)
-  up (suc zero) (suc (suc zero)) d lt below = omega (arith, ints)
-  up (suc zero) (suc (suc (suc j))) d lt below = absurd (omega arith)
-  up (suc (suc i)) (suc j) d lt below = absurd (omega arith)
-
-  there : (day : ℤ) → Contains (first_day ∷ pos 1 ∷ pos 5 ∷ []) day → IsChangeDay lists day
-  there day h = elim (Contains-cons_cases first_day (pos 1 ∷ pos 5 ∷ []) day h) [
-    | inl is ↦ inl is
-    | inr more ↦ elim (Contains-cons_cases (pos 1) (pos 5 ∷ []) day more) [
-      | inl is ↦ inr (whole ∷ [], Contains-here (whole ∷ []) ((whole ∷ []) ∷ []), (whole, Contains-here whole [], inl is))
-      | inr last ↦ inr (whole ∷ [], Contains-here (whole ∷ []) ((whole ∷ []) ∷ []), (whole, Contains-here whole [], inr (Contains-one (pos 5) day last)))
+-- a day within it is none
+within-no_change_day : IsChangeDay ((whole ∷ []) ∷ []) (pos 3) → ⊥
+within-no_change_day (inl is) = let first : neg_ℤ (pos 719_162) ≡ pos 3 = is in omega (arith, ints)
+within-no_change_day (inr (rows, c, (row, inside, ends))) =
+    let one : whole ≡ row = Contains-one whole row (subst (λ l. Contains l row) (sym (Contains-one (whole ∷ []) rows c)) inside) in
+    elim ends [
+      | inl is ↦ let start : pos 1 ≡ pos 3 = ap (λ (r : PeriodRow). r.period.start) one ∙ is in omega (arith, ints)
+      | inr is ↦ let end : pos 5 ≡ pos 3 = ap (λ (r : PeriodRow). r.period.end) one ∙ is in omega (arith, ints)
     ]
-  ]
-
-  listed : (rows : List PeriodRow) → Contains lists rows → whole ∷ [] ≡ rows
-  listed rows c = elim (Contains-cons_cases (whole ∷ []) ((whole ∷ []) ∷ []) rows c) [
-    | inl is ↦ is
-    | inr more ↦ Contains-one (whole ∷ []) rows more
-  ]
-
-  back : (day : ℤ) → IsChangeDay lists day → Contains (first_day ∷ pos 1 ∷ pos 5 ∷ []) day
-  back day (inl is) = subst (Contains (first_day ∷ pos 1 ∷ pos 5 ∷ [])) is (Contains-here first_day (pos 1 ∷ pos 5 ∷ []))
-  back day (inr (rows, c, (row, inside, ends))) =
-      let one : whole ≡ row = Contains-one whole row (subst (λ l. Contains l row) (sym (listed rows c)) inside) in
-      elim ends [
-        | inl is ↦ subst (Contains (first_day ∷ pos 1 ∷ pos 5 ∷ [])) (ap (λ (r : PeriodRow). r.period.start) one ∙ is)
-            (Contains-there first_day (pos 1 ∷ pos 5 ∷ []) (pos 1) (Contains-here (pos 1) (pos 5 ∷ [])))
-        | inr is ↦ subst (Contains (first_day ∷ pos 1 ∷ pos 5 ∷ [])) (ap (λ (r : PeriodRow). r.period.end) one ∙ is)
-            (Contains-there first_day (pos 1 ∷ pos 5 ∷ []) (pos 5) (Contains-there (pos 1) (pos 5 ∷ []) (pos 5) (Contains-here (pos 5) [])))
-      ]
 
 -- an answer that goes on for four days more than the table differs first on day 5
 long-differs : IsFirstDifference (InSnapshot (whole ∷ [])) (long ∷ []) (pos 5)

@@ -1,16 +1,15 @@
 -- Worked rows of CREATE TABLE's elements.
 use Rattle.std.proofs.Common.{◌≡◌, ℕ, List, [], ◌∷◌, ◌++◌, Some, None, codes, refl, arith}
-use Rattle.sql_statements.specs.declared.create.Generated.TheVariants.{End}
-use Rattle.sql_statements.specs.declared.create.TypeName.TheVariants.{Integer, Date, Varchar, Timestamp}
-use Rattle.sql_statements.specs.declared.token.TokenKind.TheVariants.{Word, Number, Symbol}
+use Rattle.sql_statements.specs.declared.create.TypeName.TheVariants.{Integer, Date}
+use Rattle.sql_statements.specs.declared.token.TokenKind.TheVariants.{Word, Symbol}
 use Rattle.sql_statements.specs.Lexemes.{Lexeme}
 use Rattle.sql_statements.specs.Names.{is_plain_word}
 use Rattle.sql_statements.specs.Words.{is_reserved}
 use Rattle.sql_statements.specs.Elements.{HasElement}
 use Rattle.sql_front.specs.reading.Leaves.{name_read, number_read}
-use Rattle.sql_front.specs.reading.ElementReaders.{create_read, elements_read, element_read, column_element_read, not_null_read, key_element_read, reference_element_read, reference_list_read, versioning_read, without_overlaps_read, split_last, all_and_last_read, type_read, length_read, generated_read, row_end_read, one_more_name, leading_names_read, more_names_read, pair_read, some_period_read, period_element_read, system_element_read, created_table_read, key_list_read, last_period_read, parent_read, timestamp_read}
+use Rattle.sql_front.specs.reading.ElementReaders.{create_read, elements_read, element_read, column_element_read, not_null_read, key_element_read, reference_element_read, reference_list_read, versioning_read, without_overlaps_read, all_and_last_read, type_read, length_read, generated_read, row_end_read, one_more_name, leading_names_read, more_names_read, pair_read, some_period_read, period_element_read, system_element_read, created_table_read, key_list_read, last_period_read, parent_read, timestamp_read}
 use Rattle.sql_front.specs.reading.Reading.{bounded_read, whole_read}
-use Rattle.sql_front.specs.Builders.{system_element, period_element, table_of}
+use Rattle.sql_front.specs.Builders.{table_of}
 use Rattle.sql_front.proofs.ReadGrammar.{IsCreate}
 use Rattle.sql_statements.specs.declared.create.CreateTable.{CreateTable}
 use Rattle.sql_front.proofs.ElementsRead.{reads_create}
@@ -21,69 +20,6 @@ w text = record { kind = Word; text = text; start = 0; end = 0 }
 
 abbrev s : List ℕ → Lexeme
 s text = record { kind = Symbol; text = text; start = 0; end = 0 }
-
-abbrev n : List ℕ → Lexeme
-n text = record { kind = Number; text = text; start = 0; end = 0 }
-
--- a lone name has none before it
-lone_is_not_split : split_last (codes "A" ∷ []) ≡ None
-lone_is_not_split = refl
-
-last_is_split_off :
-    split_last (codes "A" ∷ codes "B" ∷ codes "P" ∷ [])
-    ≡ Some (codes "A" ∷ codes "B" ∷ [], codes "P")
-last_is_split_off = refl
-
--- VARCHAR(8)
-varchar_of_8 :
-    type_read (w (codes "varchar") ∷ s (codes "(") ∷ n (codes "8") ∷ s (codes ")") ∷ [])
-    ≡ Some (Varchar 8, [])
-unfolding type_read timestamp_read length_read number_read
-varchar_of_8 = refl
-
--- VARCHAR and a comma
-varchar_of_none : type_read (w (codes "VARCHAR") ∷ s (codes ",") ∷ []) ≡ None
-unfolding type_read timestamp_read length_read number_read
-varchar_of_none = refl
-
--- TIMESTAMP and a comma
-timestamp_alone :
-    type_read (w (codes "TIMESTAMP") ∷ s (codes ",") ∷ [])
-    ≡ Some (Timestamp None, s (codes ",") ∷ [])
-unfolding type_read timestamp_read length_read number_read
-timestamp_alone = refl
-
--- GENERATED ALWAYS AS ROW END
-ends_a_row :
-    generated_read (w (codes "GENERATED") ∷ w (codes "ALWAYS") ∷ w (codes "AS") ∷ w (codes "ROW") ∷ w (codes "END") ∷ [])
-    ≡ Some (End, [])
-unfolding generated_read row_end_read
-ends_a_row = refl
-
--- (f, t)
-abbrev a_pair : List Lexeme
-a_pair = s (codes "(") ∷ w (codes "f") ∷ s (codes ",") ∷ w (codes "t") ∷ s (codes ")") ∷ []
-
--- PERIOD FOR p (f, t)
-named_period :
-    some_period_read (w (codes "PERIOD") ∷ w (codes "FOR") ∷ w (codes "p") ∷ a_pair)
-    ≡ Some (period_element (record { name = codes "P"; start = codes "F"; end = codes "T" }), [])
-unfolding some_period_read period_element_read system_element_read pair_read name_read is_plain_word is_reserved
-named_period = refl
-
--- PERIOD FOR SYSTEM_TIME (f, t)
-system_period :
-    some_period_read (w (codes "PERIOD") ∷ w (codes "FOR") ∷ w (codes "SYSTEM_TIME") ∷ a_pair)
-    ≡ Some (system_element (record { start = codes "F"; end = codes "T" }), [])
-unfolding some_period_read period_element_read system_element_read pair_read name_read is_plain_word is_reserved
-system_period = refl
-
--- a, b, PERIOD
-names_before_period :
-    leading_names_read (w (codes "a") ∷ s (codes ",") ∷ w (codes "b") ∷ s (codes ",") ∷ w (codes "PERIOD") ∷ [])
-    ≡ Some (codes "A" ∷ codes "B" ∷ [], s (codes ",") ∷ w (codes "PERIOD") ∷ [])
-unfolding leading_names_read more_names_read one_more_name bounded_read name_read is_plain_word is_reserved
-names_before_period = refl
 
 -- CREATE TABLE t (a INTEGER NOT NULL, PRIMARY KEY (a, p WITHOUT OVERLAPS), b DATE,
 abbrev first_elements : List Lexeme

@@ -1,11 +1,11 @@
 -- Worked rows of the lexis and of pieces.
-use Rattle.std.proofs.Common.{◌≡◌, [], ◌∷◌, true, false, refl}
+use Rattle.std.proofs.Common.{◌≡◌, [], ◌∷◌, true, refl}
 use Rattle.std.specs.Prelude.{codes}
-use Rattle.sql_statements.specs.declared.token.TokenKind.TheVariants.{Word, Number, Text, Symbol}
+use Rattle.sql_statements.specs.declared.token.TokenKind.TheVariants.{Word, Number, Symbol}
 use Rattle.sql_statements.specs.declared.lexeme.Front.TheVariants as front
 use Rattle.sql_statements.specs.Lexemes.{Lexeme}
 use Rattle.sql_statements.specs.Lexis as lexis
-use Rattle.sql_statements.specs.Lexis.{first_lexeme, quoted_size, TokensOf, StopsAt, byte_order_mark, byte_order_mark_size}
+use Rattle.sql_statements.specs.Lexis.{first_lexeme, quoted_size, TokensOf, StopsAt, byte_order_mark_size}
 use Rattle.sql_front.specs.Pieces as pieces
 use Rattle.sql_front.specs.Pieces.{HasPieces}
 use Rattle.sql_statements.specs.Words.{is_reserved}
@@ -14,16 +14,6 @@ use Rattle.sql_statements.specs.Words.{is_reserved}
 number_and_word : TokensOf (codes "12a") (record { kind = Number; text = codes "12"; start = 0; end = 2 } ∷ record { kind = Word; text = codes "a"; start = 2; end = 3 } ∷ [])
 unfolding first_lexeme
 number_and_word = lexis.TokensFrom.token Number 2 refl (lexis.TokensFrom.token Word 1 refl lexis.TokensFrom.ended)
-
--- a symbol and a comment
-symbol_and_comment : TokensOf (codes "=--1") (record { kind = Symbol; text = codes "="; start = 0; end = 1 } ∷ [])
-unfolding first_lexeme
-symbol_and_comment = lexis.TokensFrom.token Symbol 1 refl (lexis.TokensFrom.blank 3 refl lexis.TokensFrom.ended)
-
--- four quotes are one text
-one_text : first_lexeme (codes "''''") ≡ front.Lexeme Text 4
-unfolding first_lexeme quoted_size
-one_text = refl
 
 -- a text has no end
 no_end : StopsAt (codes "N 'ab''") 2
@@ -39,18 +29,10 @@ longer_symbol = refl
 mark_at_start : byte_order_mark_size (239 ∷ 187 ∷ 191 ∷ 65 ∷ []) ≡ 3
 mark_at_start = refl
 
-later_mark : first_lexeme byte_order_mark ≡ front.Bad
-unfolding first_lexeme
-later_mark = refl
-
 -- reserved words, in any case
 reserved_word : is_reserved (codes "Intersect") ≡ true
 unfolding is_reserved
 reserved_word = refl
-
-plain_word : is_reserved (codes "EMP") ≡ false
-unfolding is_reserved
-plain_word = refl
 
 semicolon : Lexeme
 semicolon = record { kind = Symbol; text = codes ";"; start = 0; end = 1 }
@@ -66,7 +48,3 @@ one_piece = (
   pieces.Joined.more [] semicolon refl refl (pieces.Joined.more (word ∷ []) semicolon refl refl (pieces.Joined.one [] refl)),
   refl,
 )
-
--- a text of a semicolon is none
-quoted_semicolon : pieces.is_semicolon (record { kind = Text; text = codes "';'"; start = 0; end = 3 }) ≡ false
-quoted_semicolon = refl

@@ -1,24 +1,21 @@
 -- Worked rows of the program's statements as plain trees.
 use denote.RawPtr.{Ptr}
-use Rattle.std.proofs.Common.{◌≡◌, pos, [], ◌∷◌, Some, None, codes, refl, sym, ap, ap₂, ◌∙◌, lit≤}
+use Rattle.std.proofs.Common.{◌≡◌, [], ◌∷◌, Some, None, codes, refl, sym, ap, ap₂, ◌∙◌, lit≤}
 use Rattle.std.specs.Global.{Box, Global, Vec}
 use Rattle.sql_statements.specs.declared.statement.Compare.{Compare}
 use Rattle.sql_statements.specs.declared.statement.SelectDistinct.{SelectDistinct}
 use Rattle.sql_statements.specs.declared.statement.Statement as statements
 use Rattle.sql_statements.specs.declared.statement.StatementForm.TheVariants as variant
-use Rattle.sql_statements.specs.declared.statement.StoredTest.{StoredTest}
-use Rattle.sql_statements.specs.declared.statement.SystemTime.TheVariants.{AsOf}
 use Rattle.sql_statements.specs.declared.tree.QueryTree as queries
 use Rattle.sql_statements.specs.declared.tree.SetOperator.TheVariants.{Except, Union}
 use Rattle.sql_statements.specs.declared.tree.Tree as trees
 use Rattle.sql_statements.specs.declared.tree.Tree.TheFolds.{fold-roll-Tree}
 use Rattle.sql_statements.specs.declared.tree.Tree.TheOpen as layer
 use Rattle.sql_statements.specs.declared.tree.Tree.TheVariants as rolls
-use Rattle.sql_statements.specs.Trees.{Condition, Query, Select, Statement, all, any, combined, conditions_of, delete, last, negated, sequenced, simple, step, stored, test}
+use Rattle.sql_statements.specs.Trees.{Condition, Query, Statement, all, any, combined, conditions_of, delete, last, negated, sequenced, simple, step, test}
 use Rattle.sql_statements.specs.Plain.{condition_layer, plain, plain_condition, plain_query, plain_select}
 use Rattle.sql_front.proofs.ConditionViews.{and_view, or_view, test_view}
 use Rattle.sql_statements.proofs.QueryViews.{combined_view, simple_view}
-use Rattle.sql_front.proofs.QueryExamples.{column, table}
 
 -- wherever in memory the parts lie
 module _ (place : Ptr) (global : Global) where
@@ -79,7 +76,7 @@ module _ (place : Ptr) (global : Global) where
     either_stands : plain_condition either ≡ either_tree
     either_stands = or_view (boxed one) (one_other both) ∙ ap₂ (λ (t u : Condition T). any (conditions_of (t ∷ u ∷ []))) one_stands both_stands
 
-  -- ---- changes and stored queries
+  -- ---- changes
 
   -- DELETE FROM T WHERE a OR b AND NOT c
   abbrev deletion : Compare → Compare → Compare → statements.Statement
@@ -91,35 +88,7 @@ module _ (place : Ptr) (global : Global) where
   pub deletion_stands : (a b c : Compare) → plain (deletion a b c) ≡ deleted (either_tree a b c)
   deletion_stands a b c = ap deleted (either_stands a b c)
 
-  -- SELECT * FROM T FOR SYSTEM_TIME AS OF this moment WHERE a OR b AND NOT c
-  abbrev lookup : StoredTest → StoredTest → StoredTest → statements.Statement
-  lookup a b c = record { form = variant.Stored (record { table = codes "T"; window = Some (AsOf (pos 1_704_067_200)); condition = Some (either a b c) }) }
-
-  abbrev looked_up : Condition StoredTest → Statement
-  looked_up condition = stored (record { table = codes "T"; window = Some (AsOf (pos 1_704_067_200)); condition = Some condition })
-
-  pub lookup_stands : (a b c : StoredTest) → plain (lookup a b c) ≡ looked_up (either_tree a b c)
-  lookup_stands a b c = ap looked_up (either_stands a b c)
-
   -- ---- queries
-
-  -- SELECT DISTINCT A FROM T JOIN U ON a WHERE a OR b AND NOT c
-  abbrev selection : Compare → Compare → Compare → SelectDistinct
-  selection a b c = record {
-    items = record { column = column (codes "A"); new_name = None } ∷ [];
-    chains = record { first = table (codes "T") None; joins = record { reference = table (codes "U") None; condition = one a b c } ∷ [] } ∷ [];
-    condition = Some (either a b c);
-  }
-
-  abbrev selected : Condition Compare → Condition Compare → Select
-  selected on where_condition = record {
-    items = record { column = column (codes "A"); new_name = None } ∷ [];
-    chains = record { first = table (codes "T") None; joins = record { reference = table (codes "U") None; condition = on } ∷ [] } ∷ [];
-    condition = Some where_condition;
-  }
-
-  pub selection_stands : (a b c : Compare) → plain_select (selection a b c) ≡ selected (one_tree a b c) (either_tree a b c)
-  selection_stands a b c = ap₂ selected (one_stands a b c) (either_stands a b c)
 
   module _ (s t u : SelectDistinct) where
     -- t UNION u

@@ -1,12 +1,12 @@
 -- Worked rows of period predicates, in the conditions of stored queries.
-use Rattle.std.proofs.Common.{◌≡◌, pos, List, [], ◌∷◌, ◌++◌, Some, None, codes, refl}
+use Rattle.std.proofs.Common.{◌≡◌, pos, List, [], ◌∷◌, Some, None, codes, refl}
 use Rattle.period_core.specs.TextReading.{date_at, date_parts_of, day_of_text, is_date}
 use Rattle.period_core.specs.declared.value.Value.TheVariants as value
 use Rattle.sql_statements.specs.declared.statement.Comparison.TheVariants.{Equal}
 use Rattle.sql_statements.specs.declared.statement.Operand.TheVariants.{Column, Literal}
 use Rattle.sql_statements.specs.declared.statement.PeriodOperand.{PeriodOperand}
-use Rattle.sql_statements.specs.declared.statement.PeriodOperand.TheVariants.{Dates, Named}
-use Rattle.sql_statements.specs.declared.statement.PeriodPredicate.TheVariants.{Contains, Equals, ImmediatelyPrecedes, ImmediatelySucceeds, Overlaps, Precedes, Succeeds}
+use Rattle.sql_statements.specs.declared.statement.PeriodOperand.TheVariants.{Named}
+use Rattle.sql_statements.specs.declared.statement.PeriodPredicate.TheVariants.{Equals, Overlaps}
 use Rattle.sql_statements.specs.declared.statement.StoredTest.{StoredTest}
 use Rattle.sql_statements.specs.declared.statement.StoredTest.TheVariants.{ContainsDay, Periods, Values}
 use Rattle.sql_statements.specs.Lexemes.{Lexeme}
@@ -42,117 +42,6 @@ q = Named (column (codes "Q"))
 
 abbrev t_p : PeriodOperand
 t_p = Named (column_of (codes "T") (codes "P"))
-
--- PERIOD (DATE '2010-01-01', DATE '2011-01-01')
-abbrev year : List Lexeme
-year =
-    word (codes "PERIOD") ∷ sign (codes "(") ∷ word (codes "DATE") ∷ quoted_text (codes "'2010-01-01'") ∷ sign (codes ",")
-    ∷ word (codes "DATE") ∷ quoted_text (codes "'2011-01-01'") ∷ sign (codes ")") ∷ []
-
-abbrev year_tree : PeriodOperand
-year_tree = Dates (pos 14_610) (pos 14_975)
-
--- ---- two periods
-
--- SELECT * FROM T WHERE P OVERLAPS PERIOD (DATE '2010-01-01', DATE '2011-01-01')
-abbrev overlapping : List Lexeme
-overlapping = asking (word (codes "P") ∷ word (codes "OVERLAPS") ∷ year)
-
-abbrev overlapping_tree : Statement
-overlapping_tree = asked (condition_of (Periods p Overlaps year_tree))
-
-overlapping_is_read : whole_read (statement_read 0) overlapping ≡ Some overlapping_tree
-unfolding statement_read later_statement_read query_statement_read stored_read stored_table_read for_window_read where_read condition_read conjunction_read factor_read test_read stored_test_read predicate_ahead relation_behind_column relation_word predicate_read period_operand_read dates_read begins_contains_date relation_read column_read date_read day_value day_of_token day_of_text date_at date_parts_of is_date name_read bounded_read is_plain_word is_reserved
-overlapping_is_read = refl
-
-pub overlapping_spelled : IsStatement overlapping overlapping_tree
-unfolding day_of_token day_of_text date_at date_parts_of is_date
-overlapping_spelled = spelled_if_read 0 overlapping overlapping_tree overlapping_is_read refl refl refl
-
--- SELECT * FROM T WHERE T.P EQUALS Q
-abbrev equal : List Lexeme
-equal = asking (word (codes "T") ∷ sign (codes ".") ∷ word (codes "P") ∷ word (codes "EQUALS") ∷ word (codes "Q") ∷ [])
-
-abbrev equal_tree : Statement
-equal_tree = asked (condition_of (Periods t_p Equals q))
-
-equal_is_read : whole_read (statement_read 0) equal ≡ Some equal_tree
-unfolding statement_read later_statement_read query_statement_read stored_read stored_table_read for_window_read where_read condition_read conjunction_read factor_read test_read stored_test_read predicate_ahead relation_behind_column relation_word predicate_read period_operand_read dates_read begins_contains_date relation_read column_read name_read bounded_read is_plain_word is_reserved
-equal_is_read = refl
-
-pub equal_spelled : IsStatement equal equal_tree
-equal_spelled = spelled_if_read 0 equal equal_tree equal_is_read refl refl refl
-
--- SELECT * FROM T WHERE P CONTAINS Q
-abbrev containing : List Lexeme
-containing = asking (word (codes "P") ∷ word (codes "CONTAINS") ∷ word (codes "Q") ∷ [])
-
-abbrev containing_tree : Statement
-containing_tree = asked (condition_of (Periods p Contains q))
-
-containing_is_read : whole_read (statement_read 0) containing ≡ Some containing_tree
-unfolding statement_read later_statement_read query_statement_read stored_read stored_table_read for_window_read where_read condition_read conjunction_read factor_read test_read stored_test_read predicate_ahead relation_behind_column relation_word predicate_read period_operand_read dates_read begins_contains_date relation_read column_read name_read bounded_read is_plain_word is_reserved
-containing_is_read = refl
-
-pub containing_spelled : IsStatement containing containing_tree
-containing_spelled = spelled_if_read 0 containing containing_tree containing_is_read refl refl refl
-
--- SELECT * FROM T WHERE PERIOD (DATE '2010-01-01', DATE '2011-01-01') PRECEDES P
-abbrev preceding : List Lexeme
-preceding = asking (year ++ word (codes "PRECEDES") ∷ word (codes "P") ∷ [])
-
-abbrev preceding_tree : Statement
-preceding_tree = asked (condition_of (Periods year_tree Precedes p))
-
-preceding_is_read : whole_read (statement_read 0) preceding ≡ Some preceding_tree
-unfolding statement_read later_statement_read query_statement_read stored_read stored_table_read for_window_read where_read condition_read conjunction_read factor_read test_read stored_test_read predicate_ahead relation_behind_column relation_word predicate_read period_operand_read dates_read begins_contains_date relation_read column_read date_read day_value day_of_token day_of_text date_at date_parts_of is_date name_read bounded_read is_plain_word is_reserved
-preceding_is_read = refl
-
-pub preceding_spelled : IsStatement preceding preceding_tree
-unfolding day_of_token day_of_text date_at date_parts_of is_date
-preceding_spelled = spelled_if_read 0 preceding preceding_tree preceding_is_read refl refl refl
-
--- SELECT * FROM T WHERE P SUCCEEDS T.P
-abbrev succeeding : List Lexeme
-succeeding = asking (word (codes "P") ∷ word (codes "SUCCEEDS") ∷ word (codes "T") ∷ sign (codes ".") ∷ word (codes "P") ∷ [])
-
-abbrev succeeding_tree : Statement
-succeeding_tree = asked (condition_of (Periods p Succeeds t_p))
-
-succeeding_is_read : whole_read (statement_read 0) succeeding ≡ Some succeeding_tree
-unfolding statement_read later_statement_read query_statement_read stored_read stored_table_read for_window_read where_read condition_read conjunction_read factor_read test_read stored_test_read predicate_ahead relation_behind_column relation_word predicate_read period_operand_read dates_read begins_contains_date relation_read column_read name_read bounded_read is_plain_word is_reserved
-succeeding_is_read = refl
-
-pub succeeding_spelled : IsStatement succeeding succeeding_tree
-succeeding_spelled = spelled_if_read 0 succeeding succeeding_tree succeeding_is_read refl refl refl
-
--- SELECT * FROM T WHERE P IMMEDIATELY PRECEDES Q
-abbrev meeting : List Lexeme
-meeting = asking (word (codes "P") ∷ word (codes "IMMEDIATELY") ∷ word (codes "PRECEDES") ∷ word (codes "Q") ∷ [])
-
-abbrev meeting_tree : Statement
-meeting_tree = asked (condition_of (Periods p ImmediatelyPrecedes q))
-
-meeting_is_read : whole_read (statement_read 0) meeting ≡ Some meeting_tree
-unfolding statement_read later_statement_read query_statement_read stored_read stored_table_read for_window_read where_read condition_read conjunction_read factor_read test_read stored_test_read predicate_ahead relation_behind_column relation_word predicate_read period_operand_read dates_read begins_contains_date relation_read column_read name_read bounded_read is_plain_word is_reserved
-meeting_is_read = refl
-
-pub meeting_spelled : IsStatement meeting meeting_tree
-meeting_spelled = spelled_if_read 0 meeting meeting_tree meeting_is_read refl refl refl
-
--- SELECT * FROM T WHERE P IMMEDIATELY SUCCEEDS Q
-abbrev met : List Lexeme
-met = asking (word (codes "P") ∷ word (codes "IMMEDIATELY") ∷ word (codes "SUCCEEDS") ∷ word (codes "Q") ∷ [])
-
-abbrev met_tree : Statement
-met_tree = asked (condition_of (Periods p ImmediatelySucceeds q))
-
-met_is_read : whole_read (statement_read 0) met ≡ Some met_tree
-unfolding statement_read later_statement_read query_statement_read stored_read stored_table_read for_window_read where_read condition_read conjunction_read factor_read test_read stored_test_read predicate_ahead relation_behind_column relation_word predicate_read period_operand_read dates_read begins_contains_date relation_read column_read name_read bounded_read is_plain_word is_reserved
-met_is_read = refl
-
-pub met_spelled : IsStatement met met_tree
-met_spelled = spelled_if_read 0 met met_tree met_is_read refl refl refl
 
 -- ---- a period and a day
 

@@ -4,7 +4,7 @@ use Rattle.period_core.specs.TextReading.{date_at, date_parts_of, is_date, is_ti
 use Rattle.sql_statements.specs.declared.statement.ColumnReference.{ColumnReference}
 use Rattle.sql_statements.specs.declared.statement.Compare.{Compare}
 use Rattle.sql_statements.specs.declared.statement.Comparison.{Comparison}
-use Rattle.sql_statements.specs.declared.statement.Comparison.TheVariants.{Equal, NotEqual}
+use Rattle.sql_statements.specs.declared.statement.Comparison.TheVariants.{Equal}
 use Rattle.sql_statements.specs.declared.statement.Operand.TheVariants.{Column}
 use Rattle.sql_statements.specs.declared.statement.SelectItem.{SelectItem}
 use Rattle.sql_statements.specs.declared.statement.TableReference.{TableReference}
@@ -100,29 +100,6 @@ condition_of leaf = any (conditions_of (all (conditions_of (test leaf ∷ [])) �
 
 abbrev of_two : ColumnReference → Comparison → ColumnReference → Condition Compare
 of_two left comparison right = condition_of (record { left = Column left; comparison = comparison; right = Column right })
-
--- VALIDTIME SELECT DISTINCT A FROM T X JOIN U ON X.B <> U.C
-abbrev joining : List Lexeme
-joining = select_from (
-    word (codes "T") ∷ word (codes "X") ∷ word (codes "JOIN") ∷ word (codes "U") ∷ word (codes "ON")
-    ∷ word (codes "X") ∷ sign (codes ".") ∷ word (codes "B") ∷ sign (codes "<>") ∷ word (codes "U") ∷ sign (codes ".") ∷ word (codes "C")
-    ∷ [])
-
-abbrev joined : Statement
-joined = selected_from (record {
-  first = table (codes "T") (Some (codes "X"));
-  joins = record {
-    reference = table (codes "U") None;
-    condition = of_two (column_of (codes "X") (codes "B")) NotEqual (column_of (codes "U") (codes "C"));
-  } ∷ [];
-} ∷ [])
-
-joining_is_read : whole_read (statement_read 0) joining ≡ Some joined
-unfolding statement_read later_statement_read query_statement_read sequenced_read query_read term_read intersections_read primary_read steps_read step_read select_read selected_read from_read item_read chain_read join_read joined_read joins_read reference_read new_name_read for_window_read where_read condition_read conjunction_read factor_read test_read compare_read operand_read comparison_read column_read name_read bounded_read is_plain_word is_reserved
-joining_is_read = refl
-
-pub joining_spelled : IsStatement joining joined
-joining_spelled = spelled_if_read 0 joining joined joining_is_read refl refl refl
 
 -- VALIDTIME SELECT DISTINCT A FROM T INNER JOIN U AS Y ON B = Y.C JOIN V ON B = C, W Z
 abbrev listing : List Lexeme

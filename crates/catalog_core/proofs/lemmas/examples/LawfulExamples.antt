@@ -1,13 +1,9 @@
 -- Worked examples: how a definition is spelled as a CREATE, and which definitions a CREATE gives.
-use Rattle.std.proofs.Common.{◌≡◌, ◌∷◌, [], None, Some, inl, inr, lit≤, refl}
+use Rattle.std.proofs.Common.{◌∷◌, [], None, Some, inl, inr, lit≤, refl}
 use Rattle.std.specs.Prelude.{codes}
-use Rattle.std.proofs.lemmas.Bool.{false≢true}
 use Rattle.period_core.specs.Leasts.{NoneApplies}
-use Rattle.period_core.specs.declared.refusal.Refusal.TheVariants.{TableExists, UnknownTable}
+use Rattle.period_core.specs.declared.refusal.Refusal.TheVariants.{UnknownTable}
 use Rattle.sql_statements.specs.declared.create.CreateTable.{CreateTable}
-use Rattle.sql_statements.specs.declared.create.Generated.TheVariants.{Start, End}
-use Rattle.sql_statements.specs.declared.create.TypeName.TheVariants as type_name
-use Rattle.catalog_core.proofs.lemmas.create.DatePeriods.{date_period}
 use Rattle.catalog_core.proofs.lemmas.create.Spelled.{spelled_given}
 use Rattle.catalog_core.proofs.lemmas.examples.Tables.{dep}
 use Rattle.catalog_core.proofs.lemmas.judged.Least.{none_first}
@@ -19,7 +15,7 @@ use Rattle.catalog_core.specs.Judged.{Holds}
 use Rattle.catalog_core.specs.table.Kinds.{kind_of_type, kind_of_column, same_kind, differ}
 use Rattle.catalog_core.specs.table.Matches.{is_matching, is_of_sort}
 use Rattle.catalog_core.specs.table.Naming.{find_among, matches_among, place_among, repeats, some_match_among}
-use Rattle.catalog_core.specs.table.TableWords.{def_kind, has_date_period, is_date_column, number_of, table_of_name}
+use Rattle.catalog_core.specs.table.TableWords.{def_kind, number_of, table_of_name}
 use Rattle.catalog_core.specs.declared.table.ColumnKind.TheVariants as kind
 use Rattle.catalog_core.specs.declared.table.TableDef.{TableDef}
 
@@ -45,24 +41,6 @@ emp =
 abbrev create : CreateTable
 create = create_of (dep ∷ []) emp
 
-record Spelled : Type 0 where
-  columns : create.columns
-      ≡ record { name = codes "S"; kind = type_name.Date; generated = None }
-      ∷ record { name = codes "E"; kind = type_name.Date; generated = None }
-      ∷ record { name = codes "SS"; kind = type_name.Timestamp (Some 12); generated = Some Start }
-      ∷ record { name = codes "SE"; kind = type_name.Timestamp None; generated = Some End }
-      ∷ record { name = codes "N"; kind = type_name.Integer; generated = None }
-      ∷ []
-  periods : create.periods ≡ record { name = codes "P"; start = codes "S"; end = codes "E" } ∷ []
-  system_periods : create.system_periods ≡ record { start = codes "SS"; end = codes "SE" } ∷ []
-  keys : create.keys ≡ record { columns = codes "N" ∷ []; period = codes "P" } ∷ []
-  references : create.references
-      ≡ record { columns = codes "N" ∷ []; period = codes "P"; parent = codes "DEP"; parent_columns = codes "DNO" ∷ []; parent_period = codes "DP" } ∷ []
-
-spelled : Spelled
-unfolding is_of_sort
-spelled = record { columns = refl; periods = refl; system_periods = refl; keys = refl; references = refl }
-
 -- it is accepted
 accepted : NoneApplies (Holds (create_conditions (dep ∷ []) create))
 unfolding matches_among period_matches some_match_among some_parent_match some_match has_sort sort_count exceeds_limits is_there lacks_parent names_other_period lacks_period lacks_name is_ambiguous is_shared repeats repeats_name is_no_value_column some_no_value keys_period_column lacks_one_of_each has_bad_period has_bad_system_period is_bad_type has_bad_column is_used_otherwise has_other_period is_at is_key_name is_named are_key names_no_key references_no_key is_bad_definition has_unequal_lists own_kind def_kind have_other_kinds names_other_kind references_other_kind is_matching is_of_sort number_of table_of_name kind_of_type kind_of_column same_kind differ find_among
@@ -76,21 +54,7 @@ defined = record { name = refl; columns = refl; period = refl; key = refl; refer
 lawful : IsLawful (dep ∷ []) emp
 lawful = (create, accepted, defined)
 
--- the same with its period over S and the number N
-abbrev over_number : TableDef
-over_number = record emp { period = record { name = codes "P"; start = 0; end = 4 }; sound = refl }
-
--- no CREATE gives it
-period_over_number : IsLawful (dep ∷ []) over_number → ⊥
-unfolding has_date_period is_date_column same_kind kind_of_column place_among
-period_over_number (c, none, defines) = false≢true (date_period (dep ∷ []) c over_number none defines)
-
 -- nor EMP where its parent is not there
 without_parent : IsLawful [] emp → ⊥
 unfolding lacks_parent number_of table_of_name
 without_parent given = (spelled_given [] (create_of [] emp) emp refl given).0 UnknownTable (inr (inr (inl (refl, refl))))
-
--- nor where a table of its name is
-name_there : IsLawful (dep ∷ emp ∷ []) emp → ⊥
-unfolding is_there
-name_there given = (spelled_given (dep ∷ emp ∷ []) (create_of (dep ∷ emp ∷ []) emp) emp refl given).0 TableExists (inr (inl (refl, refl)))

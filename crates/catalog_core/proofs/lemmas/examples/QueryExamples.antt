@@ -1,12 +1,11 @@
 -- Worked examples: which refusal a sequenced query of several tables gets, and what it is with positions for names.
-use Rattle.std.proofs.Common.{◌≡◌, ◌∷◌, ℕ, zero, suc, pos, List, [], Option, Some, None, map, refl}
+use Rattle.std.proofs.Common.{◌≡◌, ◌∷◌, ℕ, List, [], Option, Some, None, map, refl}
 use Rattle.std.specs.Prelude.{codes}
 use Rattle.period_core.specs.declared.refusal.Refusal.{Refusal}
-use Rattle.period_core.specs.declared.refusal.Refusal.TheVariants.{AmbiguousColumn, ColumnCount, DuplicateName, LimitReached, PeriodColumn, TypeMismatch, UnknownColumn, UnknownTable}
-use Rattle.period_core.specs.declared.value.Value.TheVariants.{Int, Text}
+use Rattle.period_core.specs.declared.refusal.Refusal.TheVariants.{AmbiguousColumn, TypeMismatch, UnknownColumn}
 use Rattle.period_core.specs.declared.window.Window.TheVariants as window
 use Rattle.sql_statements.specs.Trees as written
-use Rattle.sql_statements.specs.Trees.{Condition, JoinChain, Query, Steps, all, any, combined, conditions_of, last, simple, step, test}
+use Rattle.sql_statements.specs.Trees.{Condition, JoinChain, Query, all, combined, conditions_of, last, simple, step, test}
 use Rattle.sql_statements.specs.declared.statement.ColumnReference.{ColumnReference}
 use Rattle.sql_statements.specs.declared.statement.Compare.{Compare}
 use Rattle.sql_statements.specs.declared.statement.Comparison.TheVariants as comparison
@@ -86,19 +85,11 @@ NAME = codes "NAME"
 abbrev refusal : Query → Option Refusal
 refusal query = first_holding (refusals_of catalog query)
 
-abbrev from_dep : List ColumnReference → Query
-from_dep columns = simple (select columns (alone (table DEP) ∷ []) None)
-
 abbrev numbers : written.Select
 numbers = select (column DNO ∷ []) (alone (table DEP) ∷ []) None
 
 abbrev names : written.Select
 names = select (column NAME ∷ []) (alone (table DEP) ∷ []) None
-
--- this operator with the query so many times
-abbrev times : SetOperator → ℕ → Query → Steps
-times operator zero query = last
-times operator (suc n) query = step operator query (times operator n query)
 
 -- FROM DEP Z, DEP X JOIN DEP Y ON ..
 abbrev three : Condition Compare → Option (Condition Compare) → written.Select
@@ -107,59 +98,21 @@ three condition where_condition =
 
 record Refused : Type 0 where
   accepted : refusal (simple (three (same (of X DNO) (of Y DNO)) (Some (same (of Z DNO) (of Y DNO))))) ≡ None
-  -- ON does not see an earlier chain, nor count it for ambiguity
+  -- ON does not see an earlier chain
   other_chain : refusal (simple (three (same (of Z DNO) (of Y DNO)) None)) ≡ Some UnknownColumn
-  ambiguous_in_chain : refusal (simple (three (same (column DNO) (of Y DNO)) None)) ≡ Some AmbiguousColumn
   ambiguous : refusal (simple (select (column DNO ∷ []) (alone (known_as X) ∷ alone (known_as Y) ∷ []) None)) ≡ Some AmbiguousColumn
   -- a new name hides the table's
   hidden : refusal (simple (select (of DEP DNO ∷ []) (alone (known_as X) ∷ []) None)) ≡ Some UnknownColumn
-  by_own_name : refusal (from_dep (of DEP DNO ∷ [])) ≡ None
-  twice : refusal (simple (select (of Y DNO ∷ []) (alone (known_as X) ∷ alone (known_as X) ∷ alone (known_as Y) ∷ []) None)) ≡ Some DuplicateName
-  -- the ambiguous name is the lower number
-  twice_and_named : refusal (simple (select (of X DNO ∷ []) (alone (known_as X) ∷ alone (known_as X) ∷ []) None)) ≡ Some AmbiguousColumn
-  unknown_table : refusal (simple (select (column DNO ∷ column X ∷ []) (alone (table X) ∷ []) None)) ≡ Some UnknownTable
-  period : refusal (from_dep (column (codes "DP") ∷ [])) ≡ Some UnknownColumn
-  period_column : refusal (from_dep (column (codes "S") ∷ [])) ≡ Some PeriodColumn
-  four_tables : refusal (simple (select (of X DNO ∷ []) (map alone (map known_as (X ∷ Y ∷ Z ∷ DEP ∷ []))) None)) ≡ None
-  five_tables : refusal (simple (select (of X DNO ∷ []) (map alone (map known_as (X ∷ Y ∷ Z ∷ DEP ∷ DNO ∷ []))) None)) ≡ Some LimitReached
-  sixteen : refusal (combined (simple numbers) (times Union 16 (simple numbers))) ≡ None
-  seventeen : refusal (combined (combined (simple numbers) (times Union 9 (simple numbers))) (times Union 8 (simple numbers))) ≡ Some LimitReached
-  -- INTERSECT counts, and its two sides are judged
-  sixteen_operators : refusal (combined (combined (simple numbers) (times Intersect 7 (simple numbers))) (times Union 9 (simple numbers))) ≡ None
-  seventeen_operators : refusal (combined (combined (simple numbers) (times Intersect 8 (simple numbers))) (times Union 9 (simple numbers))) ≡ Some LimitReached
-  other_count_intersected : refusal (combined (combined (from_dep (column DNO ∷ [])) (step Intersect (from_dep (column DNO ∷ column DNO ∷ [])) last)) last) ≡ Some ColumnCount
-  other_kind_intersected : refusal (combined (simple numbers) (step Union (combined (simple numbers) (step Intersect (simple names) last)) last)) ≡ Some TypeMismatch
-  other_count : refusal (combined (from_dep (column DNO ∷ [])) (step Except (from_dep (column DNO ∷ column DNO ∷ [])) last)) ≡ Some ColumnCount
   other_kind : refusal (combined (simple numbers) (step Except (simple names) last)) ≡ Some TypeMismatch
-  compared : refusal (simple (select (column DNO ∷ []) (alone (table DEP) ∷ []) (Some (equal (operand.Column (column DNO)) (operand.Literal (Text (codes "a"))))))) ≡ Some TypeMismatch
-  literals : refusal (simple (select (column DNO ∷ []) (alone (table DEP) ∷ []) (Some (equal (operand.Literal (Int (pos 1))) (operand.Literal (Int (pos 1))))))) ≡ None
 
 refused : Refused
 unfolding is_too_long lacks_table some_column_matches names_twice names_period compares_kinds have_other_count have_other_kinds number_of table_of_name is_value_column matches_among repeats is_matching differ same_kind kind_of_column
 refused = record {
   accepted = refl;
   other_chain = refl;
-  ambiguous_in_chain = refl;
   ambiguous = refl;
   hidden = refl;
-  by_own_name = refl;
-  twice = refl;
-  twice_and_named = refl;
-  unknown_table = refl;
-  period = refl;
-  period_column = refl;
-  four_tables = refl;
-  five_tables = refl;
-  sixteen = refl;
-  seventeen = refl;
-  sixteen_operators = refl;
-  seventeen_operators = refl;
-  other_count_intersected = refl;
-  other_kind_intersected = refl;
-  other_count = refl;
   other_kind = refl;
-  compared = refl;
-  literals = refl;
 }
 
 abbrev at : ℕ → ℕ → Placed
@@ -169,15 +122,12 @@ record Positions : Type 0 where
   -- Z has the positions 0 and 1, X has 2 and 3, Y has 4 and 5; WHERE is cut at its AND
   conjuncts : written_conjuncts catalog (three (same (of X DNO) (of Y DNO)) (Some (all (conditions_of (same (of Z DNO) (of Y DNO) ∷ same (of X NAME) (of Z NAME) ∷ [])))))
       ≡ at 2 4 ∷ at 0 4 ∷ at 3 1 ∷ []
-  -- the parser writes the same WHERE as an OR of one AND
-  alone : written_conjuncts catalog (three (same (of X DNO) (of Y DNO)) (Some (any (conditions_of (all (conditions_of (same (of Z DNO) (of Y DNO) ∷ same (of X NAME) (of Z NAME) ∷ [])) ∷ [])))))
-      ≡ at 2 4 ∷ at 0 4 ∷ at 3 1 ∷ []
   items : map (written_item catalog (three (same (of X DNO) (of Y DNO)) None)) (map item (of Y NAME ∷ of Z NAME ∷ [])) ≡ (Some 5, NAME) ∷ (Some 1, NAME) ∷ []
   reference : written_reference catalog (known_as X) ≡ (Some 1, window.Now, Some (kind.Integer ∷ kind.Text ∷ []))
 
 positions : Positions
 unfolding number_of table_of_name is_value_column kind_of_column
-positions = record { conjuncts = refl; alone = refl; items = refl; reference = refl }
+positions = record { conjuncts = refl; items = refl; reference = refl }
 
 -- set operators apply from left to right: a EXCEPT b UNION c is the union of c with what EXCEPT leaves
 from_left : (a b c : written.Select) (x y z : Select) → ResolvesSelect catalog a x → ResolvesSelect catalog b y → ResolvesSelect catalog c z

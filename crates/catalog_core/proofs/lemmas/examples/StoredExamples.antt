@@ -3,7 +3,7 @@ use Rattle.std.proofs.Common.{◌≡◌, ◌∷◌, ℕ, pos, Bool, true, false,
 use Rattle.std.specs.Prelude.{codes}
 use Rattle.period_core.proofs.Periods.{period_over}
 use Rattle.period_core.specs.declared.refusal.Refusal.{Refusal}
-use Rattle.period_core.specs.declared.refusal.Refusal.TheVariants.{UnknownTable, UnknownColumn, PeriodColumn, TypeMismatch, EmptyPeriod}
+use Rattle.period_core.specs.declared.refusal.Refusal.TheVariants.{UnknownColumn, TypeMismatch}
 use Rattle.period_core.specs.declared.value.Value.{Value}
 use Rattle.period_core.specs.declared.value.Value.TheVariants.{Int, Text}
 use Rattle.period_core.specs.declared.version.VersionRow.{VersionRow}
@@ -15,7 +15,7 @@ use Rattle.sql_statements.specs.declared.statement.Comparison.TheVariants as com
 use Rattle.sql_statements.specs.declared.statement.Operand.TheVariants.{Column, Literal}
 use Rattle.sql_statements.specs.declared.statement.PeriodOperand.{PeriodOperand}
 use Rattle.sql_statements.specs.declared.statement.PeriodOperand.TheVariants.{Named, Dates}
-use Rattle.sql_statements.specs.declared.statement.PeriodPredicate.TheVariants.{Overlaps, Precedes, Succeeds}
+use Rattle.sql_statements.specs.declared.statement.PeriodPredicate.TheVariants.{Overlaps, Precedes}
 use Rattle.sql_statements.specs.declared.statement.StoredTest.{StoredTest}
 use Rattle.sql_statements.specs.declared.statement.StoredTest.TheVariants as asked
 use Rattle.catalog_core.proofs.lemmas.examples.Tables.{dep}
@@ -53,29 +53,17 @@ DEP = codes "DEP"
 
 record Refusals : Type 0 where
   accepted : refusal DEP (Some (overlaps (period (codes "DP")) (Dates (pos 1) (pos 2)))) ≡ None
-  all_rows : refusal DEP None ≡ None
-  unknown_table : refusal (codes "EMP") (Some (overlaps (period (codes "S")) (Dates (pos 2) (pos 1)))) ≡ Some UnknownTable
-  -- a column in the place of a period, and a period in the place of a column
+  -- a column in the place of a period
   column_as_period : refusal DEP (Some (overlaps (period (codes "S")) (Dates (pos 1) (pos 2)))) ≡ Some UnknownColumn
-  period_as_column : refusal DEP (Some (equal (codes "DP") (Int (pos 1)))) ≡ Some UnknownColumn
-  period_column : refusal DEP (Some (negated (equal (codes "S") (Int (pos 1))))) ≡ Some PeriodColumn
-  mixed : refusal DEP (Some (equal (codes "DNO") (Text []))) ≡ Some TypeMismatch
-  -- a constructor without a day, beside a comparison of two kinds, and alone
+  -- a constructor without a day, beside a comparison of two kinds
   mixed_first : refusal DEP (Some (any (conditions_of (overlaps (Dates (pos 2) (pos 2)) (period (codes "DP")) ∷ equal (codes "DNO") (Text []) ∷ [])))) ≡ Some TypeMismatch
-  empty : refusal DEP (Some (overlaps (Dates (pos 2) (pos 2)) (period (codes "DP")))) ≡ Some EmptyPeriod
 
 refusals : Refusals
 unfolding is_flawed_stored is_flawed_test is_flawed_compare is_flawed_column is_flawed_period lacks_named is_matching find_among matches_among differ same_kind kind_of_column def_kind is_value_column number_of table_of_name
 refusals = record {
   accepted = refl;
-  all_rows = refl;
-  unknown_table = refl;
   column_as_period = refl;
-  period_as_column = refl;
-  period_column = refl;
-  mixed = refl;
   mixed_first = refl;
-  empty = refl;
 }
 
 -- ---- what is shown
@@ -88,14 +76,11 @@ abbrev shown : Window → Bool
 shown w = is_shown (record { table = 1; window = w; condition = None }) closed
 
 record Shown : Type 0 where
-  now : shown window.Now ≡ false
   at_its_start : shown (window.AsOf (pos 3)) ≡ true
   at_its_end : shown (window.AsOf (pos 7)) ≡ false
-  up_to_its_start : shown (window.Between (pos 1) (pos 3)) ≡ true
-  before_its_start : shown (window.FromTo (pos 1) (pos 3)) ≡ false
 
 shown_in : Shown
-shown_in = record { now = refl; at_its_start = refl; at_its_end = refl; up_to_its_start = refl; before_its_start = refl }
+shown_in = record { at_its_start = refl; at_its_end = refl }
 
 abbrev holds_of_it : Condition VersionTest → Bool
 holds_of_it condition = is_satisfied (passes_test closed) condition
@@ -104,27 +89,15 @@ abbrev number : Comparison → ℕ → Condition VersionTest
 number comparison n = test (Values (record { left = comparand.Position 0; comparison = comparison; right = comparand.Literal (Int (pos n)) }))
 
 record Meets : Type 0 where
-  equal : holds_of_it (number compared.Equal 5) ≡ true
   not_equal : holds_of_it (negated (number compared.Equal 5)) ≡ false
-  less : holds_of_it (number compared.Less 5) ≡ false
-  at_most : holds_of_it (number compared.LessOrEqual 5) ≡ true
   either : holds_of_it (any (conditions_of (number compared.Greater 6 ∷ number compared.NotEqual 4 ∷ []))) ≡ true
   meets_next : holds_of_it (test (Periods Row Precedes (Days (period_over (pos 20) (pos 30) refl)))) ≡ true
-  other_way : holds_of_it (test (Periods Row Succeeds (Days (period_over (pos 20) (pos 30) refl)))) ≡ false
-  overlapping : holds_of_it (test (Periods (Days (period_over (pos 20) (pos 30) refl)) Overlaps Row)) ≡ false
-  last_day : holds_of_it (test (ContainsDay Row (pos 19))) ≡ true
   its_end : holds_of_it (test (ContainsDay Row (pos 20))) ≡ false
 
 meets : Meets
 meets = record {
-  equal = refl;
   not_equal = refl;
-  less = refl;
-  at_most = refl;
   either = refl;
   meets_next = refl;
-  other_way = refl;
-  overlapping = refl;
-  last_day = refl;
   its_end = refl;
 }

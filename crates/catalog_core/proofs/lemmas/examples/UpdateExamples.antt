@@ -3,7 +3,7 @@ use Rattle.std.proofs.Common.{◌≡◌, ◌∷◌, ℕ, pos, List, [], Option, 
 use Rattle.std.specs.Prelude.{codes}
 use Rattle.std.specs.Str.{chars}
 use Rattle.period_core.specs.declared.refusal.Refusal.{Refusal}
-use Rattle.period_core.specs.declared.refusal.Refusal.TheVariants.{UnknownTable, UnknownColumn, DuplicateName, PeriodColumn, TypeMismatch, TextTooLong, EmptyPeriod}
+use Rattle.period_core.specs.declared.refusal.Refusal.TheVariants.{UnknownColumn, PeriodColumn, TextTooLong}
 use Rattle.period_core.specs.declared.value.Value.{Value}
 use Rattle.period_core.specs.declared.value.Value.TheVariants.{Int, Text}
 use Rattle.sql_statements.specs.Trees.{Condition, Update, test, negated}
@@ -46,39 +46,18 @@ of_dep assignments condition = update (codes "DEP") (over (codes "DP") 1 2) assi
 
 record Updates : Type 0 where
   accepted : refusal (of_dep (named ∷ []) (Some (equal (Some (codes "DEP")) (codes "DNO") (Int (pos 5))))) ≡ None
-  unknown_table : refusal (update (codes "EMP") None (named ∷ named ∷ []) None) ≡ Some UnknownTable
   -- a qualifier that is not the table's name, under NOT
   other_qualifier : refusal (of_dep (named ∷ []) (Some (negated (equal (Some (codes "D")) (codes "DNO") (Int (pos 5)))))) ≡ Some UnknownColumn
-  -- a period that is not the table's; the period in the place of a column
-  other_period : refusal (update (codes "DEP") (over (codes "S") 1 2) (named ∷ []) None) ≡ Some UnknownColumn
-  period_compared : refusal (of_dep (named ∷ []) (Some (equal None (codes "DP") (Int (pos 5))))) ≡ Some UnknownColumn
-  set_twice : refusal (of_dep (named ∷ named ∷ []) None) ≡ Some DuplicateName
   -- a column of the period in a condition, before its kind
   start_compared : refusal (of_dep (named ∷ []) (Some (equal None (codes "S") (Int (pos 5))))) ≡ Some PeriodColumn
-  mixed : refusal (of_dep (named ∷ []) (Some (equal None (codes "DNO") (Text [])))) ≡ Some TypeMismatch
-  -- a text is too long where it is set, and not where it is compared
+  -- a text is too long where it is set
   long_set : refusal (of_dep (set (codes "NAME") (Text (codes "ABC")) ∷ []) None) ≡ Some TextTooLong
-  long_compared : refusal (of_dep (named ∷ []) (Some (equal None (codes "NAME") (Text (codes "ABC"))))) ≡ None
-  -- an unknown column, set twice, with a text too long, over a portion without a day
-  several : refusal (update (codes "DEP") (over (codes "DP") 2 2) (set (codes "A") (Text (codes "ABC")) ∷ set (codes "A") (Text []) ∷ []) None) ≡ Some UnknownColumn
-  -- under another qualifier a name that would match is unknown, and no period column
-  other_table : refusal (of_dep (named ∷ []) (Some (equal (Some (codes "EMP")) (codes "S") (Int (pos 5))))) ≡ Some UnknownColumn
-  empty_portion : refusal (update (codes "DEP") (over (codes "DP") 2 2) (named ∷ []) None) ≡ Some EmptyPeriod
 
 updates : Updates
 unfolding is_flawed_column is_flawed_compare is_flawed_portion is_flawed_set is_set_again sets_twice is_longer is_of_other_kind is_too_long kind_of_column same_kind differ is_matching is_flawed_update lacks_named names_no_value def_kind find_among matches_among is_value_column number_of table_of_name chars
 updates = record {
   accepted = refl;
-  unknown_table = refl;
   other_qualifier = refl;
-  other_period = refl;
-  period_compared = refl;
-  set_twice = refl;
   start_compared = refl;
-  mixed = refl;
   long_set = refl;
-  long_compared = refl;
-  several = refl;
-  other_table = refl;
-  empty_portion = refl;
 }
