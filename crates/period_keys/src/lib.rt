@@ -43,9 +43,10 @@ mod tables;
 pub use clashes::{index_of, index_of_current, index_of_versions, key_clash_after};
 pub use current_rows::CurrentRows;
 pub use faults::{child_fault, key_fault, parent_fault, rows_of, rows_of_current};
-pub use fixed_keys::fixed_key;
+pub use fixed_keys::{Equation, fixed_key, fixed_key_within};
 pub use key::Key;
 pub use key_laws::{clashes_after_change, clashes_are_of_days, uncovered_are_of_days};
+pub use key_rows::KeyRows;
 pub use keyed_periods::KeyedPeriods;
 pub use keys::{key_of, values_of};
 pub use lawful_laws::{
