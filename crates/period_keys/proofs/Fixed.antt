@@ -1,123 +1,81 @@
 -- What conditions fix that say `column = literal`.
-use Rattle.std.proofs.Common.{◌≡◌, ◌∙◌, ◌<◌, ◌∷◌, [], ℕ, zero, suc, Bool, true, false, Some, None, List, arith, get_or, inl, inr, length, map, refl, sym, ap, subst}
+use Rattle.std.proofs.Common.{◌≡◌, ◌∙◌, ◌<◌, ◌+◌, ◌++◌, ◌∷◌, [], ℕ, zero, suc, Bool, true, false, Some, List, arith, get_or, inl, inr, length, map, refl, sym, ap, subst}
 use Rattle.std.specs.Prelude.{◌&&◌, ◌||◌, Option, slice_get}
 use Rattle.std.specs.Global.{Box, Vec}
-use Rattle.std.specs.Ordering.{is_eq}
-use Rattle.std.specs.declared.cmp.Ordering.{Ordering}
-use Rattle.std.specs.declared.cmp.Ordering.TheVariants as ordering
-use Rattle.period_core.specs.Order.{value_cmp}
-use Rattle.period_core.specs.OrderLaws.{value_cmp-same}
 use Rattle.period_core.specs.declared.value.Value.{Value}
-use Rattle.sql_statements.specs.declared.statement.Comparison.TheVariants.{Equal}
 use Rattle.sql_statements.specs.declared.tree.Tree as code
 use Rattle.sql_statements.specs.Plain.{plain_condition}
 use Rattle.sql_statements.specs.Trees.{Condition, Conditions, any, all, conditions_of, negated, test, none, more}
 use Rattle.catalog_core.proofs.lemmas.conditions.Truth.{and_view, or_view}
-use Rattle.catalog_core.specs.Conditions.{compared, compares, each_satisfied, is_satisfied, side_value, some_satisfied}
-use Rattle.catalog_core.specs.declared.condition.Comparand.{Comparand}
-use Rattle.catalog_core.specs.declared.condition.Comparand.TheVariants.{Literal, Position}
+use Rattle.catalog_core.specs.Conditions.{compares, each_satisfied, is_satisfied, meets, some_satisfied}
 use Rattle.catalog_core.specs.declared.condition.CompareValues.{CompareValues}
-use Rattle.period_keys.specs.FixedKeys.{Equates, IsEquation, OnlyPartEquates, SomePartEquates}
-
-is_equal : (r : Ordering) → is_eq r ≡ true → r ≡ ordering.Equal
-is_equal ordering.Less h = absurd cc
-is_equal ordering.Equal h = refl
-is_equal ordering.Greater h = absurd cc
-
--- two sides that are equal
-equal_right : (left : Option Value) (value : Value) → compared Equal left (Some value) ≡ true → left ≡ Some value
-equal_right None value h = absurd cc
-equal_right (Some x) value h = ap Some (value_cmp-same x value (is_equal (value_cmp x value) h))
-
-equal_left : (value : Value) (right : Option Value) → compared Equal (Some value) right ≡ true → right ≡ Some value
-equal_left value None h = absurd cc
-equal_left value (Some x) h = ap Some (sym (value_cmp-same value x (is_equal (value_cmp value x) h)))
+use Rattle.history_model.specs.OrdinaryQuery.{meets_all}
+use Rattle.period_keys.specs.Equations.{equation_fixes}
+use Rattle.period_keys.specs.FixedKeys.{Equates, FixesWithin, IsEquation, OnlyPartEquates, SomePartEquates}
 
 both_true : (a b : Bool) → (a && b) ≡ true → (a ≡ true) × (b ≡ true)
 both_true true b h = (refl, h)
 both_true false b h = absurd cc
 
--- where one side is the position and the other the literal
-fixed_left : (c : CompareValues) (position : ℕ) (value : Value) (values : List Value) → c.comparison ≡ Equal → c.left ≡ Position position → c.right ≡ Literal value
-    → compares values c ≡ true → slice_get values position ≡ Some value
-fixed_left c position value values is left right h =
-    equal_right (slice_get values position) value (
-    subst (λ (r : Comparand). compared Equal (slice_get values position) (side_value r values) ≡ true) right
-    (subst (λ (l : Comparand). compared Equal (side_value l values) (side_value c.right values) ≡ true) left
-    (subst (λ o. compared o (side_value c.left values) (side_value c.right values) ≡ true) is h)))
-
-fixed_right : (c : CompareValues) (position : ℕ) (value : Value) (values : List Value) → c.comparison ≡ Equal → c.right ≡ Position position → c.left ≡ Literal value
-    → compares values c ≡ true → slice_get values position ≡ Some value
-fixed_right c position value values is right left h =
-    equal_left value (slice_get values position) (
-    subst (λ (r : Comparand). compared Equal (Some value) (side_value r values) ≡ true) right
-    (subst (λ (l : Comparand). compared Equal (side_value l values) (side_value c.right values) ≡ true) left
-    (subst (λ o. compared o (side_value c.left values) (side_value c.right values) ≡ true) is h)))
-
-equation_fixes : (c : CompareValues) (position : ℕ) (value : Value) (values : List Value) → IsEquation c position value → compares values c ≡ true → slice_get values position ≡ Some value
-equation_fixes c position value values equation h =
-    elim equation.1 [
-      | inl sides ↦ fixed_left c position value values equation.0 sides.0 sides.1 h
-      | inr sides ↦ fixed_right c position value values equation.0 sides.0 sides.1 h
-    ]
-
 or_alone : (b : Bool) → (b || false) ≡ true → b ≡ true
 or_alone true h = refl
 or_alone false h = absurd cc
 
--- what a condition says holds in each row that meets it
-mutual
-  pub equates_fixes : (c : Condition CompareValues) (position : ℕ) (value : Value) (values : List Value) → Equates c position value → is_satisfied (compares values) c ≡ true → slice_get values position ≡ Some value
-  equates_fixes (any parts) position value values says met = only_part_fixes parts position value values says met
-  equates_fixes (all parts) position value values says met = some_part_fixes parts position value values says met
-  equates_fixes (negated part) position value values says met = absurd says
-  equates_fixes (test leaf) position value values says met = equation_fixes leaf position value values says met
+-- what a condition says holds in each row that meets it, where what its tests say does
+module _ {T : Type 0} (Says : T → ℕ → Value → Type 0) (holds : T → Bool) (values : List Value)
+    (fixes : (leaf : T) (position : ℕ) (value : Value) → Says leaf position value → holds leaf ≡ true → slice_get values position ≡ Some value) where
+  mutual
+    pub equates_fixes : (c : Condition T) (position : ℕ) (value : Value) → Equates Says c position value → is_satisfied holds c ≡ true → slice_get values position ≡ Some value
+    equates_fixes (any parts) position value says met = only_part_fixes parts position value says met
+    equates_fixes (all parts) position value says met = some_part_fixes parts position value says met
+    equates_fixes (negated part) position value says met = absurd says
+    equates_fixes (test leaf) position value says met = fixes leaf position value says met
 
-  only_part_fixes : (parts : Conditions CompareValues) (position : ℕ) (value : Value) (values : List Value) → OnlyPartEquates parts position value → some_satisfied (compares values) parts ≡ true → slice_get values position ≡ Some value
-  only_part_fixes none position value values says met = absurd says
-  only_part_fixes (more part none) position value values says met = equates_fixes part position value values says (or_alone (is_satisfied (compares values) part) met)
-  only_part_fixes (more part (more other parts)) position value values says met = absurd says
+    only_part_fixes : (parts : Conditions T) (position : ℕ) (value : Value) → OnlyPartEquates Says parts position value → some_satisfied holds parts ≡ true → slice_get values position ≡ Some value
+    only_part_fixes none position value says met = absurd says
+    only_part_fixes (more part none) position value says met = equates_fixes part position value says (or_alone (is_satisfied holds part) met)
+    only_part_fixes (more part (more other parts)) position value says met = absurd says
 
-  some_part_fixes : (parts : Conditions CompareValues) (position : ℕ) (value : Value) (values : List Value) → SomePartEquates parts position value → each_satisfied (compares values) parts ≡ true → slice_get values position ≡ Some value
-  some_part_fixes none position value values says met = absurd says
-  some_part_fixes (more part parts) position value values says met =
-      let both = both_true (is_satisfied (compares values) part) (each_satisfied (compares values) parts) met in
-      elim says [
-        | inl first ↦ equates_fixes part position value values first both.0
-        | inr later ↦ some_part_fixes parts position value values later both.1
-      ]
+    some_part_fixes : (parts : Conditions T) (position : ℕ) (value : Value) → SomePartEquates Says parts position value → each_satisfied holds parts ≡ true → slice_get values position ≡ Some value
+    some_part_fixes none position value says met = absurd says
+    some_part_fixes (more part parts) position value says met =
+        let both = both_true (is_satisfied holds part) (each_satisfied holds parts) met in
+        elim says [
+          | inl first ↦ equates_fixes part position value first both.0
+          | inr later ↦ some_part_fixes parts position value later both.1
+        ]
 
 -- ==== conditions of the program ====
 
-module _ (condition : code.Tree CompareValues) (first : Box (code.Tree CompareValues)) (others : Vec (code.Tree CompareValues)) (position : ℕ) (value : Value) where
+module _ {T : Type 0} (Says : T → ℕ → Value → Type 0) (condition : code.Tree T) (first : Box (code.Tree T)) (others : Vec (code.Tree T)) (position : ℕ) (value : Value) where
   -- an AND says what its first part says, and what each other says
-  pub in_first : condition ≡ code.And first others → (part : code.Tree CompareValues) → part ≡ first.value → Equates (plain_condition part) position value → Equates (plain_condition condition) position value
+  pub in_first : condition ≡ code.And first others → (part : code.Tree T) → part ≡ first.value → Equates Says (plain_condition part) position value → Equates Says (plain_condition condition) position value
   in_first is part same says =
-      subst (λ (c : Condition CompareValues). Equates c position value) (sym (ap plain_condition is ∙ and_view first others))
-      (inl (subst (λ (p : code.Tree CompareValues). Equates (plain_condition p) position value) same says))
+      subst (λ (c : Condition T). Equates Says c position value) (sym (ap plain_condition is ∙ and_view first others))
+      (inl (subst (λ (p : code.Tree T). Equates Says (plain_condition p) position value) same says))
 
-  pub in_other : condition ≡ code.And first others → (parts : List (code.Tree CompareValues)) → parts ≡ others.items → (k : ℕ) (part : code.Tree CompareValues) → k < length parts → part ≡ get_or parts k part
-      → Equates (plain_condition part) position value → Equates (plain_condition condition) position value
+  pub in_other : condition ≡ code.And first others → (parts : List (code.Tree T)) → parts ≡ others.items → (k : ℕ) (part : code.Tree T) → k < length parts → part ≡ get_or parts k part
+      → Equates Says (plain_condition part) position value → Equates Says (plain_condition condition) position value
   in_other is parts same k part below at says =
-      subst (λ (c : Condition CompareValues). Equates c position value) (sym (ap plain_condition is ∙ and_view first others))
-      (inr (subst (λ (ps : List (code.Tree CompareValues)). SomePartEquates (conditions_of (map plain_condition ps)) position value) same (among parts k below (subst (λ (p : code.Tree CompareValues). Equates (plain_condition p) position value) at says))))
+      subst (λ (c : Condition T). Equates Says c position value) (sym (ap plain_condition is ∙ and_view first others))
+      (inr (subst (λ (ps : List (code.Tree T)). SomePartEquates Says (conditions_of (map plain_condition ps)) position value) same (among parts k below (subst (λ (p : code.Tree T). Equates Says (plain_condition p) position value) at says))))
     where
-      among : (ps : List (code.Tree CompareValues)) (n : ℕ) → n < length ps → Equates (plain_condition (get_or ps n part)) position value → SomePartEquates (conditions_of (map plain_condition ps)) position value
+      among : (ps : List (code.Tree T)) (n : ℕ) → n < length ps → Equates Says (plain_condition (get_or ps n part)) position value → SomePartEquates Says (conditions_of (map plain_condition ps)) position value
       among [] n here it = absurd (omega (arith, here))
       among (p ∷ ps) zero here it = inl it
       among (p ∷ ps) (suc n) here it = inr (among ps n (omega (arith, here)) it)
 
   -- and no more
-  pub in_none : condition ≡ code.And first others → (part : code.Tree CompareValues) → part ≡ first.value → (Equates (plain_condition part) position value → ⊥)
-      → (parts : List (code.Tree CompareValues)) → parts ≡ others.items → ((k : ℕ) (d : code.Tree CompareValues) → k < length parts → Equates (plain_condition (get_or parts k d)) position value → ⊥)
-      → Equates (plain_condition condition) position value → ⊥
+  pub in_none : condition ≡ code.And first others → (part : code.Tree T) → part ≡ first.value → (Equates Says (plain_condition part) position value → ⊥)
+      → (parts : List (code.Tree T)) → parts ≡ others.items → ((k : ℕ) (d : code.Tree T) → k < length parts → Equates Says (plain_condition (get_or parts k d)) position value → ⊥)
+      → Equates Says (plain_condition condition) position value → ⊥
   in_none is part same here parts same_parts each says =
-      elim (subst (λ (c : Condition CompareValues). Equates c position value) (ap plain_condition is ∙ and_view first others) says) [
-        | inl it ↦ here (subst (λ (p : code.Tree CompareValues). Equates (plain_condition p) position value) (sym same) it)
-        | inr it ↦ nowhere parts each (subst (λ (ps : List (code.Tree CompareValues)). SomePartEquates (conditions_of (map plain_condition ps)) position value) (sym same_parts) it)
+      elim (subst (λ (c : Condition T). Equates Says c position value) (ap plain_condition is ∙ and_view first others) says) [
+        | inl it ↦ here (subst (λ (p : code.Tree T). Equates Says (plain_condition p) position value) (sym same) it)
+        | inr it ↦ nowhere parts each (subst (λ (ps : List (code.Tree T)). SomePartEquates Says (conditions_of (map plain_condition ps)) position value) (sym same_parts) it)
       ]
     where
-      nowhere : (ps : List (code.Tree CompareValues)) → ((k : ℕ) (d : code.Tree CompareValues) → k < length ps → Equates (plain_condition (get_or ps k d)) position value → ⊥) → SomePartEquates (conditions_of (map plain_condition ps)) position value → ⊥
+      nowhere : (ps : List (code.Tree T)) → ((k : ℕ) (d : code.Tree T) → k < length ps → Equates Says (plain_condition (get_or ps k d)) position value → ⊥) → SomePartEquates Says (conditions_of (map plain_condition ps)) position value → ⊥
       nowhere [] none_of it = it
       nowhere (p ∷ ps) none_of it = elim it [
         | inl one ↦ none_of 0 p (omega arith) one
@@ -125,16 +83,48 @@ module _ (condition : code.Tree CompareValues) (first : Box (code.Tree CompareVa
       ]
 
 -- an OR of one part says what the part says
-pub only_view : (condition : code.Tree CompareValues) (first : Box (code.Tree CompareValues)) (others : Vec (code.Tree CompareValues)) → condition ≡ code.Or first others → others.items ≡ []
+pub only_view : {T : Type 0} (condition : code.Tree T) (first : Box (code.Tree T)) (others : Vec (code.Tree T)) → condition ≡ code.Or first others → others.items ≡ []
     → plain_condition condition ≡ any (more (plain_condition first.value) none)
-only_view condition first others is alone = ap plain_condition is ∙ or_view first others ∙ ap (λ (ps : List (code.Tree CompareValues)). any (more (plain_condition first.value) (conditions_of (map plain_condition ps)))) alone
+only_view {T} condition first others is alone = ap plain_condition is ∙ or_view first others ∙ ap (λ (ps : List (code.Tree T)). any (more (plain_condition first.value) (conditions_of (map plain_condition ps)))) alone
 
 -- an OR of more says nothing
-pub several_none : (condition : code.Tree CompareValues) (first : Box (code.Tree CompareValues)) (others : Vec (code.Tree CompareValues)) (position : ℕ) (value : Value) → condition ≡ code.Or first others → (others.items ≡ [] → ⊥)
-    → Equates (plain_condition condition) position value → ⊥
-several_none condition first others position value is several says =
-    go others.items several (subst (λ (c : Condition CompareValues). Equates c position value) (ap plain_condition is ∙ or_view first others) says)
+pub several_none : {T : Type 0} (Says : T → ℕ → Value → Type 0) (condition : code.Tree T) (first : Box (code.Tree T)) (others : Vec (code.Tree T)) (position : ℕ) (value : Value) → condition ≡ code.Or first others → (others.items ≡ [] → ⊥)
+    → Equates Says (plain_condition condition) position value → ⊥
+several_none {T} Says condition first others position value is several says =
+    go others.items several (subst (λ (c : Condition T). Equates Says c position value) (ap plain_condition is ∙ or_view first others) says)
   where
-    go : (ps : List (code.Tree CompareValues)) → (ps ≡ [] → ⊥) → OnlyPartEquates (more (plain_condition first.value) (conditions_of (map plain_condition ps))) position value → ⊥
+    go : (ps : List (code.Tree T)) → (ps ≡ [] → ⊥) → OnlyPartEquates Says (more (plain_condition first.value) (conditions_of (map plain_condition ps))) position value → ⊥
     go [] some it = some refl
     go (p ∷ ps) some it = it
+
+-- ==== rows that are part of a combined row ====
+
+get_left : (xs ys : List Value) (p : ℕ) → p < length xs → slice_get (xs ++ ys) p ≡ slice_get xs p
+get_left [] ys p h = absurd (omega (arith, h))
+get_left (x ∷ xs) ys zero h = refl
+get_left (x ∷ xs) ys (suc p) h = get_left xs ys p (omega (arith, h))
+
+get_behind : (xs ys : List Value) (p : ℕ) → slice_get (xs ++ ys) (length xs + p) ≡ slice_get ys p
+get_behind [] ys p = (let same : length {A = Value} [] + p ≡ p = omega arith in ap (slice_get ys) same)
+get_behind (x ∷ xs) ys p =
+    let next : length (x ∷ xs) + p ≡ suc (length xs + p) = omega arith in
+    ap (slice_get (x ∷ (xs ++ ys))) next ∙ get_behind xs ys p
+
+-- conditions that all hold
+each_met : (conditions : List (code.Tree CompareValues)) (values : List Value) → meets_all conditions values ≡ true → (k : ℕ) (condition : code.Tree CompareValues) → k < length conditions → condition ≡ get_or conditions k condition → meets condition values ≡ true
+each_met [] values met k condition below at = absurd (omega (arith, below))
+each_met (c ∷ conditions) values met zero condition below at =
+    ap (λ (x : code.Tree CompareValues). meets x values) at ∙ (both_true (meets c values) (meets_all conditions values) met).0
+each_met (c ∷ conditions) values met (suc k) condition below at =
+    each_met conditions values (both_true (meets c values) (meets_all conditions values) met).1 k condition (omega (arith, below)) at
+
+-- what one of the conditions says of a position among the row's values
+pub within_fixes : (conditions : List (code.Tree CompareValues)) (k : ℕ) (condition : code.Tree CompareValues) (start width position place : ℕ) (value : Value) → k < length conditions → condition ≡ get_or conditions k condition → position < width → place ≡ start + position
+    → Equates IsEquation (plain_condition condition) place value → FixesWithin conditions start width position value
+within_fixes conditions k condition start width position place value below at inside is says first values rest long wide met =
+    let whole : List Value = first ++ (values ++ rest) in
+    let holds : meets condition whole ≡ true = each_met conditions whole met k condition below at in
+    let there : slice_get whole place ≡ Some value =
+    equates_fixes IsEquation (compares whole) whole (λ leaf p v its held. equation_fixes leaf whole p v its held) (plain_condition condition) place value says holds in
+    let moved : place ≡ length first + position = is ∙ ap (λ (n : ℕ). n + position) (sym long) in
+    sym (ap (slice_get whole) moved ∙ get_behind first (values ++ rest) position ∙ get_left values rest position (omega (arith, inside, wide))) ∙ there

@@ -1,13 +1,17 @@
 -- Values that a condition fixes in each row that meets it.
-use Rattle.std.specs.Prelude.{◌≡◌, ◌⊎◌, ℕ, All, List, Some, slice_get, true}
+use Rattle.std.specs.Prelude.{◌≡◌, ◌⊎◌, ◌++◌, ℕ, All, Bool, IsTrue, List, Some, length, slice_get}
+use Rattle.std.specs.Prelude.{true}
 use Rattle.period_core.specs.declared.value.Value.{Value}
 use Rattle.sql_statements.specs.Plain.{plain_condition}
 use Rattle.sql_statements.specs.Trees.{Condition, Conditions, any, all, negated, test, none, more}
 use Rattle.sql_statements.specs.declared.statement.Comparison.TheVariants.{Equal}
 use Rattle.sql_statements.specs.declared.tree.Tree.{Tree}
-use Rattle.catalog_core.specs.Conditions.{meets}
+use Rattle.catalog_core.specs.Conditions.{is_satisfied}
 use Rattle.catalog_core.specs.declared.condition.Comparand.TheVariants.{Literal, Position}
 use Rattle.catalog_core.specs.declared.condition.CompareValues.{CompareValues}
+use Rattle.catalog_core.specs.declared.stored.VersionTest.{VersionTest}
+use Rattle.catalog_core.specs.declared.stored.VersionTest.TheVariants.{ContainsDay, Periods, Values}
+use Rattle.history_model.specs.OrdinaryQuery.{meets_all}
 use Rattle.period_keys.specs.Keys.{values_at}
 
 -- a comparison says `column = literal` of the position, in either order
@@ -17,39 +21,63 @@ IsEquation c position value =
     × (((c.left ≡ Position position) × (c.right ≡ Literal value))
     ⊎ ((c.right ≡ Position position) × (c.left ≡ Literal value)))
 
--- a condition says it: as a whole, or in a part of an AND. An OR of one part is that part.
+-- a test of a version says it where it compares values; a predicate of periods does not
+abbrev pub IsVersionEquation : VersionTest → ℕ → Value → Type 0
+IsVersionEquation (Values c) position value = IsEquation c position value
+IsVersionEquation (Periods left predicate right) position value = ⊥
+IsVersionEquation (ContainsDay side day) position value = ⊥
+
+-- a condition says it, where a test of it does: as a whole, or in a part of an AND. An OR of one
+-- part is that part.
 abbrev mutual
-  pub Equates : Condition CompareValues → ℕ → Value → Type 0
-  Equates (any parts) position value = OnlyPartEquates parts position value
-  Equates (all parts) position value = SomePartEquates parts position value
-  Equates (negated part) position value = ⊥
-  Equates (test leaf) position value = IsEquation leaf position value
+  pub Equates : {T : Type 0} → (T → ℕ → Value → Type 0) → Condition T → ℕ → Value → Type 0
+  Equates Says (any parts) position value = OnlyPartEquates Says parts position value
+  Equates Says (all parts) position value = SomePartEquates Says parts position value
+  Equates Says (negated part) position value = ⊥
+  Equates Says (test leaf) position value = Says leaf position value
 
-  pub OnlyPartEquates : Conditions CompareValues → ℕ → Value → Type 0
-  OnlyPartEquates none position value = ⊥
-  OnlyPartEquates (more part none) position value = Equates part position value
-  OnlyPartEquates (more part (more other parts)) position value = ⊥
+  pub OnlyPartEquates
+      : {T : Type 0} → (T → ℕ → Value → Type 0) → Conditions T → ℕ → Value → Type 0
+  OnlyPartEquates Says none position value = ⊥
+  OnlyPartEquates Says (more part none) position value = Equates Says part position value
+  OnlyPartEquates Says (more part (more other parts)) position value = ⊥
 
-  pub SomePartEquates : Conditions CompareValues → ℕ → Value → Type 0
-  SomePartEquates none position value = ⊥
-  SomePartEquates (more part parts) position value =
-      Equates part position value ⊎ SomePartEquates parts position value
+  pub SomePartEquates
+      : {T : Type 0} → (T → ℕ → Value → Type 0) → Conditions T → ℕ → Value → Type 0
+  SomePartEquates Says none position value = ⊥
+  SomePartEquates Says (more part parts) position value =
+      Equates Says part position value ⊎ SomePartEquates Says parts position value
 
 -- it says so of the position with some value
-abbrev pub EquatesSome : Tree CompareValues → ℕ → Type 0
-EquatesSome condition position =
-    (value : Value) × Equates (plain_condition condition) position value
+abbrev pub EquatesSome : {T : Type 0} → (T → ℕ → Value → Type 0) → Tree T → ℕ → Type 0
+EquatesSome Says condition position =
+    (value : Value) × Equates Says (plain_condition condition) position value
 
 -- of each of the positions
-abbrev pub EquatesKey : Tree CompareValues → List ℕ → Type 0
-EquatesKey condition positions = All (EquatesSome condition) positions
-
--- each row that meets the condition has this value at the position
-abbrev pub Fixes : Tree CompareValues → ℕ → Value → Type 0
-Fixes condition position value =
-    (values : List Value) → meets condition values ≡ true → slice_get values position ≡ Some value
+abbrev pub EquatesKey : {T : Type 0} → (T → ℕ → Value → Type 0) → Tree T → List ℕ → Type 0
+EquatesKey Says condition positions = All (EquatesSome Says condition) positions
 
 -- each row that meets the condition has this key
-abbrev pub FixesKey : Tree CompareValues → List ℕ → List Value → Type 0
-FixesKey condition positions key =
-    (values : List Value) → meets condition values ≡ true → values_at positions values ≡ key
+abbrev pub FixesKey
+    : {Row T : Type 0} → (Row → List Value) → (Row → T → Bool) → Tree T → List ℕ → List Value
+    → Type 0
+FixesKey {Row} values passes condition positions key =
+    (row : Row) → is_satisfied (passes row) (plain_condition condition) ≡ true
+    → values_at positions (values row) ≡ key
+
+-- ---- rows that are part of a combined row, whose values begin at a position of it
+
+-- in each combined row that meets the conditions, the row, which has so many values, has this value
+-- at the position
+abbrev pub FixesWithin : List (Tree CompareValues) → ℕ → ℕ → ℕ → Value → Type 0
+FixesWithin conditions start width position value =
+    (first values rest : List Value) → length first ≡ start → length values ≡ width
+    → IsTrue (meets_all conditions (first ++ (values ++ rest)))
+    → slice_get values position ≡ Some value
+
+-- it has this key
+abbrev pub FixesKeyWithin : List (Tree CompareValues) → ℕ → ℕ → List ℕ → List Value → Type 0
+FixesKeyWithin conditions start width positions key =
+    (first values rest : List Value) → length first ≡ start → length values ≡ width
+    → IsTrue (meets_all conditions (first ++ (values ++ rest)))
+    → values_at positions values ≡ key

@@ -12,6 +12,7 @@ pub mod Repeats
 pub mod Lawful
 pub mod LawfulLaws
 pub mod FixedKeys
+pub mod Equations
 pub mod Planned
 pub mod PeriodIndexes
 pub mod TableRows

@@ -1,28 +1,104 @@
 //! The key that a condition fixes, by `column = literal` for each of the key's columns.
 
-ghost use Rattle.std.specs.Prelude.{◌≡◌, ◌↔◌, IfOk, IfSome, IsSome, MatchOption};
+ghost use Rattle.std.specs.Prelude.{◌≡◌, ◌↔◌, ℕ, Bool, IfOk, IfSome, IsSome, List, MatchOption};
+ghost use Rattle.std.specs.Prelude.{Some, slice_get, true};
 ghost use Rattle.sql_statements.specs.Plain.{plain_condition};
 ghost use Rattle.catalog_core.specs.declared.condition.Comparand.TheVariants.{Literal, Position};
 ghost use Rattle.period_core.specs.declared.value.Value.{Value as ColumnValue};
-ghost use Rattle.period_keys.specs.FixedKeys.{Equates, EquatesKey, FixesKey, IsEquation};
+ghost use Rattle.period_keys.specs.FixedKeys.{Equates, EquatesKey, FixesKey, FixesKeyWithin};
+ghost use Rattle.period_keys.specs.FixedKeys.{FixesWithin, IsEquation};
 
 use crate::key::Key;
-use catalog_core::{Comparand, CompareValues, Cond};
+use catalog_core::{Comparand, CompareValues, Cond, VersionTest};
 use period_core::{Memory, Value, Values};
 use sql_statements::{Comparison, Tree};
 use std::alloc::Global;
 
+/// A test of rows. It may say `column = literal` of a position among their values.
+pub trait Equation {
+    /// The rows.
+    ghost Row: { Type 0 };
+
+    /// Their values.
+    ghost values: { Row → List ColumnValue };
+
+    /// Whether the test holds of a row.
+    ghost passes: { Row → Self → Bool };
+
+    /// It says `column = literal` of the position.
+    ghost Says: { Self → ℕ → ColumnValue → Type 0 };
+
+    /// The literal, where it says so of the position.
+    fn literal_at(&self, position: usize) -> Option<&Value>
+        ensures { MatchOption result
+            ((value : ColumnValue) → Says self.now position value → ⊥)
+            (λ value. Says self.now position value.now) };
+
+    // Each row of which it holds has that value there.
+    ghost fixes: { (test : Self) (row : Row) (position : ℕ) (value : ColumnValue)
+        → Says test position value → passes row test ≡ true
+        → slice_get (values row) position ≡ Some value };
+}
+
+impl Equation for CompareValues {
+    ghost use Rattle.std.specs.Prelude.{List};
+    ghost use Rattle.catalog_core.specs.Conditions.{compares};
+    ghost use Rattle.period_core.specs.declared.value.Value.{Value as ColumnValue};
+    ghost use Rattle.period_keys.specs.Equations.{equation_fixes};
+    ghost use Rattle.period_keys.specs.FixedKeys.{IsEquation};
+
+    ghost Row = { List ColumnValue };
+
+    ghost values = { λ row. row };
+
+    ghost passes = { compares };
+
+    ghost Says = { IsEquation };
+
+    fn literal_at(&self, position: usize) -> Option<&Value> {
+        fixed_by_test(self, position)
+    }
+
+    ghost fixes = { equation_fixes };
+}
+
+impl Equation for VersionTest {
+    ghost use Rattle.catalog_core.specs.stored.StoredAnswers.{passes_test};
+    ghost use Rattle.period_core.specs.declared.version.VersionRow.{VersionRow as Version};
+    ghost use Rattle.period_keys.specs.Equations.{version_equation_fixes};
+    ghost use Rattle.period_keys.specs.FixedKeys.{IsVersionEquation};
+
+    ghost Row = { Version };
+
+    ghost values = { λ version. version.values };
+
+    ghost passes = { passes_test };
+
+    ghost Says = { IsVersionEquation };
+
+    fn literal_at(&self, position: usize) -> Option<&Value> {
+        match self {
+            VersionTest::Values(compare) => fixed_by_test(compare, position),
+            VersionTest::Periods(_, _, _) => None,
+            VersionTest::ContainsDay(_, _) => None,
+        }
+    }
+
+    ghost fixes = { version_equation_fixes };
+}
+
 /// The key at these positions of each row that meets the condition, exactly where it says `column =
 /// literal` of each as a whole, or as a part of an AND that is in no NOT and in no OR with other
 /// parts. The only error is out of memory.
-pub fn fixed_key(
+pub fn fixed_key<T: Equation>(
     alloc: Global,
-    condition: &Cond,
+    condition: &Tree<T>,
     positions: &[usize],
 ) -> Result<Option<Key>, Memory>
-    ensures fixed { IfOk result (λ found. IfSome found (FixesKey condition.now positions.now)) }
+    ensures fixed { IfOk result (λ found.
+        IfSome found (FixesKey T.values T.passes condition.now positions.now)) }
     ensures found { IfOk result
-        (λ found. IsSome found ↔ EquatesKey condition.now positions.now) }
+        (λ found. IsSome found ↔ EquatesKey T.Says condition.now positions.now) }
 {
     let mut key = Vec::new(alloc);
     for position in positions {
@@ -34,12 +110,60 @@ pub fn fixed_key(
     Ok(Some(Key::new(Values::from_vec(key))))
 }
 
+/// The key of a table's row that is part of a combined row: its values begin at `start`, and are
+/// `width` many. Where for each of these positions among them one of the conditions says `column =
+/// literal`, each such row of a combined row that meets all conditions has this key. The only error
+/// is out of memory.
+pub fn fixed_key_within(
+    alloc: Global,
+    conditions: &[Cond],
+    start: usize,
+    width: usize,
+    positions: &[usize],
+) -> Result<Option<Key>, Memory>
+    ensures { IfOk result (λ found.
+        IfSome found (FixesKeyWithin conditions.now start width positions.now)) }
+{
+    let mut key = Vec::new(alloc);
+    for position in positions {
+        let Some(value) = value_within(conditions, start, width, *position) else {
+            return Ok(None);
+        };
+        key.push(value.copy(alloc)?)?;
+    }
+    Ok(Some(Key::new(Values::from_vec(key))))
+}
+
+// The value that the conditions fix at a position of such a row.
+fn value_within(
+    conditions: &[Cond],
+    start: usize,
+    width: usize,
+    position: usize,
+) -> Option<&Value>
+    ensures { IfSome result
+        (λ value. FixesWithin conditions.now start width position value.now) }
+{
+    if position >= width {
+        return None;
+    }
+    let Some(place) = start.checked_add(position) else {
+        return None;
+    };
+    for condition in conditions {
+        if let Some(value) = fixed_value(condition, place) {
+            return Some(value);
+        }
+    }
+    None
+}
+
 // The value that the condition fixes at a position. The parser gives a chain of OR or of AND even
 // where it has one part, so an OR of one part counts as that part.
-fn fixed_value(condition: &Cond, position: usize) -> Option<&Value>
+fn fixed_value<T: Equation>(condition: &Tree<T>, position: usize) -> Option<&Value>
     ensures { MatchOption result
-        ((value : ColumnValue) → Equates (plain_condition condition.now) position value → ⊥)
-        (λ value. Equates (plain_condition condition.now) position value.now) }
+        ((value : ColumnValue) → Equates T.Says (plain_condition condition.now) position value → ⊥)
+        (λ value. Equates T.Says (plain_condition condition.now) position value.now) }
 {
     match condition {
         Tree::And(first, others) => {
@@ -61,10 +185,9 @@ fn fixed_value(condition: &Cond, position: usize) -> Option<&Value>
             }
         }
         Tree::Not(_) => None,
-        Tree::Test(test) => fixed_by_test(test, position),
+        Tree::Test(test) => test.literal_at(position),
     }
 }
-
 // The value that a comparison fixes.
 fn fixed_by_test(test: &CompareValues, position: usize) -> Option<&Value>
     ensures { MatchOption result ((value : ColumnValue) → IsEquation test.now position value → ⊥)

@@ -42,6 +42,8 @@ mod tables;
 
 pub use current_rows::CurrentRows;
 pub use faults::{key_fault, rows_of, rows_of_current};
+pub use fixed_keys::{Equation, fixed_key, fixed_key_within};
+pub use key::Key;
 pub use key_laws::{clashes_after_change, clashes_are_of_days, uncovered_are_of_days};
 pub use lawful_laws::{
     changes_break_their_own_references, key_faults_are_clashes, lacking_parents_are_uncovered,

@@ -21,6 +21,7 @@ mod TableNumbers
 mod ColumnFacts
 mod Contents
 mod CurrentAfter
+mod CurrentShown
 mod InMemory
 mod Loaded
 mod Ended

@@ -16,14 +16,14 @@ use Rattle.version_store.specs.Scans.{AreFirstSeen, Visits}
 use Rattle.version_store.specs.StoreState.{IsStoreRefusal}
 use Rattle.history_model.specs.Histories.{Asked, History, with_event}
 use Rattle.script_engine.specs.engine.Runs.{StepsTo}
-use Rattle.script_engine.specs.engine.Shown.{AreShown, AreShownOf, version_columns}
+use Rattle.script_engine.specs.engine.Shown.{AreShownIn, AreShownOf, version_columns}
 use Rattle.script_engine.specs.engine.EngineState.{EngineState}
 use Rattle.script_engine.specs.engine.Stored.{EngineRepresents, HasContents}
 use Rattle.script_engine.specs.declared.engine.outcome.Outcome.TheVariants.{Versions}
 use Rattle.script_engine.specs.declared.engine.outcome.VersionColumn.{VersionColumn}
 use Rattle.script_engine.specs.declared.engine.outcome.VersionList.{VersionList}
 use Rattle.script_engine.proofs.Contents.{said-asked}
-use Rattle.script_engine.proofs.ShownFacts.{kept_next, kept_rows, shown_of_scan}
+use Rattle.script_engine.proofs.ShownFacts.{kept_next, kept_rows}
 use Rattle.script_engine.proofs.Steps.{failed_step, refused_step, tables_of}
 
 -- what a scan leaves in a visitor that had none
@@ -52,9 +52,9 @@ module _ {S : Type 0} (g : Ghosts S) (history : History) (old : EngineState S) (
       (subst (λ (tables : List TableDef). NoneApplies (Holds (stored_query_conditions tables asked))) (tables_of g history old kept) sound)
 
   pub shown_step : (new : EngineState S) (query : Stored) (definition : TableDef) (columns : List VersionColumn) (rows : List VersionRow) → NoneApplies (Holds (stored_query_conditions old.catalog.tables asked)) →
-      ResolvesStoredQuery old.catalog.tables asked query → table_of old.catalog.tables query.table ≡ Some definition → columns ≡ version_columns definition → HasContents g new kept.contents → AreShownOf kept.contents query rows →
+      ResolvesStoredQuery old.catalog.tables asked query → table_of old.catalog.tables query.table ≡ Some definition → columns ≡ version_columns definition → HasContents g new kept.contents → AreShownIn kept.contents query rows →
       StepsTo g history s (Ok (Versions (record { columns = columns; rows = rows }))) new
-  shown_step new query definition columns rows sound resolved there are has scan =
+  shown_step new query definition columns rows sound resolved there are has shown =
       let holds = kept.said.versions query.table in
       let list : VersionList = record { columns = columns; rows = rows } in (
         with_event history Asked,
@@ -71,7 +71,7 @@ module _ {S : Type 0} (g : Ghosts S) (history : History) (old : EngineState S) (
               columns = are;
               versions = holds.rows;
               left = holds.left;
-              rows = subst (AreShown query holds.rows) (sym scan.shown) (shown_of_scan kept.contents query holds.rows scan.seen holds.all scan.all);
+              rows = shown holds.rows holds.all;
               after = refl;
             },
           ),

@@ -37,7 +37,7 @@ kept_rows query before (row ∷ rows) =
 -- ---- the order
 
 -- version rows by the order of what they are in a table
-abbrev below : ℕ → VersionRow → VersionRow → Bool
+abbrev pub below : ℕ → VersionRow → VersionRow → Bool
 below table a b = is_lt (version_cmp (version_in table a) (version_in table b))
 
 rows_sorted : (table : ℕ) (rows : List VersionRow) → IsSorted version_cmp (map (version_in table) rows) → IsSortedBy (below table) rows
@@ -47,7 +47,7 @@ rows_sorted table rows h k d low high =
     (get_or-map (version_in table) rows (k + 1) d (version_in table d) high) (get_or-map (version_in table) rows k d (version_in table d) (omega arith))
     (h k (version_in table d) low (omega arith))
 
-versions_sorted : (table : ℕ) (rows : List VersionRow) → IsSortedBy (below table) rows → IsSorted version_cmp (map (version_in table) rows)
+pub versions_sorted : (table : ℕ) (rows : List VersionRow) → IsSortedBy (below table) rows → IsSorted version_cmp (map (version_in table) rows)
 versions_sorted table [] h k d low high = absurd (omega arith)
 versions_sorted table (row ∷ rows) h k d low high =
     let long = length-map (row ∷ rows) (version_in table) in
@@ -64,7 +64,7 @@ filtered_sorted table p rows h =
 -- ---- the scan
 
 -- a version that is shown is seen by the window
-seen_first : (a b : Bool) → (a && b) ≡ true → a ≡ true
+pub seen_first : (a b : Bool) → (a && b) ≡ true → a ≡ true
 seen_first true b e = refl
 seen_first false b e = e
 

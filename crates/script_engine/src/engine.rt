@@ -29,6 +29,7 @@ ghost use Rattle.sql_statements.specs.Trees as statement;
 
 mod answering;
 mod auditing;
+mod current_shown;
 mod in_memory;
 mod indexed;
 mod lawfulness;
@@ -36,10 +37,11 @@ pub mod outcome;
 mod shown;
 
 use crate::engine::answering::answer_of;
+use crate::engine::current_shown::shown_by;
 use crate::engine::indexed::{add_index, apply_plan, load_lawful, remove_last, rows_of_number};
 use crate::engine::lawfulness::lawful_plan;
 use crate::engine::outcome::{Outcome, VersionList, Word, done};
-use crate::engine::shown::{shown_rows, version_columns};
+use crate::engine::shown::version_columns;
 use catalog_core::{
     Catalog, Plan, define, resolve_change, resolve_sequenced, resolve_stored_query,
 };
@@ -343,7 +345,7 @@ impl<S: Alter> Engine<S> {
         let Ok(columns) = version_columns(alloc, table) else {
             return Err(Refusal::Memory);
         };
-        match shown_rows(alloc, &mut self.store, query) {
+        match shown_by(alloc, &mut self.store, self.tables.as_slice(), query) {
             Ok(rows) => Ok(Outcome::Versions(VersionList {
                 columns,
                 rows: Items::from_vec(rows),

@@ -11,7 +11,7 @@ use Rattle.catalog_core.specs.declared.table.ColumnKind.{ColumnKind}
 use Rattle.catalog_core.specs.declared.table.ColumnKind.TheVariants.{Date, Integer, Varchar}
 use Rattle.catalog_core.specs.declared.table.ColumnKind.TheVariants.{RowEnd, RowStart}
 use Rattle.catalog_core.specs.declared.table.TableDef.{TableDef}
-use Rattle.version_store.specs.Contents.{Contents, version_cmp, version_in}
+use Rattle.version_store.specs.Contents.{Contents, of_table, version_cmp, version_in}
 use Rattle.version_store.specs.Scans.{AreFirstSeen}
 use Rattle.script_engine.specs.declared.engine.outcome.Cell.{Cell}
 use Rattle.script_engine.specs.declared.engine.outcome.Cell.TheVariants.{End, From, Start, To}
@@ -58,6 +58,13 @@ version_columns t = map (version_column t) (enumerate_from 0 t.columns)
 pub record AreShown (query : Stored) (versions rows : List VersionRow) : Type 0 where
   pub all : IsPermutation (shown_versions query versions) rows
   pub sorted : IsSorted version_cmp (map (version_in query.table) rows)
+
+-- the rows are those that the query shows of its table's versions in the store
+abbrev pub AreShownIn : Contents → Stored → List VersionRow → Type 0
+AreShownIn c query rows =
+    (versions : List VersionRow)
+    → IsPermutation (of_table query.table c.versions) (map (version_in query.table) versions)
+    → AreShown query versions rows
 
 -- the rows are those that the query shows of the versions that a store has of its table, in order
 pub record AreShownOf (c : Contents) (query : Stored) (rows : List VersionRow) : Type 0 where

@@ -2,10 +2,9 @@ use Rattle.std.proofs.Common.{◌<◌, ℕ, get_or}
 use Rattle.period_core.specs.declared.value.Value.{Value}
 use Rattle.sql_statements.specs.Plain.{plain_condition}
 use Rattle.sql_statements.specs.declared.tree.Tree as code
-use Rattle.catalog_core.specs.declared.condition.CompareValues.{CompareValues}
 use Rattle.period_keys.specs.FixedKeys.{Equates}
 use Rattle.period_keys.proofs.fixed_keys.+fixed_value.Given as goal
 
 abbrev pub invariant-loop-part : goal.invariant-loop-part
-invariant-loop-part l =
-    (k : ℕ) (d : code.Tree CompareValues) → k < l.part-index → (value : Value) → Equates (plain_condition (get_or l.part-items k d)) l.position value → ⊥
+invariant-loop-part g l =
+    (k : ℕ) (d : code.Tree g.row.T.Denot) → k < l.part-index → (value : Value) → Equates g.T.Equation.Says (plain_condition (get_or l.part-items k d)) l.position value → ⊥

@@ -11,31 +11,33 @@ use Rattle.period_keys.proofs.Fixed.{equates_fixes}
 use Rattle.period_keys.proofs.fixed_keys.fixed_key.Goals as goal
 
 pub loop-position-preserved : goal.loop-position-preserved
-loop-position-preserved c =
+loop-position-preserved g c =
     let positions : List ℕ = c.args.positions.now in
     let i : ℕ = c.loop-position.position-index in
     let x : ℕ = get_or positions i 0 in
     let key : List Value = c.loop-position.key.items in
     let value : Value = c.in-Some.value.now in
     let copied : value ≡ c.in_ok-copy.field-0 = sym c.in_ok-copy.ensures in (
-      λ values met.
+      λ row met.
+          let values : List Value = g.T.Equation.values row in
           ap (filter_map (slice_get values)) (take_more positions i 0 (omega arith))
           ∙ filter_map-append (slice_get values) (take i positions) (x ∷ [])
-          ∙ ap (λ (k : List Value). k ++ filter_map (slice_get values) (x ∷ [])) (c.loop-position.invariant.0 values met)
-          ∙ ap (λ (o : Option Value). key ++ filter_map (λ (x : Option Value). x) (o ∷ [])) (equates_fixes (plain_condition c.args.condition.now) x value values c.in-Some.ensures met)
+          ∙ ap (λ (k : List Value). k ++ filter_map (slice_get values) (x ∷ [])) (c.loop-position.invariant.0 row met)
+          ∙ ap (λ (o : Option Value). key ++ filter_map (λ (x : Option Value). x) (o ∷ []))
+          (equates_fixes g.T.Equation.Says (g.T.Equation.passes row) values (λ leaf position value says holds. g.met.T.Equation.fixes leaf row position value says holds) (plain_condition c.args.condition.now) x value c.in-Some.ensures met)
           ∙ ap (λ (v : Value). key ++ v ∷ []) copied
           ∙ sym c.in_ok-push.ensures.items,
-      All-more (EquatesSome c.args.condition.now) positions i 0 (omega arith) c.loop-position.invariant.1 (value, c.in-Some.ensures),
+      All-more (EquatesSome g.T.Equation.Says c.args.condition.now) positions i 0 (omega arith) c.loop-position.invariant.1 (value, c.in-Some.ensures),
     )
 
 pub returns-in_default-clause-found : goal.returns-in_default-clause-found
-returns-in_default-clause-found c = (
+returns-in_default-clause-found g c = (
   λ some. absurd (false≢true some),
   λ all. let it = all c.loop-position.position-index 0 (omega arith) in absurd (c.in_default.ensures it.0 it.1),
 )
 
 pub returns-clause-found : goal.returns-clause-found
-returns-clause-found c = (
-  λ some. subst (EquatesKey c.args.condition.now) (take_all c.loop-position.position-index c.args.positions.now (omega arith)) c.loop-position.invariant.1,
+returns-clause-found g c = (
+  λ some. subst (EquatesKey g.T.Equation.Says c.args.condition.now) (take_all c.loop-position.position-index c.args.positions.now (omega arith)) c.loop-position.invariant.1,
   λ all. refl,
 )

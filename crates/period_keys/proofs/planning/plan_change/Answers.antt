@@ -1,6 +1,6 @@
 use Rattle.std.proofs.Common.{◌≡◌, ℕ, List, true, sym, subst}
 use Rattle.std.specs.Prelude.{IfSome, Option}
-use Rattle.catalog_core.specs.Conditions.{meets}
+use Rattle.catalog_core.specs.Conditions.{compares, meets}
 use Rattle.catalog_core.specs.declared.change.Action.{Action}
 use Rattle.catalog_core.specs.declared.condition.CompareValues.{CompareValues}
 use Rattle.sql_statements.specs.declared.tree.Tree.{Tree}
@@ -14,8 +14,11 @@ use Rattle.period_keys.specs.Versions.{is_of_key, version_key}
 use Rattle.period_keys.proofs.PlanParts.{if_ok, plan_of_passing, touched}
 use Rattle.period_keys.proofs.planning.plan_change.Goals as goal
 
+abbrev its_values : List Value → List Value
+its_values values = values
+
 -- each row that the change touches has the key that its condition fixes
-of_fixed : (action : Action) (condition : Tree CompareValues) (positions : List ℕ) (key : List Value) → FixesKey condition positions key
+of_fixed : (action : Action) (condition : Tree CompareValues) (positions : List ℕ) (key : List Value) → FixesKey its_values compares condition positions key
     → ((v : VersionRow) → touched action v ≡ true → meets condition v.values ≡ true) → (v : VersionRow) → touched action v ≡ true → is_of_key positions key v ≡ true
 of_fixed action condition positions key fixes met v t = (values_eq key (version_key positions v)).1 (sym (fixes v.values (met v t)))
 
@@ -25,8 +28,8 @@ returns-in-Ok-Some-clause-plan c =
     let positions : List ℕ = c.args.current.now.positions in
     let rows : List VersionRow = c.args.current.now.rows in
     let key : List Value = c.in-Ok-Some.key in
-    let fixes : FixesKey c.in-Some.condition.now positions key = subst (λ (ps : List ℕ). FixesKey c.in-Some.condition.now ps key) c.positions.ensures
-    (subst (λ (o : Option (List Value)). IfSome o (FixesKey c.in-Some.condition.now c.positions.result.now)) c.in-Ok-Some.field-0-is c.in-Ok-Some.ensures.fixed) in
+    let fixes : FixesKey its_values compares c.in-Some.condition.now positions key = subst (λ (ps : List ℕ). FixesKey its_values compares c.in-Some.condition.now ps key) c.positions.ensures
+    (subst (λ (o : Option (List Value)). IfSome o (FixesKey its_values compares c.in-Some.condition.now c.positions.result.now)) c.in-Ok-Some.field-0-is c.in-Ok-Some.ensures.fixed) in
     if_ok c.plan_over.result (λ plan. Plans action c.of_key.result.now plan) (λ plan. IsPlanOf action rows plan)
     (λ plan plans. plan_of_passing action (is_of_key positions key) rows plan (of_fixed action c.in-Some.condition.now positions key fixes c.in-Some.ensures.met)
     (subst (λ (xs : List VersionRow). Plans action xs plan) c.of_key.ensures plans)) c.plan_over.ensures.plan
