@@ -1,24 +1,13 @@
 -- Worked rows: what the definitions of an audited run's report give on entries written out.
-use Rattle.std.specs.Prelude.{◌≡◌, ◌∷◌, ◌++◌, [], refl, codes, Ok, Err, None, Some, neg_ℤ, pos}
+use Rattle.std.specs.Prelude.{◌≡◌, ◌∷◌, ◌++◌, [], refl, codes, Ok, Err, Some, neg_ℤ, pos}
 use Rattle.std.specs.Fmt.{digits}
 use Rattle.period_core.specs.Calendar.{count_below}
-use Rattle.period_core.specs.declared.refusal.Refusal.TheVariants.{Memory, Syntax}
+use Rattle.period_core.specs.declared.refusal.Refusal.TheVariants.{Memory}
 use Rattle.snapshot_audit.specs.declared.verdict.Verdict.TheVariants.{Agrees, BadWitness, Differs}
 use Rattle.script_engine.specs.declared.entry.Entry.{Entry}
 use Rattle.script_engine.specs.declared.engine.outcome.Outcome.TheVariants as outcome
-use Rattle.script_engine.specs.declared.engine.outcome.Word.TheVariants.{Create}
 use Rattle.script_engine.specs.report.AuditedReport.{audit_text, audited_report}
 use Rattle.script_engine.specs.report.Report.{line_feed, more_fields, printed_day, record_text}
-
--- an empty script has an empty report
-no-entries : audited_report [] ≡ []
-no-entries = refl
-
--- what is no answer has the records that it has without an audit
-not-audited : audited_report (record { result = Ok (outcome.Done Create 0); audit = None } ∷ record { result = Err Syntax; audit = None } ∷ [])
-    ≡ codes "done,1,create,0" ++ line_feed ∷ codes "refused,2,10,Syntax," ++ line_feed ∷ []
-unfolding digits record_text more_fields
-not-audited = refl
 
 -- an answer's audit is behind its records
 empty_answer : Entry

@@ -5,11 +5,6 @@ use Rattle.period_core.specs.declared.refusal.Refusal.TheVariants.{LimitReached,
 use Rattle.script_engine.specs.report.CheckReport.{check_text}
 use Rattle.script_engine.specs.report.Report.{line_feed, more_fields, record_text}
 
--- of no statement none is refused
-no-statements : check_text [] ≡ codes "checked,0,0" ++ line_feed ∷ []
-unfolding digits record_text more_fields
-no-statements = refl
-
 -- the refused statements have their numbers among all
 three-statements : check_text (Err Syntax ∷ Ok tt ∷ Err LimitReached ∷ [])
     ≡ codes "refused,1,10,Syntax," ++ line_feed ∷ codes "refused,3,21,LimitReached," ++ line_feed ∷ codes "checked,3,2" ++ line_feed ∷ []

@@ -1,9 +1,9 @@
--- For worked rows: a change is lawful where at most one row of its table is there on a day, or rows of distinct keys, and no table has a reference.
-use Rattle.std.proofs.Common.{◌≡◌, ◌∷◌, ◌+◌, ◌≤◌, ◌∙◌, ℕ, suc, ℤ, Bool, true, false, List, [], Some, cond, inl, inr, length, length-append, map, not, refl, sym, ap, subst, arith}
+-- For worked rows: a change is lawful where at most one row of its table is there on a day, and no table has a reference.
+use Rattle.std.proofs.Common.{◌≡◌, ◌∷◌, ◌+◌, ◌≤◌, ◌∙◌, ℕ, suc, ℤ, Bool, true, false, List, [], Some, cond, length, length-append, map, not, refl, sym, ap, subst, arith}
 use Rattle.std.specs.List.{Contains, enumerate_from, filter}
 use Rattle.std.proofs.lemmas.List.{length-map}
 use Rattle.period_core.specs.declared.value.Value.{Value}
-use Rattle.temporal_model.proofs.Members.{Contains-cons_cases, Contains-nil, Contains-one}
+use Rattle.temporal_model.proofs.Members.{Contains-nil, Contains-one}
 use Rattle.catalog_core.specs.table.TableWords.{table_of}
 use Rattle.catalog_core.specs.declared.change.Action.{Action}
 use Rattle.catalog_core.specs.declared.change.Action.TheVariants.{Delete, Insert, Update}
@@ -12,7 +12,6 @@ use Rattle.catalog_core.specs.declared.change.GivenRow.{GivenRow}
 use Rattle.catalog_core.specs.declared.table.TableDef.{TableDef}
 use Rattle.history_model.specs.Effects.{Traced, acts_on, given_covers, given_of, given_row, kept, traced, updated}
 use Rattle.history_model.specs.Histories.{State}
-use Rattle.period_keys.specs.Keys.{values_at}
 use Rattle.period_keys.specs.Lawful.{IsLawfulChange, OriginsShareKey, key_positions}
 
 -- ---- how many rows are traced
@@ -43,23 +42,6 @@ alone : (positions : List ℕ) (rows : List Traced) → length rows ≤ 1 → Or
 alone positions [] short (a, b, in_a, in_b, apart, same) = Contains-nil a in_a
 alone positions (row ∷ []) short (a, b, in_a, in_b, apart, same) = apart (ap (λ (t : Traced). t.origin) (sym (Contains-one row a in_a) ∙ Contains-one row b in_b))
 alone positions (row ∷ other ∷ rows) short shared = omega (arith, short)
-
--- two rows of distinct keys, of which some are there
-pub two_apart : (positions : List ℕ) (x y : Traced) (a b : Bool) → (values_at positions x.row ≡ values_at positions y.row → ⊥) → OriginsShareKey positions (cond a (x ∷ cond b (y ∷ []) []) (cond b (y ∷ []) [])) → ⊥
-two_apart positions x y true true differ (t, u, in_t, in_u, apart, same) =
-    elim (Contains-cons_cases x (y ∷ []) t in_t) [
-      | inl t_first ↦ elim (Contains-cons_cases x (y ∷ []) u in_u) [
-        | inl u_first ↦ apart (ap (λ (r : Traced). r.origin) (sym t_first ∙ u_first))
-        | inr u_rest ↦ differ (ap (λ (r : Traced). values_at positions r.row) t_first ∙ same ∙ ap (λ (r : Traced). values_at positions r.row) (sym (Contains-one y u u_rest)))
-      ]
-      | inr t_rest ↦ elim (Contains-cons_cases x (y ∷ []) u in_u) [
-        | inl u_first ↦ differ (ap (λ (r : Traced). values_at positions r.row) u_first ∙ sym same ∙ ap (λ (r : Traced). values_at positions r.row) (sym (Contains-one y t t_rest)))
-        | inr u_rest ↦ apart (ap (λ (r : Traced). r.origin) (sym (Contains-one y t t_rest) ∙ Contains-one y u u_rest))
-      ]
-    ]
-two_apart positions x y true false differ shared = alone positions (x ∷ []) (omega arith) shared
-two_apart positions x y false true differ shared = alone positions (y ∷ []) (omega arith) shared
-two_apart positions x y false false differ shared = alone positions [] (omega arith) shared
 
 -- ---- lawful changes
 

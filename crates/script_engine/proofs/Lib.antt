@@ -43,7 +43,6 @@ pub mod ChangeExamples
 pub mod CheckExamples
 pub mod CsvFacts
 pub mod LawfulSteps
-pub mod PieceExamples
 pub mod QueryExamples
 pub mod ReportExamples
 pub mod RunExamples

@@ -1,12 +1,10 @@
--- Worked rows: which refusal a whole script has, the run of no pieces, a refused statement, and an answer of one row.
+-- Worked rows: which refusal a whole script has, a refused statement, moments, and an answer of one row.
 use Rattle.std.proofs.Common.{◌≡◌, ◌<◌, ◌≤◌, ◌+◌, ◌<ℤ◌, ◌≤ℤ◌, ◌-ℤ◌, ◌∙◌, ◌∷◌, [], ℕ, ℤ, pos, List, Some, Ok, Err, true, false, codes, length, refl, ap, inl, inr, arith, ◌++◌, lit≤}
 use Rattle.std.proofs.lemmas.Int.{ints}
-use Rattle.std.proofs.lemmas.Str.{is_utf8-from_IsUtf8}
-use Rattle.std.specs.Str.{IsUtf8, chars, is_utf8}
 use Rattle.period_core.specs.Codes.{code_of}
 use Rattle.period_core.proofs.Periods.{are_ends, period_over}
 use Rattle.period_core.specs.declared.answer.Answer.{Answer}
-use Rattle.period_core.specs.declared.refusal.Refusal.TheVariants.{BadMoment, BadToken, Memory, MomentBack, NotUtf8, ScriptTooLarge, Store, Syntax, UnknownTable}
+use Rattle.period_core.specs.declared.refusal.Refusal.TheVariants.{BadMoment, BadToken, Memory, MomentBack, ScriptTooLarge, Store, UnknownTable}
 use Rattle.period_core.specs.declared.row.PeriodRow.{PeriodRow}
 use Rattle.period_core.specs.declared.value.Value.{Value}
 use Rattle.period_core.specs.declared.value.Value.TheVariants.{Int}
@@ -14,7 +12,6 @@ use Rattle.temporal_model.specs.Answer.{IsCertified}
 use Rattle.temporal_model.proofs.Certificate.{shortest}
 use Rattle.temporal_model.proofs.Members.{Contains-here, Contains-one}
 use Rattle.temporal_model.proofs.Snapshots.{held, in_snapshot}
-use Rattle.sql_statements.specs.Lexemes.{Lexeme}
 use Rattle.sql_statements.specs.Lexis as lexis
 use Rattle.sql_statements.specs.Lexis.{first_lexeme}
 use Rattle.sql_statements.specs.declared.token.TokenKind.TheVariants.{Word}
@@ -26,27 +23,14 @@ use Rattle.catalog_core.specs.table.TableWords.{number_of, table_of_name}
 use Rattle.catalog_core.proofs.lemmas.judged.Least.{first_least}
 use Rattle.history_model.specs.Histories.{Advanced, History, new_database, opened, with_event}
 use Rattle.script_engine.specs.Headline.{IsSequencedAnswer}
-use Rattle.script_engine.specs.engine.EngineState.{EngineState}
-use Rattle.script_engine.specs.engine.Runs.{MayRefuseMoment, Step, StepsTo}
-use Rattle.script_engine.specs.engine.Stored.{HasContents}
+use Rattle.script_engine.specs.engine.Runs.{MayRefuseMoment, Step}
 use Rattle.script_engine.specs.declared.engine.outcome.Outcome.{Outcome}
 use Rattle.script_engine.specs.declared.engine.outcome.Outcome.TheVariants.{Done}
 use Rattle.script_engine.specs.declared.engine.outcome.Word.TheVariants as word
-use Rattle.script_engine.specs.script.Script.{RunPieces, ScriptApplies, most_bytes}
-use Rattle.script_engine.proofs.NewStore.{new_store}
-use Rattle.sqlite.specs.Store.{Ghosts}
-use Rattle.version_store.specs.Contents.{empty_contents}
+use Rattle.script_engine.specs.script.Script.{ScriptApplies, most_bytes}
 use Rattle.period_core.specs.Moments.{first_moment, forever}
 
 -- ---- whole scripts
-
--- the byte 255 is no text
-not_utf8 : IsUtf8 (255 ∷ []) → ⊥
-unfolding chars is_utf8
-not_utf8 h = let e : is_utf8 (255 ∷ []) ≡ true = is_utf8-from_IsUtf8 (255 ∷ []) h in cc
-
-no_text : ScriptApplies (255 ∷ []) NotUtf8
-no_text = (omega arith, not_utf8)
 
 -- a letter, a space, and a byte that begins no token
 bad_third : ScriptApplies (codes "A ?") (BadToken 2)
@@ -60,19 +44,7 @@ too_large script e = omega arith
 not_too_large : (script : List ℕ) → length script ≡ most_bytes → ScriptApplies script ScriptTooLarge → ⊥
 not_too_large script e h = omega arith
 
--- no whole script is refused as a statement is
-not_by_its_spelling : (script : List ℕ) → ScriptApplies script Syntax → ⊥
-not_by_its_spelling script h = h
-
--- ---- runs
-
--- no pieces have no results, and the history stays
-no_pieces : (history : History) → RunPieces history [] [] history
-no_pieces history = refl
-
--- a piece has a result
-lacking_result : (history new : History) (piece : List Lexeme) → RunPieces history (piece ∷ []) [] new → ⊥
-lacking_result history new piece h = h
+-- ---- a refused statement
 
 -- a DELETE from a table that is not there is refused by 23, and the history stays
 no_table : (rows : Delete) → Step (opened new_database) (statement.delete rows) (Err UnknownTable) (opened new_database)
@@ -81,10 +53,6 @@ no_table rows = (
   inl (inl (inl (first_least (change_conditions [] (statement.delete rows) ++ empty_period [] (statement.delete rows) ∷ []) UnknownTable (lit≤ tt, (lit≤ tt, (lit≤ tt, (lit≤ tt, (lit≤ tt, (lit≤ tt, (lit≤ tt, tt))))))) refl))),
   refl,
 )
-
--- and what is kept stays
-kept_as_it_was : {S : Type 0} (g : Ghosts S) (engine : EngineState S) (rows : Delete) → HasContents g engine empty_contents → StepsTo g (opened new_database) (statement.delete rows) (Err UnknownTable) engine
-kept_as_it_was g engine rows has = (opened new_database, no_table rows, new_store g engine has)
 
 -- the database is not blamed for it
 not_the_database : (rows : Delete) → Step (opened new_database) (statement.delete rows) (Err Store) (opened new_database) → ⊥
@@ -121,12 +89,9 @@ back_not_for_memory (inr (inr failed)) = let late : pos 5 ≤ℤ pos 4 = failed.
 abbrev at_five : History
 at_five = with_event (opened new_database) (Advanced (pos 5))
 
--- a later moment and an equal one are accepted
+-- a later moment is accepted
 later_moment : Step (opened new_database) (statement.at (pos 5)) (Ok (Done word.At 0)) at_five
 later_moment = (λ refusal h. elim h [ inl both ↦ (let off : false ≡ true = both.1 in absurd cc) | inr nothing ↦ nothing ], record { done = refl; after = refl })
-
-equal_moment : Step at_five (statement.at (pos 5)) (Ok (Done word.At 0)) (with_event at_five (Advanced (pos 5)))
-equal_moment = (λ refusal h. elim h [ inl both ↦ (let off : false ≡ true = both.1 in absurd cc) | inr nothing ↦ nothing ], record { done = refl; after = refl })
 
 -- an earlier one is not
 earlier_moment : (outcome : Outcome) (new : History) → Step at_five (statement.at (pos 4)) (Ok outcome) new → ⊥

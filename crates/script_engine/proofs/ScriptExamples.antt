@@ -1,7 +1,6 @@
 -- Worked rows: how long a piece may be, and the runs and checks of whole scripts.
-use Rattle.std.proofs.Common.{◌≡◌, ◌≤◌, ◌∷◌, ◌++◌, ◌∙◌, [], ℕ, false, List, None, Some, Ok, Err, codes, length, refl, sym, subst, inl, inr, arith, lit≤}
+use Rattle.std.proofs.Common.{◌≡◌, ◌≤◌, ◌∷◌, ◌++◌, ◌∙◌, [], ℕ, false, List, None, Some, Ok, Err, codes, length, refl, sym, inl, inr, arith, lit≤}
 use Rattle.std.proofs.lemmas.Bool.{false≢true}
-use Rattle.period_core.specs.Codes.{code_of}
 use Rattle.period_core.specs.Leasts.{MayAnswer, NoneApplies}
 use Rattle.period_core.specs.declared.refusal.Refusal.{Refusal}
 use Rattle.period_core.specs.declared.refusal.Refusal.TheVariants.{BadDate, BadMoment, LimitReached, NumberRange, Syntax, UnknownTable}
@@ -49,23 +48,6 @@ overlong piece e = inl (omega arith, refl)
 not_overlong : (piece : List Lexeme) → length piece ≡ 10_000 → IsOverlong piece → ⊥
 not_overlong piece e long = omega arith
 
--- so its length is not what it is refused for
-not_limited : (piece : List Lexeme) → length piece ≡ 10_000 → TextApplies piece LimitReached → ⊥
-not_limited piece e (inl h) = not_overlong piece e h.0
-not_limited piece e (inr h) = h.1
-
--- an overlong piece is refused for nothing else, however it is spelled
-overlong_alone : (piece : List Lexeme) (refusal : Refusal) → length piece ≡ 10_001 → TextApplies piece refusal → refusal ≡ LimitReached
-overlong_alone piece refusal e (inl h) = h.1
-overlong_alone piece refusal e (inr h) = absurd (h.0 (omega arith))
-
--- so it is refused with 21
-overlong_refused : (piece : List Lexeme) → length piece ≡ 10_001 → MayAnswer (TextApplies piece) LimitReached
-overlong_refused piece e = inl (record {
-  applies = overlong piece e;
-  least = λ other h. subst (λ r. 21 ≤ code_of r) (sym (overlong_alone piece other e h)) (omega arith);
-})
-
 -- ---- pieces that are read as a statement
 
 faultless : (ts : List Lexeme) → somewhere is_bad_date ts ≡ false → somewhere is_bad_moment ts ≡ false → number_above false ts ≡ false → NoneApplies (LiteralApplies ts)
@@ -80,26 +62,6 @@ pub sound_if_read : (n left : ℕ) (ts : List Lexeme) (s : Statement) → whole_
 sound_if_read n left ts s read short shallow date moment number =
     none_of_text ts (λ long. omega arith)
     (piece_none ts (some_shallow 32 ts left shallow) (spelled_some ts s (read_spelled n ts s read)) (faultless ts date moment number))
-
--- ---- a script without pieces
-
--- no bytes have no tokens, and so no pieces
-nothing_cut : IsCutInto [] []
-unfolding lib.Utf8.encode
-nothing_cut = record {
-  sound = none_of_script [] [] (omega arith) ([], (refl, refl)) lexis.TokensFrom.ended;
-  tokens = [];
-  lexed = lexis.TokensFrom.ended;
-  parted = ([] ∷ [], pieces.Joined.one [] refl, refl);
-}
-
--- it has no results, run
-nothing_run : IsRunOf [] []
-nothing_run = record { pieces = []; cut = nothing_cut; last = opened new_database; run = refl }
-
--- nor checked
-nothing_checked : IsCheckOf [] []
-nothing_checked = record { pieces = []; cut = nothing_cut; checked = tt }
 
 -- ---- two pieces
 
@@ -196,11 +158,6 @@ lookup_checked = ((looked_up, lookup_spelled), lookup_sound)
 -- and the second is refused with 10
 checked : IsCheckOf script_text (Ok tt ∷ Err Syntax ∷ [])
 checked = record { pieces = lookup ∷ letter ∷ []; cut = cut; checked = (lookup_checked, (letter_refused, tt)) }
-
--- a piece that is right is not refused for its spelling
-lookup_not_refused : IsPieceCheck lookup (Err Syntax) → ⊥
-lookup_not_refused (inl least) = lookup_sound Syntax least.applies
-lookup_not_refused (inr memory) = cc
 
 -- run: the first is refused with 23, since there is no table T; the history stays
 lookup_step : PieceStep (opened new_database) lookup (Err UnknownTable) (opened new_database)

@@ -1,11 +1,10 @@
 -- Worked rows: CREATE TABLE and INSERT, accepted and refused, each as a step of the history.
-use Rattle.std.proofs.Common.{◌≡◌, ◌∷◌, ◌++◌, ◌≤ℤ◌, [], ℕ, zero, suc, ℤ, pos, Bool, true, false, cond, List, None, Some, Ok, Err, ap, codes, refl, inl, inr, subst, sym, arith, lit≤}
+use Rattle.std.proofs.Common.{◌≡◌, ◌∷◌, ◌++◌, ◌≤ℤ◌, [], ℕ, zero, suc, ℤ, pos, Bool, true, false, cond, List, None, Some, Ok, Err, ap, codes, refl, inl, inr, subst, sym, arith}
 use Rattle.std.proofs.lemmas.Bool.{false≢true}
-use Rattle.std.proofs.lemmas.Int.{ints}
 use Rattle.std.specs.Str.{chars}
 use Rattle.period_core.specs.Moments.{first_moment}
 use Rattle.period_core.specs.Leasts.{NoneApplies}
-use Rattle.period_core.specs.declared.refusal.Refusal.TheVariants.{EmptyPeriod, KeyOverlap, TableExists}
+use Rattle.period_core.specs.declared.refusal.Refusal.TheVariants.{EmptyPeriod, KeyOverlap}
 use Rattle.period_core.specs.declared.value.Value.{Value}
 use Rattle.period_core.specs.declared.value.Value.TheVariants.{Int, Date}
 use Rattle.sql_statements.specs.Trees as statement
@@ -18,32 +17,25 @@ use Rattle.catalog_core.specs.create.Creation.{create_conditions, period_matches
 use Rattle.catalog_core.specs.create.Definition.{declared_kind, declared_reference}
 use Rattle.temporal_model.specs.Snapshot.{covers_day}
 use Rattle.temporal_model.proofs.Members.{Contains-nil}
-use Rattle.history_model.specs.Effects.{Given, Kept, Traced, given_row, kept, traced}
+use Rattle.history_model.specs.Effects.{Given, Kept, given_row, kept, traced}
 use Rattle.history_model.specs.Histories.{Changed, Created, History, last_state, new_database, opened, with_event}
-use Rattle.history_model.specs.Left.{versions_of}
-use Rattle.history_model.specs.Versions.{PlainVersion}
-use Rattle.script_engine.specs.engine.Planned.{count_of}
-use Rattle.catalog_core.specs.change.Insertion.{gives_empty_row, wanted_names, given_names, lacks_table, lists_unknown, lists_ambiguous, lists_twice, is_system_name, some_system_name, lists_system, lacks_some, some_other_length, has_other_count, is_of_other_kind, is_longer, is_too_long, is_wrong, gives_wrong, has_wrong, given_value, value_for, is_no_period, gives_no_period, has_no_period}
+use Rattle.catalog_core.specs.change.Insertion.{wanted_names, given_names, lacks_table, lists_unknown, lists_ambiguous, lists_twice, is_system_name, some_system_name, lists_system, lacks_some, some_other_length, has_other_count, is_of_other_kind, is_longer, is_too_long, is_wrong, gives_wrong, has_wrong, given_value, value_for, is_no_period, gives_no_period, has_no_period}
 use Rattle.catalog_core.specs.Judged.{Holds, Judged, first_holding}
 use Rattle.catalog_core.specs.table.Kinds.{kind_of_type, kind_of_column, same_kind, differ}
 use Rattle.catalog_core.specs.table.Matches.{is_matching, is_of_sort}
 use Rattle.catalog_core.specs.table.Naming.{Name, repeats}
-use Rattle.catalog_core.specs.change.Resolution.{ResolvesAction, change_conditions, empty_period}
+use Rattle.catalog_core.specs.change.Resolution.{change_conditions, empty_period}
 use Rattle.catalog_core.specs.table.TableWords.{def_kind, is_value_column, number_of, table_of_name}
-use Rattle.catalog_core.proofs.lemmas.judged.Least.{first_is_least}
-use Rattle.catalog_core.specs.declared.change.Action.{Action}
-use Rattle.catalog_core.specs.declared.change.Action.TheVariants.{Delete, Insert, Update}
+use Rattle.catalog_core.specs.declared.change.Action.TheVariants.{Insert}
 use Rattle.catalog_core.specs.declared.change.Change.{Change}
 use Rattle.catalog_core.specs.declared.table.ColumnKind.TheVariants as kind
 use Rattle.catalog_core.specs.declared.table.TableDef.{TableDef}
-use Rattle.version_store.specs.GoodStore.{AreLawful}
 use Rattle.script_engine.specs.engine.Runs.{StatementApplies, Step}
 use Rattle.script_engine.specs.declared.engine.outcome.Outcome.TheVariants.{Done}
 use Rattle.script_engine.specs.declared.engine.outcome.Word.TheVariants as word
 use Rattle.period_keys.specs.Keys.{IsLeastDay}
-use Rattle.period_keys.specs.Lawful.{IsKeyFault, IsLawfulChange, OriginsShareKey, key_positions}
-use Rattle.script_engine.proofs.LawfulSteps.{HaveNoReferences, lawful_alone, lawful_by_key, two_apart}
-use Rattle.script_engine.proofs.Refused.{may_answer-empty}
+use Rattle.period_keys.specs.Lawful.{IsKeyFault, OriginsShareKey, key_positions}
+use Rattle.script_engine.proofs.LawfulSteps.{HaveNoReferences, lawful_alone}
 use Rattle.catalog_core.specs.table.Naming.{matches_among, place_among, some_match_among}
 use Rattle.catalog_core.specs.table.Naming.{find_among}
 
@@ -127,26 +119,9 @@ created = (
   },
 )
 
--- so the table is one that a store may have
-pub emp_lawful : AreLawful [] (emp ∷ [])
-unfolding place_among declared_reference declared_kind number_of table_of_name
-emp_lawful = ((creation, creation_is_sound, record { name = refl; columns = refl; period = refl; key = refl; references = refl }), tt)
-
--- no rows are counted
-created_counts_none : Step at_first (statement.create creation) (Ok (Done word.Create 1)) with_table → ⊥
-created_counts_none (sound, creates) = cc
-
 -- and the table is kept
 created_is_kept : Step at_first (statement.create creation) (Ok (Done word.Create 0)) at_first → ⊥
 created_is_kept (sound, creates) = let e = creates.after in cc
-
--- the same statement once more: the table is there, and nothing happens
-created_again : Step with_table (statement.create creation) (Err TableExists) with_table
-unfolding matches_among period_matches some_match_among some_parent_match some_match has_sort sort_count exceeds_limits is_there lacks_parent names_other_period lacks_period lacks_name is_ambiguous is_shared repeats repeats_name is_no_value_column some_no_value keys_period_column lacks_one_of_each has_bad_period has_bad_system_period is_bad_type has_bad_column is_used_otherwise has_other_period is_at is_key_name is_named are_key names_no_key references_no_key is_bad_definition has_unequal_lists own_kind def_kind have_other_kinds names_other_kind references_other_kind is_matching is_of_sort number_of table_of_name kind_of_type kind_of_column same_kind differ find_among
-created_again = (
-  inl (inl (first_is_least 0 (create_conditions (emp ∷ []) creation) (lit≤ tt, (lit≤ tt, (lit≤ tt, (lit≤ tt, (lit≤ tt, (lit≤ tt, (lit≤ tt, (lit≤ tt, (lit≤ tt, (lit≤ tt, tt)))))))))))),
-  refl,
-)
 
 -- ---- INSERT
 
@@ -202,40 +177,11 @@ inserted = (
   },
 )
 
--- a change that is the same statement counts one row
-given_one : (definition : TableDef) (action : Action) (versions : List PlainVersion) → ResolvesAction definition insertion action → count_of action versions ≡ 1
-given_one definition (Insert []) versions e = cc
-given_one definition (Insert (given ∷ [])) versions e = refl
-given_one definition (Insert (given ∷ other ∷ more)) versions e = cc
-given_one definition (Update portion assignments condition) versions e = absurd e
-given_one definition (Delete portion condition) versions e = absurd e
-
--- so the statement does not report two
-inserted_counts_one : (new : History) → Step with_table (statement.insert insertion) (Ok (Done word.Insert 2)) new → ⊥
-inserted_counts_one new (sound, changes) =
-    let versions : List PlainVersion = versions_of with_table changes.change.table in
-    let one : count_of changes.change.action versions ≡ 1 = given_one changes.resolved.definition changes.change.action versions changes.resolved.action in
-    let done = changes.done in
-    let two : 2 ≡ count_of changes.change.action versions = cc in
-    omega arith
-
 -- INSERT INTO EMP VALUES (1, 7, DATE '1970-01-06', DATE '1970-01-09'), (2, 7, DATE '1970-01-09', DATE '1970-01-09')
 abbrev half_empty : InsertRows
 half_empty = into_emp (employee 1 5 8 ∷ employee 2 8 8 ∷ [])
 
--- the second row ends on its first day: the statement is refused with 41, and its first row isn't added either
-refused_whole : Step with_table (statement.insert half_empty) (Err EmptyPeriod) with_table
-unfolding matches_among some_match_among def_kind repeats is_matching number_of table_of_name kind_of_column same_kind differ wanted_names given_names lacks_table lists_unknown lists_ambiguous lists_twice is_system_name some_system_name lists_system lacks_some some_other_length has_other_count is_of_other_kind is_longer is_too_long is_wrong gives_wrong has_wrong given_value value_for is_no_period gives_no_period has_no_period is_value_column chars find_among
-refused_whole = (
-  inl (inl (may_answer-empty
-      (change_conditions (emp ∷ []) (statement.insert half_empty))
-      (gives_empty_row (emp ∷ []) half_empty)
-      (none_if_no_first (change_conditions (emp ∷ []) (statement.insert half_empty)) refl)
-      refl)),
-  refl,
-)
-
--- no history in which the first row is there follows it
+-- the second row ends on its first day: no history in which the first row is there follows the refusal
 first_row_not_added : Step with_table (statement.insert half_empty) (Err EmptyPeriod) with_row → ⊥
 first_row_not_added (may, same) = cc
 
@@ -287,80 +233,4 @@ inserted_again = (
     fault = again_on_five;
   }),
   refl,
-)
-
--- and not with a later day
-not_a_later_day : IsLeastDay (IsKeyFault (emp ∷ []) (last_state with_row) inserted_row) (pos 6) → ⊥
-not_a_later_day later = let early : pos 6 ≤ℤ pos 5 = later.least (pos 5) again_on_five.faulty in omega (arith, ints)
-
--- ---- rows whose periods overlap
-
--- INSERT INTO EMP VALUES (1, 7, DATE '1970-01-06', DATE '1970-01-08'), (2, 7, DATE '1970-01-07', DATE '1970-01-09')
-abbrev overlapping : InsertRows
-overlapping = into_emp (employee 1 5 7 ∷ employee 2 6 8 ∷ [])
-
--- employee 2 of department 7
-abbrev pub colleague : List Value
-colleague = Int (pos 2) ∷ Int (pos 7) ∷ []
-
--- both in table 1: the first from day 5 on and before day 7, the second from day 6 on and before day 8
-abbrev inserted_rows : Change
-inserted_rows =
-    record {
-      table = 1;
-      action = Insert (record { values = worker; start = pos 5; end = pos 7 } ∷ record { values = colleague; start = pos 6; end = pos 8 } ∷ []);
-    }
-
--- the history in which both were added
-abbrev pub with_rows : History
-with_rows = with_event with_table (Changed first_moment inserted_rows)
-
--- no condition of a refusal holds for it
-overlapping_is_sound : NoneApplies (StatementApplies with_table (statement.insert overlapping))
-unfolding matches_among some_match_among def_kind repeats is_matching number_of table_of_name kind_of_column same_kind differ wanted_names given_names lacks_table lists_unknown lists_ambiguous lists_twice is_system_name some_system_name lists_system lacks_some some_other_length has_other_count is_of_other_kind is_longer is_too_long is_wrong gives_wrong has_wrong given_value value_for is_no_period gives_no_period has_no_period is_value_column chars find_among
-overlapping_is_sound =
-    none_if_no_first
-    (change_conditions (emp ∷ []) (statement.insert overlapping) ++ empty_period (emp ∷ []) (statement.insert overlapping) ∷ [])
-    refl
-
--- on a day that holds the one's period or doesn't, and the other's
-both_traced : (day : ℤ) (a b : Bool) → covers_day (pos 5) (pos 7) day ≡ a → covers_day (pos 6) (pos 8) day ≡ b → OriginsShareKey (0 ∷ []) (traced inserted_rows.action day []) → ⊥
-both_traced day a b e f shared = two_apart (0 ∷ []) (of_first) (of_second) a b numbers_apart (subst (OriginsShareKey (0 ∷ [])) (there a b e f) shared)
-  where
-    of_first : Traced
-    of_first = given_row (0, record { values = worker; start = pos 5; end = pos 7 })
-
-    of_second : Traced
-    of_second = given_row (1, record { values = colleague; start = pos 6; end = pos 8 })
-
-    numbers_apart : Int (pos 1) ∷ [] ≡ Int (pos 2) ∷ [] → ⊥
-    numbers_apart e = cc
-
-    there : (a b : Bool) → covers_day (pos 5) (pos 7) day ≡ a → covers_day (pos 6) (pos 8) day ≡ b → traced inserted_rows.action day [] ≡ cond a (of_first ∷ cond b (of_second ∷ []) []) (cond b (of_second ∷ []) [])
-    there true true e f = rw (e, f) refl
-    there true false e f = rw (e, f) refl
-    there false true e f = rw (e, f) refl
-    there false false e f = rw (e, f) refl
-
--- their keys are not the same, so the change is lawful
-both_lawful : IsLawfulChange (emp ∷ []) (last_state with_table) inserted_rows
-unfolding is_value_column
-both_lawful =
-    lawful_by_key (emp ∷ []) (last_state with_table) inserted_rows no_references
-    (λ day def is shared.
-    let same : def ≡ emp = cc in
-    both_traced day (covers_day (pos 5) (pos 7) day) (covers_day (pos 6) (pos 8) day) refl refl (subst (λ (d : TableDef). OriginsShareKey (key_positions d) (traced inserted_rows.action day [])) same shared))
-
--- the statement is accepted, and gives two rows
-inserted_both : Step with_table (statement.insert overlapping) (Ok (Done word.Insert 2)) with_rows
-unfolding number_of wanted_names given_names given_value value_for is_value_column
-inserted_both = (
-  overlapping_is_sound,
-  record {
-    change = inserted_rows;
-    resolved = record { definition = emp; number = refl; table = refl; action = refl };
-    lawful = both_lawful;
-    done = refl;
-    after = refl;
-  },
 )

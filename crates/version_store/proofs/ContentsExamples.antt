@@ -1,18 +1,16 @@
 -- Worked contents, changes and rows, by computation.
-use Rattle.std.proofs.Common.{◌≡◌, refl, pos, [], ◌∷◌, false, arith}
+use Rattle.std.proofs.Common.{◌≡◌, refl, pos, [], ◌∷◌, arith}
 use Rattle.std.proofs.lemmas.Int.{ints}
 use Rattle.period_core.specs.Moments.{forever}
-use Rattle.period_core.specs.declared.value.Value.TheVariants.{Int, Date}
+use Rattle.period_core.specs.declared.value.Value.TheVariants.{Int}
 use Rattle.period_core.specs.declared.period.Period.{Period}
 use Rattle.period_core.specs.declared.row.PeriodRow.{PeriodRow}
 use Rattle.period_core.specs.declared.version.VersionRow.{VersionRow}
-use Rattle.catalog_core.specs.declared.table.ColumnKind.TheVariants.{Integer}
 use Rattle.sqlite.specs.declared.types.Value.TheVariants.{Int as Number, Blob}
 use Rattle.version_tables.specs.Represents.{stored}
-use Rattle.version_store.specs.Contents.{Contents, TableVersion, version_in}
+use Rattle.version_store.specs.Contents.{Contents, TableVersion}
 use Rattle.version_store.specs.Changed.{planned}
 use Rattle.version_store.specs.Written.{written_version}
-use Rattle.version_store.specs.RowValues.{is_of_column}
 
 -- worker 7 in January and February 1970, recorded at moment 5
 abbrev january : TableVersion
@@ -41,20 +39,10 @@ old_february = record { values = Int (pos 7) ∷ []; period = february_days; fro
 abbrev new_january : PeriodRow
 new_january = record { values = Int (pos 8) ∷ []; period = january_days }
 
-january-is : version_in 1 old_january ≡ january
-january-is = refl
-
 -- at moment 9 the row of January is closed, that of February is removed, since it began then
 both-ended : (planned 1 (pos 9) (old_january ∷ old_february ∷ []) (new_january ∷ []) filled).versions
     ≡ record january { to = pos 9 } ∷ (record { table = 1; values = Int (pos 8) ∷ []; start = pos 0; end = pos 31; from = pos 9; to = forever }) ∷ []
 both-ended = refl
 
--- a row of another table's number ends nothing
-none-ended : (planned 2 (pos 9) (old_january ∷ []) [] filled).versions ≡ january ∷ february ∷ []
-none-ended = refl
-
 january-written : stored (written_version january) ≡ Number (pos 1) ∷ Blob (1 ∷ 128 ∷ 0 ∷ 0 ∷ 0 ∷ 0 ∷ 0 ∷ 0 ∷ 7 ∷ []) ∷ Number (pos 0) ∷ Number (pos 31) ∷ Number (pos 5) ∷ Number forever ∷ []
 january-written = refl
-
-kind-not : is_of_column Integer (Date (pos 7)) ≡ false
-kind-not = refl
