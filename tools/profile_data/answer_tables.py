@@ -18,16 +18,22 @@ def file_name(words):
     return name
 
 
+def title_and_name(statement):
+    """What a statement is called by the comment above it; without one its name is its number."""
+    named = next(filter(None, map(NAME.match, statement.comment)), None)
+    title = named[1] if named else (statement.comment or [''])[0]
+    name = file_name(title)
+    if not (named and name):
+        name = '-'.join(filter(None, [str(statement.number), name.lower()]))
+    return title, name
+
+
 class Table:
     """What a statement answered. The first day of an answer's row is in column `day`."""
 
     def __init__(self, statement, has_witness=False):
         self.number, outcome = statement.number, statement.outcome
-        named = next(filter(None, map(NAME.match, statement.comment)), None)
-        self.title = named[1] if named else (statement.comment or [''])[0]
-        self.name = file_name(self.title)
-        if not (named and self.name):
-            self.name = '-'.join(filter(None, [str(self.number), self.name.lower()]))
+        self.title, self.name = title_and_name(statement)
         if isinstance(outcome, Answer):
             self.columns = [*outcome.names, 'valid_from', 'valid_to']
             self.rows = [[*row.values, row.start, row.end] for row in outcome.rows]
