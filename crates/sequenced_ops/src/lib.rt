@@ -26,6 +26,7 @@ mod selecting;
 mod sweep;
 mod unite;
 
+pub use conjuncts::is_ruled_out;
 pub use inner_sweep::intersection;
 pub use joining::join;
 pub use running::run_query;
