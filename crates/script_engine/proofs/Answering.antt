@@ -56,7 +56,7 @@ pub each_more : (history : History) (before : List QueryReference) (lists : List
 each_more history before lists reference rows each sees = each_append history before (reference ∷ []) lists (rows ∷ []) each (sees, tt)
 
 -- the first list behind others stands in the place of their number
-at_length : (before : List (List PeriodRow)) (rows : List PeriodRow) (lists : List (List PeriodRow)) → slice_index_or (before ++ rows ∷ lists) (length before) [] ≡ rows
+pub at_length : (before : List (List PeriodRow)) (rows : List PeriodRow) (lists : List (List PeriodRow)) → slice_index_or (before ++ rows ∷ lists) (length before) [] ≡ rows
 at_length [] rows lists = refl
 at_length (first ∷ before) rows lists = at_length before rows lists
 

@@ -1,5 +1,5 @@
 -- What a stored query shows of the rows in memory, in order, is what it shows of all versions.
-use Rattle.std.proofs.Common.{◌≡◌, ◌∙◌, ℕ, false, List, filter, get_or, map, refl, sym, subst}
+use Rattle.std.proofs.Common.{◌≡◌, ℕ, false, List, filter, get_or, map, refl, sym, subst}
 use Rattle.std.specs.Prelude.{◌+◌, IsSorted}
 use Rattle.std.specs.List.Sorted.{IsPermutation, IsSortedBy}
 use Rattle.std.specs.Ordering.{int_cmp, is_lt, ordering_then}

@@ -30,6 +30,7 @@ mod Judged
 mod KeyFacts
 mod LastState
 mod LeftSteps
+mod Needed
 mod NewStore
 mod Openings
 mod AuditCounts

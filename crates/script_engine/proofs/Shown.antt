@@ -1,5 +1,5 @@
 -- A stored query that is answered is a step of the histories that the engine represents.
-use Rattle.std.proofs.Common.{◌≡◌, ◌∙◌, List, [], Some, Ok, Err, refl, sym, ap, subst, fold, inl}
+use Rattle.std.proofs.Common.{◌≡◌, ◌∙◌, List, [], Some, Ok, Err, refl, ap, subst, fold, inl}
 use Rattle.period_core.specs.Leasts.{MayAnswer, NoneApplies}
 use Rattle.period_core.specs.declared.refusal.Refusal.{Refusal}
 use Rattle.period_core.specs.declared.version.VersionRow.{VersionRow}

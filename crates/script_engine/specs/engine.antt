@@ -5,5 +5,6 @@ pub mod Stored
 pub mod Planned
 pub mod Shown
 pub mod Answering
+pub mod Needed
 pub mod Runs
 pub mod Audits

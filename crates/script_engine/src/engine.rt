@@ -33,13 +33,14 @@ mod current_shown;
 mod in_memory;
 mod indexed;
 mod lawfulness;
+mod needed;
 pub mod outcome;
 mod shown;
 
-use crate::engine::answering::answer_of;
 use crate::engine::current_shown::shown_by;
 use crate::engine::indexed::{add_index, apply_plan, load_lawful, remove_last, rows_of_number};
 use crate::engine::lawfulness::lawful_plan;
+use crate::engine::needed::answer_of;
 use crate::engine::outcome::{Outcome, VersionList, Word, done};
 use crate::engine::shown::version_columns;
 use catalog_core::{

@@ -26,6 +26,7 @@ mod running;
 mod selecting;
 mod unions;
 
+pub use conjuncts::is_ruled_out;
 pub use differences::difference;
 pub use intersections::intersection;
 pub use joining::join;

@@ -131,7 +131,7 @@ fn scanned_rows<S: Alter>(
 /// What a table reference sees through its window: the current rows, which are in memory, or those
 /// that a scan of the store hands over. They may come in any order, with overlaps and repeats.
 /// Nothing is changed.
-fn seen_by<S: Alter>(
+pub fn seen_by<S: Alter>(
     alloc: Global,
     store: &mut VersionStore<S>,
     tables: &[TableIndex],
@@ -263,7 +263,7 @@ fn column_names(alloc: Global, items: &[AnswerColumn]) -> Result<Items<Text>, Me
 
 /// The answer of a query over what its references see: its rows, coalesced, with their witnesses.
 /// The only error is out of memory.
-fn answer_over(alloc: Global, query: &Query, tables: &Tables) -> Result<Answer, Memory>
+pub fn answer_over(alloc: Global, query: &Query, tables: &Tables) -> Result<Answer, Memory>
     requires { fits (plain_query query.now) tables.now ≡ true }
     ensures right { IfOk result
         (IsSequencedAnswer (InAnswerOver (plain_query query.now) tables.now)) }
@@ -314,27 +314,5 @@ pub fn answered<S: Alter>(
     match answer_over(alloc, query, &seen) {
         Ok(answer) => Ok((answer, seen)),
         Err(_) => Err(Refusal::Memory),
-    }
-}
-
-/// The answer alone.
-pub fn answer_of<S: Alter>(
-    alloc: Global,
-    store: &mut VersionStore<S>,
-    tables: &[TableIndex],
-    query: &Query,
-) -> Result<Answer, Refusal>
-    ensures right { IsUsable S.Store store.new.connection
-        → (history : History)
-        → EngineRepresents S.Store history (engine_of store.old (map rows_by_key tables.now))
-        → IfOk result (IsSequencedAnswer (InAnswerOn history (plain_query query.now))) }
-    ensures columns { IfOk result (λ answer. answer.columns
-        ≡ map (λ (item : Item). item.name) (columns_of (plain_query query.now))) }
-    ensures read { IsOnlyRead S.Store store.old store.new }
-    ensures named { IfErr result IsStoreRefusal }
-{
-    match answered(alloc, store, tables, query) {
-        Ok((answer, _seen)) => Ok(answer),
-        Err(refusal) => Err(refusal),
     }
 }

@@ -53,11 +53,7 @@ fn key_of(alloc: Global, query: &Stored, positions: &[usize]) -> Result<Option<K
 
 /// The versions that the query shows of a table's current ones. Where its condition fixes the key,
 /// those of that key alone are looked at.
-fn shown_of(
-    alloc: Global,
-    query: &Stored,
-    current: &CurrentRows,
-) -> Result<Vec<VersionRow>, Memory>
+fn shown_of(alloc: Global, query: &Stored, current: &CurrentRows) -> Result<Vec<VersionRow>, Memory>
     ensures { IfOk result
         (λ shown. shown.items ≡ shown_versions query.now current.now.rows) }
 {

@@ -1,0 +1,305 @@
+-- What is needed of the rows that references see is enough: a query gives the same of it.
+use Rattle.std.proofs.Common.{◌≡◌, ◌↔◌, ◌&&◌, ◌==◌, ◌+◌, ◌++◌, ◌∷◌, ◌∙◌, ℕ, ℤ, Bool, true, List, [], append_assoc, append-nil, arith, eqb-true, filter, length, length-append, map, refl, Some, sym, ap, subst, inl, inr}
+use Rattle.std.specs.Prelude.{slice_index_or}
+use Rattle.std.specs.List.{AllByRecursion, Contains, list_all}
+use Rattle.std.specs.List.Sorted.{IsPermutation}
+use Rattle.std.proofs.lemmas.Bool.{and_parts}
+use Rattle.std.proofs.lemmas.List.Sorted.{Contains-permutation, IsPermutation-sym}
+use Rattle.sqlite_trees.proofs.ListLemmas.{IsPermutation-filter, filter-map}
+use Rattle.period_core.specs.OrderLaws.{values_eq}
+use Rattle.period_core.specs.Windows.{window_sees}
+use Rattle.period_core.specs.declared.row.PeriodRow.{PeriodRow}
+use Rattle.period_core.specs.declared.value.Value.{Value}
+use Rattle.period_core.specs.declared.version.VersionRow.{VersionRow}
+use Rattle.period_core.specs.declared.window.Window.{Window}
+use Rattle.period_core.specs.declared.window.Window.TheVariants.{Now}
+use Rattle.temporal_model.specs.Snapshot.{InSnapshot}
+use Rattle.temporal_model.proofs.Members.{Contains-cons_cases, Contains-nil}
+use Rattle.temporal_model.proofs.Snapshots.{held, in_snapshot}
+use Rattle.sql_statements.specs.declared.tree.SetOperator.{SetOperator}
+use Rattle.sql_statements.specs.declared.tree.SetOperator.TheVariants.{Except, Union}
+use Rattle.sql_statements.specs.declared.tree.Tree.{Tree}
+use Rattle.catalog_core.specs.declared.condition.CompareValues.{CompareValues}
+use Rattle.catalog_core.specs.declared.query.resolved.QueryReference.{QueryReference}
+use Rattle.catalog_core.specs.declared.table.Column.{Column}
+use Rattle.catalog_core.specs.declared.table.TableDef.{TableDef}
+use Rattle.catalog_core.specs.query.Fitting.{are_in_place, fits, sees_its_kinds}
+use Rattle.catalog_core.specs.query.Queries.{Query, both, one, references_of, rows_for}
+use Rattle.catalog_core.specs.table.TableWords.{table_of, value_columns}
+use Rattle.history_model.specs.Histories.{History}
+use Rattle.history_model.specs.OrdinaryQuery.{HistorySights, InCombined, InProduct, InQuery, TableSights, meets_all}
+use Rattle.history_model.specs.Versions.{row_of}
+use Rattle.sequenced_ops.specs.Planning.{IsPruned}
+use Rattle.period_keys.specs.FixedKeys.{FixesKeyWithin}
+use Rattle.period_keys.specs.Keys.{values_at}
+use Rattle.period_keys.specs.Rows.{RowsByKey}
+use Rattle.period_keys.specs.Versions.{is_of_key, version_key}
+use Rattle.period_keys.proofs.Members.{from_filter, from_map, in_filter, in_map}
+use Rattle.version_store.specs.Contents.{Contents, TableVersion, of_table, version_in}
+use Rattle.version_store.specs.GoodStore.{AreGood, IsGoodVersion, NothingMore}
+use Rattle.version_store.specs.RowValues.{are_of_columns, is_of_column}
+use Rattle.version_store.specs.Scans.{seen_of}
+use Rattle.script_engine.specs.engine.Answering.{AreRowsSeen, SeesRows, seen_through}
+use Rattle.script_engine.specs.engine.InMemory.{HaveCurrentRows, rows_in}
+use Rattle.script_engine.specs.engine.Needed.{AddNeeded, IsNeeded, IsNeededBy, SeeNeeded, SeesWidth}
+use Rattle.script_engine.specs.engine.Stored.{AreOfHistory}
+use Rattle.script_engine.proofs.Answering.{at_length}
+use Rattle.script_engine.proofs.Seen.{current_seen, sees_rows}
+
+abbrev Conditions : Type 0
+Conditions = List (Tree CompareValues)
+
+-- ---- how many values rows have
+
+values_long : (columns : List (ℕ × Column)) (values : List Value) → are_of_columns columns values ≡ true → length values ≡ length columns
+values_long [] [] h = refl
+values_long [] (v ∷ values) h = absurd cc
+values_long (c ∷ columns) [] h = absurd cc
+values_long (c ∷ columns) (v ∷ values) h =
+    let rest = values_long columns values (and_parts (is_of_column c.1.kind v) (are_of_columns columns values) h).1 in
+    omega (arith, rest)
+
+each_in : {X : Type 0} (P : X → Type 0) (xs : List X) → AllByRecursion P xs → (x : X) → Contains xs x → P x
+each_in P [] all x among = absurd (Contains-nil x among)
+each_in P (y ∷ ys) all x among = elim (Contains-cons_cases y ys x among) [
+  | inl same ↦ subst P same all.0
+  | inr later ↦ each_in P ys all.1 x later
+]
+
+-- the table of this number has so many value columns, if it is there
+abbrev pub IsWidth : List TableDef → ℕ → ℕ → Type 0
+IsWidth tables number width = (d : TableDef) → table_of tables number ≡ Some d → width ≡ length (value_columns d)
+
+module _ (c : Contents) (number width : ℕ) (good : AreGood NothingMore c) (wide : IsWidth c.tables number width) where
+  good_width : (v : VersionRow) → Contains c.versions (version_in number v) → length v.values ≡ width
+  good_width v among =
+      let is = each_in (IsGoodVersion c.tables c.clock) c.versions good.versions (version_in number v) among in
+      values_long (value_columns is.definition) v.values is.values ∙ sym (wide is.definition is.table)
+
+  table_width : (versions : List VersionRow) → IsPermutation (of_table number c.versions) (map (version_in number) versions) → (v : VersionRow) → Contains versions v → length v.values ≡ width
+  table_width versions all v among =
+      let its : List TableVersion = map (version_in number) versions in
+      let here : Contains (of_table number c.versions) (version_in number v) =
+      Contains-permutation its (of_table number c.versions) (version_in number v) (IsPermutation-sym (of_table number c.versions) its all) (in_map (version_in number) versions v among) in
+      good_width v (from_filter (λ (w : TableVersion). w.table == number) c.versions (version_in number v) here).0
+
+  pub current_width : (tables : List RowsByKey) → HaveCurrentRows c tables → (v : VersionRow) → Contains (rows_in tables number) v → length v.values ≡ width
+  current_width tables current v among =
+      let versions : List VersionRow = rows_in tables number in
+      let its : List TableVersion = map (version_in number) versions in
+      let seen : Contains (seen_of number Now c.versions) (version_in number v) =
+      Contains-permutation its (seen_of number Now c.versions) (version_in number v) (IsPermutation-sym (seen_of number Now c.versions) its (current.rows number)) (in_map (version_in number) versions v among) in
+      let here = (from_filter (λ (w : TableVersion). window_sees Now w.from w.to) (of_table number c.versions) (version_in number v) seen).0 in
+      good_width v (from_filter (λ (w : TableVersion). w.table == number) c.versions (version_in number v) here).0
+
+-- all that a reference sees has as many values as its table's rows
+pub sees_width : (history : History) (c : Contents) (reference : QueryReference) (width : ℕ) → AreOfHistory history c → IsWidth c.tables reference.table width → SeesWidth history reference width
+sees_width history c reference width said wide day values sees =
+    let table : ℕ = reference.table in
+    let holds = said.versions table in
+    let shown : List VersionRow = seen_through reference.window holds.rows in
+    let through : TableVersion → Bool = λ v. window_sees reference.window v.from v.to in
+    let are : AreRowsSeen c table reference.window (map row_of shown) = record {
+      versions = shown;
+      all =
+          subst (IsPermutation (seen_of table reference.window c.versions)) (filter-map through (version_in table) holds.rows)
+          (IsPermutation-filter through (of_table table c.versions) (map (version_in table) holds.rows) holds.all);
+      made = refl;
+    } in
+    let there : InSnapshot (map row_of shown) day values = ((sees_rows history c reference (map row_of shown) said are).daily day values).1 sees in
+    let (row, among, same, on) = held (map row_of shown) day values there in
+    let (version, its, made) = from_map row_of shown row among in
+    let whole : Contains holds.rows version = (from_filter (λ (v : VersionRow). window_sees reference.window v.from v.to) holds.rows version its).0 in
+    sym (ap (λ (r : PeriodRow). length r.values) made ∙ ap length same) ∙ table_width c table width said.good wide holds.rows holds.all version whole
+
+-- ---- what is needed of one reference
+
+pruned_along : (conjuncts : Conditions) (start : ℕ) (A B : ℤ → List Value → Type 0) (rows : List PeriodRow) → ((day : ℤ) (values : List Value) → (A day values ↔ B day values)) → IsPruned conjuncts start A rows → IsPruned conjuncts start B rows
+pruned_along conjuncts start A B rows same pruned = record {
+  sound = λ day values h. (same day values).0 (pruned.sound day values h);
+  complete = λ day first values rest e h met. pruned.complete day first values rest e ((same day values).1 h) met;
+}
+
+-- of the current rows in memory, those that are not ruled out
+pub current_needed : (history : History) (c : Contents) (tables : List RowsByKey) (conjuncts : Conditions) (start : ℕ) (reference : QueryReference) (rows : List PeriodRow) → AreOfHistory history c → HaveCurrentRows c tables → reference.window ≡ Now →
+    IsPruned conjuncts start (InSnapshot (map row_of (rows_in tables reference.table))) rows → IsNeeded history conjuncts start reference rows
+current_needed history c tables conjuncts start reference rows said current now pruned =
+    let all : List PeriodRow = map row_of (rows_in tables reference.table) in
+    let seen : AreRowsSeen c reference.table reference.window all = subst (λ (w : Window). AreRowsSeen c reference.table w all) (sym now) (current_seen c tables reference.table all current refl) in
+    pruned_along conjuncts start (InSnapshot all) (λ day. HistorySights history day reference) rows (sees_rows history c reference all said seen).daily pruned
+
+-- all that it sees
+pub whole_needed : (history : History) (conjuncts : Conditions) (start : ℕ) (reference : QueryReference) (rows : List PeriodRow) → SeesRows history reference rows → IsNeeded history conjuncts start reference rows
+whole_needed history conjuncts start reference rows sees = record {
+  sound = λ day values h. (sees.daily day values).0 h;
+  complete = λ day first values rest e h met. (sees.daily day values).1 h;
+}
+
+-- those of the key that the conditions fix
+module _ (conjuncts : Conditions) (start width : ℕ) (positions : List ℕ) (key : List Value) (versions : List VersionRow) (rows : List PeriodRow) where
+  abbrev keyed : List VersionRow
+  keyed = filter (is_of_key positions key) versions
+
+  pub key_needed : FixesKeyWithin conjuncts start width positions key → ((v : VersionRow) → Contains versions v → length v.values ≡ width) → IsPruned conjuncts start (InSnapshot (map row_of keyed)) rows →
+      IsPruned conjuncts start (InSnapshot (map row_of versions)) rows
+  key_needed fixes widths pruned = record {
+    sound = λ day values h.
+        let (row, among, same, on) = held (map row_of keyed) day values (pruned.sound day values h) in
+        let (v, its, made) = from_map row_of keyed row among in
+        in_snapshot (map row_of versions) day values
+        (row, subst (Contains (map row_of versions)) made (in_map row_of versions v (from_filter (is_of_key positions key) versions v its).0), same, on);
+    complete = λ day first values rest e h met.
+        let (row, among, same, on) = held (map row_of versions) day values h in
+        let (v, its, made) = from_map row_of versions row among in
+        let its_values : v.values ≡ values = ap (λ (r : PeriodRow). r.values) made ∙ same in
+        let long : length values ≡ width = sym (ap length its_values) ∙ widths v its in
+        let its_key : version_key positions v ≡ key = ap (values_at positions) its_values ∙ fixes first values rest e long met in
+        let of_key : is_of_key positions key v ≡ true = (values_eq key (version_key positions v)).1 (sym its_key) in
+        pruned.complete day first values rest e
+        (in_snapshot (map row_of keyed) day values
+        (row, subst (Contains (map row_of keyed)) made (in_map row_of keyed v (in_filter (is_of_key positions key) versions v its of_key)), same, on)) met;
+  }
+
+-- ---- lists in their places
+
+-- the lists in the places of these references
+abbrev NeededIn : List (List PeriodRow) → History → Conditions → ℕ → List QueryReference → Type 0
+NeededIn tables history conjuncts start [] = Unit {0}
+NeededIn tables history conjuncts start (reference ∷ references) =
+    IsNeeded history conjuncts start reference (rows_for tables reference)
+    × ((width : ℕ) × SeesWidth history reference width × NeededIn tables history conjuncts (start + width) references)
+
+abbrev QueryNeededIn : List (List PeriodRow) → History → Query → Type 0
+QueryNeededIn tables history (one select) = NeededIn tables history select.conjuncts 0 select.references
+QueryNeededIn tables history (both operator left right) = QueryNeededIn tables history left × QueryNeededIn tables history right
+
+as_many : (history : History) (conjuncts : Conditions) (start : ℕ) (references : List QueryReference) (lists : List (List PeriodRow)) → SeeNeeded history conjuncts start references lists → length lists ≡ length references
+as_many history conjuncts start [] [] needed = refl
+as_many history conjuncts start [] (rows ∷ lists) needed = absurd needed
+as_many history conjuncts start (reference ∷ references) [] needed = absurd needed
+as_many history conjuncts start (reference ∷ references) (rows ∷ lists) needed =
+    let (here, (width, wide, more)) = needed in
+    let rest = as_many history conjuncts (start + width) references lists more in
+    omega (arith, rest)
+
+query_as_many : (history : History) (query : Query) (lists : List (List PeriodRow)) → IsNeededBy history query lists → length lists ≡ length (references_of query)
+query_as_many history (one select) lists needed = as_many history select.conjuncts 0 select.references lists needed
+query_as_many history (both operator left right) lists (first, second, split, a, b) =
+    let one_side = query_as_many history left first a in
+    let other = query_as_many history right second b in
+    let here = length-append first second in
+    let there = length-append (references_of left) (references_of right) in
+    ap length split ∙ omega (arith, one_side, other, here, there)
+
+-- places that count up, of the first references and of those behind them
+placed_parts : (place : ℕ) (xs ys : List QueryReference) → are_in_place place (xs ++ ys) ≡ true → (are_in_place place xs ≡ true) × (are_in_place (place + length xs) ys ≡ true)
+placed_parts place [] ys h = (refl, subst (λ (n : ℕ). are_in_place n ys ≡ true) (omega arith) h)
+placed_parts place (x ∷ xs) ys h =
+    let (here, behind) = and_parts (x.place == place) (are_in_place (place + 1) (xs ++ ys)) h in
+    let (first, rest) = placed_parts (place + 1) xs ys behind in
+    (both_true (x.place == place) (are_in_place (place + 1) xs) here first, subst (λ (n : ℕ). are_in_place n ys ≡ true) (omega arith) rest)
+  where
+    both_true : (a b : Bool) → a ≡ true → b ≡ true → (a && b) ≡ true
+    both_true a b e f = rw e f
+
+placed : (history : History) (conjuncts : Conditions) (start : ℕ) (references : List QueryReference) (before lists behind : List (List PeriodRow)) → are_in_place (length before) references ≡ true → SeeNeeded history conjuncts start references lists →
+    NeededIn (before ++ (lists ++ behind)) history conjuncts start references
+placed history conjuncts start [] before lists behind in_place needed = tt
+placed history conjuncts start (reference ∷ references) before [] behind in_place needed = absurd needed
+placed history conjuncts start (reference ∷ references) before (rows ∷ lists) behind in_place needed =
+    let (here, later) = and_parts (reference.place == length before) (are_in_place (length before + 1) references) in_place in
+    let at : reference.place ≡ length before = eqb-true reference.place (length before) here in
+    let its : rows_for (before ++ rows ∷ (lists ++ behind)) reference ≡ rows = ap (λ (n : ℕ). slice_index_or (before ++ rows ∷ (lists ++ behind)) n []) at ∙ at_length before rows (lists ++ behind) in
+    let long : length before + 1 ≡ length (before ++ rows ∷ []) = (let sizes = length-append before (rows ∷ []) in omega (arith, sizes)) in
+    let (needs, (width, wide, more)) = needed in (
+      subst (IsNeeded history conjuncts start reference) (sym its) needs,
+      (
+        width,
+        wide,
+        subst (λ (l : List (List PeriodRow)). NeededIn l history conjuncts (start + width) references) (append_assoc before (rows ∷ []) (lists ++ behind))
+            (placed history conjuncts (start + width) references (before ++ rows ∷ []) lists behind (subst (λ (n : ℕ). are_in_place n references ≡ true) long later) more),
+      ),
+    )
+
+query_placed : (history : History) (query : Query) (before lists behind : List (List PeriodRow)) → are_in_place (length before) (references_of query) ≡ true → IsNeededBy history query lists → QueryNeededIn (before ++ (lists ++ behind)) history query
+query_placed history (one select) before lists behind in_place needed = placed history select.conjuncts 0 select.references before lists behind in_place needed
+query_placed history (both operator left right) before lists behind in_place (first, second, split, a, b) =
+    let (here, later) = placed_parts (length before) (references_of left) (references_of right) in_place in
+    let many = query_as_many history left first a in
+    let long : length before + length (references_of left) ≡ length (before ++ first) = (let sizes = length-append before first in omega (arith, sizes, many)) in
+    let whole : first ++ (second ++ behind) ≡ lists ++ behind = sym (append_assoc first second behind) ∙ ap (λ (l : List (List PeriodRow)). l ++ behind) (sym split) in (
+      subst (λ (l : List (List PeriodRow)). QueryNeededIn (before ++ l) history left) whole (query_placed history left before first (second ++ behind) here a),
+      subst (λ (l : List (List PeriodRow)). QueryNeededIn l history right) (append_assoc before first (second ++ behind) ∙ ap (λ (l : List (List PeriodRow)). before ++ l) whole)
+          (query_placed history right (before ++ first) second behind (subst (λ (n : ℕ). are_in_place n (references_of right) ≡ true) long later) b),
+    )
+
+-- ---- what a query gives of them
+
+module _ (tables : List (List PeriodRow)) (history : History) (day : ℤ) where
+  -- rows that are there are seen
+  sound_product : (conjuncts : Conditions) (start : ℕ) (references : List QueryReference) (values : List Value) → NeededIn tables history conjuncts start references → InProduct (TableSights tables day) references values → InProduct (HistorySights history day) references values
+  sound_product conjuncts start [] values needed h = h
+  sound_product conjuncts start (reference ∷ references) values (needs, (width, wide, more)) (first, rest, sees, others, is) =
+      (first, rest, needs.sound day first sees, sound_product conjuncts (start + width) references rest more others, is)
+
+  -- and none is missing that is part of a row that meets the conditions
+  whole_product : (conjuncts : Conditions) (start : ℕ) (references : List QueryReference) (before values : List Value) → NeededIn tables history conjuncts start references → length before ≡ start → meets_all conjuncts (before ++ values) ≡ true →
+      InProduct (HistorySights history day) references values → InProduct (TableSights tables day) references values
+  whole_product conjuncts start [] before values needed long met h = h
+  whole_product conjuncts start (reference ∷ references) before values (needs, (width, wide, more)) long met (first, rest, sees, others, is) =
+      let whole : meets_all conjuncts (before ++ (first ++ rest)) ≡ true = subst (λ (v : List Value). meets_all conjuncts (before ++ v) ≡ true) (sym is) met in
+      let longer : length (before ++ first) ≡ start + width = (let sizes = length-append before first in let its = wide day first sees in omega (arith, sizes, its, long)) in (
+        first,
+        rest,
+        needs.complete day before first rest long sees whole,
+        whole_product conjuncts (start + width) references (before ++ first) rest more longer (subst (λ (v : List Value). meets_all conjuncts v ≡ true) (sym (append_assoc before first rest)) whole) others,
+        is,
+      )
+
+  combined_alike : (operator : SetOperator) (A B C D : List Value → Type 0) → ((row : List Value) → (A row ↔ C row)) → ((row : List Value) → (B row ↔ D row)) → (row : List Value) → (InCombined operator A B row ↔ InCombined operator C D row)
+  combined_alike Union A B C D left right row = (
+    λ h. elim h [ inl a ↦ inl ((left row).0 a) | inr b ↦ inr ((right row).0 b) ],
+    λ h. elim h [ inl c ↦ inl ((left row).1 c) | inr d ↦ inr ((right row).1 d) ],
+  )
+  combined_alike Except A B C D left right row = (
+    λ (a, none). ((left row).0 a, λ d. none ((right row).1 d)),
+    λ (c, none). ((left row).1 c, λ b. none ((right row).0 b)),
+  )
+
+  given_alike : (query : Query) → QueryNeededIn tables history query → (row : List Value) → (InQuery (TableSights tables day) query row ↔ InQuery (HistorySights history day) query row)
+  given_alike (one select) needed row = (
+    λ (values, product, met, its). (values, sound_product select.conjuncts 0 select.references values needed product, met, its),
+    λ (values, product, met, its). (values, whole_product select.conjuncts 0 select.references [] values needed refl met product, met, its),
+  )
+  given_alike (both operator left right) (a, b) row =
+      combined_alike operator (InQuery (TableSights tables day) left) (InQuery (TableSights tables day) right) (InQuery (HistorySights history day) left) (InQuery (HistorySights history day) right)
+      (given_alike left a) (given_alike right b) row
+
+-- where the lists fit the query, it gives on each day what it gives in the history
+pub needed_alike : (history : History) (query : Query) (tables : List (List PeriodRow)) → fits query tables ≡ true → IsNeededBy history query tables → (day : ℤ) (row : List Value) →
+    (InQuery (TableSights tables day) query row ↔ InQuery (HistorySights history day) query row)
+needed_alike history query tables fit needed day row =
+    let (counted, kinds) = and_parts (are_in_place 0 (references_of query) && (length tables == length (references_of query))) (list_all (sees_its_kinds tables) (references_of query)) fit in
+    let (in_place, long) = and_parts (are_in_place 0 (references_of query)) (length tables == length (references_of query)) counted in
+    given_alike tables history day query (subst (λ (l : List (List PeriodRow)). QueryNeededIn l history query) (append-nil tables) (query_placed history query [] tables [] in_place needed)) row
+
+-- ---- lists that are added
+
+pub added_none : (history : History) (conjuncts : Conditions) (start : ℕ) (references : List QueryReference) (lists : List (List PeriodRow)) → references ≡ [] → AddNeeded (SeeNeeded history conjuncts start references) lists lists
+added_none history conjuncts start references lists none =
+    ([], sym (append-nil lists), subst (λ (rs : List QueryReference). SeeNeeded history conjuncts start rs []) (sym none) tt)
+
+-- a reference's list, and behind it those of the others
+pub added_more : (history : History) (conjuncts : Conditions) (start next width : ℕ) (references more : List QueryReference) (reference : QueryReference) (rows : List PeriodRow) (lists pushed new : List (List PeriodRow)) → references ≡ reference ∷ more →
+    IsNeeded history conjuncts start reference rows → SeesWidth history reference width → next ≡ start + width → pushed ≡ lists ++ rows ∷ [] → AddNeeded (SeeNeeded history conjuncts next more) pushed new → AddNeeded (SeeNeeded history conjuncts start references) lists new
+added_more history conjuncts start next width references more reference rows lists pushed new split needs wide next_is pushed_is (added, made, others) = (
+  rows ∷ added,
+  made ∙ ap (λ (l : List (List PeriodRow)). l ++ added) pushed_is ∙ append_assoc lists (rows ∷ []) added,
+  subst (λ (rs : List QueryReference). SeeNeeded history conjuncts start rs (rows ∷ added)) (sym split)
+      (needs, (width, wide, subst (λ (n : ℕ). SeeNeeded history conjuncts n more added) next_is others)),
+)
+
+pub added_both : (history : History) (operator : SetOperator) (left right : Query) (lists middle new : List (List PeriodRow)) → AddNeeded (IsNeededBy history left) lists middle → AddNeeded (IsNeededBy history right) middle new →
+    AddNeeded (IsNeededBy history (both operator left right)) lists new
+added_both history operator left right lists middle new (first, made, a) (second, made_more, b) =
+    (first ++ second, made_more ∙ ap (λ (l : List (List PeriodRow)). l ++ second) made ∙ append_assoc lists first second, (first, second, refl, a, b))
