@@ -65,7 +65,8 @@
 //!   `audits::intersect_audited`
 //!
 //! version_store
-//! - `open`, `catalog`, `clock`, `rows` of `VersionStore`: `stores::new_stores`
+//! - `open`, `catalog`, `clock`, `rows` of `VersionStore`, `accept`: `stores::new_stores`
+//! - `catalog`, `scan_current`, `refuse` of `OpenedStore`: `stores::opened_and_refused`
 //! - `add_table`, `advance`, `apply`, `reopen`, `close`: `stores::opened_again`
 //! - `scan`: `stores::windows`, `stores::a_visitor_that_refuses_the_third_row`
 //!

@@ -15,10 +15,11 @@ use version_store::{KeptRows, RowVisitor, VersionStore};
 
 type Store = VersionStore<MemoryStore>;
 
-// The store of a connection.
+// The store of a connection. Its keys and references are judged by no one: those of these tests are
+// kept.
 fn opened(alloc: Global, connection: Connection<MemoryStore>) -> Result<Store, Fail> {
     match VersionStore::open(alloc, connection) {
-        Ok(store) => Ok(store),
+        Ok(opened) => Ok(opened.accept()),
         Err((refusal, _connection)) => Err(refusal)?,
     }
 }
@@ -127,11 +128,29 @@ fn opened_again(rt: HostRuntime) -> Result<(), Fail> {
     let mut store = store_of_moves(alloc)?;
     assert!(rt; has_moves(alloc, &mut store)?);
     let mut store = match store.reopen(alloc) {
-        Ok(store) => store,
+        Ok(opened) => opened.accept(),
         Err((refusal, _connection)) => return Err(refusal)?,
     };
     assert!(rt; has_moves(alloc, &mut store)?);
     let mut store = opened(alloc, store.close())?;
+    assert!(rt; has_moves(alloc, &mut store)?);
+    Ok(())
+}
+
+// What is opened shows its tables and its current rows, and is handed back as it was.
+#[test]
+fn opened_and_refused(rt: HostRuntime) -> Result<(), Fail> {
+    let alloc = rt.alloc();
+    let store = store_of_moves(alloc)?;
+    let mut opened_store = match store.reopen(alloc) {
+        Ok(opened) => opened,
+        Err((refusal, _connection)) => return Err(refusal)?,
+    };
+    assert_eq!(rt; opened_store.catalog().len(), 1);
+    let mut kept = KeptRows::new(alloc);
+    opened_store.scan_current(alloc, 1, &mut kept)?;
+    assert!(rt; are_versions(alloc, kept.rows.as_slice(), &MOVES[1..])?);
+    let mut store = opened(alloc, opened_store.refuse())?;
     assert!(rt; has_moves(alloc, &mut store)?);
     Ok(())
 }

@@ -61,7 +61,7 @@ at_length [] rows lists = refl
 at_length (first ∷ before) rows lists = at_length before rows lists
 
 -- where the places count up, a reference's list is in its place
-in_its_place : (history : History) (references : List QueryReference) (before lists : List (List PeriodRow)) → are_in_place (length before) references ≡ true → EachSees history references lists →
+pub in_its_place : (history : History) (references : List QueryReference) (before lists : List (List PeriodRow)) → are_in_place (length before) references ≡ true → EachSees history references lists →
     (reference : QueryReference) → Contains references reference → SeesRows history reference (rows_for (before ++ lists) reference)
 in_its_place history [] before lists placed each reference among = absurd (Contains-nil reference among)
 in_its_place history (first ∷ references) before [] placed each reference among = absurd each

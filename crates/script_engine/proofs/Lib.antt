@@ -1,6 +1,7 @@
 mod AnswerLaws
 mod AddedRows
 mod Answered
+mod Fits
 mod Answering
 mod ChangeRefusals
 mod ColumnValues

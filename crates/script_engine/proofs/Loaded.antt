@@ -1,5 +1,6 @@
 -- The rows in memory as they are loaded, table by table.
-use Rattle.std.proofs.Common.{◌≡◌, ◌<◌, ◌≤◌, ◌+◌, ◌==◌, ◌++◌, ◌∷◌, ◌∙◌, ℕ, zero, suc, Bool, true, false, List, [], None, Some, eqb-true, get_or, length, map, nat_lt, refl, sym, ap, ap₂, subst, take, take_all, length-append, arith}
+use Rattle.std.proofs.Common.{◌≡◌, ◌<◌, ◌≤◌, ◌+◌, ◌==◌, ◌++◌, ◌∷◌, ◌∙◌, ℕ, zero, suc, Bool, true, false, List, [], None, Some, eqb-true, get_or, inl, inr, length, map, nat_lt, refl, sym, ap, ap₂, subst, take, take_all, length-append, arith}
+use Rattle.std.specs.Prelude.{IsSome}
 use Rattle.std.specs.List.{filter}
 use Rattle.std.specs.List.Sorted.{IsPermutation}
 use Rattle.std.specs.Option.{option_map_or}
@@ -9,6 +10,7 @@ use Rattle.std.proofs.lemmas.List.Sorted.{IsPermutation-refl}
 use Rattle.std.proofs.lemmas.Option.{none-some, slice_get_past}
 use Rattle.sqlite_trees.proofs.ListLemmas.{all_weaker, filter_none}
 use Rattle.sqlite.specs.Store.{Ghosts}
+use Rattle.period_core.specs.declared.refusal.Refusal.{Refusal}
 use Rattle.period_core.specs.declared.version.VersionRow.{VersionRow}
 use Rattle.period_core.specs.Windows.{window_sees}
 use Rattle.period_core.specs.declared.window.Window.TheVariants.{Now}
@@ -18,14 +20,14 @@ use Rattle.period_keys.specs.Lawful.{key_positions}
 use Rattle.period_keys.specs.Rows.{RowsByKey}
 use Rattle.version_store.specs.Contents.{Contents, TableVersion, of_table}
 use Rattle.version_store.specs.GoodStore.{HaveTables}
-use Rattle.version_store.specs.StoreState.{IsOnlyRead, IsUsable, StoreRepresents, StoreState}
+use Rattle.version_store.specs.StoreState.{IsFailure, IsOnlyRead, IsUsable, StoreRepresents, StoreState}
 use Rattle.version_store.specs.Written.{Has}
 use Rattle.script_engine.specs.engine.InMemory.{AreCurrentOf, HaveCurrentRows, keys_in, rows_in}
 
 -- ---- what is only read
 
 pub read_nothing : {S : Type 0} (g : Ghosts S) (store : StoreState S) → IsOnlyRead g store store
-read_nothing g store = record { catalog = refl; clock = refl; usable = λ usable. usable; same = λ usable. (refl, refl) }
+read_nothing g store = record { catalog = refl; clock = refl; usable = λ usable. usable; same = λ usable. (refl, refl); faults = record { faults = omega arith; limit = refl } }
 
 pub read_more : {S : Type 0} (g : Ghosts S) (old middle new : StoreState S) → IsOnlyRead g old middle → IsOnlyRead g middle new → IsOnlyRead g old new
 read_more g old middle new first second = record {
@@ -36,6 +38,10 @@ read_more g old middle new first second = record {
       let now = second.same usable in
       let before = first.same (second.usable usable) in
       (now.0 ∙ before.0, now.1 ∙ before.1);
+  faults = record {
+    faults = (let earlier = first.faults.faults in let later = second.faults.faults in omega arith);
+    limit = second.faults.limit ∙ first.faults.limit;
+  };
 }
 
 -- what the store represented it goes on representing
@@ -47,7 +53,14 @@ represents_still g old new c read usable was =
       committed = same.1 ∙ was.committed ∙ sym same.0;
       catalog = ap (λ k. k.tables) read.catalog ∙ was.catalog;
       clock = read.clock ∙ was.clock;
+      dated = was.dated;
     }
+
+-- a fault since a call that read is one since it began
+pub failure_since : {S : Type 0} (g : Ghosts S) (old middle new : StoreState S) (refusal : Refusal) → IsOnlyRead g old middle → IsFailure g middle.connection new.connection refusal → IsFailure g old.connection new.connection refusal
+failure_since g old middle new refusal read (inl memory) = inl memory
+failure_since g old middle new refusal read (inr (inl more)) = inr (inl (let earlier = read.faults.faults in omega (arith, more, earlier)))
+failure_since g old middle new refusal read (inr (inr limit)) = inr (inr (subst IsSome read.faults.limit limit))
 
 -- ---- the first tables
 

@@ -16,6 +16,11 @@ use Rattle.catalog_core.specs.declared.change.Action.{Action}
 use Rattle.catalog_core.specs.declared.change.Action.TheVariants.{Delete, Insert, Update}
 use Rattle.catalog_core.specs.declared.change.GivenRow.{GivenRow}
 use Rattle.catalog_core.specs.declared.change.Plan.{Plan}
+use Rattle.sqlite.specs.Store.{Ghosts}
+use Rattle.sql_statements.specs.Trees.{Statement}
+use Rattle.version_store.specs.StoreState.{IsFailure}
+use Rattle.script_engine.specs.engine.EngineState.{EngineState}
+use Rattle.script_engine.specs.engine.Runs.{MayRefuseQuery}
 use Rattle.script_engine.proofs.PlanFacts.{rows_given}
 
 -- a refusal among more conditions
@@ -89,3 +94,8 @@ may_answer-empty conditions holds none held = inl (record {
         ]
       ];
 })
+
+-- a query that read over an engine's store is refused for memory or a fault
+pub failed_query : {S : Type 0} (g : Ghosts S) (old new : EngineState S) (s : Statement) (refusal : Refusal) → IsFailure g old.connection new.connection refusal → MayRefuseQuery g old new s refusal
+failed_query g old new s refusal (inl memory) = inl (inr memory)
+failed_query g old new s refusal (inr fault) = inr fault

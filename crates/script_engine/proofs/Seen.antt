@@ -1,8 +1,8 @@
 -- What one table reference sees, as period rows: those of the versions that its window sees.
-use Rattle.std.proofs.Common.{◌≡◌, ◌↔◌, ◌++◌, ◌∷◌, ◌∙◌, ℕ, ℤ, Bool, false, List, [], Ok, append-nil, append_assoc, filter, fold, map, sym, ap, subst}
+use Rattle.std.proofs.Common.{◌≡◌, ◌↔◌, ◌++◌, ◌∷◌, ◌∙◌, ℕ, ℤ, Bool, List, [], Ok, append-nil, append_assoc, filter, fold, map, sym, ap, subst}
 use Rattle.std.specs.List.Sorted.{IsPermutation}
-use Rattle.std.proofs.lemmas.List.Sorted.{Contains-permutation, IsPermutation-map, IsPermutation-refl, IsPermutation-sym}
-use Rattle.sqlite_trees.proofs.ListLemmas.{all_of, filter-map, filter_none, map-map}
+use Rattle.std.proofs.lemmas.List.Sorted.{Contains-permutation, IsPermutation-map, IsPermutation-sym}
+use Rattle.sqlite_trees.proofs.ListLemmas.{filter-map, map-map}
 use Rattle.period_core.specs.Windows.{window_sees}
 use Rattle.period_core.specs.declared.row.PeriodRow.{PeriodRow}
 use Rattle.period_core.specs.declared.value.Value.{Value}
@@ -11,7 +11,7 @@ use Rattle.period_core.specs.declared.window.Window.{Window}
 use Rattle.period_core.specs.declared.window.Window.TheVariants.{Now}
 use Rattle.temporal_model.specs.Snapshot.{InSnapshot, covers_day, values_on}
 use Rattle.period_keys.specs.Rows.{RowsByKey}
-use Rattle.version_store.specs.Contents.{Contents, TableVersion, of_table, version_in}
+use Rattle.version_store.specs.Contents.{Contents, version_in}
 use Rattle.version_store.specs.Scans.{AreFirstSeen, Visits, seen_of}
 use Rattle.history_model.specs.Histories.{History, state_at}
 use Rattle.history_model.specs.SystemWindows.{SeesThrough}
@@ -31,13 +31,6 @@ use Rattle.script_engine.proofs.Recorded.{recorded_of}
 -- the current rows in memory
 pub current_seen : (c : Contents) (tables : List RowsByKey) (number : ℕ) (rows : List PeriodRow) → HaveCurrentRows c tables → rows ≡ map row_of (rows_in tables number) → AreRowsSeen c number Now rows
 current_seen c tables number rows current are = record { versions = rows_in tables number; all = current.rows number; made = are }
-
--- a window that sees no version
-pub none_seen : (c : Contents) (table : ℕ) (window : Window) (rows : List PeriodRow) → ((from to : ℤ) → window_sees window from to ≡ false) → rows ≡ [] → AreRowsSeen c table window rows
-none_seen c table window rows blind none =
-    let sees : TableVersion → Bool = λ v. window_sees window v.from v.to in
-    let empty : seen_of table window c.versions ≡ [] = filter_none sees (of_table table c.versions) (all_of (λ (v : TableVersion). sees v ≡ false) (λ v. blind v.from v.to) (of_table table c.versions)) in
-    record { versions = []; all = subst (λ (l : List TableVersion). IsPermutation l []) (sym empty) (IsPermutation-refl []); made = none }
 
 -- what the visitor of a scan makes of one version more
 abbrev pub seen_next : List PeriodRow → VersionRow → List PeriodRow

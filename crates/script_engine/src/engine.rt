@@ -21,7 +21,8 @@ ghost use Rattle.history_model.specs.Versions.{values_at};
 ghost use Rattle.script_engine.specs.engine.EngineState.{store_of};
 ghost use Rattle.script_engine.specs.engine.Faults.{AreConstrained};
 ghost use Rattle.script_engine.specs.engine.InMemory.{HaveRows, IsSameInMemory, rows_in};
-ghost use Rattle.script_engine.specs.engine.Runs.{MayRefuseMoment, MayRefuseOver, StepsTo};
+ghost use Rattle.script_engine.specs.engine.Runs.{IsQuery, MayRefuseMoment, MayRefuseOver};
+ghost use Rattle.script_engine.specs.engine.Runs.{MayRefuseQuery, StepsTo};
 ghost use Rattle.script_engine.specs.engine.Stored.{DatabaseRepresents, EngineRepresents};
 ghost use Rattle.script_engine.specs.engine.Stored.{IsBadStore, KeepsOnErr, WasUsable};
 ghost use Rattle.sql_statements.specs.Plain.{plain, plain_query, plain_stored};
@@ -115,13 +116,16 @@ impl<S: Alter> Engine<S> {
         ensures settled { IfErr result (λ failed. failed.1.in_transaction ≡ false) }
         ensures named { IfErr result (λ failed. IsOpenRefusal failed.0) }
     {
-        let mut store = match VersionStore::open(alloc, connection) {
-            Ok(store) => store,
+        let mut opened = match VersionStore::open(alloc, connection) {
+            Ok(opened) => opened,
             Err(failed) => return Err(failed),
         };
-        match load_lawful(alloc, &mut store) {
-            Ok(tables) => Ok(Engine { store, tables }),
-            Err(refusal) => Err((refusal, store.close())),
+        match load_lawful(alloc, &mut opened) {
+            Ok(tables) => Ok(Engine {
+                store: opened.accept(),
+                tables,
+            }),
+            Err(refusal) => Err((refusal, opened.refuse())),
         }
     }
 
@@ -308,6 +312,10 @@ impl<S: Alter> Engine<S> {
             → (history : History) → EngineRepresents S.Store history self.old
             → StepsTo S.Store history (statement.sequenced (plain_query query.now)) result
             self.new }
+        ensures queries { IsUsable S.Store self.new.connection
+            → (history : History) → EngineRepresents S.Store history self.old
+            → IfErr result (MayRefuseQuery S.Store self.old self.new
+            (statement.sequenced (plain_query query.now))) }
         ensures kept { KeepsOnErr S.Store self.old self.new result }
         ensures refused { IfErr result
             (MayRefuseOver self.old.catalog.tables self.old.clock (statement.sequenced (plain_query query.now))) }
@@ -330,6 +338,10 @@ impl<S: Alter> Engine<S> {
             → (history : History) → EngineRepresents S.Store history self.old
             → StepsTo S.Store history (statement.stored (plain_stored query.now)) result
             self.new }
+        ensures queries { IsUsable S.Store self.new.connection
+            → (history : History) → EngineRepresents S.Store history self.old
+            → IfErr result (MayRefuseQuery S.Store self.old self.new
+            (statement.stored (plain_stored query.now))) }
         ensures kept { KeepsOnErr S.Store self.old self.new result }
         ensures refused { IfErr result
             (MayRefuseOver self.old.catalog.tables self.old.clock (statement.stored (plain_stored query.now))) }
@@ -365,6 +377,12 @@ impl<S: Alter> Engine<S> {
             → (history : History) → EngineRepresents S.Store history self.old
             → StepsTo S.Store history (plain statement.now) result self.new }
         ensures kept { KeepsOnErr S.Store self.old self.new result }
+
+        // A query is refused with 62 only where there was a fault of the database.
+        ensures queries { IsUsable S.Store self.new.connection
+            → (history : History) → EngineRepresents S.Store history self.old
+            → IsQuery (plain statement.now)
+            → IfErr result (MayRefuseQuery S.Store self.old self.new (plain statement.now)) }
 
         // And whatever the database holds:
         ensures refused { IfErr result

@@ -1,5 +1,5 @@
 -- The points of a store, by the rows that its queries show.
-use Rattle.std.proofs.Common.{◌≡◌, ◌+◌, ◌≤◌, ◌∙◌, ◌∷◌, ◌++◌, ℕ, ℤ, pos, List, [], Some, Result, Ok, Err, ap, arith, false, length, length-append, map, refl, subst, sym, true}
+use Rattle.std.proofs.Common.{◌≡◌, ◌+◌, ◌≤◌, ◌∙◌, ◌∷◌, ◌++◌, ℕ, ℤ, pos, List, [], Some, Result, Ok, Err, ap, arith, false, length, length-append, map, refl, subst, subst₂, sym, true}
 use Rattle.std.specs.Prelude.{IfErr, IfOk}
 use Rattle.std.specs.List.{All, AllByRecursion}
 use Rattle.std.specs.List.Sorted.{IsPermutation}
@@ -19,12 +19,14 @@ use Rattle.sqlite.specs.Tree.{IsAscending, rowid}
 use Rattle.sqlite.specs.View.{is_int}
 use Rattle.sqlite.specs.declared.types.Value.TheVariants.{Int, Blob}
 use Rattle.version_tables.proofs.Ordered.{defined_table, definitions_in_order, length-defined, same_tables}
-use Rattle.version_tables.specs.Good.{SayClock}
+use Rattle.period_core.specs.Moments.{IsMomentNumber}
+use Rattle.version_tables.specs.Good.{AreDays, SayClock}
 use Rattle.version_tables.specs.Rows.{InOrder, by_rowid}
 use Rattle.version_tables.specs.Represents.{AreUntied, defined, meta_row, meta_shown, stored, table_shown, version_shown}
 use Rattle.version_tables.specs.Tables.{store_schema}
+use Rattle.version_store.proofs.Dated.{good_is_dated}
 use Rattle.version_store.proofs.Judged.{same_written}
-use Rattle.version_store.specs.Contents.{Contents, HaveColumnValues, TableVersion, same_version}
+use Rattle.version_store.specs.Contents.{AreDated, Contents, HaveColumnValues, IsDated, TableVersion, same_version}
 use Rattle.version_store.specs.GoodStore.{AreLawful, AreTableRows, HaveTables, IsGoodStore, IsGoodVersion, NothingMore, SayRows, SaysVersion, AreGood}
 use Rattle.version_store.specs.Written.{Has, IsReadable, written_table, written_version}
 
@@ -232,3 +234,26 @@ have_tables db c good its has =
     subst (λ (ts : List TableDef). AllByRecursion (IsTabled ts) c.versions) same
     (all_weaker (λ (v : TableVersion). IsTabledRow g.tables (stored_version v)) (IsTabled g.tables) (tabled_alike g.tables) c.versions
     (all_from_map (IsTabledRow g.tables) stored_version c.versions ours))
+
+-- ---- and have days and moments
+
+abbrev IsDatedRow : Row → Type 0
+IsDatedRow row = (v : TableVersion) × (row ≡ stored_version v) × IsDated v
+
+dated_alike : (v : TableVersion) → IsDatedRow (stored_version v) → IsDated v
+dated_alike v (w, same, is) =
+    let s : w.start ≡ v.start = cc in
+    let e : w.end ≡ v.end = cc in
+    let f : w.from ≡ v.from = cc in
+    let t : w.to ≡ v.to = cc in
+    record { days = subst₂ AreDays s e is.days; from = subst IsMomentNumber f is.from; to = subst IsMomentNumber t is.to }
+
+pub are_dated : (db : Database) (c : Contents) (good : IsGoodStore NothingMore db) → Has db c → AreDated c.versions
+are_dated db c good has =
+    let g = good.contents in
+    let rows : AllByRecursion IsDatedRow (map stored_version g.versions) =
+    all-map IsDatedRow stored_version g.versions (all_weaker (IsGoodVersion g.tables g.clock) (λ v. IsDatedRow (stored_version v)) (λ v is. (v, refl, good_is_dated g.tables g.clock v is)) g.versions good.versions) in
+    let shown = all-permutation IsDatedRow _ _ (subst (λ (l : List Row). IsPermutation l (map version_shown (db.trees 2))) (twice g.versions) good.says.versions) rows in
+    let ours : AllByRecursion IsDatedRow (map stored_version c.versions) =
+    all-permutation IsDatedRow _ _ (IsPermutation-sym _ _ (subst (λ (l : List Row). IsPermutation l (map version_shown (db.trees 2))) (twice c.versions) has.rows.says.versions)) shown in
+    all_weaker (λ (v : TableVersion). IsDatedRow (stored_version v)) IsDated dated_alike c.versions (all_from_map IsDatedRow stored_version c.versions ours)

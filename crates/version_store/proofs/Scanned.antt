@@ -1,5 +1,5 @@
 -- What a scan hands over of the rows that the query shows.
-use Rattle.std.proofs.Common.{◌≡◌, ℕ, ℤ, ◌+◌, ◌==◌, List, [], ◌∷◌, ◌++◌, map, filter, fold, take, drop, length, Bool, true, false, zero, suc, eqb-true, refl, sym, ap, ap₂, subst, subst₂, ◌∙◌, append-nil, arith, Option, Some, None, Result, Ok, Err, OnOk, true≢false}
+use Rattle.std.proofs.Common.{◌≡◌, ℕ, ℤ, ◌+◌, ◌==◌, List, [], ◌∷◌, ◌++◌, map, filter, fold, take, drop, length, Bool, ◌&&◌, ◌≤ℤ◌, true, false, zero, suc, eqb-true, refl, sym, ap, ap₂, append_assoc, subst, subst₂, ◌∙◌, append-nil, arith, Option, Some, None, Result, Ok, Err, OnOk, true≢false}
 use Rattle.std.specs.Prelude.{IsSorted, int_le, int_lt}
 use Rattle.std.specs.List.{All, AllByRecursion}
 use Rattle.std.specs.List.Sorted.{IsPermutation}
@@ -13,13 +13,14 @@ use Rattle.std.proofs.lemmas.List.{take-append-drop, get_or_append_left, get_or-
 use Rattle.std.proofs.lemmas.List.MinMax.{ranks_by}
 use Rattle.std.proofs.lemmas.List.Sorted.{IsPermutation-refl, sorted_far}
 use Rattle.std.proofs.lemmas.List.Sums.{fold-append}
-use Rattle.sqlite_trees.proofs.ListLemmas.{all-filter, all-permutation, filter-map, filter_none, pull_back}
+use Rattle.sqlite_trees.proofs.ListLemmas.{all-filter, all-permutation, all_weaker, filter-map, filter_none, pull_back}
 use Rattle.std.proofs.Math.Seq.{take-append_seam}
 use Rattle.sqlite.specs.Store.{Ghosts}
 use Rattle.sqlite.specs.Order.{Row}
 use Rattle.sqlite.specs.Held.{Held, state}
 use Rattle.sqlite.specs.State.{HasCleanDisk}
 use Rattle.period_core.specs.Encoding.{IsColumnValue}
+use Rattle.period_core.specs.Moments.{forever}
 use Rattle.period_core.specs.OrderLaws.{values_cmp_total}
 use Rattle.period_core.specs.Windows.{window_sees}
 use Rattle.period_core.specs.declared.refusal.Refusal.{Refusal}
@@ -31,8 +32,9 @@ use Rattle.version_tables.specs.Represents.{Version, shown}
 use Rattle.version_tables.specs.Represents as raw
 use Rattle.version_tables.specs.Selections.{selected, selects}
 use Rattle.version_tables.specs.declared.selection.Selection.{Selection}
-use Rattle.version_store.specs.Contents.{Contents, HaveColumnValues, TableVersion, of_table, version_cmp, version_in}
-use Rattle.version_store.specs.Scans.{AreFirstSeen, Sees, Visits, is_empty, seen_of}
+use Rattle.version_tables.specs.declared.selection.Selection.TheVariants.{Whole}
+use Rattle.version_store.specs.Contents.{AreDated, AreRowsOf, Contents, HaveColumnValues, IsDated, TableVersion, of_table, version_cmp, version_in}
+use Rattle.version_store.specs.Scans.{AreFirst, Sees, Visits, VisitsChosen, chosen_of, is_empty, seen_of}
 use Rattle.version_store.specs.Written.{Has, written, written_version}
 use Rattle.version_store.proofs.Found.{passes, sorted_values}
 use Rattle.version_store.proofs.Standing.{on_ok}
@@ -72,6 +74,9 @@ rest_behind xs ys h i d low j e high =
 not_before : (a b : ℤ) → int_le b a ≡ true → int_lt a b ≡ false
 not_before a b h = grind (arith, nat_tests, ints)
 
+none_at : (m from to : ℤ) → int_le forever m ≡ true → to ≤ℤ forever → (int_le from m && int_lt m to) ≡ false
+none_at m from to h late = grind (arith, nat_tests, ints)
+
 not_up_to : (a b : ℤ) → int_lt b a ≡ true → int_le a b ≡ false
 not_up_to a b h = grind (arith, nat_tests, ints)
 
@@ -101,13 +106,13 @@ given_are [] = refl
 given_are (y ∷ ys) = ap (λ rows. shown (written_version y) ∷ rows) (given_are ys)
 
 -- the first of the versions in order, and the others
-first_are : (c : Contents) (table : ℕ) (window : Window) (ys : List TableVersion) (n : ℕ) (rows : List VersionRow) → IsPermutation (seen_of table window c.versions) ys → IsSorted version_cmp ys
-    → map (version_in table) rows ≡ take n ys → AreFirstSeen c table window rows (drop n ys)
-first_are c table window ys n rows same up is =
+first_are : (c : Contents) (table : ℕ) (chooses : ℤ → ℤ → Bool) (ys : List TableVersion) (n : ℕ) (rows : List VersionRow) → IsPermutation (chosen_of table chooses c.versions) ys → IsSorted version_cmp ys
+    → map (version_in table) rows ≡ take n ys → AreFirst c table chooses rows (drop n ys)
+first_are c table chooses ys n rows same up is =
     let parts : ys ≡ map (version_in table) rows ++ drop n ys = sym (take-append-drop n ys) ∙ ap (λ l. l ++ drop n ys) (sym is) in
     let sorted = subst (IsSorted version_cmp) parts up in
     record {
-      all = subst (IsPermutation (seen_of table window c.versions)) parts same;
+      all = subst (IsPermutation (chosen_of table chooses c.versions)) parts same;
       sorted = front_sorted _ _ sorted;
       behind = rest_behind _ _ sorted;
     }
@@ -143,62 +148,118 @@ one_more next table old mid new given row was taken done of held shows =
 -- ---- the answer of a scan
 
 -- no row was read
-pub none_yet : (c : Contents) (table : ℕ) (window : Window) → AreFirstSeen c table window [] (seen_of table window c.versions)
-none_yet c table window = record {
+pub none_yet : (c : Contents) (table : ℕ) (chooses : ℤ → ℤ → Bool) → AreFirst c table chooses [] (chosen_of table chooses c.versions)
+none_yet c table chooses = record {
   all = IsPermutation-refl _;
   sorted = λ k d low high. absurd (omega arith);
   behind = λ k d low. absurd (omega arith);
 }
 
-seen_written : (table : ℕ) (window : Window) (selection : Selection) → Sees window selection → (vs : List TableVersion) → selected table selection (map written_version vs) ≡ map written_version (seen_of table window vs)
-seen_written table window selection sees vs =
-    let same : (λ (v : TableVersion). selects selection v.from v.to) ≡ (λ (v : TableVersion). window_sees window v.from v.to) = fun_ext (λ v. sym (sees v.from v.to)) in
+chosen_written : (table : ℕ) (selection : Selection) (vs : List TableVersion) → selected table selection (map written_version vs) ≡ map written_version (chosen_of table (selects selection) vs)
+chosen_written table selection vs =
     ap (filter (λ (v : Version). selects selection v.from v.to)) (filter-map (λ (v : Version). v.table == table) written_version vs)
     ∙ filter-map (λ (v : Version). selects selection v.from v.to) written_version (of_table table vs)
-    ∙ ap (λ t. map written_version (filter t (of_table table vs))) same
 
-pub visits : {M X : Type 0} (next : M → VersionRow → M) (c : Contents) (table : ℕ) (window : Window) (selection : Selection) (old new : M) (result : Result X Refusal) (found : List Version) (given more : List Row) → Sees window selection → HaveColumnValues c.versions
-    → given ++ more ≡ map shown found → AreSelected (written c) table selection found → TookShown next table old new given → OnOk result (more ≡ []) → Visits next c table window old new result
-visits next c table window selection old new result found given more sees held shows of took all =
+-- what the query shows are the chosen versions, in order
+pub record FoundChosen (c : Contents) (table : ℕ) (selection : Selection) (found : List Version) : Type 0 where
+  pub versions : List TableVersion
+  pub all : IsPermutation (chosen_of table (selects selection) c.versions) versions
+  pub are : found ≡ map written_version versions
+
+pub found_chosen : (c : Contents) (table : ℕ) (selection : Selection) (found : List Version) → AreSelected (written c) table selection found → FoundChosen c table selection found
+found_chosen c table selection found of =
+    let ours = chosen_of table (selects selection) c.versions in
+    let back = pull_back written_version (map written_version ours) found (subst (λ l. IsPermutation l found) (chosen_written table selection c.versions) of.all) ours refl in
+    record { versions = back.0; all = back.1; are = back.2 }
+
+pub visits : {M X : Type 0} (next : M → VersionRow → M) (c : Contents) (table : ℕ) (selection : Selection) (old new : M) (result : Result X Refusal) (found : List Version) (given more : List Row) → HaveColumnValues c.versions
+    → given ++ more ≡ map shown found → AreSelected (written c) table selection found → TookShown next table old new given → OnOk result (more ≡ []) → VisitsChosen next c table (selects selection) old new result
+visits next c table selection old new result found given more held shows of took all =
     let theirs = of_table table c.versions in
-    let ours = seen_of table window c.versions in
-    let is_seen = λ (v : TableVersion). window_sees window v.from v.to in
-    let back = pull_back written_version (map written_version ours) found (subst (λ l. IsPermutation l found) (seen_written table window selection sees c.versions) of.all) ours refl in
-    let ys = back.0 in
+    let ours = chosen_of table (selects selection) c.versions in
+    let is_chosen = λ (v : TableVersion). selects selection v.from v.to in
+    let back = found_chosen c table selection found of in
+    let ys = back.versions in
     let values = λ (v : TableVersion). All IsColumnValue v.values in
-    let hx : HaveColumnValues ours = all-filter values is_seen theirs (all-filter values (λ v. v.table == table) c.versions held) in
-    let hy : HaveColumnValues ys = all-permutation values ours ys back.1 hx in
+    let hx : HaveColumnValues ours = all-filter values is_chosen theirs (all-filter values (λ v. v.table == table) c.versions held) in
+    let hy : HaveColumnValues ys = all-permutation values ours ys back.all hx in
     let at = λ (v : TableVersion). (v.table == table) ≡ true in
-    let these : AllByRecursion at ys = all-permutation at ours ys back.1 (all-filter at is_seen theirs (passes (λ (v : TableVersion). v.table == table) c.versions)) in
-    let sorted = sorted_values ys hy (subst (IsSorted raw.version_cmp) back.2 of.sorted) in
+    let these : AllByRecursion at ys = all-permutation at ours ys back.all (all-filter at is_chosen theirs (passes (λ (v : TableVersion). v.table == table) c.versions)) in
+    let sorted = sorted_values ys hy (subst (IsSorted raw.version_cmp) back.are of.sorted) in
     let n = length given in
-    let whole : given ++ more ≡ as_given ys = shows ∙ ap (map shown) back.2 ∙ given_are ys in
+    let whole : given ++ more ≡ as_given ys = shows ∙ ap (map shown) back.are ∙ given_are ys in
     let firsts : given ≡ as_given (take n ys) = sym (take-append_seam given more) ∙ ap (take n) whole ∙ take-map (λ (v : TableVersion). shown (written_version v)) n ys in
     let taken = took (take n ys) (all-take at n ys these) (all-take values n ys hy) firsts in
     let long = length-append given more in
     let wide : length (given ++ more) ≡ length ys = ap length whole ∙ length-map ys (λ (v : TableVersion). shown (written_version v)) in (
       taken.0,
       drop n ys,
-      first_are c table window ys n taken.0 back.1 sorted taken.1,
+      first_are c table (selects selection) ys n taken.0 back.all sorted taken.1,
       taken.2,
       on_ok result (λ none. drop_all n ys (omega (arith, long, wide, ap length none))) all,
     )
 
--- an empty window sees no version
-empty_sees : (window : Window) → is_empty window ≡ true → (from to : ℤ) → window_sees window from to ≡ false
-empty_sees Now h from to = absurd (true≢false (sym h))
-empty_sees (AsOf m) h from to = absurd (true≢false (sym h))
-empty_sees (FromTo a b) h from to = rw (not_before a b h) refl
-empty_sees (Between a b) h from to = rw (not_up_to a b h) refl
+-- where the query selects what a window sees
+pub through_window : {M X : Type 0} (next : M → VersionRow → M) (c : Contents) (table : ℕ) (window : Window) (selection : Selection) (old new : M) (result : Result X Refusal) → Sees window selection
+    → VisitsChosen next c table (selects selection) old new result → Visits next c table window old new result
+through_window next c table window selection old new result sees visited =
+    let same : selects selection ≡ window_sees window = fun_ext (λ from. fun_ext (λ to. sym (sees from to))) in
+    subst (λ chooses. VisitsChosen next c table chooses old new result) same visited
 
-pub none_visits : {M : Type 0} (next : M → VersionRow → M) (c : Contents) (table : ℕ) (window : Window) (old : M) → is_empty window ≡ true → Visits next c table window old old (let r : Result (Unit {0}) Refusal = Ok (tt {0}) in r)
-none_visits next c table window old empty =
-    let none : seen_of table window c.versions ≡ [] = filter_none (λ (v : TableVersion). window_sees window v.from v.to) (of_table table c.versions) (each (of_table table c.versions)) in
-    ([], [], subst (AreFirstSeen c table window []) none (none_yet c table window), refl, refl)
+-- what keeps each row of a scan keeps them all
+kept_all : (before rows : List VersionRow) → fold (λ (kept : List VersionRow) (row : VersionRow). kept ++ row ∷ []) before rows ≡ before ++ rows
+kept_all before [] = sym (append-nil before)
+kept_all before (row ∷ rows) = kept_all (before ++ row ∷ []) rows ∙ append_assoc before (row ∷ []) rows
+
+whole_of : (vs : List TableVersion) → filter (λ (v : TableVersion). selects Whole v.from v.to) vs ≡ vs
+whole_of [] = refl
+whole_of (v ∷ vs) = ap (λ l. v ∷ l) (whole_of vs)
+
+-- all versions of a table, where all are chosen
+pub all_rows : {X : Type 0} (c : Contents) (table : ℕ) (old new : List VersionRow) (x : X) → old ≡ [] → VisitsChosen (λ (kept : List VersionRow) (row : VersionRow). kept ++ row ∷ []) c table (selects Whole) old new (let r : Result X Refusal = Ok x in r)
+    → AreRowsOf c table new
+all_rows c table old new x none visited =
+    let rows : List VersionRow = visited.0 in
+    let is : new ≡ rows = visited.3 ∙ ap (λ (o : List VersionRow). fold (λ (kept : List VersionRow) (row : VersionRow). kept ++ row ∷ []) o rows) none ∙ kept_all [] rows in
+    let first : AreFirst c table (selects Whole) rows [] = subst (AreFirst c table (selects Whole) rows) visited.4 visited.2 in
+    subst (AreRowsOf c table) (sym is)
+    (record {
+      all = subst₂ IsPermutation (whole_of (of_table table c.versions)) (append-nil (map (version_in table) rows)) first.all;
+      sorted = first.sorted;
+    })
+
+-- a row that the query gives shows a version that can be read
+abbrev pub ShowsReadable : Row → Type 0
+ShowsReadable row = (v : TableVersion) × (row ≡ shown (written_version v)) × IsDated v × All IsColumnValue v.values
+
+pub given_readable : (c : Contents) (table : ℕ) (selection : Selection) (found : List Version) (given : List Row) (row : Row) (more : List Row) → HaveColumnValues c.versions → AreDated c.versions
+    → (given ++ row ∷ []) ++ more ≡ map shown found → AreSelected (written c) table selection found → ShowsReadable row
+given_readable c table selection found given row more held dated shows of =
+    let back = found_chosen c table selection found of in
+    let is_chosen = λ (v : TableVersion). selects selection v.from v.to in
+    let kept = λ (P : TableVersion → Type 0) (all : AllByRecursion P c.versions). all-permutation P _ back.versions back.all (all-filter P is_chosen (of_table table c.versions) (all-filter P (λ v. v.table == table) c.versions all)) in
+    let rows : (given ++ row ∷ []) ++ more ≡ as_given back.versions = shows ∙ ap (map shown) back.are ∙ given_are back.versions in
+    among given row more back.versions (sym (append_assoc given (row ∷ []) more) ∙ rows) (kept IsDated dated) (kept (λ v. All IsColumnValue v.values) held)
   where
-    each : (vs : List TableVersion) → AllByRecursion (λ (v : TableVersion). window_sees window v.from v.to ≡ false) vs
-    each [] = tt
-    each (v ∷ vs) = (empty_sees window empty v.from v.to, each vs)
+    among : (given : List Row) (row : Row) (more : List Row) (vs : List TableVersion) → given ++ row ∷ more ≡ as_given vs → AreDated vs → HaveColumnValues vs → ShowsReadable row
+    among [] row more [] e dated held = absurd cc
+    among [] row more (v ∷ vs) e dated held = (v, (heads _ _ _ _ e).0, dated.0, held.0)
+    among (r ∷ given) row more [] e dated held = absurd cc
+    among (r ∷ given) row more (v ∷ vs) e dated held = among given row more vs (heads _ _ _ _ e).1 dated.1 held.1
+
+-- an empty window sees no version that has days and moments
+empty_sees : (window : Window) → is_empty window ≡ true → (from to : ℤ) → to ≤ℤ forever → window_sees window from to ≡ false
+empty_sees Now h from to late = absurd (true≢false (sym h))
+empty_sees (AsOf m) h from to late = none_at m from to h late
+empty_sees (FromTo a b) h from to late = rw (not_before a b h) refl
+empty_sees (Between a b) h from to late = rw (not_up_to a b h) refl
+
+pub none_visits : {M : Type 0} (next : M → VersionRow → M) (c : Contents) (table : ℕ) (window : Window) (old : M) → is_empty window ≡ true → AreDated c.versions → Visits next c table window old old (let r : Result (Unit {0}) Refusal = Ok (tt {0}) in r)
+none_visits next c table window old empty dated =
+    let ours = of_table table c.versions in
+    let none : seen_of table window c.versions ≡ [] = filter_none (λ (v : TableVersion). window_sees window v.from v.to) ours
+    (all_weaker IsDated (λ (v : TableVersion). window_sees window v.from v.to ≡ false) (λ v d. empty_sees window empty v.from v.to d.to.1) ours (all-filter IsDated (λ v. v.table == table) c.versions dated)) in
+    ([], [], subst (AreFirst c table (window_sees window) []) none (none_yet c table (window_sees window)), refl, refl)
 
 -- the query of the table has given rows, and the visitor took what they show
 abbrev pub HasVisited : {S M : Type 0} → Ghosts S → (M → VersionRow → M) → ℕ → Selection → Held S → Held S → M → M → Type 0
@@ -218,18 +279,25 @@ module _ {S M : Type 0} (g : Ghosts S) (next : M → VersionRow → M) (table : 
       → TookOne next mid new row → HasVisited g next table selection first now old new
   one_visited before now old mid new was row after gives is taken = (was.0 ++ row ∷ [], rw is at gives, one_more next table old mid new was.0 row was.2 taken)
 
-  module _ (window : Window) (sees : Sees window selection) where
-    -- a refusal, where the query has given the rows so far
-    pub some_visits : (now : Held S) (old mid new : M) (refusal : Refusal) → HasVisited g next table selection first now old mid → new ≡ mid → HasCleanDisk (state g now) → (c : Contents) → Has (state g first).now c
-        → Visits next c table window old new (let r : Result (Unit {0}) Refusal = Err refusal in r)
-    some_visits now old mid new refusal was same clean c has =
-        let shows = was.1.rows clean (written c) has.rows in
-        visits {X = Unit {0}} next c table window selection old new (Err refusal) shows.1.0 was.0 shows.0 sees has.values shows.1.1 shows.1.2 (subst (λ m. TookShown next table old m was.0) (sym same) was.2) tt
+  -- a refusal, where the query has given the rows so far
+  pub some_visits : (now : Held S) (old mid new : M) (refusal : Refusal) → HasVisited g next table selection first now old mid → new ≡ mid → HasCleanDisk (state g now) → (c : Contents) → Has (state g first).now c
+      → VisitsChosen next c table (selects selection) old new (let r : Result (Unit {0}) Refusal = Err refusal in r)
+  some_visits now old mid new refusal was same clean c has =
+      let shows = was.1.rows clean (written c) has.rows in
+      visits {X = Unit {0}} next c table selection old new (Err refusal) shows.1.0 was.0 shows.0 has.values shows.1.1 shows.1.2 (subst (λ m. TookShown next table old m was.0) (sym same) was.2) tt
 
-    -- the end of the query
-    pub all_visits : (before now : Held S) (old new : M) (was : HasVisited g next table selection first before old new) (after : Option Row) → GivesNext g table selection first now was.0 after → after ≡ None
-        → HasCleanDisk (state g now) → (c : Contents) → Has (state g first).now c → Visits next c table window old new (let r : Result (Unit {0}) Refusal = Ok (tt {0}) in r)
-    all_visits before now old new was after gives is clean c has =
-        let all : HasGivenAll g table selection first now was.0 = rw is at gives in
-        let shows = all.rows clean (written c) has.rows in
-        visits {X = Unit {0}} next c table window selection old new (Ok (tt {0})) shows.0 was.0 [] sees has.values (append-nil was.0 ∙ shows.1) shows.2 was.2 refl
+  -- the end of the query
+  pub all_visits : (before now : Held S) (old new : M) (was : HasVisited g next table selection first before old new) (after : Option Row) → GivesNext g table selection first now was.0 after → after ≡ None
+      → HasCleanDisk (state g now) → (c : Contents) → Has (state g first).now c → VisitsChosen next c table (selects selection) old new (let r : Result (Unit {0}) Refusal = Ok (tt {0}) in r)
+  all_visits before now old new was after gives is clean c has =
+      let all : HasGivenAll g table selection first now was.0 = rw is at gives in
+      let shows = all.rows clean (written c) has.rows in
+      visits {X = Unit {0}} next c table selection old new (Ok (tt {0})) shows.0 was.0 [] has.values (append-nil was.0 ∙ shows.1) shows.2 was.2 refl
+
+  -- a row that was given last
+  pub last_readable : (before now : Held S) (old mid : M) (was : HasVisited g next table selection first before old mid) (row : Row) (after : Option Row) → GivesNext g table selection first now was.0 after → after ≡ Some row
+      → HasCleanDisk (state g now) → (c : Contents) → Has (state g first).now c → AreDated c.versions → ShowsReadable row
+  last_readable before now old mid was row after gives is clean c has dated =
+      let on : HasGivenRows g table selection first now (was.0 ++ row ∷ []) = rw is at gives in
+      let shows = on.rows clean (written c) has.rows in
+      given_readable c table selection shows.1.0 was.0 row shows.0 has.values dated shows.1.1 shows.1.2

@@ -1,5 +1,5 @@
 -- What a store stands for after a call.
-use Rattle.std.proofs.Common.{◌≡◌, Result, Ok, Err, OnOk, OnErr, sym, subst, ◌∙◌}
+use Rattle.std.proofs.Common.{◌≡◌, Result, Ok, Err, OnOk, OnErr, IsTrue, inl, inr, sym, subst, ◌∙◌}
 use Rattle.std.proofs.Common.{ℕ, ◌+◌, List, [], ◌∷◌, ◌++◌, map, length, ap}
 use Rattle.std.proofs.lemmas.List.{length-map, map-append}
 use Rattle.std.specs.List.{AllByRecursion}
@@ -8,11 +8,17 @@ use Rattle.version_store.specs.Written.{IsReadable}
 use Rattle.catalog_core.specs.declared.table.TableDef.{TableDef}
 use Rattle.sqlite.specs.Store.{Ghosts}
 use Rattle.sqlite.specs.Effect.{Database}
-use Rattle.sqlite.specs.Held.{state}
+use Rattle.period_core.specs.declared.refusal.Refusal.{Refusal}
+use Rattle.period_core.specs.declared.refusal.Refusal.TheVariants.{Memory}
+use Rattle.sqlite.specs.Held.{Held, state}
+use Rattle.sqlite.specs.declared.error.Error.{Error}
+use Rattle.sqlite.specs.declared.error.Error.TheVariants.{SqliteFailure}
+use Rattle.sqlite.specs.declared.error.ErrorCode.TheVariants.{OutOfMemory}
+use Rattle.version_tables.specs.Steps.{HasReason}
 use Rattle.version_tables.specs.Represents.{Represents, with_definition}
 use Rattle.version_store.specs.Contents.{Contents, HaveColumnValues}
 use Rattle.version_store.specs.Changed.{with_table}
-use Rattle.version_store.specs.StoreState.{StoreState, StoreRepresents}
+use Rattle.version_store.specs.StoreState.{IsFailure, StoreState, StoreRepresents}
 use Rattle.version_store.specs.Written.{Has, written, written_table}
 
 pub on_ok : {X E : Type 0} {P Q : Type 0} (r : Result X E) → (P → Q) → OnOk r P → OnOk r Q
@@ -32,6 +38,7 @@ stays g old new c was same catalog clock = record {
   committed = same.1 ∙ was.committed ∙ sym same.0;
   catalog = catalog ∙ was.catalog;
   clock = clock ∙ was.clock;
+  dated = was.dated;
 }
 
 -- a definition was put
@@ -44,3 +51,8 @@ table_put new c d bytes is made definitions one held = record {
 
 pub next_number : (c : Contents) (tables : List TableDef) (n : ℕ) → tables ≡ c.tables → n ≡ length tables + 1 → n ≡ length (map written_table c.tables) + 1
 next_number c tables n same is = is ∙ ap (λ k. k + 1) (ap length same ∙ sym (length-map c.tables written_table))
+
+-- a failure of the database as a refusal
+pub failed_by : {S : Type 0} (g : Ghosts S) (old new : Held S) (error : Error) (refusal : Refusal) → (error ≡ SqliteFailure OutOfMemory → refusal ≡ Memory) → HasReason (state g old) (state g new) error → IsTrue (state g old).is_open
+    → IsFailure g old new refusal
+failed_by g old new error refusal memory why on = elim (why on) [ inl out ↦ inl (memory out) | inr fault ↦ inr fault ]

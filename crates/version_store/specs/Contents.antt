@@ -5,12 +5,13 @@ use Rattle.std.specs.declared.cmp.Ordering.{Ordering}
 use Rattle.std.specs.List.{All, AllByRecursion}
 use Rattle.std.specs.Ordering.{on, then_cmp, int_cmp, is_eq}
 use Rattle.period_core.specs.Encoding.{IsColumnValue}
-use Rattle.period_core.specs.Moments.{first_moment}
+use Rattle.period_core.specs.Moments.{IsMomentNumber, first_moment}
 use Rattle.period_core.specs.Order.{values_cmp}
 use Rattle.period_core.specs.declared.row.PeriodRow.{PeriodRow}
 use Rattle.period_core.specs.declared.value.Value.{Value}
 use Rattle.period_core.specs.declared.version.VersionRow.{VersionRow}
 use Rattle.catalog_core.specs.declared.table.TableDef.{TableDef}
+use Rattle.version_tables.specs.Good.{AreDays}
 
 -- a version of the table of a number: its values hold on the days from start on and before end, as
 -- recorded from one moment on and before another
@@ -80,3 +81,13 @@ pub record AreRowsOf (c : Contents) (table : ℕ) (rows : List VersionRow) : Typ
 -- each value is one that a column holds
 abbrev pub HaveColumnValues : List TableVersion → Type 0
 HaveColumnValues = AllByRecursion (λ v. All IsColumnValue v.values)
+
+-- the version's period is one of days, and its system time one of moments, so no later than FOREVER
+pub record IsDated (v : TableVersion) : Type 0 where
+  pub days : AreDays v.start v.end
+  pub from : IsMomentNumber v.from
+  pub to : IsMomentNumber v.to
+
+-- all of them are
+abbrev pub AreDated : List TableVersion → Type 0
+AreDated = AllByRecursion IsDated

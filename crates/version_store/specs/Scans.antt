@@ -4,6 +4,7 @@ use Rattle.std.specs.Prelude.{Err, Ok, None, Option, Some, int_le, int_lt}
 use Rattle.std.specs.Prelude.{IsPermutation, IsSorted, OnOk, Result}
 use Rattle.std.specs.List.{All}
 use Rattle.std.specs.Ordering.{is_lt}
+use Rattle.period_core.specs.Moments.{forever}
 use Rattle.period_core.specs.Windows.{window_sees}
 use Rattle.period_core.specs.declared.refusal.Refusal.{Refusal}
 use Rattle.period_core.specs.declared.version.VersionRow.{VersionRow}
@@ -14,26 +15,34 @@ use Rattle.version_tables.specs.declared.selection.Selection.{Selection}
 use Rattle.version_store.specs.Contents.{Contents, TableVersion, of_table, version_cmp, version_in}
 use Rattle.version_store.specs.StoreState.{IsStoreRefusal}
 
--- the versions of the table that the window sees
-abbrev pub seen_of : ℕ → Window → List TableVersion → List TableVersion
-seen_of table window versions =
-    filter (λ v. window_sees window v.from v.to) (of_table table versions)
+-- the versions of the table that are chosen by their system time
+abbrev pub chosen_of : ℕ → (ℤ → ℤ → Bool) → List TableVersion → List TableVersion
+chosen_of table chooses versions = filter (λ v. chooses v.from v.to) (of_table table versions)
 
--- the rows are the first of those versions, each once and in order: the rest are the others, none
--- of which is before one of the rows
-pub record AreFirstSeen (c : Contents) (table : ℕ) (window : Window) (rows : List VersionRow)
+-- those that the window sees
+abbrev pub seen_of : ℕ → Window → List TableVersion → List TableVersion
+seen_of table window = chosen_of table (window_sees window)
+
+-- the rows are the first of the chosen versions, each once and in order: the rest are the others,
+-- none of which is before one of the rows
+pub record AreFirst (c : Contents) (table : ℕ) (chooses : ℤ → ℤ → Bool) (rows : List VersionRow)
     (rest : List TableVersion) : Type 0 where
-  pub all : IsPermutation (seen_of table window c.versions) (map (version_in table) rows ++ rest)
+  pub all : IsPermutation (chosen_of table chooses c.versions)
+      (map (version_in table) rows ++ rest)
   pub sorted : IsSorted version_cmp (map (version_in table) rows)
   pub behind : All
       (λ (row : TableVersion). All (λ (v : TableVersion). is_lt (version_cmp v row) ≡ false) rest)
       (map (version_in table) rows)
 
--- FROM a TO b where a is not before b, or BETWEEN a AND b where b is before a: such a window sees
--- no version
+-- the same of those that a window sees
+abbrev pub AreFirstSeen : Contents → ℕ → Window → List VersionRow → List TableVersion → Type 0
+AreFirstSeen c table window = AreFirst c table (window_sees window)
+
+-- AS OF FOREVER; FROM a TO b where a is not before b; BETWEEN a AND b where b is before a: such a
+-- window sees no version that a store has
 abbrev pub is_empty : Window → Bool
 is_empty Now = false
-is_empty (AsOf m) = false
+is_empty (AsOf m) = int_le forever m
 is_empty (FromTo a b) = int_le b a
 is_empty (Between a b) = int_lt b a
 
@@ -43,11 +52,16 @@ Sees window selection =
     (from to : ℤ) → window_sees window from to ≡ selects selection from to
 
 -- the visitor took such rows in turn, from one meaning to another; on Ok there is no other
+abbrev pub VisitsChosen : {M X : Type 0} → (M → VersionRow → M) → Contents → ℕ → (ℤ → ℤ → Bool)
+    → M → M → Result X Refusal → Type 0
+VisitsChosen next c table chooses old new result =
+    (rows : List VersionRow) × (rest : List TableVersion)
+    × AreFirst c table chooses rows rest × (new ≡ fold next old rows) × OnOk result (rest ≡ [])
+
+-- the same of those that a window sees
 abbrev pub Visits : {M X : Type 0} → (M → VersionRow → M) → Contents → ℕ → Window → M → M
     → Result X Refusal → Type 0
-Visits next c table window old new result =
-    (rows : List VersionRow) × (rest : List TableVersion)
-    × AreFirstSeen c table window rows rest × (new ≡ fold next old rows) × OnOk result (rest ≡ [])
+Visits next c table window = VisitsChosen next c table (window_sees window)
 
 -- where the visitor had refused no row: it has refused none on Ok; and on Err either its own
 -- refusal is answered, or it has refused none and the store failed
@@ -56,3 +70,7 @@ abbrev pub AnswersRefusal : {X : Type 0} → (Option Refusal → Type 0) → (Op
 AnswersRefusal old new (Ok x) = old None → new None
 AnswersRefusal old new (Err refusal) =
     old None → new (Some refusal) ⊎ (new None × IsStoreRefusal refusal)
+
+-- the visitor's own: it may answer that, and tells that it did
+abbrev pub IsOwnRefusal : (Refusal → Type 0) → (Option Refusal → Type 0) → Refusal → Type 0
+IsOwnRefusal may_refuse answered refusal = may_refuse refusal × answered (Some refusal)

@@ -12,9 +12,9 @@ use Rattle.sqlite.specs.Steps.{over_memory}
 use Rattle.sqlite_trees.specs.declared.memory.MemStore.{MemStore}
 use Rattle.sqlite.specs.Schema.{Schema}
 use Rattle.version_tables.specs.Presence.{AreAllThere}
-use Rattle.version_tables.specs.Steps.{IsAsBefore}
+use Rattle.version_tables.specs.Steps.{HasFault, IsAsBefore, KeepsFaults}
 use Rattle.version_tables.specs.Tables.{store_schema}
-use Rattle.version_store.specs.Contents.{Contents}
+use Rattle.version_store.specs.Contents.{AreDated, Contents}
 use Rattle.version_store.specs.Written.{Has}
 
 -- the connection, the tables, the clock
@@ -39,13 +39,15 @@ IsUsable g connection = HasCleanDisk (state g connection) × IsTrue (state g con
 abbrev pub MemoryIsUsable : Type 0
 MemoryIsUsable = (connection : Held MemStore) → IsUsable over_memory connection
 
--- the database has these contents, as they were last committed, and so has what is kept in memory
+-- the database has these contents, as they were last committed, and so has what is kept in memory;
+-- their versions can be read
 pub record StoreRepresents {S : Type 0} (g : Ghosts S) (store : StoreState S) (c : Contents)
     : Type 0 where
   pub now : Has (state g store.connection).now c
   pub committed : (state g store.connection).committed ≡ (state g store.connection).now
   pub catalog : store.catalog.tables ≡ c.tables
   pub clock : store.clock ≡ c.clock
+  pub dated : AreDated c.versions
 
 -- whatever the store represented, it represents that changed on Ok, and the same on Err
 abbrev pub Changes : {S X : Type 0} → Ghosts S → StoreState S → StoreState S → Result X Refusal
@@ -54,17 +56,24 @@ Changes g old new result change =
     IsUsable g new.connection → (c : Contents) → StoreRepresents g old c
     → OnOk result (StoreRepresents g new (change c)) × OnErr result (StoreRepresents g new c)
 
--- the tables, the clock and the database are as before; the connection was usable if it is so now
+-- the tables, the clock and the database are as before; the connection was usable if it is so now,
+-- and no fault is forgotten
 pub record IsOnlyRead {S : Type 0} (g : Ghosts S) (old new : StoreState S) : Type 0 where
   pub catalog : new.catalog ≡ old.catalog
   pub clock : new.clock ≡ old.clock
   pub usable : IsUsable g new.connection → IsUsable g old.connection
   pub same : IsUsable g new.connection
       → IsAsBefore (state g old.connection) (state g new.connection)
+  pub faults : KeepsFaults (state g old.connection) (state g new.connection)
 
 -- out of memory, or another failure of the database
 abbrev pub IsStoreRefusal : Refusal → Type 0
 IsStoreRefusal refusal = (refusal ≡ Memory) ⊎ (refusal ≡ Store)
+
+-- why a call fails that reads what can be read: it is out of memory, or there was a fault of the
+-- database
+abbrev pub IsFailure : {S : Type 0} → Ghosts S → Held S → Held S → Refusal → Type 0
+IsFailure g old new refusal = (refusal ≡ Memory) ⊎ HasFault (state g old) (state g new)
 
 -- why a store is not opened: it is no good one, or one of those
 abbrev pub IsOpenRefusal : Refusal → Type 0

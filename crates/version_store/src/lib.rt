@@ -20,4 +20,5 @@ mod writing;
 
 pub use laws::{memory_is_usable, others_stay, plans_leave_other_tables};
 pub use store::VersionStore;
+pub use store::opened::OpenedStore;
 pub use visitor::{KeptRows, RowVisitor};

@@ -1,27 +1,27 @@
 //! Version rows as they are read from the database.
 
-ghost use Rattle.std.specs.Prelude.{◌≡◌, false, IfErr, IfOk, IfSome};
+ghost use Rattle.std.specs.Prelude.{◌≡◌, ◌≢◌, ℤ, IfErr, IfOk, MatchOption};
 ghost use Rattle.std.specs.List.{All};
+ghost use Rattle.period_core.specs.Calendar.{IsDayNumber};
 ghost use Rattle.period_core.specs.Encoding.{IsColumnValue};
-ghost use Rattle.sqlite.specs.Held.{state};
-ghost use Rattle.sqlite.specs.State.{HasCleanDisk};
+ghost use Rattle.period_core.specs.Moments.{IsMomentNumber};
+ghost use Rattle.period_core.specs.declared.refusal.Refusal.TheVariants.{Store};
+ghost use Rattle.version_tables.specs.Good.{AreDays};
 ghost use Rattle.version_tables.specs.Represents.{shown};
 ghost use Rattle.version_tables.specs.Rows.{IsNumberAt};
-ghost use Rattle.version_tables.specs.Steps.{Keeps};
-ghost use Rattle.version_store.specs.Contents.{AreRowsOf, Contents, version_in};
+ghost use Rattle.version_store.specs.Contents.{IsDated, TableVersion, version_in};
 ghost use Rattle.version_store.specs.StoreState.{IsStoreRefusal};
-ghost use Rattle.version_store.specs.Written.{Has, written_version};
+ghost use Rattle.version_store.specs.Written.{written_version};
 
-use crate::refused::refusal_of;
 use period_core::{Day, DecodeFault, Moment, Period, Refusal, Values, VersionRow, decode_values};
-use sqlite::{Connection, Row};
-use sqlite_trees::store::Alter;
+use sqlite::Row;
 use std::alloc::Global;
-use version_tables::{Selection, bytes_at, number_at, rows_of, to_next_row};
+use version_tables::{bytes_at, number_at};
 
-/// The day at a place of a row.
+/// The day at a place of a row, if its number is there.
 fn day_at(row: &Row, at: usize) -> Option<Day>
-    ensures { IfSome result (λ day. IsNumberAt row.now at day) }
+    ensures { MatchOption result (¬ ((n : ℤ) × IsNumberAt row.now at n × IsDayNumber n))
+        (λ day. IsNumberAt row.now at day) }
 {
     let number = number_at(row, at)?;
     match i32::try_from(number) {
@@ -30,26 +30,32 @@ fn day_at(row: &Row, at: usize) -> Option<Day>
     }
 }
 
-/// The moment at a place of a row.
+/// The moment at a place of a row, if its number is there.
 fn moment_at(row: &Row, at: usize) -> Option<Moment>
-    ensures { IfSome result (λ moment. IsNumberAt row.now at moment) }
+    ensures { MatchOption result (¬ ((n : ℤ) × IsNumberAt row.now at n × IsMomentNumber n))
+        (λ moment. IsNumberAt row.now at moment) }
 {
     Moment::new(number_at(row, at)?)
 }
 
-/// The period at two places of a row.
+/// The period at two places of a row, if its days are there.
 fn period_at(row: &Row, start: usize, end: usize) -> Option<Period>
-    ensures { IfSome result (λ period. IsNumberAt row.now start period.start
-        × IsNumberAt row.now end period.end) }
+    ensures { MatchOption result
+        (¬ ((s e : ℤ) × IsNumberAt row.now start s × IsNumberAt row.now end e × AreDays s e))
+        (λ period. IsNumberAt row.now start period.start × IsNumberAt row.now end period.end) }
 {
     Period::new(day_at(row, start)?, day_at(row, end)?)
 }
 
-/// The version row that a row of the query shows: its values as bytes, its period, its moments.
+/// The version row that a row of the query shows: its values as bytes, its period, its moments. The
+/// row of a version that has days, moments and values of columns is always read, but for memory.
 pub(crate) fn read_version(alloc: Global, row: &Row) -> Result<VersionRow, Refusal>
     ensures shown { IfOk result
         (λ version. row.now ≡ shown (written_version (version_in 0 version))) }
     ensures values { IfOk result (λ version. All IsColumnValue version.values) }
+    ensures bad { IfErr result (λ refusal. refusal ≡ Store
+        → (v : TableVersion) → IsDated v → All IsColumnValue v.values
+        → row.now ≢ shown (written_version v)) }
     ensures named { IfErr result IsStoreRefusal }
 {
     if row.column_count() != 5 {
@@ -77,37 +83,4 @@ pub(crate) fn read_version(alloc: Global, row: &Row) -> Result<VersionRow, Refus
         Err(DecodeFault::Memory) => Err(Refusal::Memory),
         Err(DecodeFault::Malformed) => Err(Refusal::Store),
     }
-}
-
-/// The version rows of the table of a number, in order.
-pub(crate) fn table_rows<S: Alter>(
-    alloc: Global,
-    connection: &mut Connection<S>,
-    table: u8,
-) -> Result<Vec<VersionRow>, Refusal>
-    requires { connection.old.in_transaction ≡ false }
-    ensures rows { HasCleanDisk (state S.Store connection.new)
-        → (c : Contents) → Has (state S.Store connection.old).now c
-        → IfOk result (λ rows. AreRowsOf c table rows.items) }
-    ensures same { HasCleanDisk (state S.Store connection.new)
-        → Keeps (state S.Store connection.old) (state S.Store connection.new) }
-    ensures mode { connection.new.in_transaction ≡ false }
-    ensures named { IfErr result IsStoreRefusal }
-{
-    let mut rows = match rows_of(connection, u32::from(table), Selection::Whole) {
-        Ok(rows) => rows,
-        Err(error) => return Err(refusal_of(&error)),
-    };
-    let mut versions = Vec::new(alloc);
-    // The query ends the loop. Its bound shows that it ends in any case.
-    'rows: for _ in 0..u64::MAX {
-        if let Err(error) = to_next_row(&mut rows) {
-            return Err(refusal_of(&error));
-        }
-        let Some(row) = rows.get() else {
-            return Ok(versions);
-        };
-        versions.push(read_version(alloc, row)?)?;
-    }
-    Err(Refusal::Memory)
 }

@@ -1,23 +1,27 @@
-//! Version rows handed over to a visitor, one at a time, as they are read.
+//! Version rows handed over to a visitor, one at a time, as they are read; and all of a table.
 
-ghost use Rattle.std.specs.Prelude.{◌≡◌, ◌⊎◌, false, true, IfErr, IsOk, MatchOption, OnErr, OnOk};
+ghost use Rattle.std.specs.Prelude.{◌≡◌, ◌⊎◌, false, true, IfErr, IfOk, IsOk, MatchOption};
+ghost use Rattle.std.specs.Prelude.{OnErr, OnOk};
 ghost use Rattle.std.specs.List.{All};
 ghost use Rattle.period_core.specs.Encoding.{IsColumnValue};
+ghost use Rattle.period_core.specs.declared.refusal.Refusal.TheVariants.{Memory};
 ghost use Rattle.period_core.specs.declared.version.VersionRow.{VersionRow as AnyRow};
-ghost use Rattle.period_core.specs.declared.window.Window.{Window as AnyWindow};
 ghost use Rattle.sqlite.specs.Held.{state};
 ghost use Rattle.sqlite.specs.State.{HasCleanDisk};
 ghost use Rattle.version_tables.specs.Represents.{shown};
-ghost use Rattle.version_tables.specs.Steps.{Keeps};
-ghost use Rattle.version_store.specs.Contents.{Contents, TableVersion, version_in};
-ghost use Rattle.version_store.specs.Scans.{AnswersRefusal, Sees, Visits, is_empty};
-ghost use Rattle.version_store.specs.StoreState.{IsStoreRefusal};
+ghost use Rattle.version_tables.specs.Selections.{selects};
+ghost use Rattle.version_tables.specs.Steps.{Keeps, KeepsFaults};
+ghost use Rattle.version_store.specs.Contents.{AreDated, AreRowsOf, Contents, IsDated};
+ghost use Rattle.version_store.specs.Contents.{TableVersion, version_in};
+ghost use Rattle.version_store.specs.Scans.{AnswersRefusal, IsOwnRefusal, Sees, Visits};
+ghost use Rattle.version_store.specs.Scans.{VisitsChosen, is_empty};
+ghost use Rattle.version_store.specs.StoreState.{IsFailure, IsStoreRefusal, IsUsable};
 ghost use Rattle.version_store.specs.Written.{Has, written_version};
 
 use crate::reading::read_version;
 use crate::refused::refusal_of;
-use crate::visitor::RowVisitor;
-use period_core::{Moment, Refusal, Window};
+use crate::visitor::{KeptRows, RowVisitor};
+use period_core::{Moment, Refusal, VersionRow, Window};
 use sqlite::{Connection, Row};
 use sqlite_trees::store::Alter;
 use std::alloc::Global;
@@ -30,7 +34,12 @@ fn selection_of(window: Window) -> Option<Selection>
 {
     match window {
         Window::Now => Some(Selection::EndingAt(Moment::forever().number())),
-        Window::AsOf(at) => Some(Selection::Overlapping(at.number(), at.number() + 1)),
+        Window::AsOf(at) => {
+            if at == Moment::forever() {
+                return None;
+            }
+            Some(Selection::Overlapping(at.number(), at.number() + 1))
+        }
         Window::FromTo(start, end) => {
             if end <= start {
                 return None;
@@ -46,7 +55,8 @@ fn selection_of(window: Window) -> Option<Selection>
     }
 }
 
-/// Hands the version row that a row of the query shows over to the visitor.
+/// Hands the version row that a row of the query shows over to the visitor. The row of a version that
+/// can be read is refused for memory alone, or by the visitor.
 fn visit_row<V: RowVisitor>(alloc: Global, row: &Row, visitor: &mut V) -> Result<(), Refusal>
     ensures visited { OnOk result ((version : TableVersion)
         → (row.now ≡ shown (written_version version)) → All IsColumnValue version.values
@@ -55,6 +65,9 @@ fn visit_row<V: RowVisitor>(alloc: Global, row: &Row, visitor: &mut V) -> Result
     ensures refused { OnErr result (V.meaning visitor.new ≡ V.meaning visitor.old) }
     ensures named { IfErr result (λ refusal. IsStoreRefusal refusal ⊎ V.may_refuse refusal) }
     ensures answered { AnswersRefusal (V.answered visitor.old) (V.answered visitor.new) result }
+    ensures why { (version : TableVersion) → IsDated version → All IsColumnValue version.values
+        → (row.now ≡ shown (written_version version)) → IfErr result (λ refusal.
+        IsOwnRefusal V.may_refuse (V.answered visitor.new) refusal ⊎ (refusal ≡ Memory)) }
 {
     match read_version(alloc, row) {
         Ok(version) => visitor.visit(version),
@@ -73,13 +86,18 @@ fn scan_selected<S: Alter, V: RowVisitor>(
     requires { connection.old.in_transaction ≡ false }
     ensures visited { HasCleanDisk (state S.Store connection.new)
         → (c : Contents) → Has (state S.Store connection.old).now c
-        → (window : AnyWindow) → Sees window selection
-        → Visits V.next c table window (V.meaning visitor.old) (V.meaning visitor.new) result }
+        → VisitsChosen V.next c table (selects selection)
+        (V.meaning visitor.old) (V.meaning visitor.new) result }
+    ensures why { IsUsable S.Store connection.new
+        → (c : Contents) → Has (state S.Store connection.old).now c → AreDated c.versions
+        → IfErr result (λ refusal. IsOwnRefusal V.may_refuse (V.answered visitor.new) refusal
+        ⊎ IsFailure S.Store connection.old connection.new refusal) }
     ensures same { HasCleanDisk (state S.Store connection.new)
         → Keeps (state S.Store connection.old) (state S.Store connection.new) }
     ensures clean { HasCleanDisk (state S.Store connection.new)
         → HasCleanDisk (state S.Store connection.old) }
     ensures mode { connection.new.in_transaction ≡ false }
+    ensures faults { KeepsFaults (state S.Store connection.old) (state S.Store connection.new) }
     ensures named { IfErr result (λ refusal. IsStoreRefusal refusal ⊎ V.may_refuse refusal) }
     ensures answered { AnswersRefusal (V.answered visitor.old) (V.answered visitor.new) result }
 {
@@ -113,13 +131,18 @@ pub(crate) fn scan_rows<S: Alter, V: RowVisitor>(
 ) -> Result<(), Refusal>
     requires { connection.old.in_transaction ≡ false }
     ensures visited { HasCleanDisk (state S.Store connection.new)
-        → (c : Contents) → Has (state S.Store connection.old).now c
+        → (c : Contents) → Has (state S.Store connection.old).now c → AreDated c.versions
         → Visits V.next c table window (V.meaning visitor.old) (V.meaning visitor.new) result }
+    ensures why { IsUsable S.Store connection.new
+        → (c : Contents) → Has (state S.Store connection.old).now c → AreDated c.versions
+        → IfErr result (λ refusal. IsOwnRefusal V.may_refuse (V.answered visitor.new) refusal
+        ⊎ IsFailure S.Store connection.old connection.new refusal) }
     ensures same { HasCleanDisk (state S.Store connection.new)
         → Keeps (state S.Store connection.old) (state S.Store connection.new) }
     ensures clean { HasCleanDisk (state S.Store connection.new)
         → HasCleanDisk (state S.Store connection.old) }
     ensures mode { connection.new.in_transaction ≡ false }
+    ensures faults { KeepsFaults (state S.Store connection.old) (state S.Store connection.new) }
     ensures empty { is_empty window ≡ true → IsOk result × (connection.new ≡ connection.old)
         × (V.meaning visitor.new ≡ V.meaning visitor.old) }
     ensures named { IfErr result (λ refusal. IsStoreRefusal refusal ⊎ V.may_refuse refusal) }
@@ -128,5 +151,30 @@ pub(crate) fn scan_rows<S: Alter, V: RowVisitor>(
     match selection_of(window) {
         Some(selection) => scan_selected(alloc, connection, table, selection, visitor),
         None => Ok(()),
+    }
+}
+
+/// The version rows of the table of a number, in order.
+pub(crate) fn table_rows<S: Alter>(
+    alloc: Global,
+    connection: &mut Connection<S>,
+    table: u8,
+) -> Result<Vec<VersionRow>, Refusal>
+    requires { connection.old.in_transaction ≡ false }
+    ensures rows { HasCleanDisk (state S.Store connection.new)
+        → (c : Contents) → Has (state S.Store connection.old).now c
+        → IfOk result (λ rows. AreRowsOf c table rows.items) }
+    ensures why { IsUsable S.Store connection.new
+        → (c : Contents) → Has (state S.Store connection.old).now c → AreDated c.versions
+        → IfErr result (IsFailure S.Store connection.old connection.new) }
+    ensures same { HasCleanDisk (state S.Store connection.new)
+        → Keeps (state S.Store connection.old) (state S.Store connection.new) }
+    ensures mode { connection.new.in_transaction ≡ false }
+    ensures named { IfErr result IsStoreRefusal }
+{
+    let mut kept = KeptRows::new(alloc);
+    match scan_selected(alloc, connection, table, Selection::Whole, &mut kept) {
+        Ok(()) => Ok(kept.rows),
+        Err(refusal) => Err(refusal),
     }
 }

@@ -1,30 +1,23 @@
 //! The store: what is kept in memory over a connection.
 
-ghost use Rattle.std.specs.Prelude.{◌≡◌, ◌≢◌, ◌⊎◌, ◌<◌, ◌<ℤ◌, ◌≤ℤ◌, ◌++◌, ◌∷◌, [], List};
+ghost use Rattle.std.specs.Prelude.{◌≡◌, ◌⊎◌, ◌<◌, ◌<ℤ◌, ◌≤ℤ◌, ◌++◌, ◌∷◌, [], List};
 ghost use Rattle.std.specs.Prelude.{IfErr, IfOk, IsOk, IsTrue, OnErr, OnOk, false, length, true};
 ghost use Rattle.catalog_core.specs.Limits.{most_tables};
 ghost use Rattle.catalog_core.specs.table.TableWords.{has_date_period, has_distinct_names};
 ghost use Rattle.catalog_core.specs.declared.table.TableDef.{TableDef};
 ghost use Rattle.period_core.specs.Moments.{forever};
 ghost use Rattle.sqlite.specs.Held.{state};
-ghost use Rattle.period_core.specs.declared.refusal.Refusal.TheVariants.{BadStore};
-ghost use Rattle.version_tables.specs.Presence.{IsNoneThere};
 ghost use Rattle.version_tables.specs.Steps.{IsAsBefore};
 ghost use Rattle.version_tables.specs.Tables.{no_schema};
 ghost use Rattle.version_store.specs.Changed.{planned, with_clock, with_table};
 ghost use Rattle.version_store.specs.Contents.{AreRowsOf, Contents, empty_contents};
 ghost use Rattle.version_store.specs.DistinctKeys.{HaveDistinctKeys};
-ghost use Rattle.version_store.specs.GoodStore.{AreGood, AreLawful, HaveTables, IsGoodStore};
-ghost use Rattle.version_store.specs.GoodStore.{NothingMore};
-ghost use Rattle.version_store.specs.Scans.{AnswersRefusal, Visits, is_empty};
-ghost use Rattle.version_store.specs.StoreState.{Changes, IsOpenRefusal, IsOurs, IsStoreRefusal};
-ghost use Rattle.version_store.specs.StoreState.{IsOnlyRead, IsUsable, StoreRepresents};
-ghost use Rattle.version_store.specs.Written.{Has};
+ghost use Rattle.version_store.specs.Scans.{AnswersRefusal, IsOwnRefusal, Visits, is_empty};
+ghost use Rattle.version_store.specs.StoreState.{Changes, IsFailure, IsOnlyRead, IsStoreRefusal};
+ghost use Rattle.version_store.specs.StoreState.{IsUsable, StoreRepresents};
 
-use crate::inspecting::inspect;
-use crate::reading::table_rows;
 use crate::refused::refusal_of;
-use crate::scanning::scan_rows;
+use crate::scanning::{scan_rows, table_rows};
 use crate::visitor::RowVisitor;
 use crate::writing::{write_clock, write_plan, write_table};
 use catalog_core::{Catalog, Plan, TableDef, encode_def};
@@ -34,7 +27,9 @@ use sqlite_trees::store::Alter;
 use std::alloc::Global;
 use std::marker::Model;
 use std::mem;
-use version_tables::{Presence, create, tables_there};
+use version_tables::create;
+
+pub mod opened;
 
 /// The form of the three tables.
 const FORM: i64 = 1;
@@ -100,74 +95,6 @@ impl<S: Alter> VersionStore<S> {
             }),
             Err(error) => Err((refusal_of(&error), connection)),
         }
-    }
-
-    /// Opens a store. In a database that has none of the three tables they are made, as by
-    /// `create`. Where all three are there, the store is accepted exactly if it is a good one; what
-    /// it holds is then as it was closed. Of three tables that are not as the store makes them, or
-    /// have other tables beside them, no more is said than that a refusal changes nothing. On `Err`
-    /// nothing is changed, the connection is handed back, and no transaction is open on it.
-    pub fn open(
-        alloc: Global,
-        mut connection: Connection<S>,
-    ) -> Result<VersionStore<S>, (Refusal, Connection<S>)>
-        requires { connection.in_transaction ≡ false }
-        ensures fresh { IfOk result (λ store. IsUsable S.Store store.connection
-            → (state S.Store connection).now.schema ≡ no_schema
-            → StoreRepresents S.Store store empty_contents) }
-        ensures good { IfOk result (λ store. IsUsable S.Store store.connection
-            → IsOurs (state S.Store connection).now.schema
-            → IsNoneThere (state S.Store connection).now.schema
-            ⊎ ((good : IsGoodStore NothingMore (state S.Store connection).now)
-            × StoreRepresents S.Store store good.contents)) }
-        ensures same { IfOk result (λ store. IsUsable S.Store store.connection
-            → (c : Contents) → Has (state S.Store connection).now c
-            → StoreRepresents S.Store store c) }
-        ensures tabled { IfOk result (λ store. IsUsable S.Store store.connection
-            → (c : Contents) → Has (state S.Store connection).now c → HaveTables c) }
-        ensures unchanged { IfOk result (λ store. IsUsable S.Store store.connection
-            → (store.catalog.tables ≡ [])
-            ⊎ IsAsBefore (state S.Store connection) (state S.Store store.connection)) }
-        ensures empty { IfOk result (λ store. IsNoneThere (state S.Store connection).now.schema
-            → store.catalog.tables ≡ []) }
-        ensures lawful { IfOk result (λ store. AreLawful [] store.catalog.tables) }
-        ensures bad { IfErr result (λ failed. IsUsable S.Store failed.1 → failed.0 ≡ BadStore
-            → (¬ IsNoneThere (state S.Store connection).now.schema)
-            × ¬ IsGoodStore NothingMore (state S.Store connection).now) }
-        ensures none { IfErr result (λ failed. IsUsable S.Store failed.1
-            → IsAsBefore (state S.Store connection) (state S.Store failed.1)) }
-        ensures was_open { IfErr result (λ failed. IsUsable S.Store failed.1
-            → IsTrue (state S.Store connection).is_open) }
-        ensures settled { IfErr result (λ failed. failed.1.in_transaction ≡ false) }
-        ensures named { IfErr result (λ failed. IsOpenRefusal failed.0) }
-    {
-        let _settled = connection.is_autocommit();
-        match tables_there(&connection) {
-            Presence::Missing => VersionStore::create(alloc, connection),
-            Presence::Partial => Err((Refusal::BadStore, connection)),
-            Presence::Whole => match inspect(alloc, &mut connection) {
-                Ok((catalog, clock)) => Ok(VersionStore {
-                    connection,
-                    catalog,
-                    clock,
-                }),
-                Err(refusal) => Err((refusal, connection)),
-            },
-        }
-    }
-
-    /// Closes the store and opens it again, with the same tables, clock and versions. A store whose
-    /// contents are good is not refused as a bad one.
-    pub fn reopen(self, alloc: Global) -> Result<VersionStore<S>, (Refusal, Connection<S>)>
-        ensures same { IfOk result (λ store. IsUsable S.Store store.connection
-            → (c : Contents) → StoreRepresents S.Store self c → StoreRepresents S.Store store c) }
-        ensures kept { IfErr result (λ failed. IsUsable S.Store failed.1
-            → (c : Contents) → StoreRepresents S.Store self c → AreGood NothingMore c
-            → failed.0 ≢ BadStore) }
-    {
-        let connection = self.close();
-        let _live = connection.schema();
-        VersionStore::open(alloc, connection)
     }
 
     /// The connection, on which no transaction is open.
@@ -277,11 +204,14 @@ impl<S: Alter> VersionStore<S> {
     }
 
     /// The version rows of the table of a number, by values, then period start, then system start.
-    /// Nothing is changed.
+    /// Nothing is changed. A store is read whole, but for memory and faults of its database.
     pub fn rows(&mut self, alloc: Global, table: u8) -> Result<Vec<VersionRow>, Refusal>
         ensures rows { IsUsable S.Store self.new.connection
             → (c : Contents) → StoreRepresents S.Store self.old c
             → IfOk result (λ rows. AreRowsOf c table rows.items) }
+        ensures why { IsUsable S.Store self.new.connection
+            → (c : Contents) → StoreRepresents S.Store self.old c
+            → IfErr result (IsFailure S.Store self.old.connection self.new.connection) }
         ensures same { IsUsable S.Store self.new.connection
             → (c : Contents) → StoreRepresents S.Store self.old c
             → StoreRepresents S.Store self.new c }
@@ -294,8 +224,9 @@ impl<S: Alter> VersionStore<S> {
 
     /// Hands the version rows of the table of a number that the window sees over to the visitor,
     /// one at a time: by values, then period start, then system start. A refusal of the visitor
-    /// ends the scan and is answered. On `Err` the visitor has been handed some of the first rows.
-    /// Nothing is changed. An empty window hands over nothing, and the database is not called.
+    /// ends the scan and is answered; every other is out of memory, or comes of a fault of the
+    /// database. On `Err` the visitor has been handed some of the first rows. Nothing is changed. An
+    /// empty window hands over nothing, and the database is not called.
     pub fn scan<V: RowVisitor>(
         &mut self,
         alloc: Global,
@@ -306,6 +237,10 @@ impl<S: Alter> VersionStore<S> {
         ensures visited { IsUsable S.Store self.new.connection
             → (c : Contents) → StoreRepresents S.Store self.old c
             → Visits V.next c table window (V.meaning visitor.old) (V.meaning visitor.new) result }
+        ensures why { IsUsable S.Store self.new.connection
+            → (c : Contents) → StoreRepresents S.Store self.old c
+            → IfErr result (λ refusal. IsOwnRefusal V.may_refuse (V.answered visitor.new) refusal
+            ⊎ IsFailure S.Store self.old.connection self.new.connection refusal) }
         ensures same { IsUsable S.Store self.new.connection
             → (c : Contents) → StoreRepresents S.Store self.old c
             → StoreRepresents S.Store self.new c }

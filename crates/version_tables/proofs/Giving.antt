@@ -1,12 +1,13 @@
 -- A query whose rows are given one at a time.
 use Rattle.std.proofs.Common.{◌≡◌, ◌⊎◌, ◌∙◌, ap, ℕ, List, [], ◌∷◌, ◌++◌, Option, Some, None, Ok, Err, Result, OnErr, OnOk, IfOk, IfErr, inl, inr, refl, sym, subst, arith, IsTrue, false}
+use Rattle.std.specs.Prelude.{IsSome}
 use Rattle.sqlite.specs.Store.{Ghosts}
 use Rattle.sqlite.specs.Order.{Row}
 use Rattle.sqlite.specs.Tree.{Trees}
 use Rattle.sqlite.specs.Schema.{Schema}
 use Rattle.sqlite.specs.declared.error.Error.{Error}
 use Rattle.sqlite.specs.Held.{Held, state}
-use Rattle.sqlite.specs.Given.{Advances, HasBegun, HasGiven, IsRefused, Returns}
+use Rattle.sqlite.specs.Given.{Advances, FailsToAdvance, HasBegun, HasGiven, IsRefused, Returns}
 use Rattle.sqlite.specs.Listing.{understood}
 use Rattle.sqlite.specs.Effect.{Database}
 use Rattle.sqlite.specs.State.{State, Fails, HasCleanDisk, IsUnchanged, Survives}
@@ -17,8 +18,9 @@ use Rattle.sqlite_resolve.specs.declared.error.CompileError.{CompileError}
 use Rattle.version_tables.specs.Selections.{select_given, select_text}
 use Rattle.version_tables.specs.declared.selection.Selection.{Selection}
 use Rattle.version_tables.specs.Represents.{Records, Represents}
-use Rattle.version_tables.specs.Giving.{AreFirst, GivesNext, HasGivenRows, IsLeft}
-use Rattle.version_tables.specs.Steps.{Keeps}
+use Rattle.version_tables.specs.Giving.{AreFirst, GivesNext, HasGivenRows, IsLeft, IsNotBegun, TellsWhy}
+use Rattle.version_tables.specs.Steps.{HasReason, Keeps, KeepsFaults}
+use Rattle.version_tables.proofs.Reasons.{fails_with_reason}
 use Rattle.version_tables.specs.Tables.{store_schema}
 use Rattle.version_tables.proofs.Selects.{failed_keeps, select_reads, understood_none}
 use Rattle.version_tables.proofs.Shows.{reads}
@@ -62,11 +64,11 @@ module _ {S : Type 0} (g : Ghosts S) (table : ℕ) (selection : Selection) (firs
       let whole = begins_shown text params s s given (given_begin g text params now given h) (unchanged s same.0.is_open) (λ c db it _. ends_alone selection s m stands_now c it.is db _) in
       (whole.0, reads s s table selection (given ++ whole.0) m stands_now whole.1)
 
-  goes_on : (now : Held S) (given : List Row) → IsSettled → now.in_transaction ≡ false → (HasCleanDisk (state g now) → HasCleanDisk (state g first))
+  goes_on : (now : Held S) (given : List Row) → IsSettled → now.in_transaction ≡ false → KeepsFaults (state g first) (state g now) → (HasCleanDisk (state g now) → HasCleanDisk (state g first))
       → (HasCleanDisk (state g now) → HasGiven g text params now given × IsUnchanged (state g first) (state g now)) → HasGivenRows g table selection first now given
-  goes_on now given settled mode clean h = record {
+  goes_on now given settled mode faults clean h = record {
     rows = λ sure. let it = h sure in are_first now given it.0 it.1;
-    left = record { clean = clean; keeps = λ sure. as_it_was (h sure).1; mode = mode };
+    left = record { clean = clean; keeps = λ sure. as_it_was (h sure).1; mode = mode; faults = faults };
     unchanged = λ sure. (h sure).1;
     goes_on = λ sure. (h sure).0;
     settled = settled;
@@ -75,14 +77,18 @@ module _ {S : Type 0} (g : Ghosts S) (table : ℕ) (selection : Selection) (firs
   pub given_none : {X : Type 0} (of : X → Held S) (P : X → Trees → Type 0) (r : Result X Error) → IsSettled → IfOk r (λ x. HasCleanDisk (state g (of x)) → HasBegun g text params first (of x))
       → IfOk r (λ x. Survives (state g first) (state g (of x)) (P x)) → IfOk r (λ x. (of x).in_transaction ≡ false) → IfOk r (λ x. HasGivenRows g table selection first (of x) [])
   given_none of P (Err e) settled begun survives mode = tt
-  given_none of P (Ok x) settled begun survives mode = goes_on (of x) [] settled mode (λ clean. let kept = survives.clean in omega arith) (λ clean. begins (of x) (begun clean))
+  given_none of P (Ok x) settled begun survives mode = goes_on (of x) [] settled mode (record { faults = survives.counts; limit = survives.limit }) (λ clean. let kept = survives.clean in omega arith) (λ clean. begins (of x) (begun clean))
 
-  pub left : {X : Type 0} (now : Held S) → first.in_transaction ≡ false → IsSettled → (r : Result X Error) → OnErr r (IsRefused g text params first r now) → OnErr r (IsLeft g first now)
-  left now mode settled (Ok x) h = tt
-  left now mode settled (Err e) h = record {
-    clean = λ clean. let kept = h.survives.clean in omega arith;
-    keeps = λ clean. failed_keeps text (select_reads selection) params (state g first) (state g now) settled e (h.err clean);
-    mode = h.mode mode;
+  pub not_begun : {X : Type 0} (now : Held S) → first.in_transaction ≡ false → IsSettled → (r : Result X Error) → OnErr r (IsRefused g text params first r now) → OnErr r (IsNotBegun g first r now)
+  not_begun now mode settled (Ok x) h = tt
+  not_begun now mode settled (Err e) h = record {
+    left = record {
+      clean = λ clean. let kept = h.survives.clean in omega arith;
+      keeps = λ clean. failed_keeps text (select_reads selection) params (state g first) (state g now) settled e (h.err clean);
+      mode = h.mode mode;
+      faults = record { faults = h.survives.counts; limit = h.survives.limit };
+    };
+    why = λ clean m stands. fails_with_reason (state g first) (state g now) table selection m stands e (h.err clean);
   }
 
   -- ---- a row more, or the end
@@ -94,14 +100,20 @@ module _ {S : Type 0} (g : Ghosts S) (table : ℕ) (selection : Selection) (firs
     same_so_far : HasCleanDisk (state g now) → IsUnchanged (state g before) (state g now) → IsUnchanged (state g first) (state g now)
     same_so_far clean same = unchanged_then (state g first) (state g before) (state g now) (was.unchanged (still_clean clean)) same
 
+    counted : KeepsFaults (state g first) (state g now)
+    counted = record {
+      faults = (let earlier = was.left.faults.faults in let later = survives.counts in omega arith);
+      limit = survives.limit ∙ was.left.faults.limit;
+    }
+
     gives : (next : Option Row) → (HasCleanDisk (state g now) → Advances g before now next) → (HasCleanDisk (state g now) → IsUnchanged (state g before) (state g now)) → GivesNext g table selection first now given next
     gives (Some row) ok same =
-        goes_on now (given ++ row ∷ []) was.settled (mode was.left.mode) (λ clean. was.left.clean (still_clean clean)) (λ clean. (ok clean text params given (was.goes_on (still_clean clean)), same_so_far clean (same clean)))
+        goes_on now (given ++ row ∷ []) was.settled (mode was.left.mode) counted (λ clean. was.left.clean (still_clean clean)) (λ clean. (ok clean text params given (was.goes_on (still_clean clean)), same_so_far clean (same clean)))
     gives None ok same = record {
       rows = λ clean m stands.
           let so_far = was.unchanged (still_clean clean) in
           reads (state g before) (state g now) table selection given m (subst (λ db. Represents db m) (sym so_far.0.now_is) stands) (ok clean text params given (was.goes_on (still_clean clean)));
-      left = record { clean = λ clean. was.left.clean (still_clean clean); keeps = λ clean. as_it_was (same_so_far clean (same clean)); mode = mode was.left.mode };
+      left = record { clean = λ clean. was.left.clean (still_clean clean); keeps = λ clean. as_it_was (same_so_far clean (same clean)); mode = mode was.left.mode; faults = counted };
     }
 
     -- what an error leaves
@@ -123,4 +135,20 @@ module _ {S : Type 0} (g : Ghosts S) (table : ℕ) (selection : Selection) (firs
 
     pub left_so : {X : Type 0} (r : Result X Error) → (HasCleanDisk (state g now) → IfErr r (λ e. Fails (state g before) (state g now) ⊥ e ⊎ IsUnchanged (state g before) (state g now))) → OnErr r (IsLeft g first now)
     left_so (Ok x) kept = tt
-    left_so (Err e) kept = record { clean = λ clean. was.left.clean (still_clean clean); keeps = λ clean. keeps e (kept clean) clean; mode = mode was.left.mode }
+    left_so (Err e) kept = record { clean = λ clean. was.left.clean (still_clean clean); keeps = λ clean. keeps e (kept clean) clean; mode = mode was.left.mode; faults = counted }
+
+    -- why there is an error, of the time since the query began
+    since : (e : Error) → IsUnchanged (state g first) (state g before) → HasReason (state g before) (state g now) e → HasReason (state g first) (state g now) e
+    since e so_far why on = elim (why so_far.0.is_open) [
+      | inl memory ↦ inl memory
+      | inr fault ↦ inr (elim fault [
+        | inl more ↦ inl (let earlier = was.left.faults.faults in omega (arith, more, earlier))
+        | inr limit ↦ inr (subst IsSome was.left.faults.limit limit)
+      ])
+    ]
+
+    pub why_so : {X : Type 0} (r : Result X Error) → (HasCleanDisk (state g now) → IfErr r (FailsToAdvance g before now)) → TellsWhy g first now r
+    why_so (Ok x) failed clean m stands = tt
+    why_so (Err e) failed clean m stands =
+        let so_far = was.unchanged (still_clean clean) in
+        since e so_far (fails_with_reason (state g before) (state g now) table selection m (subst (λ db. Represents db m) (sym so_far.0.now_is) stands) e (failed clean text params given (was.goes_on (still_clean clean))))

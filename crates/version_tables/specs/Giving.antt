@@ -1,15 +1,16 @@
 -- The query of versions of one table, whose rows are given one at a time.
 use Rattle.std.specs.Prelude.{◌≡◌, ℕ, false, List, [], ◌∷◌, ◌++◌, map, Option, Some, None}
-use Rattle.std.specs.Prelude.{IsPermutation, IsSorted, IsTrue}
+use Rattle.std.specs.Prelude.{IfErr, IsPermutation, IsSorted, IsTrue, Result}
 use Rattle.sqlite.specs.Store.{Ghosts}
 use Rattle.sqlite.specs.Effect.{Database}
 use Rattle.sqlite.specs.Order.{Row}
 use Rattle.sqlite.specs.Given.{HasGiven}
 use Rattle.sqlite.specs.Held.{Held, state}
 use Rattle.sqlite.specs.State.{HasCleanDisk, IsUnchanged}
+use Rattle.sqlite.specs.declared.error.Error.{Error}
 use Rattle.version_tables.specs.Represents.{Records, Represents, Version, shown, version_cmp}
 use Rattle.version_tables.specs.Selections.{select_given, select_text, selected}
-use Rattle.version_tables.specs.Steps.{Keeps}
+use Rattle.version_tables.specs.Steps.{HasReason, Keeps, KeepsFaults}
 use Rattle.version_tables.specs.declared.selection.Selection.{Selection}
 
 -- the selected versions of the table, each once and in order
@@ -40,6 +41,19 @@ pub record IsLeft {S : Type 0} (g : Ghosts S) (first now : Held S) : Type 0 wher
   pub clean : HasCleanDisk (state g now) → HasCleanDisk (state g first)
   pub keeps : HasCleanDisk (state g now) → Keeps (state g first) (state g now)
   pub mode : now.in_transaction ≡ false
+  pub faults : KeepsFaults (state g first) (state g now)
+
+-- where the three tables were there, an error of the query has a reason
+abbrev pub TellsWhy : {S X : Type 0} → Ghosts S → Held S → Held S → Result X Error → Type 0
+TellsWhy g first now result =
+    HasCleanDisk (state g now) → (records : Records) → Represents (state g first).now records
+    → IfErr result (HasReason (state g first) (state g now))
+
+-- a query that did not begin
+pub record IsNotBegun {S X : Type 0} (g : Ghosts S) (first : Held S) (result : Result X Error)
+    (now : Held S) : Type 0 where
+  pub left : IsLeft g first now
+  pub why : TellsWhy g first now result
 
 -- the query goes on, and has given these rows since it began outside a transaction
 pub record HasGivenRows {S : Type 0} (g : Ghosts S) (table : ℕ) (selection : Selection)

@@ -9,7 +9,8 @@ ghost use Rattle.sqlite.specs.Given.{row_if};
 ghost use Rattle.sqlite.specs.Held.{Held, state};
 ghost use Rattle.sqlite.specs.Order.{Row as Values};
 ghost use Rattle.sqlite.specs.State.{HasCleanDisk};
-ghost use Rattle.version_tables.specs.Giving.{GivesNext, HasGivenRows, IsLeft};
+ghost use Rattle.version_tables.specs.Giving.{GivesNext, HasGivenRows, IsLeft, IsNotBegun};
+ghost use Rattle.version_tables.specs.Giving.{TellsWhy};
 ghost use Rattle.version_tables.specs.Represents.{meta_shown, rowid_shown, table_shown};
 ghost use Rattle.version_tables.specs.Represents.{version_shown};
 ghost use Rattle.version_tables.specs.Rows.{InOrder, by_rowid};
@@ -29,7 +30,7 @@ pub fn rows_of<S: Alter>(
 ) -> Result<Rows<'_, S>, Error>
     requires { connection.old.in_transaction ≡ false }
     ensures* refused { sem 𝓛 (RestsIfErr (the_row S.row S.Store) connection.entry
-        (λ rows. rows.conn.ghost_name) result (IsLeft S.Store connection.old)) }
+        (λ rows. rows.conn.ghost_name) result (IsNotBegun S.Store connection.old result)) }
     ensures same_reference { IfOk result
         (λ rows. rows.conn.ghost_name ≡ connection.entry.ghost_name) }
     ensures begun { IfOk result
@@ -65,6 +66,9 @@ pub fn to_next_row<S: Alter>(rows: &mut Rows<'_, S>) -> Result<(), Error>
     ensures left { (table : ℕ) (selection : AnySelection) (first : Held S) (given : List Values)
         → HasGivenRows S.Store table selection first rows.old.conn.now given
         → OnErr result (IsLeft S.Store first rows.new.conn.now) }
+    ensures why { (table : ℕ) (selection : AnySelection) (first : Held S) (given : List Values)
+        → HasGivenRows S.Store table selection first rows.old.conn.now given
+        → TellsWhy S.Store first rows.new.conn.now result }
     ensures clean { HasCleanDisk (state S.Store rows.new.conn.now)
         → HasCleanDisk (state S.Store rows.old.conn.now) }
     ensures mode { rows.old.conn.now.in_transaction ≡ false

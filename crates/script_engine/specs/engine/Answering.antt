@@ -1,7 +1,7 @@
 -- What a sequenced query is answered from: the rows that its table references see, and the columns of
 -- its answer.
-use Rattle.std.specs.Prelude.{◌≡◌, ◌↔◌, ℕ, ℤ, List, IsPermutation, filter, map}
-use Rattle.std.specs.List.{AllZip}
+use Rattle.std.specs.Prelude.{◌≡◌, ◌↔◌, ℕ, ℤ, List, IsPermutation, Some, filter, map, true}
+use Rattle.std.specs.List.{AllByRecursion, AllZip}
 use Rattle.period_core.specs.Windows.{window_sees}
 use Rattle.period_core.specs.declared.row.PeriodRow.{PeriodRow}
 use Rattle.period_core.specs.declared.value.Value.{Value}
@@ -10,7 +10,11 @@ use Rattle.period_core.specs.declared.window.Window.{Window}
 use Rattle.temporal_model.specs.Snapshot.{InSnapshot}
 use Rattle.catalog_core.specs.declared.query.AnswerColumn.{AnswerColumn}
 use Rattle.catalog_core.specs.declared.query.resolved.QueryReference.{QueryReference}
-use Rattle.catalog_core.specs.query.Queries.{Query, both, one}
+use Rattle.catalog_core.specs.declared.table.TableDef.{TableDef}
+use Rattle.catalog_core.specs.query.Fitting.{are_in_place}
+use Rattle.catalog_core.specs.query.Queries.{Query, both, one, references_of}
+use Rattle.catalog_core.specs.query.Resolving.{value_kinds}
+use Rattle.catalog_core.specs.table.TableWords.{table_of}
 use Rattle.history_model.specs.Histories.{History}
 use Rattle.history_model.specs.Left.{AreLeftBy}
 use Rattle.history_model.specs.OrdinaryQuery.{HistorySights}
@@ -53,3 +57,14 @@ EachSees history = AllZip (SeesRows history)
 abbrev pub columns_of : Query → List AnswerColumn
 columns_of (one select) = select.items
 columns_of (both operator left right) = columns_of left
+
+-- the reference is to a table of the catalog, with the kinds of its values
+abbrev pub IsKnown : List TableDef → QueryReference → Type 0
+IsKnown catalog reference =
+    (table : TableDef) × (table_of catalog reference.table ≡ Some table)
+    × (reference.kinds ≡ value_kinds table)
+
+-- the query's references are such, in their places
+pub record IsOfCatalog (catalog : List TableDef) (query : Query) : Type 0 where
+  pub placed : are_in_place 0 (references_of query) ≡ true
+  pub known : AllByRecursion (IsKnown catalog) (references_of query)

@@ -28,6 +28,8 @@ use Rattle.history_model.specs.Left.{AreLeftBy, versions_of}
 use Rattle.history_model.specs.OrdinaryQuery.{InAnswerOn}
 use Rattle.period_keys.specs.Lawful.{IsLawfulChange}
 use Rattle.sqlite.specs.Store.{Ghosts}
+use Rattle.sqlite.specs.Held.{state}
+use Rattle.version_tables.specs.Steps.{HasFault}
 use Rattle.version_store.specs.StoreState.{IsStoreRefusal}
 use Rattle.script_engine.specs.engine.EngineState.{EngineState}
 use Rattle.script_engine.specs.engine.Stored.{RepresentsSome}
@@ -89,6 +91,20 @@ abbrev pub MayRefuseOver : List TableDef → ℤ → Statement → Refusal → T
 MayRefuseOver catalog clock s refusal =
     MayRefuse (AppliesOver catalog clock s) refusal
     ⊎ (IsChange s × IsConstraintRefusal refusal × NoneApplies (AppliesOver catalog clock s))
+
+-- the statement asks, and changes nothing
+abbrev pub IsQuery : Statement → Type 0
+IsQuery (statement.sequenced q) = Unit {0}
+IsQuery (statement.stored q) = Unit {0}
+IsQuery _ = ⊥
+
+-- what a query of an engine that represents a history may be refused with: by a condition of its
+-- own, or out of memory; or there was a fault of the database
+abbrev pub MayRefuseQuery : {S : Type 0} → Ghosts S → EngineState S → EngineState S → Statement
+    → Refusal → Type 0
+MayRefuseQuery g old new s refusal =
+    MayAnswer (AppliesOver old.catalog.tables old.clock s) refusal
+    ⊎ HasFault (state g old.connection) (state g new.connection)
 
 -- what a moment may be refused with: 13 for FOREVER, 40 for one before the clock, and only for a
 -- later one out of memory or another failure of the database

@@ -1,8 +1,7 @@
 //! Sequenced queries answered: what their table references see, as period rows, and the answer over
 //! these rows.
 
-ghost use Rattle.std.specs.Prelude.{◌≡◌, ◌++◌, ◌∷◌, [], IfErr, IfOk, List, OnOk, false, map, true};
-ghost use Rattle.std.specs.Prelude.{ℤ};
+ghost use Rattle.std.specs.Prelude.{◌≡◌, ◌++◌, ◌∷◌, [], IfErr, IfOk, List, OnOk, map, true};
 ghost use Rattle.catalog_core.specs.declared.query.AnswerColumn.{AnswerColumn as Item};
 ghost use Rattle.catalog_core.specs.declared.query.resolved.QueryReference.{QueryReference as Ref};
 ghost use Rattle.catalog_core.specs.query.Fitting.{fits};
@@ -10,16 +9,15 @@ ghost use Rattle.catalog_core.specs.query.Queries.{plain_query, references_of};
 ghost use Rattle.history_model.specs.Histories.{History};
 ghost use Rattle.history_model.specs.OrdinaryQuery.{InAnswerOn, InAnswerOver};
 ghost use Rattle.history_model.specs.Versions.{row_of};
-ghost use Rattle.period_core.specs.Windows.{window_sees};
 ghost use Rattle.period_core.specs.declared.refusal.Refusal.TheVariants.{Memory as OutOfMemory};
 ghost use Rattle.period_core.specs.declared.row.PeriodRow.{PeriodRow as Row};
 ghost use Rattle.period_keys.specs.Current.{rows_by_key};
 ghost use Rattle.version_store.specs.Contents.{Contents};
-ghost use Rattle.version_store.specs.StoreState.{IsOnlyRead, IsStoreRefusal, IsUsable};
-ghost use Rattle.version_store.specs.StoreState.{StoreRepresents};
+ghost use Rattle.version_store.specs.StoreState.{IsFailure, IsOnlyRead, IsStoreRefusal};
+ghost use Rattle.version_store.specs.StoreState.{IsUsable, StoreRepresents};
 ghost use Rattle.script_engine.specs.Headline.{IsSequencedAnswer};
 ghost use Rattle.script_engine.specs.engine.Answering.{AreRowsSeen, EachSees, SeesRows};
-ghost use Rattle.script_engine.specs.engine.Answering.{columns_of};
+ghost use Rattle.script_engine.specs.engine.Answering.{IsOfCatalog, columns_of};
 ghost use Rattle.script_engine.specs.engine.Audits.{HaveSeenRows};
 ghost use Rattle.script_engine.specs.engine.EngineState.{engine_of};
 ghost use Rattle.script_engine.specs.engine.InMemory.{rows_in};
@@ -93,19 +91,8 @@ fn current_rows(alloc: Global, tables: &[TableIndex], number: u8) -> Result<Vec<
     }
 }
 
-/// Whether a window sees no version, whatever its system time.
-fn is_blind(window: &Window) -> bool
-    ensures { result ≡ true → (from to : ℤ) → window_sees window.now from to ≡ false }
-{
-    match window {
-        Window::Now | Window::AsOf(_) => false,
-        Window::FromTo(start, end) => end <= start,
-        Window::Between(start, last) => last < start,
-    }
-}
-
-/// The rows of a reference's table that its window sees, read from the store. Where the window sees
-/// no version nothing is read.
+/// The rows of a reference's table that its window sees, read from the store. Where the window is
+/// empty nothing is read.
 fn scanned_rows<S: Alter>(
     alloc: Global,
     store: &mut VersionStore<S>,
@@ -115,12 +102,12 @@ fn scanned_rows<S: Alter>(
         → (c : Contents) → StoreRepresents S.Store store.old c
         → IfOk result (λ rows.
         AreRowsSeen c reference.now.table reference.now.window rows.items) }
+    ensures why { IsUsable S.Store store.new.connection
+        → (c : Contents) → StoreRepresents S.Store store.old c
+        → IfErr result (IsFailure S.Store store.old.connection store.new.connection) }
     ensures read { IsOnlyRead S.Store store.old store.new }
     ensures named { IfErr result IsStoreRefusal }
 {
-    if is_blind(&reference.window) {
-        return Ok(Vec::new(alloc));
-    }
     let mut seen = SeenRows::new(alloc);
     match store.scan(alloc, reference.table, reference.window, &mut seen) {
         Ok(()) => Ok(seen.rows),
@@ -141,6 +128,10 @@ pub fn seen_by<S: Alter>(
         → (history : History)
         → EngineRepresents S.Store history (engine_of store.old (map rows_by_key tables.now))
         → IfOk result (SeesRows history reference.now) }
+    ensures why { IsUsable S.Store store.new.connection
+        → (history : History)
+        → EngineRepresents S.Store history (engine_of store.old (map rows_by_key tables.now))
+        → IfErr result (IsFailure S.Store store.old.connection store.new.connection) }
     ensures read { IsOnlyRead S.Store store.old store.new }
     ensures named { IfErr result IsStoreRefusal }
 {
@@ -171,6 +162,10 @@ fn push_seen<S: Alter>(
         → EngineRepresents S.Store history (engine_of store.old (map rows_by_key tables.now))
         → (before : List Ref) → EachSees history before lists.old.items
         → OnOk result (EachSees history (before ++ references.now) lists.new.items) }
+    ensures why { IsUsable S.Store store.new.connection
+        → (history : History)
+        → EngineRepresents S.Store history (engine_of store.old (map rows_by_key tables.now))
+        → IfErr result (IsFailure S.Store store.old.connection store.new.connection) }
     ensures read { IsOnlyRead S.Store store.old store.new }
     ensures named { IfErr result IsStoreRefusal }
 {
@@ -200,6 +195,10 @@ fn push_tables<S: Alter>(
         → (before : List Ref) → EachSees history before lists.old.items
         → OnOk result (EachSees history
         (before ++ references_of (plain_query query.now)) lists.new.items) }
+    ensures why { IsUsable S.Store store.new.connection
+        → (history : History)
+        → EngineRepresents S.Store history (engine_of store.old (map rows_by_key tables.now))
+        → IfErr result (IsFailure S.Store store.old.connection store.new.connection) }
     ensures read { IsOnlyRead S.Store store.old store.new }
     ensures named { IfErr result IsStoreRefusal }
 {
@@ -228,6 +227,10 @@ fn tables_of<S: Alter>(
         → (history : History)
         → EngineRepresents S.Store history (engine_of store.old (map rows_by_key tables.now))
         → IfOk result (EachSees history (references_of (plain_query query.now))) }
+    ensures why { IsUsable S.Store store.new.connection
+        → (history : History)
+        → EngineRepresents S.Store history (engine_of store.old (map rows_by_key tables.now))
+        → IfErr result (IsFailure S.Store store.old.connection store.new.connection) }
     ensures read { IsOnlyRead S.Store store.old store.new }
     ensures named { IfErr result IsStoreRefusal }
 {
@@ -281,9 +284,8 @@ pub fn answer_over(alloc: Global, query: &Query, tables: &Tables) -> Result<Answ
 }
 
 /// The answer of a query over the rows in memory and the store, and what its references saw. What the
-/// references of a resolved query see always fits it, over a store whose rows are of its tables:
-/// where it does not, the database gave rows that the engine never wrote, and the refusal is 62.
-/// Nothing is changed.
+/// references of a query of the catalog see in a history always fits it. Where it does not, the
+/// connection is no longer usable, and the refusal is 62. Nothing is changed.
 pub fn answered<S: Alter>(
     alloc: Global,
     store: &mut VersionStore<S>,
@@ -299,6 +301,11 @@ pub fn answered<S: Alter>(
         → (history : History)
         → EngineRepresents S.Store history (engine_of store.old (map rows_by_key tables.now))
         → IfOk result (λ found. HaveSeenRows history (plain_query query.now) found.1) }
+    ensures why { IsUsable S.Store store.new.connection
+        → (history : History)
+        → EngineRepresents S.Store history (engine_of store.old (map rows_by_key tables.now))
+        → IsOfCatalog store.old.catalog.tables (plain_query query.now)
+        → IfErr result (IsFailure S.Store store.old.connection store.new.connection) }
     ensures columns { IfOk result (λ found. found.0.columns
         ≡ map (λ (item : Item). item.name) (columns_of (plain_query query.now))) }
     ensures read { IsOnlyRead S.Store store.old store.new }

@@ -8,7 +8,7 @@ ghost use Rattle.sql_statements.specs.Trees as statement;
 ghost use Rattle.version_store.specs.StoreState.{IsUsable};
 ghost use Rattle.script_engine.specs.engine.Audits.{AuditedStepsTo, IsVerdictOver};
 ghost use Rattle.script_engine.specs.engine.InMemory.{IsSameInMemory};
-ghost use Rattle.script_engine.specs.engine.Runs.{MayRefuseOver};
+ghost use Rattle.script_engine.specs.engine.Runs.{IsQuery, MayRefuseOver, MayRefuseQuery};
 ghost use Rattle.script_engine.specs.engine.Stored.{EngineRepresents, KeepsOnErr, WasUsable};
 
 use crate::engine::Engine;
@@ -47,6 +47,10 @@ impl<S: Alter> Engine<S> {
             → (history : History) → EngineRepresents S.Store history self.old
             → AuditedStepsTo S.Store history (statement.sequenced (plain_query query.now)) result
             self.new }
+        ensures queries { IsUsable S.Store self.new.connection
+            → (history : History) → EngineRepresents S.Store history self.old
+            → IfErr result.result (MayRefuseQuery S.Store self.old self.new
+            (statement.sequenced (plain_query query.now))) }
         ensures kept { KeepsOnErr S.Store self.old self.new result.result }
         ensures refused { IfErr result.result (MayRefuseOver self.old.catalog.tables self.old.clock
             (statement.sequenced (plain_query query.now))) }
@@ -78,6 +82,12 @@ impl<S: Alter> Engine<S> {
             → (history : History) → EngineRepresents S.Store history self.old
             → AuditedStepsTo S.Store history (plain statement.now) result self.new }
         ensures kept { KeepsOnErr S.Store self.old self.new result.result }
+
+        // A query is refused with 62 only where there was a fault of the database.
+        ensures queries { IsUsable S.Store self.new.connection
+            → (history : History) → EngineRepresents S.Store history self.old
+            → IsQuery (plain statement.now)
+            → IfErr result.result (MayRefuseQuery S.Store self.old self.new (plain statement.now)) }
 
         // And whatever the database holds:
         ensures refused { IfErr result.result

@@ -1,4 +1,4 @@
-//! The current rows of the tables, loaded from a store.
+//! The current rows of the tables, loaded from a store as it is opened.
 
 ghost use Rattle.std.specs.Prelude.{◌≡◌, ◌++◌, [], IfErr, IfOk, OnErr, OnOk, length};
 ghost use Rattle.period_keys.specs.Lawful.{key_positions};
@@ -10,11 +10,11 @@ ghost use Rattle.version_store.specs.StoreState.{StoreRepresents};
 ghost use Rattle.script_engine.specs.engine.InMemory.{AreCurrentOf, HaveCurrentRows};
 
 use catalog_core::TableDef;
-use period_core::{Items, Memory, Refusal, VersionRow, Window};
+use period_core::{Items, Memory, Refusal, VersionRow};
 use period_keys::{CurrentRows, positions_of};
 use sqlite_trees::store::Alter;
 use std::alloc::Global;
-use version_store::{KeptRows, VersionStore};
+use version_store::{KeptRows, OpenedStore};
 
 /// No rows of a table, by its key.
 fn no_rows(alloc: Global, table: &TableDef) -> Result<CurrentRows, Memory>
@@ -25,10 +25,10 @@ fn no_rows(alloc: Global, table: &TableDef) -> Result<CurrentRows, Memory>
     Ok(CurrentRows::new(alloc, Items::from_vec(positions)))
 }
 
-/// The current versions of the table of a number, read from a store.
+/// The current versions of the table of a number, read from an opened store.
 fn current_versions<S: Alter>(
     alloc: Global,
-    store: &mut VersionStore<S>,
+    store: &mut OpenedStore<S>,
     number: u8,
 ) -> Result<Vec<VersionRow>, Refusal>
     ensures current { IsUsable S.Store store.new.connection
@@ -38,7 +38,7 @@ fn current_versions<S: Alter>(
     ensures named { IfErr result IsStoreRefusal }
 {
     let mut kept = KeptRows::new(alloc);
-    match store.scan(alloc, number, Window::Now, &mut kept) {
+    match store.scan_current(alloc, number, &mut kept) {
         Ok(()) => Ok(kept.rows),
         Err(refusal) => Err(refusal),
     }
@@ -57,7 +57,7 @@ fn add_each(alloc: Global, current: &mut CurrentRows, rows: Vec<VersionRow>) -> 
 /// The current rows of the table of a number, by its key.
 fn load_table<S: Alter>(
     alloc: Global,
-    store: &mut VersionStore<S>,
+    store: &mut OpenedStore<S>,
     number: u8,
     mut rows: CurrentRows,
 ) -> Result<CurrentRows, Refusal>
@@ -79,11 +79,11 @@ fn load_table<S: Alter>(
     }
 }
 
-/// The current rows of each table of a store, in the order of its catalog. Nothing is changed, and
-/// a store without tables is not refused.
+/// The current rows of each table of an opened store, in the order of its catalog. Nothing is
+/// changed, and a store without tables is not refused.
 pub fn load<S: Alter>(
     alloc: Global,
-    store: &mut VersionStore<S>,
+    store: &mut OpenedStore<S>,
 ) -> Result<Vec<CurrentRows>, Refusal>
     ensures loaded { IsUsable S.Store store.new.connection
         → (c : Contents) → StoreRepresents S.Store store.old c → HaveTables c

@@ -29,7 +29,7 @@ use period_core::{Memory, Refusal};
 use period_keys::{CurrentRows, TableIndex, add_table, is_lawful, rows_of, tables_of};
 use sqlite_trees::store::Alter;
 use std::alloc::Global;
-use version_store::VersionStore;
+use version_store::{OpenedStore, VersionStore};
 
 /// The current rows of the table of a number.
 pub fn rows_of_number(tables: &[TableIndex], number: u8) -> Option<&CurrentRows>
@@ -77,12 +77,12 @@ pub fn remove_last(tables: &mut Vec<TableIndex>)
     let _last = tables.pop();
 }
 
-/// The tables of a store, with their current rows. A store in which two current rows share a key on
-/// some day, or a child row has no parent, is refused as a bad one. Nothing is changed, and a store
-/// without tables is not refused.
+/// The tables of an opened store, with their current rows. A store in which two current rows share a
+/// key on some day, or a child row has no parent, is refused as a bad one. Nothing is changed, and a
+/// store without tables is not refused.
 pub fn load_lawful<S: Alter>(
     alloc: Global,
-    store: &mut VersionStore<S>,
+    store: &mut OpenedStore<S>,
 ) -> Result<Vec<TableIndex>, Refusal>
     requires { AreLawful [] store.old.catalog.tables }
     ensures follow { IfOk result

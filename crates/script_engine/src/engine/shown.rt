@@ -6,7 +6,7 @@ ghost use Rattle.catalog_core.specs.declared.stored.Stored.{Stored as AnyStored}
 ghost use Rattle.period_core.specs.declared.refusal.Refusal.TheVariants.{Memory as OutOfMemory};
 ghost use Rattle.period_core.specs.declared.version.VersionRow.{VersionRow as AnyRow};
 ghost use Rattle.version_store.specs.Contents.{Contents};
-ghost use Rattle.version_store.specs.StoreState.{IsOnlyRead, IsStoreRefusal, IsUsable};
+ghost use Rattle.version_store.specs.StoreState.{IsFailure, IsOnlyRead, IsStoreRefusal, IsUsable};
 ghost use Rattle.version_store.specs.StoreState.{StoreRepresents};
 ghost use Rattle.script_engine.specs.engine.Shown.{AreShownOf, cell_at, version_columns};
 
@@ -134,6 +134,9 @@ pub fn shown_rows<S: Alter>(
     ensures shown { IsUsable S.Store store.new.connection
         → (c : Contents) → StoreRepresents S.Store store.old c
         → IfOk result (λ rows. AreShownOf c query rows.items) }
+    ensures why { IsUsable S.Store store.new.connection
+        → (c : Contents) → StoreRepresents S.Store store.old c
+        → IfErr result (IsFailure S.Store store.old.connection store.new.connection) }
     ensures read { IsOnlyRead S.Store store.old store.new }
     ensures named { IfErr result IsStoreRefusal }
 {

@@ -1,5 +1,5 @@
 use Rattle.sqlite.specs.Given.{row_if}
-use Rattle.version_tables.proofs.Giving.{gives_next, left_so}
+use Rattle.version_tables.proofs.Giving.{gives_next, left_so, why_so}
 use Rattle.version_tables.proofs.reading.to_next_row.Goals as goal
 
 pub returns-clause-gives : goal.returns-clause-gives
@@ -10,3 +10,7 @@ returns-clause-gives g c table selection first given was =
 pub returns-clause-left : goal.returns-clause-left
 returns-clause-left g c table selection first given was =
     left_so g.S.Store table selection first c.args.rows.now.conn.now c.advance.new.self.conn.now given was c.advance.ensures.survives c.advance.ensures.mode c.advance.result c.advance.ensures.kept
+
+pub returns-clause-why : goal.returns-clause-why
+returns-clause-why g c table selection first given was =
+    why_so g.S.Store table selection first c.args.rows.now.conn.now c.advance.new.self.conn.now given was c.advance.ensures.survives c.advance.ensures.mode c.advance.result c.advance.ensures.err

@@ -23,7 +23,10 @@ use Rattle.std.proofs.Common.{◌≡◌, ◌∙◌, ap, inl}
 use Rattle.std.specs.Prelude.{IfErr, OnErr}
 use Rattle.period_core.specs.Leasts.{MayAnswer}
 use Rattle.script_engine.specs.engine.InMemory.{IsSameInMemory}
-use Rattle.script_engine.specs.engine.Runs.{MayRefuseOver}
+use Rattle.script_engine.specs.engine.Answering.{IsOfCatalog}
+use Rattle.script_engine.specs.engine.Runs.{MayRefuseOver, MayRefuseQuery}
+use Rattle.script_engine.proofs.Fits.{of_catalog}
+use Rattle.script_engine.proofs.Refused.{failed_query}
 use Rattle.script_engine.proofs.SameInMemory.{failed_over, read_memory, same_memory}
 use Rattle.script_engine.proofs.engine.Engine.answer_audited.Goals as goal
 
@@ -95,3 +98,24 @@ returns-clause-memory g c =
     let new : EngineState g.row.S.Denot = engine_of c.answered.new.store tables in
     subst (λ (entry : Entry). OnErr entry.result (IsSameInMemory c.args.self.now new)) (sym c.unaudited-in-Err-answered.ensures)
     (subst (λ (e : EngineState g.row.S.Denot). IsSameInMemory e new) c.self.view_is (read_memory g.S.Store c.self.inside.store c.answered.new.store tables c.in-Err-answered.ensures.read))
+
+pub returns-in-Err-clause-queries : goal.returns-in-Err-clause-queries
+returns-in-Err-clause-queries g c usable history kept =
+    let s : Statement = statement.sequenced (plain_query c.args.query.now) in
+    let same : c.catalog.result.now.tables ≡ c.args.self.now.catalog.tables = ap (λ (k : Catalog). k.tables) c.catalog.ensures ∙ ap (λ s. s.catalog.tables) c.self.view_is in
+    subst (λ (entry : Entry). IfErr entry.result (MayRefuseQuery g.S.Store c.args.self.now c.args.self.now s)) (sym c.unaudited.ensures)
+    (inl (subst (λ (tables : List TableDef). MayAnswer (Holds (query_conditions tables s)) c.in-Err.refusal) same c.in-Err.ensures.refused))
+
+pub returns-clause-queries : goal.returns-clause-queries
+returns-clause-queries g c usable history kept =
+    let asked = plain_query c.args.query.now in
+    let s : Statement = statement.sequenced asked in
+    let query = resolved.plain_query c.in-Ok.query in
+    let tables : List RowsByKey = map rows_by_key c.self.inside.tables.items in
+    let old : EngineState g.row.S.Denot = engine_of c.self.inside.store tables in
+    let new : EngineState g.row.S.Denot = engine_of c.answered.new.store tables in
+    let was : EngineRepresents g.S.Store history old = subst (λ s. EngineRepresents g.S.Store history s) (sym c.self.view_is) kept in
+    let known : IsOfCatalog c.self.inside.store.catalog.tables query = of_catalog c.self.inside.store.catalog.tables asked query (subst (λ (k : Catalog). ResolvesQuery k.tables s query) c.catalog.ensures c.in-Ok.ensures.resolved) in
+    let why = c.in-Err-answered.ensures.why usable history (subst (λ (l : List TableRows). EngineRepresents g.S.Store history (engine_of c.self.inside.store (map rows_by_key l))) (sym c.as_slice.ensures.value) was) known in
+    subst (λ (entry : Entry). IfErr entry.result (MayRefuseQuery g.S.Store c.args.self.now new s)) (sym c.unaudited-in-Err-answered.ensures)
+    (subst (λ (e : EngineState g.row.S.Denot). MayRefuseQuery g.S.Store e new s c.in-Err-answered.refusal) c.self.view_is (failed_query g.S.Store old new s c.in-Err-answered.refusal why))

@@ -8,7 +8,7 @@ use Rattle.script_engine.specs.declared.entry.Entry.{Entry}
 use Rattle.script_engine.proofs.Audited.{not_sequenced, other_entry}
 use Rattle.std.specs.Prelude.{IfErr, OnErr}
 use Rattle.script_engine.specs.engine.InMemory.{IsSameInMemory}
-use Rattle.script_engine.specs.engine.Runs.{MayRefuseOver}
+use Rattle.script_engine.specs.engine.Runs.{MayRefuseOver, MayRefuseQuery}
 use Rattle.script_engine.proofs.engine.Engine.execute_audited.Goals as goal
 
 pub returns-in-Sequenced-clause-step : goal.returns-in-Sequenced-clause-step
@@ -35,3 +35,12 @@ returns-in_default-clause-refused g c =
 pub returns-in_default-clause-memory : goal.returns-in_default-clause-memory
 returns-in_default-clause-memory g c =
     subst (λ (entry : Entry). OnErr entry.result (IsSameInMemory c.args.self.now c.execute.new.self)) (sym c.unaudited.ensures) c.execute.ensures.memory
+
+pub returns-in-Sequenced-clause-queries : goal.returns-in-Sequenced-clause-queries
+returns-in-Sequenced-clause-queries g c usable history kept asks =
+    let said : statement.sequenced (plain_query c.in-Sequenced.query) ≡ plain c.args.statement.now = ap plain_form (sym c.in-Sequenced.is) ∙ c.form.ensures in
+    subst (λ (s : Statement). IfErr c.answer_audited.result.result (MayRefuseQuery g.S.Store c.args.self.now c.answer_audited.new.self s)) said (c.answer_audited.ensures.queries usable history kept)
+
+pub returns-in_default-clause-queries : goal.returns-in_default-clause-queries
+returns-in_default-clause-queries g c usable history kept asks =
+    subst (λ (entry : Entry). IfErr entry.result (MayRefuseQuery g.S.Store c.args.self.now c.execute.new.self (plain c.args.statement.now))) (sym c.unaudited.ensures) (c.execute.ensures.queries usable history kept asks)

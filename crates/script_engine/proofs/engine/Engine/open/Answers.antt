@@ -1,46 +1,55 @@
-use Rattle.std.proofs.Common.{◌≡◌, [], inl, inr, map, subst, sym}
+use Rattle.std.proofs.Common.{◌≡◌, ◌⊎◌, [], List, inl, inr, map, subst, sym}
 use Rattle.sqlite.specs.Effect.{Database}
 use Rattle.sqlite.specs.Held.{state}
 use Rattle.history_model.specs.Histories.{History}
 use Rattle.period_keys.specs.Current.{rows_by_key}
-use Rattle.version_store.specs.StoreState.{IsUsable}
+use Rattle.period_keys.specs.Rows.{RowsByKey}
+use Rattle.version_tables.specs.Presence.{IsNoneThere}
+use Rattle.version_store.specs.GoodStore.{IsGoodStore}
+use Rattle.version_store.specs.StoreState.{IsOurs, IsUsable, StoreState}
 use Rattle.version_store.specs.Written.{Has}
 use Rattle.version_store.proofs.Opens.{has_contents}
 use Rattle.script_engine.specs.engine.EngineState.{EngineState, engine_of}
-use Rattle.script_engine.specs.engine.Stored.{EngineRepresents}
+use Rattle.script_engine.specs.engine.Faults.{AreConstrained}
+use Rattle.script_engine.specs.engine.Stored.{DatabaseRepresents, EngineRepresents}
 use Rattle.script_engine.proofs.NewStore.{new_store}
 use Rattle.script_engine.proofs.Openings.{all_points, good_history, good_tables, other_points}
 use Rattle.script_engine.proofs.Loaded.{represents_still}
 use Rattle.script_engine.proofs.engine.Engine.open.Goals as goal
 
 pub returns-in-Ok-load_lawful-clause-opened : goal.returns-in-Ok-load_lawful-clause-opened
-returns-in-Ok-load_lawful-clause-opened g c = λ usable history stands.
+returns-in-Ok-load_lawful-clause-opened g c =
+    let rows : List RowsByKey = map rows_by_key c.in-Ok-load_lawful.tables.items in
+    subst (λ (store : StoreState g.row.S.Denot). IsUsable g.S.Store store.connection → (history : History) → DatabaseRepresents history (state g.S.Store c.args.connection).now → EngineRepresents g.S.Store history (engine_of store rows)) (sym c.accept.ensures) (λ usable history stands.
     let read = c.in-Ok-load_lawful.ensures.read in
     let before = read.usable usable in
-    let new : EngineState g.row.S.Denot = engine_of c.load_lawful.new.store (map rows_by_key c.in-Ok-load_lawful.tables.items) in
+    let new : EngineState g.row.S.Denot = engine_of c.load_lawful.new.store rows in
     elim stands [
       | inl fresh ↦
           (let stored = c.in-Ok.ensures.fresh before fresh.0 in
           subst (λ (h : History). EngineRepresents g.S.Store h new) (sym fresh.1)
           (new_store g.S.Store new (record {
-            stored = represents_still g.S.Store c.in-Ok.store c.load_lawful.new.store _ read usable stored;
+            stored = represents_still g.S.Store c.in-Ok.opened c.load_lawful.new.store _ read usable stored;
             current = c.in-Ok-load_lawful.ensures.loaded usable _ stored tt;
           })))
       | inr it ↦
           (let stored = c.in-Ok.ensures.same before it.0 it.1 in
           record {
             contents = it.0;
-            stored = represents_still g.S.Store c.in-Ok.store c.load_lawful.new.store it.0 read usable stored;
+            stored = represents_still g.S.Store c.in-Ok.opened c.load_lawful.new.store it.0 read usable stored;
             said = it.2;
             current = c.in-Ok-load_lawful.ensures.loaded usable it.0 stored (c.in-Ok.ensures.tabled before it.0 it.1);
           })
-    ]
+    ])
 
 pub returns-in-Ok-load_lawful-clause-good : goal.returns-in-Ok-load_lawful-clause-good
-returns-in-Ok-load_lawful-clause-good g c = λ usable ours.
+returns-in-Ok-load_lawful-clause-good g c =
+    let rows : List RowsByKey = map rows_by_key c.in-Ok-load_lawful.tables.items in
+    let old : Database = (state g.S.Store c.args.connection).now in
+    subst (λ (store : StoreState g.row.S.Denot). IsUsable g.S.Store store.connection → IsOurs old.schema → IsNoneThere old.schema ⊎ (IsGoodStore AreConstrained old × ((history : History) × EngineRepresents g.S.Store history (engine_of store rows)))) (sym c.accept.ensures) (λ usable ours.
     let read = c.in-Ok-load_lawful.ensures.read in
     let before = read.usable usable in
-    let new : EngineState g.row.S.Denot = engine_of c.load_lawful.new.store (map rows_by_key c.in-Ok-load_lawful.tables.items) in
+    let new : EngineState g.row.S.Denot = engine_of c.load_lawful.new.store rows in
     elim (c.in-Ok.ensures.good before ours) [
       | inl none ↦ inl none
       | inr it ↦
@@ -48,11 +57,11 @@ returns-in-Ok-load_lawful-clause-good g c = λ usable ours.
           inr (
             all_points it.0 lawful,
             good_history g.S.Store new _ it.0 lawful (record {
-              stored = represents_still g.S.Store c.in-Ok.store c.load_lawful.new.store it.0.contents read usable it.1;
+              stored = represents_still g.S.Store c.in-Ok.opened c.load_lawful.new.store it.0.contents read usable it.1;
               current = c.in-Ok-load_lawful.ensures.loaded usable it.0.contents it.1 (good_tables it.0);
             }),
           )
-    ]
+    ])
 
 -- a store that is not good for its first five points is not good
 pub returns-in-Err-clause-bad : goal.returns-in-Err-clause-bad
@@ -63,11 +72,11 @@ returns-in-Err-clause-bad g c = λ usable bad.
 -- nor is one of which point 6 does not hold
 pub returns-in-Err-load_lawful-clause-bad : goal.returns-in-Err-load_lawful-clause-bad
 returns-in-Err-load_lawful-clause-bad g c = λ handed bad.
-    let usable = subst (IsUsable g.S.Store) c.close.ensures.same handed in
+    let usable = subst (IsUsable g.S.Store) c.refuse.ensures.same handed in
     let read = c.in-Err-load_lawful.ensures.read in
     let before = read.usable usable in
     let old : Database = (state g.S.Store c.args.connection).now in
-    let some : c.in-Ok.store.catalog.tables ≡ [] → ⊥ = c.in-Err-load_lawful.ensures.some in (
+    let some : c.in-Ok.opened.catalog.tables ≡ [] → ⊥ = c.in-Err-load_lawful.ensures.some in (
       λ none. some (c.in-Ok.ensures.empty none),
       λ good.
           let five = other_points good in

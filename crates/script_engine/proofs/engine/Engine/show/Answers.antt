@@ -18,7 +18,10 @@ use Rattle.sql_statements.specs.Trees as statement
 use Rattle.catalog_core.specs.declared.table.TableDef.{TableDef}
 use Rattle.period_keys.specs.Rows.{RowsByKey}
 use Rattle.period_keys.specs.TableRows.{TableRows}
+use Rattle.sql_statements.specs.Trees.{Statement}
 use Rattle.script_engine.specs.engine.InMemory.{IsSameInMemory}
+use Rattle.script_engine.specs.engine.Runs.{MayRefuseQuery}
+use Rattle.script_engine.proofs.Refused.{failed_query}
 use Rattle.script_engine.proofs.Loaded.{represents_still}
 use Rattle.script_engine.proofs.SameInMemory.{failed_over, read_memory, same_memory}
 use Rattle.script_engine.proofs.engine.Engine.show.Goals as goal
@@ -80,4 +83,23 @@ returns-clause-memory g c =
     elim c.match-shown_by.branch [
       | in-Ok-shown_by w ↦ rw w.result-is tt
       | in-Err-shown_by w ↦ rw w.result-is same
+    ]
+
+pub returns-in-Err-clause-queries : goal.returns-in-Err-clause-queries
+returns-in-Err-clause-queries g c usable history kept =
+    let same : c.catalog.result.now.tables ≡ c.args.self.now.catalog.tables = ap (λ (k : Catalog). k.tables) c.catalog.ensures ∙ ap (λ s. s.catalog.tables) c.self.view_is in
+    inl (subst (λ (tables : List TableDef). MayAnswer (Holds (stored_query_conditions tables (plain_stored c.args.query.now))) c.in-Err.refusal) same c.in-Err.ensures.refused)
+
+pub returns-clause-queries : goal.returns-clause-queries
+returns-clause-queries g c usable history kept =
+    let tables : List RowsByKey = map rows_by_key c.self.inside.tables.items in
+    let old : EngineState g.row.S.Denot = engine_of c.self.inside.store tables in
+    let new : EngineState g.row.S.Denot = engine_of c.shown_by.new.store tables in
+    let s : Statement = statement.stored (plain_stored c.args.query.now) in
+    let was : EngineRepresents g.S.Store history old = subst (λ s. EngineRepresents g.S.Store history s) (sym c.self.view_is) kept in
+    elim c.match-shown_by.branch [
+      | in-Ok-shown_by w ↦ rw w.result-is tt
+      | in-Err-shown_by w ↦ rw w.result-is
+          (subst (λ (e : EngineState g.row.S.Denot). MayRefuseQuery g.S.Store e new s w.in-Err-shown_by.refusal) c.self.view_is
+          (failed_query g.S.Store old new s w.in-Err-shown_by.refusal (w.in-Err-shown_by.ensures.why usable was.contents was.stored)))
     ]

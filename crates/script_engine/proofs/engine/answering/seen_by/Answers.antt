@@ -1,4 +1,4 @@
-use Rattle.std.proofs.Common.{List, map, subst, sym}
+use Rattle.std.proofs.Common.{List, inl, map, refl, subst, sym}
 use Rattle.period_core.specs.declared.row.PeriodRow.{PeriodRow}
 use Rattle.period_core.specs.declared.window.Window.{Window}
 use Rattle.script_engine.specs.engine.Answering.{AreRowsSeen}
@@ -19,3 +19,9 @@ returns-in-Ok-scanned_rows-clause-seen g c usable history kept =
     let reference = c.args.reference.now in
     let seen = c.in-Ok-scanned_rows.ensures.seen usable kept.contents kept.stored in
     sees_rows history kept.contents reference c.from_vec-in-Ok-scanned_rows.result kept.said (subst (AreRowsSeen kept.contents reference.table reference.window) (sym c.from_vec-in-Ok-scanned_rows.ensures) seen)
+
+pub returns-in-Err-clause-why : goal.returns-in-Err-clause-why
+returns-in-Err-clause-why g c usable history kept = inl refl
+
+pub returns-in-Err-scanned_rows-clause-why : goal.returns-in-Err-scanned_rows-clause-why
+returns-in-Err-scanned_rows-clause-why g c usable history kept = c.in-Err-scanned_rows.ensures.why usable kept.contents kept.stored

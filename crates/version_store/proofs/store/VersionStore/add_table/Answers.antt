@@ -16,6 +16,7 @@ returns-in-Ok-write_table-clause-changes g k usable c stands =
         committed = made.1;
         catalog = k.in-Ok-push.ensures.pushed ∙ ap (λ (ts : List TableDef). ts ++ k.args.definition ∷ []) was.catalog;
         clock = was.clock;
+        dated = was.dated;
       },
       tt,
     )

@@ -12,4 +12,4 @@ pub returns-in-Ok-clause-changes : goal.returns-in-Ok-clause-changes
 returns-in-Ok-clause-changes g k usable c stands =
     let was = subst (λ s. StoreRepresents g.S.Store s c) (sym k.self.view_is) stands in
     let made = k.in-Ok.ensures.made usable.0 c was.now in
-    (record { now = made.0; committed = made.1; catalog = was.catalog; clock = refl }, tt)
+    (record { now = made.0; committed = made.1; catalog = was.catalog; clock = refl; dated = was.dated }, tt)

@@ -1,13 +1,16 @@
-use Rattle.std.proofs.Common.{sym, subst, refl}
+use Rattle.std.proofs.Common.{rules, sym, subst, refl}
+use Rattle.period_core.specs.Moments.{IsMomentNumber}
 use Rattle.version_store.specs.StoreState.{StoreRepresents}
+use Rattle.version_store.proofs.Dated.{planned_dated}
 use Rattle.version_store.proofs.Keys.{keys_of}
 use Rattle.version_store.proofs.Standing.{on_ok, on_err, stays}
 use Rattle.version_store.proofs.store.VersionStore.apply.Goals as goal
 
 pub returns-clause-changes : goal.returns-clause-changes
 returns-clause-changes g k usable c stands =
-    let was = subst (λ s. StoreRepresents g.S.Store s c) (sym k.self.view_is) stands in (
-      on_ok k.write_plan.result (λ made. record { now = made.0; committed = made.1; catalog = was.catalog; clock = was.clock }) (k.write_plan.ensures.made usable.0 c was.now),
+    let was = subst (λ s. StoreRepresents g.S.Store s c) (sym k.self.view_is) stands in
+    let at : IsMomentNumber k.args.moment = search rules in (
+      on_ok k.write_plan.result (λ made. record { now = made.0; committed = made.1; catalog = was.catalog; clock = was.clock; dated = planned_dated k.args.table k.args.moment at k.args.plan.now.ended k.args.plan.now.added c was.dated }) (k.write_plan.ensures.made usable.0 c was.now),
       on_err k.write_plan.result (λ same. stays g.S.Store _ _ c was same refl refl) (k.write_plan.ensures.none usable.0 usable.1),
     )
 

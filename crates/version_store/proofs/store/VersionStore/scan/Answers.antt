@@ -1,14 +1,20 @@
-use Rattle.std.proofs.Common.{ap, sym, subst, refl}
+use Rattle.std.proofs.Common.{◌⊎◌, IfErr, ap, sym, subst, refl}
 use Rattle.sqlite.specs.Held.{state}
-use Rattle.version_tables.specs.Steps.{IsAsBefore}
-use Rattle.version_store.specs.StoreState.{IsUsable, StoreRepresents}
+use Rattle.version_tables.specs.Steps.{IsAsBefore, KeepsFaults}
+use Rattle.version_store.specs.StoreState.{IsFailure, IsUsable, StoreRepresents, StoreState}
+use Rattle.version_store.specs.Scans.{IsOwnRefusal}
 use Rattle.version_store.proofs.Standing.{stays}
 use Rattle.version_store.proofs.store.VersionStore.scan.Goals as goal
 
 pub returns-clause-visited : goal.returns-clause-visited
 returns-clause-visited g k usable c stands =
     let was = subst (λ s. StoreRepresents g.S.Store s c) (sym k.self.view_is) stands in
-    k.scan_rows.ensures.visited usable.0 c was.now
+    k.scan_rows.ensures.visited usable.0 c was.now was.dated
+
+pub returns-clause-why : goal.returns-clause-why
+returns-clause-why g k usable c stands =
+    let was = subst (λ s. StoreRepresents g.S.Store s c) (sym k.self.view_is) stands in
+    subst (λ (s : StoreState _). IfErr k.scan_rows.result (λ refusal. IsOwnRefusal g.V.RowVisitor.may_refuse (g.V.RowVisitor.answered k.scan_rows.new.visitor) refusal ⊎ IsFailure g.S.Store s.connection k.scan_rows.new.connection refusal)) k.self.view_is (k.scan_rows.ensures.why usable c was.now was.dated)
 
 pub returns-clause-same : goal.returns-clause-same
 returns-clause-same g k usable c stands =
@@ -26,4 +32,5 @@ returns-clause-read g k = record {
   same = λ usable.
       let was = k.scan_rows.ensures.same usable.0 in
       subst (λ s. IsAsBefore (state g.S.Store s.connection) (state g.S.Store k.scan_rows.new.connection)) k.self.view_is (was.now usable.1, was.committed usable.1);
+  faults = subst (λ s. KeepsFaults (state g.S.Store s.connection) (state g.S.Store k.scan_rows.new.connection)) k.self.view_is k.scan_rows.ensures.faults;
 }
