@@ -9,9 +9,9 @@ ghost use Rattle.sql_front.specs.reading.Reading.{begins};
 ghost use Rattle.sql_statements.specs.Trees as trees;
 ghost use Rattle.sql_front.specs.reading.QueryReaders.{begins_step, inner_query_read};
 ghost use Rattle.sql_front.specs.reading.QueryReaders.{intersection_read, intersections_read};
-ghost use Rattle.sql_front.specs.reading.QueryReaders.{operator_read};
-ghost use Rattle.sql_front.specs.reading.QueryReaders.{primary_read, query_read, sequenced_read};
-ghost use Rattle.sql_front.specs.reading.QueryReaders.{step_read, steps_read, term_read};
+ghost use Rattle.sql_front.specs.reading.QueryReaders.{operator_read, primary_read, query_read};
+ghost use Rattle.sql_front.specs.reading.QueryReaders.{sequenced_read, step_read, steps_read};
+ghost use Rattle.sql_front.specs.reading.QueryReaders.{term_read};
 
 use crate::mark::{Mark, after, skip, skip_optional, starts};
 use crate::selects::read_select;

@@ -85,6 +85,7 @@ operator_read =
     (stands_read Union (keyword (codes "UNION")))
     (stands_read Except (keyword (codes "EXCEPT")))
 
+-- the same, as the first token of a step
 abbrev pub begins_step : Lexeme → Bool
 begins_step = or_test (keyword (codes "UNION")) (keyword (codes "EXCEPT"))
 
