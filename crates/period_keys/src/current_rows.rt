@@ -67,8 +67,7 @@ impl CurrentRows {
 
     /// Their periods, in two lists, each in the order of their starts.
     pub fn periods_of_key(&self, key: &Key) -> (&[Period], &[Period])
-        ensures periods { result.0.now ++ result.1.now
-            ≡ map period_of (rows_of_key self.now key.now) }
+        ensures periods { result.0.now ++ result.1.now ≡ map period_of (rows_of_key self.now key.now) }
         ensures first { AreInOrder result.0.now }
         ensures second { AreInOrder result.1.now }
     {
@@ -85,7 +84,7 @@ impl CurrentRows {
         self.groups.values()
     }
 
-    /// Adds a row. An error changes nothing.
+    /// Adds a row. The only error is out of memory, and changes nothing.
     pub fn add(&mut self, alloc: Global, row: VersionRow) -> Result<(), Memory>
         ensures ok { OnOk result (HasRows (row ∷ self.old.rows) self.old self.new) }
         ensures err { OnErr result (self.new ≡ self.old) }
@@ -126,7 +125,8 @@ impl CurrentRows {
         }
     }
 
-    /// Adds rows that begin at a moment, whose keys are handed in, or none of them.
+    /// Adds rows that begin at a moment, whose keys are handed in, or none of them. The only error
+    /// is out of memory.
     pub fn add_all(
         &mut self,
         alloc: Global,
@@ -168,8 +168,7 @@ impl CurrentRows {
         row: &PeriodRow,
     ) -> Result<(), Memory>
         requires { key.now ≡ key_values self.old.positions row.now }
-        ensures ok { OnOk result
-            (HasRows (begun moment row.now ∷ self.old.rows) self.old self.new) }
+        ensures ok { OnOk result (HasRows (begun moment row.now ∷ self.old.rows) self.old self.new) }
         ensures err { OnErr result (self.new ≡ self.old) }
     {
         let version = VersionRow {

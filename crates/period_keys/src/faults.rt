@@ -21,7 +21,8 @@ use catalog_core::{Change, Plan};
 use period_core::{Day, Memory, PeriodRow, VersionRow};
 use std::alloc::Global;
 
-/// The least day on which the change would let two rows of its table share the key.
+/// The least day on which the change would let two rows of its table share the key. The only error
+/// is out of memory.
 pub fn key_fault(
     alloc: Global,
     current: &CurrentRows,
@@ -40,7 +41,7 @@ pub fn key_fault(
 }
 
 /// The least day on which a row of the changed table would have no parent by one of its references
-/// to another table, whose own columns are at these positions.
+/// to another table, whose own columns are at these positions. The only error is out of memory.
 pub fn child_fault(
     alloc: Global,
     own: &[usize],
@@ -61,7 +62,7 @@ pub fn child_fault(
 }
 
 /// The least day on which a row of another table would have no parent in the changed one, by one of
-/// its references, to the columns at these positions.
+/// its references, to the columns at these positions. The only error is out of memory.
 pub fn parent_fault(
     alloc: Global,
     keys: &[usize],
@@ -85,7 +86,7 @@ pub fn parent_fault(
     Ok(found)
 }
 
-/// The versions without their system time.
+/// The versions without their system time. The only error is out of memory.
 pub fn rows_of(alloc: Global, versions: &[VersionRow]) -> Result<Vec<PeriodRow>, Memory>
     ensures { IfOk result (λ rows. rows.items ≡ map row_of versions.now) }
 {

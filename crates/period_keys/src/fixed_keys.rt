@@ -89,7 +89,7 @@ impl Equation for VersionTest {
 
 /// The key at these positions of each row that meets the condition, exactly where it says `column =
 /// literal` of each as a whole, or as a part of an AND that is in no NOT and in no OR with other
-/// parts.
+/// parts. The only error is out of memory.
 pub fn fixed_key<T: Equation>(
     alloc: Global,
     condition: &Tree<T>,
@@ -112,7 +112,8 @@ pub fn fixed_key<T: Equation>(
 
 /// The key of a table's row that is part of a combined row: its values begin at `start`, and are
 /// `width` many. Where for each of these positions among them one of the conditions says `column =
-/// literal`, each such row of a combined row that meets all conditions has this key.
+/// literal`, each such row of a combined row that meets all conditions has this key. The only error
+/// is out of memory.
 pub fn fixed_key_within(
     alloc: Global,
     conditions: &[Cond],
@@ -134,7 +135,12 @@ pub fn fixed_key_within(
 }
 
 // The value that the conditions fix at a position of such a row.
-fn value_within(conditions: &[Cond], start: usize, width: usize, position: usize) -> Option<&Value>
+fn value_within(
+    conditions: &[Cond],
+    start: usize,
+    width: usize,
+    position: usize,
+) -> Option<&Value>
     ensures { IfSome result
         (λ value. FixesWithin conditions.now start width position value.now) }
 {

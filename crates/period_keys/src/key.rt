@@ -37,7 +37,7 @@ impl Key {
         Key { leading, values }
     }
 
-    /// An equal key.
+    /// An equal key. The only error is out of memory.
     pub fn copy(&self, alloc: Global) -> Result<Key, Memory>
         ensures { IfOk result (λ key. key ≡ self.now) }
     {

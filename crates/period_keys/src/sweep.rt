@@ -14,7 +14,8 @@ use crate::shared_days::earlier;
 use period_core::{Day, Memory, PeriodRow};
 use std::alloc::Global;
 
-/// The least day on which two of the rows share their values at these positions.
+/// The least day on which two of the rows share their values at these positions. The only error is
+/// out of memory.
 pub fn rows_clash(
     alloc: Global,
     positions: &[usize],
@@ -27,7 +28,7 @@ pub fn rows_clash(
     Ok(first_repeat(keyed.as_slice()))
 }
 
-/// The rows with their values at these positions alone.
+/// The rows with their values at these positions alone. The only error is out of memory.
 pub fn key_rows(
     alloc: Global,
     positions: &[usize],

@@ -102,7 +102,8 @@ fn either(left: Vec<Values>, right: Vec<Values>) -> Result<Vec<Values>, Memory>
     sorted_once(both)
 }
 
-/// What the set operator makes of both sets, in ascending order, each list of values once.
+/// What the set operator makes of both sets, in ascending order, each list of values once. The only
+/// error is out of memory.
 pub(crate) fn combined(
     alloc: Global,
     operator: SetOperator,

@@ -1,4 +1,5 @@
-//! The parts of an accepted select, with positions in place of names.
+//! The parts of an accepted select, with positions in place of names. The only error is out of
+//! memory.
 
 ghost use Rattle.std.specs.Prelude.{◌≡◌, ◌++◌, ◌+◌, ◌<◌, ◌∷◌, IfOk, false, length};
 ghost use Rattle.std.specs.Prelude.{map, true};

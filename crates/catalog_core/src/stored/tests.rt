@@ -1,4 +1,5 @@
-//! The conditions of accepted stored queries, with positions in place of names.
+//! The conditions of accepted stored queries, with positions in place of names. The only error is
+//! out of memory.
 
 ghost use Rattle.std.specs.Prelude.{◌≡◌, IfOk, Some, false};
 ghost use Rattle.std.specs.Option.{option_map};
