@@ -135,12 +135,7 @@ pub fn fixed_key_within(
 }
 
 // The value that the conditions fix at a position of such a row.
-fn value_within(
-    conditions: &[Cond],
-    start: usize,
-    width: usize,
-    position: usize,
-) -> Option<&Value>
+fn value_within(conditions: &[Cond], start: usize, width: usize, position: usize) -> Option<&Value>
     ensures { IfSome result
         (λ value. FixesWithin conditions.now start width position value.now) }
 {

@@ -15,9 +15,9 @@ loop-position-preserved c =
     let value : Value = c.in-Some.value.now in
     let copied : value ≡ c.in_ok-copy.field-0 = sym c.in_ok-copy.ensures in
     λ first values rest long wide met.
-        ap (filter_map (slice_get values)) (take_more positions i 0 (omega arith))
-        ∙ filter_map-append (slice_get values) (take i positions) (x ∷ [])
-        ∙ ap (λ (k : List Value). k ++ filter_map (slice_get values) (x ∷ [])) (c.loop-position.invariant first values rest long wide met)
-        ∙ ap (λ (o : Option Value). key ++ filter_map (λ (x : Option Value). x) (o ∷ [])) (c.in-Some.ensures first values rest long wide met)
-        ∙ ap (λ (v : Value). key ++ v ∷ []) copied
-        ∙ sym c.in_ok-push.ensures.items
+    ap (filter_map (slice_get values)) (take_more positions i 0 (omega arith))
+    ∙ filter_map-append (slice_get values) (take i positions) (x ∷ [])
+    ∙ ap (λ (k : List Value). k ++ filter_map (slice_get values) (x ∷ [])) (c.loop-position.invariant first values rest long wide met)
+    ∙ ap (λ (o : Option Value). key ++ filter_map (λ (x : Option Value). x) (o ∷ [])) (c.in-Some.ensures first values rest long wide met)
+    ∙ ap (λ (v : Value). key ++ v ∷ []) copied
+    ∙ sym c.in_ok-push.ensures.items
