@@ -1,5 +1,5 @@
 -- What the references of a query of the catalog see in a history fits the query: a list for each, of rows of its table.
-use Rattle.std.proofs.Common.{◌≡◌, ◌==◌, ◌∷◌, ◌∙◌, ℕ, Bool, true, false, List, [], None, Option, Some, Contains, ap, arith, eqb-true, length, map, refl, subst, sym, suc, zero}
+use Rattle.std.proofs.Common.{◌≡◌, ◌==◌, ◌∷◌, ◌∙◌, ℕ, Bool, true, List, [], None, Option, Some, Contains, ap, arith, eqb-true, length, map, refl, subst, sym, suc, zero}
 use Rattle.std.specs.List.{AllByRecursion, list_all}
 use Rattle.std.specs.Option.{option_map}
 use Rattle.std.proofs.lemmas.Bool.{and_parts, false≢true}
@@ -130,12 +130,12 @@ module _ (history : History) (c : Contents) (said : AreOfHistory history c) (ref
 
 -- ---- so the lists fit
 
-all_are : {A : Type 0} (p : A → Bool) (xs : List A) → AllByRecursion (λ (x : A). p x ≡ true) xs → list_all p xs ≡ true
+pub all_are : {A : Type 0} (p : A → Bool) (xs : List A) → AllByRecursion (λ (x : A). p x ≡ true) xs → list_all p xs ≡ true
 all_are p [] all = refl
 all_are p (x ∷ xs) all = rw all.0 (all_are p xs all.1)
 
 -- each is among them
-each_among : {A : Type 0} (P : A → Type 0) (xs : List A) → ((x : A) → Contains xs x → P x) → AllByRecursion P xs
+pub each_among : {A : Type 0} (P : A → Type 0) (xs : List A) → ((x : A) → Contains xs x → P x) → AllByRecursion P xs
 each_among P [] each = tt
 each_among P (x ∷ xs) each = (each x (zero, omega arith, refl), each_among P xs (λ y among. each y (suc among.0, (let low = among.1 in omega (arith, low)), among.2)))
 

@@ -4,8 +4,9 @@ use Rattle.std.specs.Prelude.{slice_index_or}
 use Rattle.std.specs.List.{AllByRecursion, Contains, list_all}
 use Rattle.std.specs.List.Sorted.{IsPermutation}
 use Rattle.std.proofs.lemmas.Bool.{and_parts}
+use Rattle.std.proofs.lemmas.Bool.Decides.{nat_tests}
 use Rattle.std.proofs.lemmas.List.Sorted.{Contains-permutation, IsPermutation-sym}
-use Rattle.sqlite_trees.proofs.ListLemmas.{IsPermutation-filter, filter-map}
+use Rattle.sqlite_trees.proofs.ListLemmas.{IsPermutation-filter, all-append, all_both, filter-map}
 use Rattle.period_core.specs.OrderLaws.{values_eq}
 use Rattle.period_core.specs.Windows.{window_sees}
 use Rattle.period_core.specs.declared.row.PeriodRow.{PeriodRow}
@@ -15,15 +16,15 @@ use Rattle.period_core.specs.declared.window.Window.{Window}
 use Rattle.period_core.specs.declared.window.Window.TheVariants.{Now}
 use Rattle.temporal_model.specs.Snapshot.{InSnapshot}
 use Rattle.temporal_model.proofs.Members.{Contains-cons_cases, Contains-nil}
-use Rattle.temporal_model.proofs.Snapshots.{held, in_snapshot}
+use Rattle.temporal_model.proofs.Snapshots.{InSnapshot-start, held, in_snapshot}
 use Rattle.sql_statements.specs.declared.tree.SetOperator.{SetOperator}
-use Rattle.sql_statements.specs.declared.tree.SetOperator.TheVariants.{Except, Union}
+use Rattle.sql_statements.specs.declared.tree.SetOperator.TheVariants.{Except, Intersect, Union}
 use Rattle.sql_statements.specs.declared.tree.Tree.{Tree}
 use Rattle.catalog_core.specs.declared.condition.CompareValues.{CompareValues}
 use Rattle.catalog_core.specs.declared.query.resolved.QueryReference.{QueryReference}
 use Rattle.catalog_core.specs.declared.table.Column.{Column}
 use Rattle.catalog_core.specs.declared.table.TableDef.{TableDef}
-use Rattle.catalog_core.specs.query.Fitting.{are_in_place, fits, sees_its_kinds}
+use Rattle.catalog_core.specs.query.Fitting.{are_in_place, fits, has_kinds, sees_its_kinds}
 use Rattle.catalog_core.specs.query.Queries.{Query, both, one, references_of, rows_for}
 use Rattle.catalog_core.specs.table.TableWords.{table_of, value_columns}
 use Rattle.history_model.specs.Histories.{History}
@@ -39,11 +40,12 @@ use Rattle.version_store.specs.Contents.{Contents, TableVersion, of_table, versi
 use Rattle.version_store.specs.GoodStore.{AreGood, IsGoodVersion, NothingMore}
 use Rattle.version_store.specs.RowValues.{are_of_columns, is_of_column}
 use Rattle.version_store.specs.Scans.{seen_of}
-use Rattle.script_engine.specs.engine.Answering.{AreRowsSeen, SeesRows, seen_through}
+use Rattle.script_engine.specs.engine.Answering.{AreRowsSeen, IsKnown, IsOfCatalog, SeesRows, seen_through}
 use Rattle.script_engine.specs.engine.InMemory.{HaveCurrentRows, rows_in}
 use Rattle.script_engine.specs.engine.Needed.{AddNeeded, IsNeeded, IsNeededBy, SeeNeeded, SeesWidth}
 use Rattle.script_engine.specs.engine.Stored.{AreOfHistory}
 use Rattle.script_engine.proofs.Answering.{at_length}
+use Rattle.script_engine.proofs.Fits.{all_are, each_among, rows_fit}
 use Rattle.script_engine.proofs.Seen.{current_seen, sees_rows}
 
 abbrev Conditions : Type 0
@@ -92,25 +94,49 @@ module _ (c : Contents) (number width : ℕ) (good : AreGood NothingMore c) (wid
       let here = (from_filter (λ (w : TableVersion). window_sees Now w.from w.to) (of_table number c.versions) (version_in number v) seen).0 in
       good_width v (from_filter (λ (w : TableVersion). w.table == number) c.versions (version_in number v) here).0
 
--- all that a reference sees has as many values as its table's rows
-pub sees_width : (history : History) (c : Contents) (reference : QueryReference) (width : ℕ) → AreOfHistory history c → IsWidth c.tables reference.table width → SeesWidth history reference width
-sees_width history c reference width said wide day values sees =
-    let table : ℕ = reference.table in
-    let holds = said.versions table in
-    let shown : List VersionRow = seen_through reference.window holds.rows in
-    let through : TableVersion → Bool = λ v. window_sees reference.window v.from v.to in
-    let are : AreRowsSeen c table reference.window (map row_of shown) = record {
-      versions = shown;
-      all =
-          subst (IsPermutation (seen_of table reference.window c.versions)) (filter-map through (version_in table) holds.rows)
-          (IsPermutation-filter through (of_table table c.versions) (map (version_in table) holds.rows) holds.all);
-      made = refl;
-    } in
-    let there : InSnapshot (map row_of shown) day values = ((sees_rows history c reference (map row_of shown) said are).daily day values).1 sees in
-    let (row, among, same, on) = held (map row_of shown) day values there in
-    let (version, its, made) = from_map row_of shown row among in
-    let whole : Contains holds.rows version = (from_filter (λ (v : VersionRow). window_sees reference.window v.from v.to) holds.rows version its).0 in
-    sym (ap (λ (r : PeriodRow). length r.values) made ∙ ap length same) ∙ table_width c table width said.good wide holds.rows holds.all version whole
+-- all that a reference sees are values of rows of its table
+module _ (history : History) (c : Contents) (reference : QueryReference) (said : AreOfHistory history c) where
+  abbrev held_rows : List VersionRow
+  held_rows = (said.versions reference.table).rows
+
+  abbrev shown_rows : List VersionRow
+  shown_rows = seen_through reference.window held_rows
+
+  shown_seen : SeesRows history reference (map row_of shown_rows)
+  shown_seen =
+      let table : ℕ = reference.table in
+      let holds = said.versions table in
+      let through : TableVersion → Bool = λ v. window_sees reference.window v.from v.to in
+      let are : AreRowsSeen c table reference.window (map row_of shown_rows) = record {
+        versions = shown_rows;
+        all =
+            subst (IsPermutation (seen_of table reference.window c.versions)) (filter-map through (version_in table) holds.rows)
+            (IsPermutation-filter through (of_table table c.versions) (map (version_in table) holds.rows) holds.all);
+        made = refl;
+      } in
+      sees_rows history c reference (map row_of shown_rows) said are
+
+  -- they are as many as its value columns
+  pub sees_width : (width : ℕ) → IsWidth c.tables reference.table width → SeesWidth history reference width
+  sees_width width wide day values sees =
+      let (row, among, same, on) = held (map row_of shown_rows) day values ((shown_seen.daily day values).1 sees) in
+      let (version, its, made) = from_map row_of shown_rows row among in
+      let whole : Contains held_rows version = (from_filter (λ (v : VersionRow). window_sees reference.window v.from v.to) held_rows version its).0 in
+      sym (ap (λ (r : PeriodRow). length r.values) made ∙ ap length same) ∙ table_width c reference.table width said.good wide held_rows (said.versions reference.table).all version whole
+
+  -- and of their kinds
+  sees_kinds : IsKnown c.tables reference → (day : ℤ) (values : List Value) → HistorySights history day reference values → has_kinds reference.kinds values ≡ true
+  sees_kinds known day values sees =
+      let (row, among, same, on) = held (map row_of shown_rows) day values ((shown_seen.daily day values).1 sees) in
+      let fit = rows_fit history c said reference known (map row_of shown_rows) shown_seen in
+      subst (λ (v : List Value). has_kinds reference.kinds v ≡ true) same (each_in (λ (r : PeriodRow). has_kinds reference.kinds r.values ≡ true) (map row_of shown_rows) fit row among)
+
+  -- so are those of the rows that are needed of these
+  pub needed_kinds : (conjuncts : Conditions) (start : ℕ) (rows : List PeriodRow) → IsKnown c.tables reference → IsNeeded history conjuncts start reference rows → list_all (λ (row : PeriodRow). has_kinds reference.kinds row.values) rows ≡ true
+  needed_kinds conjuncts start rows known needed =
+      all_are (λ (row : PeriodRow). has_kinds reference.kinds row.values) rows
+      (each_among (λ (row : PeriodRow). has_kinds reference.kinds row.values ≡ true) rows
+      (λ row among. sees_kinds known row.period.start row.values (needed.sound row.period.start row.values (InSnapshot-start rows row among))))
 
 -- ---- what is needed of one reference
 
@@ -265,6 +291,10 @@ module _ (tables : List (List PeriodRow)) (history : History) (day : ℤ) where
     λ (a, none). ((left row).0 a, λ d. none ((right row).1 d)),
     λ (c, none). ((left row).1 c, λ b. none ((right row).0 b)),
   )
+  combined_alike Intersect A B C D left right row = (
+    λ (a, b). ((left row).0 a, (right row).0 b),
+    λ (c, d). ((left row).1 c, (right row).1 d),
+  )
 
   given_alike : (query : Query) → QueryNeededIn tables history query → (row : List Value) → (InQuery (TableSights tables day) query row ↔ InQuery (HistorySights history day) query row)
   given_alike (one select) needed row = (
@@ -282,6 +312,31 @@ needed_alike history query tables fit needed day row =
     let (counted, kinds) = and_parts (are_in_place 0 (references_of query) && (length tables == length (references_of query))) (list_all (sees_its_kinds tables) (references_of query)) fit in
     let (in_place, long) = and_parts (are_in_place 0 (references_of query)) (length tables == length (references_of query)) counted in
     given_alike tables history day query (subst (λ (l : List (List PeriodRow)). QueryNeededIn l history query) (append-nil tables) (query_placed history query [] tables [] in_place needed)) row
+
+-- ---- the lists fit
+
+kinds_placed : (history : History) (c : Contents) (tables : List (List PeriodRow)) (conjuncts : Conditions) (start : ℕ) (references : List QueryReference) → AreOfHistory history c → NeededIn tables history conjuncts start references →
+    AllByRecursion (λ (r : QueryReference). IsKnown c.tables r → sees_its_kinds tables r ≡ true) references
+kinds_placed history c tables conjuncts start [] said needed = tt
+kinds_placed history c tables conjuncts start (reference ∷ references) said (needs, (width, wide, more)) =
+    (λ known. needed_kinds history c reference said conjuncts start (rows_for tables reference) known needs, kinds_placed history c tables conjuncts (start + width) references said more)
+
+query_kinds : (history : History) (c : Contents) (tables : List (List PeriodRow)) (query : Query) → AreOfHistory history c → QueryNeededIn tables history query →
+    AllByRecursion (λ (r : QueryReference). IsKnown c.tables r → sees_its_kinds tables r ≡ true) (references_of query)
+query_kinds history c tables (one select) said needed = kinds_placed history c tables select.conjuncts 0 select.references said needed
+query_kinds history c tables (both operator left right) said (a, b) =
+    all-append (λ (r : QueryReference). IsKnown c.tables r → sees_its_kinds tables r ≡ true) (references_of left) (references_of right) (query_kinds history c tables left said a) (query_kinds history c tables right said b)
+
+-- what a query of the catalog needs in a history fits it
+pub needed_fits : (history : History) (c : Contents) (query : Query) (tables : List (List PeriodRow)) → AreOfHistory history c → IsOfCatalog c.tables query → IsNeededBy history query tables → fits query tables ≡ true
+needed_fits history c query tables said known needed =
+    let references = references_of query in
+    let long : (length tables == length references) ≡ true = (let same = query_as_many history query tables needed in grind (arith, nat_tests, same)) in
+    let its : QueryNeededIn tables history query = subst (λ (l : List (List PeriodRow)). QueryNeededIn l history query) (append-nil tables) (query_placed history query [] tables [] known.placed needed) in
+    let kinds : AllByRecursion (λ (r : QueryReference). sees_its_kinds tables r ≡ true) references =
+    all_both (IsKnown c.tables) (λ (r : QueryReference). IsKnown c.tables r → sees_its_kinds tables r ≡ true) (λ (r : QueryReference). sees_its_kinds tables r ≡ true) (λ r is so. so is) references known.known
+    (query_kinds history c tables query said its) in
+    rw (known.placed, long, all_are (sees_its_kinds tables) references kinds) refl
 
 -- ---- lists that are added
 

@@ -84,9 +84,9 @@ impl<S: Alter> Model for Engine<S> {
 
 // What the clauses say of a store holds where its connection is usable as the call ends: its disk
 // is clean, and no failure has shut it. A store in memory always is. Without that each call is safe
-// and returns; `open` gives only the refusals that it names; and `at` and `execute` are refused only
-// for a condition that holds of the catalog and the clock in memory, which a refusal leaves as they
-// were.
+// and returns; `open` gives only the refusals that it names; and `at` and `execute` are refused
+// only for a condition that holds of the catalog and the clock in memory, which a refusal leaves as
+// they were.
 impl<S: Alter> Engine<S> {
     /// Opens a store: a new one in a database that has none of its three tables, or else the one
     /// that is there, if it is a good one. An `Err` hands the connection back: 60 for a store that
@@ -318,7 +318,8 @@ impl<S: Alter> Engine<S> {
             (statement.sequenced (plain_query query.now))) }
         ensures kept { KeepsOnErr S.Store self.old self.new result }
         ensures refused { IfErr result
-            (MayRefuseOver self.old.catalog.tables self.old.clock (statement.sequenced (plain_query query.now))) }
+            (MayRefuseOver self.old.catalog.tables self.old.clock
+            (statement.sequenced (plain_query query.now))) }
         ensures memory { OnErr result (IsSameInMemory self.old self.new) }
         ensures usable { WasUsable S.Store self.old.connection self.new.connection }
     {
@@ -344,7 +345,8 @@ impl<S: Alter> Engine<S> {
             (statement.stored (plain_stored query.now))) }
         ensures kept { KeepsOnErr S.Store self.old self.new result }
         ensures refused { IfErr result
-            (MayRefuseOver self.old.catalog.tables self.old.clock (statement.stored (plain_stored query.now))) }
+            (MayRefuseOver self.old.catalog.tables self.old.clock
+            (statement.stored (plain_stored query.now))) }
         ensures memory { OnErr result (IsSameInMemory self.old self.new) }
         ensures usable { WasUsable S.Store self.old.connection self.new.connection }
     {

@@ -21,8 +21,9 @@ pub fn same_snapshots_same_answers()
     ensures { SameSnapshotsSameAnswers }
 {}
 
-/// A query may be asked of tables that are cut into slices of the days, of each slice alone. What it
-/// gives over them, joined where equal rows meet at a border, is its answer over the whole tables.
+/// A query may be asked of tables that are cut into slices of the days, of each slice alone. What
+/// it gives over them, joined where equal rows meet at a border, is its answer over the whole
+/// tables.
 pub fn slices_join_to_the_answer()
     ensures { SlicesJoinToTheAnswer }
 {}

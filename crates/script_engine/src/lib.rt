@@ -4,8 +4,8 @@
 //! - a form of statement that runs: `Engine::execute` in `engine.rt`, `Accepts` and
 //!   `StatementApplies` in `specs/engine/Runs`; where it has an outcome of its own,
 //!   `engine/outcome.rt` and the record in `report.rt` and `specs/report/Report`;
-//! - a form of change: its word and its count in `engine/outcome.rt` and `specs/engine/Planned`; its
-//!   plan is made by `period_keys` over the rows in memory, which `engine/in_memory.rt` keeps;
+//! - a form of change: its word and its count in `engine/outcome.rt` and `specs/engine/Planned`;
+//!   its plan is made by `period_keys` over the rows in memory, which `engine/in_memory.rt` keeps;
 //! - a column of a list of versions: `Cell`, `engine/shown.rt` and `specs/engine/Shown`, and its
 //!   text in `report/record.rt` and `specs/report/Report`.
 #![tactic(auto)]

@@ -1,5 +1,5 @@
--- What a sequenced query is answered from: the rows that its table references see, and the columns of
--- its answer.
+-- What a sequenced query is answered from: the rows that its table references see, and the columns
+-- of its answer.
 use Rattle.std.specs.Prelude.{◌≡◌, ◌↔◌, ℕ, ℤ, List, IsPermutation, Some, filter, map, true}
 use Rattle.std.specs.List.{AllByRecursion, AllZip}
 use Rattle.period_core.specs.Windows.{window_sees}
@@ -39,9 +39,9 @@ AreSeenBy history reference rows =
 abbrev pub seen_through : Window → List VersionRow → List VersionRow
 seen_through window = filter (λ (v : VersionRow). window_sees window v.from v.to)
 
--- the reference sees these rows: of the versions that the history leaves of its table those that its
--- window sees, without their system times, each once and in any order; so the rows hold on each day
--- what it sees
+-- the reference sees these rows: of the versions that the history leaves of its table those that
+-- its window sees, without their system times, each once and in any order; so the rows hold on each
+-- day what it sees
 pub record SeesRows (history : History) (reference : QueryReference) (rows : List PeriodRow)
     : Type 0 where
   pub versions : List VersionRow

@@ -12,8 +12,8 @@ use Rattle.period_keys.specs.Lawful.{IsKeyFault, IsLawfulState, IsReferenceFault
 use Rattle.version_store.specs.Contents.{Contents, TableVersion}
 use Rattle.version_store.specs.Scans.{seen_of}
 
--- 42 with the least day on which the change lets two rows of its table share the key; where there is
--- none, 43 with the least day on which it leaves a row of some table without its parent, by any
+-- 42 with the least day on which the change lets two rows of its table share the key; where there
+-- is none, 43 with the least day on which it leaves a row of some table without its parent, by any
 -- reference
 abbrev pub IsFault : List TableDef → State → Change → Refusal → Type 0
 IsFault catalog before change (KeyOverlap day) =

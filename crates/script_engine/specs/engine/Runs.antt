@@ -114,8 +114,8 @@ MayRefuseMoment clock moment refusal =
     ⊎ (((refusal ≡ MomentBack) × (moment <ℤ clock))
     ⊎ (IsStoreRefusal refusal × (clock ≤ℤ moment) × (moment <ℤ forever)))
 
--- no condition of 1 to 41 holds, and the change that the statement makes breaks its table's key or a
--- reference: 42 or 43, with the least day on which it does
+-- no condition of 1 to 41 holds, and the change that the statement makes breaks its table's key or
+-- a reference: 42 or 43, with the least day on which it does
 pub record IsUnlawful (history : History) (s : Statement) (refusal : Refusal) : Type 0 where
   pub sound : NoneApplies (StatementApplies history s)
   pub change : Change

@@ -283,8 +283,8 @@ pub fn answer_over(alloc: Global, query: &Query, tables: &Tables) -> Result<Answ
     })
 }
 
-/// The answer of a query over the rows in memory and the store, and what its references saw. What the
-/// references of a query of the catalog see in a history always fits it. Where it does not, the
+/// The answer of a query over the rows in memory and the store, and what its references saw. What
+/// the references of a query of the catalog see in a history always fits it. Where it does not, the
 /// connection is no longer usable, and the refusal is 62. Nothing is changed.
 pub fn answered<S: Alter>(
     alloc: Global,

@@ -8,7 +8,7 @@ ghost use Rattle.period_core.specs.declared.version.VersionRow.{VersionRow as Ve
 ghost use Rattle.period_keys.specs.Current.{rows_by_key};
 ghost use Rattle.period_keys.specs.Versions.{version_key};
 ghost use Rattle.version_store.specs.Contents.{Contents};
-ghost use Rattle.version_store.specs.StoreState.{IsOnlyRead, IsStoreRefusal, IsUsable};
+ghost use Rattle.version_store.specs.StoreState.{IsFailure, IsOnlyRead, IsStoreRefusal, IsUsable};
 ghost use Rattle.version_store.specs.StoreState.{StoreRepresents};
 ghost use Rattle.script_engine.specs.engine.InMemory.{HaveCurrentRows, rows_in};
 ghost use Rattle.script_engine.specs.engine.Shown.{AreShownIn};
@@ -76,7 +76,8 @@ fn current_shown(
     query: &Stored,
 ) -> Result<Vec<VersionRow>, Memory>
     ensures all { IfOk result (λ rows. IsPermutation
-        (shown_versions query.now (rows_in (map rows_by_key tables.now) query.now.table)) rows.items) }
+        (shown_versions query.now (rows_in (map rows_by_key tables.now) query.now.table))
+        rows.items) }
     ensures sorted { IfOk result (λ rows. IsSorted version_cmp rows.items) }
 {
     match rows_of_number(tables, query.table) {
@@ -102,6 +103,9 @@ pub fn shown_by<S: Alter>(
         → (c : Contents) → StoreRepresents S.Store store.old c
         → HaveCurrentRows c (map rows_by_key tables.now)
         → IfOk result (λ rows. AreShownIn c query rows.items) }
+    ensures why { IsUsable S.Store store.new.connection
+        → (c : Contents) → StoreRepresents S.Store store.old c
+        → IfErr result (IsFailure S.Store store.old.connection store.new.connection) }
     ensures read { IsOnlyRead S.Store store.old store.new }
     ensures named { IfErr result IsStoreRefusal }
 {

@@ -43,8 +43,8 @@ pub fn rows_of_number(tables: &[TableIndex], number: u8) -> Option<&CurrentRows>
 }
 
 /// Adds a table without rows, of a definition that the catalog does not have yet, with the indexes
-/// that its references need. The only error is out of memory: then no table is added, and those that
-/// are there have the same rows.
+/// that its references need. The only error is out of memory: then no table is added, and those
+/// that are there have the same rows.
 pub fn add_index(
     alloc: Global,
     catalog: &Catalog,
@@ -77,9 +77,9 @@ pub fn remove_last(tables: &mut Vec<TableIndex>)
     let _last = tables.pop();
 }
 
-/// The tables of an opened store, with their current rows. A store in which two current rows share a
-/// key on some day, or a child row has no parent, is refused as a bad one. Nothing is changed, and a
-/// store without tables is not refused.
+/// The tables of an opened store, with their current rows. A store in which two current rows share
+/// a key on some day, or a child row has no parent, is refused as a bad one. Nothing is changed,
+/// and a store without tables is not refused.
 pub fn load_lawful<S: Alter>(
     alloc: Global,
     store: &mut OpenedStore<S>,

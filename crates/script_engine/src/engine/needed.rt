@@ -16,9 +16,9 @@ ghost use Rattle.period_core.specs.declared.version.VersionRow.{VersionRow as Ve
 ghost use Rattle.period_keys.specs.Current.{rows_by_key};
 ghost use Rattle.sequenced_ops.specs.Planning.{IsPruned};
 ghost use Rattle.temporal_model.specs.Snapshot.{InSnapshot};
-ghost use Rattle.version_store.specs.StoreState.{IsOnlyRead, IsStoreRefusal, IsUsable};
+ghost use Rattle.version_store.specs.StoreState.{IsFailure, IsOnlyRead, IsStoreRefusal, IsUsable};
 ghost use Rattle.script_engine.specs.Headline.{IsSequencedAnswer};
-ghost use Rattle.script_engine.specs.engine.Answering.{columns_of};
+ghost use Rattle.script_engine.specs.engine.Answering.{IsOfCatalog, columns_of};
 ghost use Rattle.script_engine.specs.engine.EngineState.{engine_of};
 ghost use Rattle.script_engine.specs.engine.InMemory.{rows_in};
 ghost use Rattle.script_engine.specs.engine.Needed.{AddNeeded, IsNeeded, IsNeededBy};
@@ -149,9 +149,9 @@ fn needed_current(
 
 // ---- the references of a query
 
-/// What a table reference has to see, where a combined row has the values of its row from a position
-/// on: the current rows that the conditions do not rule out; through a window all that it sees.
-/// Nothing is changed.
+/// What a table reference has to see, where a combined row has the values of its row from a
+/// position on: the current rows that the conditions do not rule out; through a window all that it
+/// sees. Nothing is changed.
 fn needed_by<S: Alter>(
     alloc: Global,
     store: &mut VersionStore<S>,
@@ -164,6 +164,10 @@ fn needed_by<S: Alter>(
         → (history : History)
         → EngineRepresents S.Store history (engine_of store.old (map rows_by_key tables.now))
         → IfOk result (IsNeeded history conjuncts.now start reference.now) }
+    ensures why { IsUsable S.Store store.new.connection
+        → (history : History)
+        → EngineRepresents S.Store history (engine_of store.old (map rows_by_key tables.now))
+        → IfErr result (IsFailure S.Store store.old.connection store.new.connection) }
     ensures read { IsOnlyRead S.Store store.old store.new }
     ensures named { IfErr result IsStoreRefusal }
 {
@@ -179,8 +183,8 @@ fn needed_by<S: Alter>(
     }
 }
 
-/// Adds to lists what each of these references of a select has to see, in their order. The values of
-/// the first begin at this position of a combined row.
+/// Adds to lists what each of these references of a select has to see, in their order. The values
+/// of the first begin at this position of a combined row.
 fn push_needed_by_each<S: Alter>(
     alloc: Global,
     store: &mut VersionStore<S>,
@@ -195,6 +199,10 @@ fn push_needed_by_each<S: Alter>(
         → EngineRepresents S.Store history (engine_of store.old (map rows_by_key tables.now))
         → OnOk result (AddNeeded (SeeNeeded history conjuncts.now start references.now)
         lists.old.items lists.new.items) }
+    ensures why { IsUsable S.Store store.new.connection
+        → (history : History)
+        → EngineRepresents S.Store history (engine_of store.old (map rows_by_key tables.now))
+        → IfErr result (IsFailure S.Store store.old.connection store.new.connection) }
     ensures read { IsOnlyRead S.Store store.old store.new }
     ensures named { IfErr result IsStoreRefusal }
 {
@@ -228,6 +236,10 @@ fn push_needed_tables<S: Alter>(
         → EngineRepresents S.Store history (engine_of store.old (map rows_by_key tables.now))
         → OnOk result (AddNeeded (IsNeededBy history (plain_query query.now))
         lists.old.items lists.new.items) }
+    ensures why { IsUsable S.Store store.new.connection
+        → (history : History)
+        → EngineRepresents S.Store history (engine_of store.old (map rows_by_key tables.now))
+        → IfErr result (IsFailure S.Store store.old.connection store.new.connection) }
     ensures read { IsOnlyRead S.Store store.old store.new }
     ensures named { IfErr result IsStoreRefusal }
 {
@@ -258,6 +270,10 @@ fn needed_tables<S: Alter>(
         → (history : History)
         → EngineRepresents S.Store history (engine_of store.old (map rows_by_key tables.now))
         → IfOk result (IsNeededBy history (plain_query query.now)) }
+    ensures why { IsUsable S.Store store.new.connection
+        → (history : History)
+        → EngineRepresents S.Store history (engine_of store.old (map rows_by_key tables.now))
+        → IfErr result (IsFailure S.Store store.old.connection store.new.connection) }
     ensures read { IsOnlyRead S.Store store.old store.new }
     ensures named { IfErr result IsStoreRefusal }
 {
@@ -269,8 +285,8 @@ fn needed_tables<S: Alter>(
 }
 
 /// The answer of a query over the rows in memory and the store. Of what its references see, only
-/// what it needs is looked at: where these rows do not fit it, the database gave rows that the
-/// engine never wrote, and the refusal is 62. Nothing is changed.
+/// what it needs is looked at, which in a history always fits a query of the catalog. Where it does
+/// not, the connection is no longer usable, and the refusal is 62. Nothing is changed.
 pub fn answer_of<S: Alter>(
     alloc: Global,
     store: &mut VersionStore<S>,
@@ -281,6 +297,11 @@ pub fn answer_of<S: Alter>(
         → (history : History)
         → EngineRepresents S.Store history (engine_of store.old (map rows_by_key tables.now))
         → IfOk result (IsSequencedAnswer (InAnswerOn history (plain_query query.now))) }
+    ensures why { IsUsable S.Store store.new.connection
+        → (history : History)
+        → EngineRepresents S.Store history (engine_of store.old (map rows_by_key tables.now))
+        → IsOfCatalog store.old.catalog.tables (plain_query query.now)
+        → IfErr result (IsFailure S.Store store.old.connection store.new.connection) }
     ensures columns { IfOk result (λ answer. answer.columns
         ≡ map (λ (item : Item). item.name) (columns_of (plain_query query.now))) }
     ensures read { IsOnlyRead S.Store store.old store.new }

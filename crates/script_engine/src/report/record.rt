@@ -207,7 +207,8 @@ impl Record {
         version: &VersionRow,
     ) -> Result<(), ReportFault>
         ensures ok { OnOk result (self.new ≡ self.old
-            ++ map (λ (column : any.VersionColumn). cell_text version.now column.cell) columns.now) }
+            ++ map (λ (column : any.VersionColumn). cell_text version.now column.cell)
+            columns.now) }
         ensures err { IfErr result (λ e. e ≡ ReportFault.Memory) }
     {
         for column in columns {

@@ -1,5 +1,5 @@
 use Rattle.std.proofs.Common.{◌≡◌, ◌∙◌, List, ap, ap₂, map, subst, sym}
-use Rattle.std.specs.Prelude.{OnOk, Result, Ok, Err}
+use Rattle.std.specs.Prelude.{IfErr, OnOk, Result, Ok, Err}
 use Rattle.sql_statements.specs.declared.tree.Tree.{Tree}
 use Rattle.catalog_core.specs.declared.condition.CompareValues.{CompareValues}
 use Rattle.catalog_core.specs.declared.query.resolved.Query as code
@@ -9,6 +9,7 @@ use Rattle.period_keys.specs.Current.{rows_by_key}
 use Rattle.script_engine.specs.engine.Needed.{AddNeeded, IsNeededBy, SeeNeeded}
 use Rattle.script_engine.proofs.Answering.{engine_still}
 use Rattle.script_engine.proofs.Needed.{added_both}
+use Rattle.script_engine.proofs.Loaded.{failure_since}
 use Rattle.script_engine.proofs.engine.needed.+push_needed_tables.Goals as goal
 
 on_ok : {X E : Type 0} (r : Result X E) (P Q : Type 0) → (P → Q) → OnOk r P → OnOk r Q
@@ -41,3 +42,14 @@ returns-in-Ok-clause-needed g t c usable history kept =
     on_ok c.push_needed_tables-in-Combined.result (AddNeeded (IsNeededBy history right) c.push_needed_tables.new.lists.items new) (AddNeeded (IsNeededBy history (plain_query c.args.query.now)) old new)
     (λ second. subst (λ (q : Query). AddNeeded (IsNeededBy history q) old new) same (added_both history c.in-Combined.field-0 left right old c.push_needed_tables.new.lists.items new first second))
     (c.push_needed_tables-in-Combined.ensures.needed usable history still)
+
+if_err : {X E : Type 0} (P Q : E → Type 0) (r : Result X E) → ((e : E) → P e → Q e) → IfErr r P → IfErr r Q
+if_err P Q (Ok x) h p = tt
+if_err P Q (Err e) h p = h e p
+
+pub returns-in-Ok-clause-why : goal.returns-in-Ok-clause-why
+returns-in-Ok-clause-why g t c usable history kept =
+    let middle = c.push_needed_tables-in-Combined.ensures.read.usable usable in
+    let still = engine_still g.S.Store history c.args.store.now c.push_needed_tables.new.store (map rows_by_key c.args.tables.now) c.in-Ok.ensures.read middle kept in
+    if_err _ _ c.push_needed_tables-in-Combined.result (λ refusal. failure_since g.S.Store c.args.store.now c.push_needed_tables.new.store c.push_needed_tables-in-Combined.new.store refusal c.in-Ok.ensures.read)
+    (c.push_needed_tables-in-Combined.ensures.why usable history still)

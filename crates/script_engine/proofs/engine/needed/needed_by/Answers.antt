@@ -1,4 +1,4 @@
-use Rattle.std.proofs.Common.{◌∙◌, ap, map, subst, sym}
+use Rattle.std.proofs.Common.{◌∙◌, ap, inl, map, refl, subst, sym}
 use Rattle.catalog_core.specs.declared.table.catalog.Catalog.{Catalog}
 use Rattle.period_keys.specs.Current.{rows_by_key}
 use Rattle.period_keys.proofs.PlanParts.{if_ok}
@@ -23,3 +23,9 @@ returns-in_default-clause-needed g c usable history kept =
     let reference = c.args.reference.now in
     if_ok c.seen_by.result (λ rows. SeesRows history reference rows) (λ rows. IsNeeded history c.args.conjuncts.now c.args.start reference rows)
     (λ rows sees. whole_needed history c.args.conjuncts.now c.args.start reference rows sees) (c.seen_by.ensures.seen usable history kept)
+
+pub returns-in-Err-clause-why : goal.returns-in-Err-clause-why
+returns-in-Err-clause-why g c usable history kept = inl refl
+
+pub returns-in_default-clause-why : goal.returns-in_default-clause-why
+returns-in_default-clause-why g c usable history kept = c.seen_by.ensures.why usable history kept
