@@ -1,5 +1,5 @@
 -- What the references of a query of the catalog see in a history fits the query: a list for each, of rows of its table.
-use Rattle.std.proofs.Common.{◌≡◌, ◌==◌, ◌∷◌, ◌∙◌, ℕ, Bool, true, false, List, [], None, Option, Some, Contains, ap, arith, eqb-true, length, map, refl, subst, sym, suc, zero}
+use Rattle.std.proofs.Common.{◌≡◌, ◌==◌, ◌∷◌, ◌∙◌, ℕ, Bool, true, List, [], None, Option, Some, Contains, ap, arith, eqb-true, length, map, refl, subst, sym, suc, zero}
 use Rattle.std.specs.List.{AllByRecursion, list_all}
 use Rattle.std.specs.Option.{option_map}
 use Rattle.std.proofs.lemmas.Bool.{and_parts, false≢true}

@@ -1,8 +1,6 @@
 -- Worked rows: a union, an intersection and a difference of two selects, each as a step of the
 -- history.
-use Rattle.std.proofs.Common.{◌≡◌, ◌∷◌, ◌↔◌, [], ℤ, pos, Bool, true, false, List, None, Some, Ok, codes, refl, subst, inl, inr, arith}
-use Rattle.std.proofs.lemmas.Int.{ints}
-use Rattle.std.specs.List.{Contains}
+use Rattle.std.proofs.Common.{◌∷◌, ◌↔◌, [], ℤ, List, Ok, codes, refl, inl, inr, arith}
 use Rattle.period_core.specs.Leasts.{NoneApplies}
 use Rattle.period_core.specs.declared.answer.Answer.{Answer}
 use Rattle.period_core.specs.declared.value.Value.{Value}

@@ -24,8 +24,8 @@ returns-then-not-fits-clause-why g c usable history kept known =
     let fit : fits query c.in-Ok.needed ≡ true = needed_fits history kept.contents query c.in-Ok.needed kept.said its (c.in-Ok.ensures.needed usable history kept) in
     absurd (false≢true (sym c.if-not-fits.true ∙ c.fits.ensures ∙ fit))
 
-pub returns-in-Err-answer_over-clause-why : goal.returns-in-Err-answer_over-clause-why
-returns-in-Err-answer_over-clause-why g c usable history kept known = inl refl
+pub returns-clause-why : goal.returns-clause-why
+returns-clause-why g c usable history kept known = inl refl
 
 pub returns-in-Err-clause-why : goal.returns-in-Err-clause-why
 returns-in-Err-clause-why g c usable history kept known = c.in-Err.ensures.why usable history kept
