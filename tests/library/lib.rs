@@ -50,7 +50,8 @@
 //! - `join`: `operators::changed_departments`, `operators::pairs_of_rows`
 //! - `union`: `operators::unions`; `difference`: `operators::differences_in_every_order`;
 //!   `intersection`: `operators::intersections`
-//! - `run_query`: `queries::first_answer`, `queries::changed_departments`, `queries::common_days`
+//! - `run_query`: `queries::first_answer`, `queries::changed_departments`, `queries::common_days`,
+//!   `queries::many_pairs_of_few_departments`
 //!
 //! coalesce_core
 //! - `coalesce`: `operators::shortest_lists`; `Coalesce::new`:

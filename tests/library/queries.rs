@@ -2,7 +2,7 @@
 //! versions that a stored query shows.
 
 use crate::fixtures::{
-    EMP, FOREVER, Held, Recorded, are_rows, catalog_of, integers, rows, statement, versions,
+    EMP, FOREVER, Held, Recorded, are_rows, catalog_of, integers, row, rows, statement, versions,
 };
 use catalog_core::{
     Catalog, Comparand, CompareValues, Query, Stored, Tables, fits, holds, meets, resolve_query,
@@ -90,6 +90,40 @@ fn changed_departments(rt: HostRuntime) -> Result<(), Fail> {
     let query = "VALIDTIME SELECT DISTINCT X.DEPT, Y.DEPT AS NEWDEPT FROM EMP X, EMP Y \
         WHERE (X.ENO = Y.ENO OR X.ENO = 0) AND X.DEPT <> Y.DEPT";
     assert!(rt; gives(rt.alloc(), query, &[&BEFORE, &NOW], &wanted)?);
+    Ok(())
+}
+
+// Six hundred employees of ten departments, all of them on the same days.
+fn many_employees(alloc: Global) -> Result<Items<PeriodRow>, Fail> {
+    let mut all = Vec::new(alloc);
+    for number in 0..600_i64 {
+        all.push(row(
+            alloc,
+            (&[number, number % 10], "2024-01-01", "2024-02-01"),
+        )?)?;
+    }
+    Ok(Items::from_vec(all))
+}
+
+#[test]
+fn many_pairs_of_few_departments(rt: HostRuntime) -> Result<(), Fail> {
+    let alloc = rt.alloc();
+    let catalog = catalog_of(alloc, &[EMP])?;
+    let text = "VALIDTIME SELECT DISTINCT X.DEPT, Y.DEPT AS OTHER FROM EMP X, EMP Y \
+        WHERE X.DEPT < Y.DEPT";
+    let query = query_of(alloc, &catalog, text)?;
+    let mut lists = Vec::new(alloc);
+    lists.push(many_employees(alloc)?)?;
+    lists.push(many_employees(alloc)?)?;
+    let found = answered(alloc, &query, &Tables::new(Items::from_vec(lists)))?;
+    let mut wanted = Vec::new(alloc);
+    for first in 0..10_i64 {
+        for second in first + 1..10 {
+            wanted.push(row(alloc, (&[first, second], "2024-01-01", "2024-02-01"))?)?;
+        }
+    }
+    assert_eq!(rt; found.len(), 45);
+    assert!(rt; found.as_slice() == wanted.as_slice());
     Ok(())
 }
 

@@ -1,11 +1,12 @@
 -- Rows that are added, but some that cannot meet the conditions.
-use Rattle.std.proofs.Common.{[], ℤ, List, refl, inl, inr, ◌⊎◌, ◌↔◌}
+use Rattle.std.proofs.Common.{[], ◌++◌, ℤ, List, refl, inl, inr, ◌⊎◌, ◌↔◌}
 use Rattle.period_core.specs.declared.row.PeriodRow.{PeriodRow}
 use Rattle.period_core.specs.declared.value.Value.{Value}
 use Rattle.temporal_model.specs.Snapshot.{InSnapshot}
 use Rattle.sequenced_ops.specs.Operations.{Cond}
 use Rattle.sequenced_ops.specs.Joining.{Adds, CanMeet}
 use Rattle.sequenced_ops.specs.Planning.{RulesOut}
+use Rattle.sequenced_ops.proofs.Standing.{holds-append}
 
 -- what is ruled out cannot meet the conditions
 pub ruled_out-not : (conjuncts : List Cond) (values : List Value) → RulesOut conjuncts 0 values → CanMeet conjuncts values → ⊥
@@ -50,4 +51,23 @@ module _ (conjuncts : List Cond) where
       | inl one ↦ b.kept day vs (a.complete day vs one can)
       | inr two ↦ b.complete day vs two can
     ];
+  }
+
+  -- the same behind other rows
+  pub Adds-behind :
+      (InSet : ℤ → List Value → Type 0) (done old new : List PeriodRow) → Adds conjuncts InSet old new
+      → Adds conjuncts InSet (done ++ old) (done ++ new)
+  Adds-behind InSet done old new adds = record {
+    kept = λ day vs h. (holds-append done new day vs).1 (elim ((holds-append done old day vs).0 h) [
+      | inl before ↦ inl before
+      | inr was ↦ inr (adds.kept day vs was)
+    ]);
+    sound = λ day vs h. elim ((holds-append done new day vs).0 h) [
+      | inl before ↦ inl ((holds-append done old day vs).1 (inl before))
+      | inr there ↦ elim (adds.sound day vs there) [
+        | inl was ↦ inl ((holds-append done old day vs).1 (inr was))
+        | inr one ↦ inr one
+      ]
+    ];
+    complete = λ day vs h can. (holds-append done new day vs).1 (inr (adds.complete day vs h can));
   }

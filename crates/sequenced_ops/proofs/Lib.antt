@@ -11,6 +11,7 @@ pub mod JoinSweeps
 pub mod JoinRows
 pub mod Projections
 pub mod Selections
+pub mod Gathered
 pub mod KnownTruths
 pub mod KeptRows
 pub mod Widths

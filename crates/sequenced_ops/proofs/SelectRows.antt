@@ -79,6 +79,19 @@ joined_more tables conjuncts rows next reference more pruned day values = (
       ),
 )
 
+-- the last reference
+pub joined_last
+    : (tables : List (List PeriodRow)) (conjuncts : List Cond) (rows pairs : List PeriodRow)
+    → (reference : QueryReference)
+    → IsPruned conjuncts 0 (InPairs rows (rows_for tables reference)) pairs
+    → (day : ℤ) (values : List Value)
+    → (InMeeting conjuncts pairs day values
+    ↔ InJoined tables conjuncts rows (reference ∷ []) day values)
+joined_last tables conjuncts rows pairs reference pruned day values =
+    let none = joined_none tables conjuncts pairs day values in
+    let more = joined_more tables conjuncts rows pairs reference [] pruned day values in
+    (λ h. more.0 (none.0 h), λ h. none.1 (more.1 h))
+
 -- rows that are left out of the first reference's
 pub joined_pruned
     : (tables : List (List PeriodRow)) (conjuncts : List Cond) (rows kept : List PeriodRow)

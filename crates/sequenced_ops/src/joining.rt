@@ -6,12 +6,14 @@ ghost use Rattle.period_core.specs.declared.value.Value.{Value as ColumnValue};
 ghost use Rattle.catalog_core.specs.Conditions.{compares};
 ghost use Rattle.sequenced_ops.specs.Operations.{InJoin, InPairs, SnapshotsAre};
 ghost use Rattle.sequenced_ops.specs.Joining.{IsEqual};
+ghost use Rattle.sequenced_ops.specs.Outputs.{GivesSome};
 ghost use Rattle.sequenced_ops.specs.Planning.{AddsKeys, AreKeys, HasWidth, IsColumnPair};
 ghost use Rattle.sequenced_ops.specs.Planning.{IsPruned};
 
 use crate::equalities::Equality;
 use crate::filters::filter;
 use crate::joins::join_equal;
+use crate::outputs::Output;
 use crate::pruning::{copy_pruned, rules_some_out};
 use catalog_core::{Comparand, CompareValues, Cond};
 use period_core::{Memory, PeriodRow};
@@ -114,12 +116,13 @@ fn equalities_of(
     Ok(keys)
 }
 
-/// The pairs of both sides but those that differ in an equality between the sides, and those that
-/// the conditions rule out. Rows of the right side that the conditions rule out by themselves are
-/// left out before. The only error is out of memory.
+/// What is given of the pairs of both sides, but of those that differ in an equality between the
+/// sides, and of those that the conditions rule out. Rows of the right side that the conditions
+/// rule out by themselves are left out before. The only error is out of memory.
 fn join_by_keys(
     alloc: Global,
     conjuncts: &[Cond],
+    output: Output,
     rows: &[PeriodRow],
     others: &[PeriodRow],
     width: usize,
@@ -127,35 +130,45 @@ fn join_by_keys(
 ) -> Result<Vec<PeriodRow>, Memory>
     requires left { HasWidth width rows.now }
     requires right { HasWidth more others.now }
-    ensures { IfOk result
-        (λ pairs. IsPruned conjuncts.now 0 (InPairs rows.now others.now) pairs.items) }
+    ensures { IfOk result (λ next. GivesSome
+        (IsPruned conjuncts.now 0 (InPairs rows.now others.now))
+        conjuncts.now output.entry next.items) }
 {
     let keys = equalities_of(alloc, conjuncts, width, more)?;
     if rules_some_out(conjuncts, width, others) {
         let kept = copy_pruned(alloc, conjuncts, width, others)?;
-        return join_equal(alloc, rows, kept.as_slice(), keys.as_slice(), conjuncts);
+        return join_equal(
+            alloc,
+            rows,
+            kept.as_slice(),
+            keys.as_slice(),
+            conjuncts,
+            output,
+        );
     }
-    join_equal(alloc, rows, others, keys.as_slice(), conjuncts)
+    join_equal(alloc, rows, others, keys.as_slice(), conjuncts, output)
 }
 
-/// What is joined so far with one more reference's rows, but pairs that cannot meet the conditions.
-/// Positions say what is of which side only where all rows of each side have the same number of
-/// values; otherwise it goes by no equality. The only error is out of memory.
+/// What is given of what is joined so far with one more reference's rows, but of pairs that cannot
+/// meet the conditions. Positions say what is of which side only where all rows of each side have
+/// the same number of values; otherwise it goes by no equality. The only error is out of memory.
 pub fn join_next(
     alloc: Global,
     conjuncts: &[Cond],
+    output: Output,
     rows: &[PeriodRow],
     others: &[PeriodRow],
 ) -> Result<Vec<PeriodRow>, Memory>
-    ensures { IfOk result
-        (λ next. IsPruned conjuncts.now 0 (InPairs rows.now others.now) next.items) }
+    ensures { IfOk result (λ next. GivesSome
+        (IsPruned conjuncts.now 0 (InPairs rows.now others.now))
+        conjuncts.now output.entry next.items) }
 {
     if let Some(width) = width_of(rows) {
         if let Some(more) = width_of(others) {
-            return join_by_keys(alloc, conjuncts, rows, others, width, more);
+            return join_by_keys(alloc, conjuncts, output, rows, others, width, more);
         }
     }
-    join_equal(alloc, rows, others, &[], conjuncts)
+    join_equal(alloc, rows, others, &[], conjuncts, output)
 }
 
 /// On each day the values of a left row and behind them those of a right row, for all pairs of rows
@@ -171,6 +184,7 @@ pub fn join(
     ensures { IfOk result (λ rows.
         SnapshotsAre (InJoin condition.now left.now right.now) rows.items) }
 {
-    let pairs = join_next(alloc, slice::from_ref(condition), left, right)?;
+    let conjuncts = slice::from_ref(condition);
+    let pairs = join_next(alloc, conjuncts, Output::Pairs, left, right)?;
     filter(alloc, pairs, condition)
 }

@@ -1,15 +1,18 @@
 //! Joins: a sweep over the rows of both sides in the order of their keys and first days.
 
-ghost use Rattle.std.specs.Prelude.{◌≡◌, ◌↔◌, ◌⊎◌, ◌++◌, ◌<ℤ◌, [], Contains, AllPairs};
+ghost use Rattle.std.specs.Prelude.{◌≡◌, ◌↔◌, ◌⊎◌, ◌++◌, ◌<ℤ◌, [], List, Contains, AllPairs};
 ghost use Rattle.std.specs.Prelude.{IfOk, OnOk, IsTrue};
+ghost use Rattle.period_core.specs.declared.row.PeriodRow.{PeriodRow as Row};
 ghost use Rattle.sequenced_ops.specs.declared.keyed.KeyedRow.{KeyedRow};
 ghost use Rattle.sequenced_ops.specs.Joining.{Adds, Follows, InEqualPairs, InPairs};
 ghost use Rattle.sequenced_ops.specs.Joining.{InPairsWith, IsGone, PairHolds, SidedPair};
+ghost use Rattle.sequenced_ops.specs.Outputs.{GivesSome};
 ghost use Rattle.sequenced_ops.specs.Planning.{IsPruned};
 
 use crate::conjuncts::is_ruled_out;
 use crate::equalities::{Equality, columns_of};
 use crate::keyed::{KeyedRow, Side, push_keyed};
+use crate::outputs::{Output, given, select_batch};
 use catalog_core::Cond;
 use period_core::{Memory, PeriodRow, Values};
 use std::alloc::Global;
@@ -114,47 +117,54 @@ fn meet<'a>(
     Ok(left)
 }
 
-// The pairs of rows of both sides that have the same key and a day, where none comes before an
-// earlier one, but those that the conditions rule out.
+// What is given of the pairs of rows of both sides that have the same key and a day, where none
+// comes before an earlier one, but of those that the conditions rule out.
 fn pairs_of(
     alloc: Global,
     conjuncts: &[Cond],
+    output: Output,
     sorted: Vec<KeyedRow>,
 ) -> Result<Vec<PeriodRow>, Memory>
     requires { AllPairs Follows sorted.items }
-    ensures { IfOk result
-        (λ rows. Adds conjuncts.now (InPairs sorted.entry.items) [] rows.items) }
+    ensures { IfOk result (λ rows. GivesSome
+        (λ (pairs : List Row). Adds conjuncts.now (InPairs sorted.entry.items) [] pairs)
+        conjuncts.now output.entry rows.items) }
 {
-    let mut rows = Vec::new(alloc);
+    let mut pairs = Vec::new(alloc);
+    let mut selected = Vec::new(alloc);
     let mut lefts = Vec::new(alloc);
     let mut rights = Vec::new(alloc);
     for row in sorted {
+        selected = select_batch(alloc, conjuncts, output, selected, &mut pairs)?;
         match row.side {
             Side::Left => {
-                rights = meet(alloc, conjuncts, &mut rows, &row, rights)?;
+                rights = meet(alloc, conjuncts, &mut pairs, &row, rights)?;
                 lefts.push(row)?;
             }
             Side::Right => {
-                lefts = meet(alloc, conjuncts, &mut rows, &row, lefts)?;
+                lefts = meet(alloc, conjuncts, &mut pairs, &row, lefts)?;
                 rights.push(row)?;
             }
         }
     }
-    Ok(rows)
+    given(alloc, conjuncts, output, selected, pairs)
 }
 
-/// On each day the values of a left row and behind them those of a right row, for all pairs of rows
-/// that have the same values at the columns of each equality, but pairs that the conditions rule
-/// out; without equalities, for all other pairs. The only error is out of memory.
+/// What is given of the pairs of rows that have the same values at the columns of each equality,
+/// but of pairs that the conditions rule out; without equalities, of all other pairs. A pair has on
+/// each day the values of a left row and behind them those of a right row. The only error is out of
+/// memory.
 pub fn join_equal(
     alloc: Global,
     left: &[PeriodRow],
     right: &[PeriodRow],
     equalities: &[Equality],
     conjuncts: &[Cond],
+    output: Output,
 ) -> Result<Vec<PeriodRow>, Memory>
-    ensures { IfOk result (λ rows. IsPruned conjuncts.now 0
-        (InEqualPairs equalities.now left.now right.now) rows.items) }
+    ensures { IfOk result (λ rows. GivesSome
+        (IsPruned conjuncts.now 0 (InEqualPairs equalities.now left.now right.now))
+        conjuncts.now output.entry rows.items) }
 {
     let left_columns = columns_of(alloc, equalities, &Side::Left)?;
     let right_columns = columns_of(alloc, equalities, &Side::Right)?;
@@ -174,5 +184,5 @@ pub fn join_equal(
         Side::Right,
     )?;
     sorted.sort()?;
-    pairs_of(alloc, conjuncts, sorted)
+    pairs_of(alloc, conjuncts, output, sorted)
 }

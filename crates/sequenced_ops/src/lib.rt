@@ -5,7 +5,8 @@
 //!
 //! `run_query` gives the rows of a whole query: it joins the references of a select from left to
 //! right, each by the equalities between it and those before it, and applies a condition as soon as
-//! the values that it needs are there. To add a set operator: its case in `run_part` of
+//! the values that it needs are there. What the last join finds is selected a batch at a time, so
+//! memory follows the answer and not the pairs. To add a set operator: its case in `run_part` of
 //! `running.rt`, in `InCombined` of history_model, and in `proofs/SelectRows`.
 #![tactic(auto)]
 
@@ -19,6 +20,7 @@ mod intersections;
 mod joining;
 mod joins;
 mod keyed;
+mod outputs;
 mod places;
 mod projecting;
 mod pruning;

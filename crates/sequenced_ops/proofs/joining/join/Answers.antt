@@ -13,8 +13,10 @@ returns c =
     let left : List PeriodRow = c.args.left.now in
     let right : List PeriodRow = c.args.right.now in
     let pairs : List PeriodRow = c.in_ok-pairs.pairs.items in
+    let (all, are, same) = c.in_ok-pairs.ensures in
     let pruned : IsPruned (condition ∷ []) 0 (InPairs left right) pairs =
-    subst (λ (l : List Cond). IsPruned l 0 (InPairs left right) pairs) c.from_ref.ensures.value c.in_ok-pairs.ensures in
+    subst (λ (l : List Cond). IsPruned l 0 (InPairs left right) pairs) c.from_ref-conjuncts.ensures.value
+    (subst (IsPruned c.from_ref-conjuncts.result.now 0 (InPairs left right)) same are) in
     if_ok_weaker c.filter.result _ _
     (λ (rows : Vec PeriodRow) p. joined_snapshots condition left right pairs rows.items pruned p)
     c.filter.ensures

@@ -1,8 +1,10 @@
 use Rattle.std.proofs.Common.{◌≡◌, [], List, ℕ, subst, ◌∙◌}
+use Rattle.std.specs.Global.{Vec}
 use Rattle.period_core.specs.declared.row.PeriodRow.{PeriodRow}
 use Rattle.sequenced_ops.specs.declared.keyed.KeyedRow.{KeyedRow}
 use Rattle.sequenced_ops.specs.declared.keyed.Side.TheVariants.{Left, Right}
 use Rattle.sequenced_ops.specs.Joining.{columns_on}
+use Rattle.sequenced_ops.proofs.Gathered.{gives_weaker}
 use Rattle.sequenced_ops.proofs.Logic.{if_ok_weaker}
 use Rattle.sequenced_ops.proofs.JoinRows.{sorted_rows, joined_rows, both_keyed, AreBothSides, KeyedMore}
 use Rattle.sequenced_ops.proofs.joins.join_equal.Goals as goal
@@ -36,4 +38,7 @@ returns c =
     let rights : KeyedMore Right (columns_on Right es) first keyed right =
     subst (λ (l : List ℕ). KeyedMore Right l first keyed right) right_is made_right in
     let both : AreBothSides es left right keyed = both_keyed es left right first keyed lefts rights in
-    if_ok_weaker c.pairs_of.result _ _ (λ rows. joined_rows c.args.conjuncts.now es left right rows.items keyed sorted both c.in_ok-sort.ensures.permutation) c.pairs_of.ensures
+    if_ok_weaker c.pairs_of.result _ _
+    (λ (rows : Vec PeriodRow). gives_weaker _ _ c.args.conjuncts.now c.args.output rows.items
+    (λ (pairs : List PeriodRow). joined_rows c.args.conjuncts.now es left right pairs keyed sorted both c.in_ok-sort.ensures.permutation))
+    c.pairs_of.ensures

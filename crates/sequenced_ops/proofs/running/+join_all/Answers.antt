@@ -1,4 +1,5 @@
-use Rattle.std.proofs.Common.{◌≡◌, ◌∷◌, [], ℕ, List, sym, subst, arith}
+use Rattle.std.proofs.Common.{◌≡◌, ◌∷◌, [], ◌∙◌, ap, ℕ, List, length, sym, subst, arith}
+use borrow.Author.Tests.{eqb-true}
 use Rattle.std.specs.Global.{Vec}
 use Rattle.std.proofs.lemmas.List.{nil_from_length}
 use Rattle.period_core.specs.declared.row.PeriodRow.{PeriodRow}
@@ -8,7 +9,7 @@ use Rattle.sequenced_ops.specs.Operations.{Cond, InPairs, InProjection, Snapshot
 use Rattle.sequenced_ops.specs.Planning.{InJoined, InMeeting, IsPruned}
 use Rattle.sequenced_ops.proofs.Fronts.{behind, first_of}
 use Rattle.sequenced_ops.proofs.Logic.{if_ok_weaker}
-use Rattle.sequenced_ops.proofs.SelectRows.{joined_more, joined_none, projection_same}
+use Rattle.sequenced_ops.proofs.SelectRows.{joined_last, joined_more, joined_none, projection_same}
 use Rattle.sequenced_ops.proofs.running.+join_all.Goals as goal
 
 pub returns-in_default : goal.returns-in_default
@@ -34,6 +35,33 @@ returns-in_default t c =
     kept.items (joined_none tables conjuncts rows) p))
     c.select_meeting.ensures
 
+pub returns-then-is_empty : goal.returns-then-is_empty
+returns-then-is_empty t c =
+    let tables = c.args.tables.now in
+    let conjuncts : List Cond = c.args.conjuncts.now in
+    let columns : List ℕ = c.args.columns.now in
+    let rows : List PeriodRow = c.args.rows.now in
+    let references : List QueryReference = c.args.references.now in
+    let reference = c.reference-item.result in
+    let none : behind references ≡ [] =
+    nil_from_length (behind references)
+    (eqb-true (length (behind references)) 0 (sym c.is_empty.ensures ∙ c.if-is_empty.true)) in
+    let is : references ≡ reference ∷ [] =
+    first_of references reference c.in-len1-up.len_at_least c.reference-item.is
+    ∙ ap (λ (l : List QueryReference). reference ∷ l) none in
+    if_ok_weaker c.join_next.result _ _
+    (λ (joined : Vec PeriodRow) (pairs, pruned, given).
+    subst (λ (l : List QueryReference).
+    SnapshotsAre (InProjection columns (InJoined tables conjuncts rows l)) joined.items)
+    (sym is)
+    (projection_same columns (InMeeting conjuncts pairs)
+    (InJoined tables conjuncts rows (reference ∷ [])) joined.items
+    (joined_last tables conjuncts rows pairs reference
+    (subst (λ (l : List PeriodRow). IsPruned conjuncts 0 (InPairs rows l) pairs)
+    c.rows_for-others.ensures pruned))
+    given))
+    c.join_next.ensures
+
 pub returns : goal.returns
 returns t c =
     let tables = c.args.tables.now in
@@ -46,11 +74,12 @@ returns t c =
     let more = behind references in
     let is : references ≡ reference ∷ more =
     first_of references reference c.in-len1-up.len_at_least c.reference-item.is in
+    let (all, pairs, same) = c.in_ok-next.ensures in
     let pruned : IsPruned conjuncts 0 (InPairs rows (rows_for tables reference)) next =
     subst (λ (l : List PeriodRow). IsPruned conjuncts 0 (InPairs rows l) next)
     c.rows_for-others.ensures
     (subst (IsPruned conjuncts 0 (InPairs rows c.rows_for-others.result.now))
-    (sym c.as_slice.ensures.value) c.in_ok-next.ensures) in
+    (same ∙ sym c.as_slice.ensures.value) pairs) in
     if_ok_weaker c.join_all.result
     (λ (joined : Vec PeriodRow).
     SnapshotsAre (InProjection columns (InJoined tables conjuncts next more)) joined.items)
