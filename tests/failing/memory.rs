@@ -36,6 +36,14 @@ unsafe extern "C" {
 
 const MANY: u64 = 1_000_000;
 
+// A call that makes no allocation at all would show nothing.
+fn must_be_refused(times: u64) -> Result<(), Fail> {
+    if times == 0 {
+        return Err("nothing was refused")?;
+    }
+    Ok(())
+}
+
 // Which allocations are refused from the N-th on: how far they are apart, how many they are at
 // most; and how far apart these N are.
 #[derive(Clone, Copy)]
@@ -185,6 +193,7 @@ pub fn statements(rt: &HostRuntime, text: &str) -> Result<(), Fail> {
                 }
                 first += pattern.stride;
             }
+            must_be_refused(refused)?;
             let (number, name) = (piece + 1, pattern.name);
             println!(rt;
                 "ok statement {number}, {name}: {refused} times 61, {regardless} as if not"
@@ -217,6 +226,7 @@ pub fn again(rt: &HostRuntime, text: &str) -> Result<(), Fail> {
             }
             first += 1;
         };
+        must_be_refused(first - 1)?;
         all += first - 1;
         results.push(result)?;
     }
@@ -300,11 +310,13 @@ pub fn opens(rt: &HostRuntime, text: &str) -> Result<(), Fail> {
     while open_refused(alloc, left_by(alloc, &script)?, &left, first)? {
         first += 1;
     }
+    must_be_refused(first - 1)?;
     println!(rt; "ok open: {first} tries")?;
     let mut first = 1;
     while reopen_refused(alloc, left_by(alloc, &script)?, &left, first)? {
         first += 1;
     }
+    must_be_refused(first - 1)?;
     println!(rt; "ok reopen: {first} tries")?;
     Ok(())
 }
@@ -344,11 +356,13 @@ pub fn new_store(rt: &HostRuntime) -> Result<(), Fail> {
     while open_refused(alloc, open_in_memory(alloc)?, &none, first)? {
         first += 1;
     }
+    must_be_refused(first - 1)?;
     println!(rt; "ok open of a new store: {first} tries")?;
     let mut first = 1;
     while at_refused(alloc, first)? {
         first += 1;
     }
+    must_be_refused(first - 1)?;
     println!(rt; "ok at: {first} tries")?;
     Ok(())
 }
@@ -398,6 +412,7 @@ pub fn audits(rt: &HostRuntime, text: &str) -> Result<(), Fail> {
     while audited_refused(alloc, &script, first)? {
         first += 1;
     }
+    must_be_refused(first - 1)?;
     println!(rt; "ok an audited query: {first} tries")?;
     Ok(())
 }
@@ -464,6 +479,7 @@ pub fn queries(rt: &HostRuntime) -> Result<(), Fail> {
     if found.as_slice() != wanted.as_slice() {
         return Err("another answer")?;
     }
+    must_be_refused(tries - 1)?;
     println!(rt; "ok run_query: {tries} tries")?;
     let witnesses = witnesses(alloc, found.as_slice())?;
     let answer = Answer {
@@ -475,6 +491,7 @@ pub fn queries(rt: &HostRuntime) -> Result<(), Fail> {
     if verdict != Verdict::Agrees(2) {
         return Err("another verdict")?;
     }
+    must_be_refused(tries - 1)?;
     println!(rt; "ok audit: {tries} tries")?;
     Ok(())
 }
@@ -577,6 +594,7 @@ pub fn reports(rt: &HostRuntime, text: &str) -> Result<(), Fail> {
             first += 1;
         }
         let name = ["write_report", "write_audited", "write_check"][which];
+        must_be_refused(first - 1)?;
         println!(rt; "ok {name}: {first} tries")?;
     }
     Ok(())
