@@ -1,17 +1,21 @@
 -- What conditions fix that say `column = literal`.
 use Rattle.std.proofs.Common.{◌≡◌, ◌∙◌, ◌<◌, ◌+◌, ◌++◌, ◌∷◌, [], ℕ, zero, suc, Bool, true, false, Some, List, arith, get_or, inl, inr, length, map, refl, sym, ap, subst}
-use Rattle.std.specs.Prelude.{◌&&◌, ◌||◌, Option, slice_get}
+use Rattle.std.specs.Prelude.{◌&&◌, ◌||◌, ◌⊎◌, All, slice_get}
+use Rattle.std.proofs.lemmas.List.Elements.{All-head, All-nil, All-push}
 use Rattle.std.specs.Global.{Box, Vec}
 use Rattle.period_core.specs.declared.value.Value.{Value}
+use Rattle.sql_statements.specs.declared.statement.Comparison.TheVariants.{Equal}
 use Rattle.sql_statements.specs.declared.tree.Tree as code
 use Rattle.sql_statements.specs.Plain.{plain_condition}
 use Rattle.sql_statements.specs.Trees.{Condition, Conditions, any, all, conditions_of, negated, test, none, more}
-use Rattle.catalog_core.proofs.lemmas.conditions.Truth.{and_view, or_view}
-use Rattle.catalog_core.specs.Conditions.{compares, each_satisfied, is_satisfied, meets, some_satisfied}
+use Rattle.catalog_core.proofs.lemmas.conditions.Truth.{and_view, or_view, test_view}
+use Rattle.catalog_core.specs.Conditions.{compared, compares, each_satisfied, is_satisfied, meets, side_value, some_satisfied}
+use Rattle.catalog_core.specs.declared.condition.Comparand.{Comparand}
+use Rattle.catalog_core.specs.declared.condition.Comparand.TheVariants.{Position}
 use Rattle.catalog_core.specs.declared.condition.CompareValues.{CompareValues}
 use Rattle.history_model.specs.OrdinaryQuery.{meets_all}
-use Rattle.period_keys.specs.Equations.{equation_fixes}
-use Rattle.period_keys.specs.FixedKeys.{Equates, FixesWithin, IsEquation, OnlyPartEquates, SomePartEquates}
+use Rattle.period_keys.specs.Equations.{both_equal, equation_fixes}
+use Rattle.period_keys.specs.FixedKeys.{AreEqualPlaces, Equates, IsEquation, OnlyPartEquates, SomePartEquates}
 
 both_true : (a b : Bool) → (a && b) ≡ true → (a ≡ true) × (b ≡ true)
 both_true true b h = (refl, h)
@@ -118,13 +122,46 @@ each_met (c ∷ conditions) values met zero condition below at =
 each_met (c ∷ conditions) values met (suc k) condition below at =
     each_met conditions values (both_true (meets c values) (meets_all conditions values) met).1 k condition (omega (arith, below)) at
 
--- what one of the conditions says of a position among the row's values
-pub within_fixes : (conditions : List (code.Tree CompareValues)) (k : ℕ) (condition : code.Tree CompareValues) (start width position place : ℕ) (value : Value) → k < length conditions → condition ≡ get_or conditions k condition → position < width → place ≡ start + position
-    → Equates IsEquation (plain_condition condition) place value → FixesWithin conditions start width position value
-within_fixes conditions k condition start width position place value below at inside is says first values rest long wide met =
-    let whole : List Value = first ++ (values ++ rest) in
-    let holds : meets condition whole ≡ true = each_met conditions whole met k condition below at in
-    let there : slice_get whole place ≡ Some value =
-    equates_fixes IsEquation (compares whole) whole (λ leaf p v its held. equation_fixes leaf whole p v its held) (plain_condition condition) place value says holds in
+-- what one of the conditions says of a place
+pub one_fixes : (conditions : List (code.Tree CompareValues)) (k : ℕ) (condition : code.Tree CompareValues) (place : ℕ) (value : Value) → k < length conditions → condition ≡ get_or conditions k condition → Equates IsEquation (plain_condition condition) place value →
+    (row : List Value) → meets_all conditions row ≡ true → slice_get row place ≡ Some value
+one_fixes conditions k condition place value below at says row met =
+    equates_fixes IsEquation (compares row) row (λ leaf p v its held. equation_fixes leaf row p v its held) (plain_condition condition) place value says (each_met conditions row met k condition below at)
+
+-- a position among the row's values is a place of the combined row
+pub at_place : (first values rest : List Value) (start width position place : ℕ) (value : Value) → length first ≡ start → length values ≡ width → position < width → place ≡ start + position → slice_get (first ++ (values ++ rest)) place ≡ Some value → slice_get values position ≡ Some value
+at_place first values rest start width position place value long wide inside is there =
     let moved : place ≡ length first + position = is ∙ ap (λ (n : ℕ). n + position) (sym long) in
-    sym (ap (slice_get whole) moved ∙ get_behind first (values ++ rest) position ∙ get_left values rest position (omega (arith, inside, wide))) ∙ there
+    sym (ap (slice_get (first ++ (values ++ rest))) moved ∙ get_behind first (values ++ rest) position ∙ get_left values rest position (omega (arith, inside, wide))) ∙ there
+
+-- ---- places whose values are equal
+
+-- a comparison of two positions
+pub test_equates : (condition : code.Tree CompareValues) (c : CompareValues) (left right : ℕ) → condition ≡ code.Test c → c.comparison ≡ Equal → c.left ≡ Position left → c.right ≡ Position right →
+    (row : List Value) → meets condition row ≡ true → slice_get row left ≡ slice_get row right
+test_equates condition c left right is equal at_left at_right row met =
+    let holds : compares row c ≡ true = sym (ap (is_satisfied (compares row)) (ap plain_condition is ∙ test_view c)) ∙ met in
+    both_equal (slice_get row left) (slice_get row right)
+    (subst (λ (r : Comparand). compared Equal (slice_get row left) (side_value r row) ≡ true) at_right
+    (subst (λ (l : Comparand). compared Equal (side_value l row) (side_value c.right row) ≡ true) at_left
+    (subst (λ o. compared o (side_value c.left row) (side_value c.right row) ≡ true) equal holds)))
+
+-- a place that one of the conditions equates with one that is known
+pub places_more : (conditions : List (code.Tree CompareValues)) (place known other k : ℕ) (condition : code.Tree CompareValues) (places new : List ℕ) → k < length conditions → condition ≡ get_or conditions k condition →
+    ((row : List Value) → meets condition row ≡ true → slice_get row other ≡ slice_get row known) → AreEqualPlaces conditions place (known ∷ []) → (new ≡ places) ⊎ (new ≡ places ++ other ∷ []) → AreEqualPlaces conditions place places → AreEqualPlaces conditions place new
+places_more conditions place known other k condition places new below at equated its added are row met =
+    let IsSame : ℕ → Type 0 = λ (p : ℕ). slice_get row p ≡ slice_get row place in
+    let here : IsSame other = equated row (each_met conditions row met k condition below at) ∙ All-head IsSame known [] (its row met) in
+    elim added [
+      | inl same ↦ subst (All IsSame) (sym same) (are row met)
+      | inr longer ↦ subst (All IsSame) (sym longer) (All-push IsSame places other (are row met) here)
+    ]
+
+-- of one that is known, and of the place itself
+pub places_known : (conditions : List (code.Tree CompareValues)) (place i : ℕ) (places : List ℕ) → i < length places → AreEqualPlaces conditions place places → AreEqualPlaces conditions place (get_or places i 0 ∷ [])
+places_known conditions place i places below are row met =
+    let IsSame : ℕ → Type 0 = λ (p : ℕ). slice_get row p ≡ slice_get row place in
+    All-push IsSame [] (get_or places i 0) (All-nil IsSame) (are row met i 0 below)
+
+pub places_one : (conditions : List (code.Tree CompareValues)) (place : ℕ) → AreEqualPlaces conditions place (place ∷ [])
+places_one conditions place row met = All-push (λ (p : ℕ). slice_get row p ≡ slice_get row place) [] place (All-nil (λ (p : ℕ). slice_get row p ≡ slice_get row place)) refl

@@ -24,18 +24,10 @@ is_equal ordering.Equal h = refl
 is_equal ordering.Greater h = absurd cc
 
 -- two sides that are equal
-equal_right
-    : (left : Option Value) (value : Value) → compared Equal left (Some value) ≡ true
-    → left ≡ Some value
-equal_right None value h = absurd cc
-equal_right (Some x) value h = ap Some (value_cmp-same x value (is_equal (value_cmp x value) h))
-
-equal_left
-    : (value : Value) (right : Option Value) → compared Equal (Some value) right ≡ true
-    → right ≡ Some value
-equal_left value None h = absurd cc
-equal_left value (Some x) h =
-    ap Some (sym (value_cmp-same value x (is_equal (value_cmp value x) h)))
+pub both_equal : (left right : Option Value) → compared Equal left right ≡ true → left ≡ right
+both_equal None right h = absurd cc
+both_equal (Some x) None h = absurd cc
+both_equal (Some x) (Some y) h = ap Some (value_cmp-same x y (is_equal (value_cmp x y) h))
 
 -- where one side is the position and the other the literal
 module _ (c : CompareValues) (row : List Value) (position : ℕ) (value : Value) where
@@ -43,7 +35,7 @@ module _ (c : CompareValues) (row : List Value) (position : ℕ) (value : Value)
       : c.comparison ≡ Equal → c.left ≡ Position position → c.right ≡ Literal value
       → compares row c ≡ true → slice_get row position ≡ Some value
   fixed_left is left right h =
-      equal_right (slice_get row position) value
+      both_equal (slice_get row position) (Some value)
       (subst (λ (r : Comparand).
       compared Equal (slice_get row position) (side_value r row) ≡ true) right
       (subst (λ (l : Comparand).
@@ -54,12 +46,12 @@ module _ (c : CompareValues) (row : List Value) (position : ℕ) (value : Value)
       : c.comparison ≡ Equal → c.right ≡ Position position → c.left ≡ Literal value
       → compares row c ≡ true → slice_get row position ≡ Some value
   fixed_right is right left h =
-      equal_left value (slice_get row position)
+      sym (both_equal (Some value) (slice_get row position)
       (subst (λ (r : Comparand).
       compared Equal (Some value) (side_value r row) ≡ true) right
       (subst (λ (l : Comparand).
       compared Equal (side_value l row) (side_value c.right row) ≡ true) left
-      (subst (λ o. compared o (side_value c.left row) (side_value c.right row) ≡ true) is h)))
+      (subst (λ o. compared o (side_value c.left row) (side_value c.right row) ≡ true) is h))))
 
 pub equation_fixes
     : (c : CompareValues) (row : List Value) (position : ℕ) (value : Value)

@@ -81,3 +81,11 @@ FixesKeyWithin conditions start width positions key =
     (first values rest : List Value) → length first ≡ start → length values ≡ width
     → IsTrue (meets_all conditions (first ++ (values ++ rest)))
     → values_at positions values ≡ key
+
+-- ---- positions whose values are equal
+
+-- in each combined row that meets the conditions the values at these positions equal that at one
+abbrev pub AreEqualPlaces : List (Tree CompareValues) → ℕ → List ℕ → Type 0
+AreEqualPlaces conditions place places =
+    (row : List Value) → IsTrue (meets_all conditions row)
+    → All (λ other. slice_get row other ≡ slice_get row place) places

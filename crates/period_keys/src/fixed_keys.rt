@@ -1,11 +1,13 @@
 //! The key that a condition fixes, by `column = literal` for each of the key's columns.
 
-ghost use Rattle.std.specs.Prelude.{◌≡◌, ◌↔◌, ℕ, Bool, IfOk, IfSome, IsSome, List, MatchOption};
-ghost use Rattle.std.specs.Prelude.{Some, slice_get, true};
+ghost use Rattle.std.specs.Prelude.{◌≡◌, ◌⊎◌, ◌↔◌, ◌++◌, ◌∷◌, [], ℕ, Bool, IfOk, IfSome, IsSome};
+ghost use Rattle.std.specs.Prelude.{IsTrue, List, MatchOption, OnOk, Some, slice_get, true};
 ghost use Rattle.sql_statements.specs.Plain.{plain_condition};
+ghost use Rattle.catalog_core.specs.Conditions.{meets};
 ghost use Rattle.catalog_core.specs.declared.condition.Comparand.TheVariants.{Literal, Position};
+ghost use Rattle.history_model.specs.OrdinaryQuery.{meets_all};
 ghost use Rattle.period_core.specs.declared.value.Value.{Value as ColumnValue};
-ghost use Rattle.period_keys.specs.FixedKeys.{Equates, EquatesKey, FixesKey, FixesKeyWithin};
+ghost use Rattle.period_keys.specs.FixedKeys.{AreEqualPlaces, Equates, EquatesKey, FixesKey, FixesKeyWithin};
 ghost use Rattle.period_keys.specs.FixedKeys.{FixesWithin, IsEquation};
 
 use crate::key::Key;
@@ -112,8 +114,8 @@ pub fn fixed_key<T: Equation>(
 
 /// The key of a table's row that is part of a combined row: its values begin at `start`, and are
 /// `width` many. Where for each of these positions among them one of the conditions says `column =
-/// literal`, each such row of a combined row that meets all conditions has this key. The only error
-/// is out of memory.
+/// literal`, or of a position that it equates with that one, each such row of a combined row that
+/// meets all conditions has this key. The only error is out of memory.
 pub fn fixed_key_within(
     alloc: Global,
     conditions: &[Cond],
@@ -126,7 +128,7 @@ pub fn fixed_key_within(
 {
     let mut key = Vec::new(alloc);
     for position in positions {
-        let Some(value) = value_within(conditions, start, width, *position) else {
+        let Some(value) = value_within(alloc, conditions, start, width, *position)? else {
             return Ok(None);
         };
         key.push(value.copy(alloc)?)?;
@@ -134,23 +136,110 @@ pub fn fixed_key_within(
     Ok(Some(Key::new(Values::from_vec(key))))
 }
 
-// The value that the conditions fix at a position of such a row.
-fn value_within(conditions: &[Cond], start: usize, width: usize, position: usize) -> Option<&Value>
-    ensures { IfSome result
-        (λ value. FixesWithin conditions.now start width position value.now) }
+// The value that the conditions fix at a position of such a row: at its place in the combined row, or
+// at one that equals it.
+fn value_within(
+    alloc: Global,
+    conditions: &[Cond],
+    start: usize,
+    width: usize,
+    position: usize,
+) -> Result<Option<&Value>, Memory>
+    ensures { IfOk result (λ found. IfSome found
+        (λ value. FixesWithin conditions.now start width position value.now)) }
 {
     if position >= width {
-        return None;
+        return Ok(None);
     }
     let Some(place) = start.checked_add(position) else {
-        return None;
+        return Ok(None);
     };
+    let places = equal_places(alloc, conditions, place)?;
+    for other in &places {
+        if let Some(value) = value_by_one(conditions, *other) {
+            return Ok(Some(value));
+        }
+    }
+    Ok(None)
+}
+
+// The value that one of the conditions fixes at a place.
+fn value_by_one(conditions: &[Cond], place: usize) -> Option<&Value>
+    ensures { IfSome result (λ value. (row : List ColumnValue)
+        → IsTrue (meets_all conditions.now row) → slice_get row place ≡ Some value.now) }
+{
     for condition in conditions {
         if let Some(value) = fixed_value(condition, place) {
             return Some(value);
         }
     }
     None
+}
+
+// The place, and others whose values equal that at the place, by the conditions, one after the other.
+fn equal_places(alloc: Global, conditions: &[Cond], place: usize) -> Result<Vec<usize>, Memory>
+    ensures { IfOk result (λ places. AreEqualPlaces conditions.now place places.items) }
+{
+    let mut places = Vec::new(alloc);
+    places.push(place)?;
+    for i in 0..conditions.len() {
+        let so_far = places.as_slice();
+        if i >= so_far.len() {
+            return Ok(places);
+        }
+        let known = so_far[i];
+        push_equals(conditions, known, &mut places)?;
+    }
+    Ok(places)
+}
+
+// Adds the places whose values one of the conditions equates with that at a place, if they are not
+// there.
+fn push_equals(conditions: &[Cond], known: usize, places: &mut Vec<usize>) -> Result<(), Memory>
+    ensures { OnOk result ((place : ℕ)
+        → AreEqualPlaces conditions.now place places.old.items
+        → AreEqualPlaces conditions.now place (known ∷ [])
+        → AreEqualPlaces conditions.now place places.new.items) }
+{
+    for condition in conditions {
+        if let Some(other) = place_equated(condition, known) {
+            push_once(places, other)?;
+        }
+    }
+    Ok(())
+}
+
+// Adds a place, if it is not there.
+fn push_once(places: &mut Vec<usize>, place: usize) -> Result<(), Memory>
+    ensures { OnOk result ((places.new.items ≡ places.old.items)
+        ⊎ (places.new.items ≡ places.old.items ++ place ∷ [])) }
+{
+    if !places.as_slice().contains(&place) {
+        places.push(place)?;
+    }
+    Ok(())
+}
+
+// The other place, where the condition says that the values at both are equal.
+fn place_equated(condition: &Cond, place: usize) -> Option<usize>
+    ensures { IfSome result (λ other. (row : List ColumnValue)
+        → meets condition.now row ≡ true → slice_get row other ≡ slice_get row place) }
+{
+    let Tree::Test(test) = condition else {
+        return None;
+    };
+    match (test.comparison, &test.left, &test.right) {
+        (Comparison::Equal, Comparand::Position(left), Comparand::Position(right)) => {
+            if *left == place {
+                return Some(*right);
+            }
+            if *right == place {
+                return Some(*left);
+            }
+            None
+        }
+        _ => None,
+    }
 }
 
 // The value that the condition fixes at a position. The parser gives a chain of OR or of AND even

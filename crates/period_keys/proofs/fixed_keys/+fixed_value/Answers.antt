@@ -1,4 +1,4 @@
-use Rattle.std.proofs.Common.{◌≡◌, ◌∙◌, ℕ, List, [], get_or, length, subst, sym, ap, arith, inl, inr}
+use Rattle.std.proofs.Common.{◌≡◌, ◌∙◌, ℕ, [], get_or, length, subst, sym, ap, arith, inl, inr}
 use Rattle.std.specs.Prelude.{MatchOption, Option}
 use Rattle.std.specs.Borrow.{Bor}
 use Rattle.std.specs.Global.{Box, Vec}

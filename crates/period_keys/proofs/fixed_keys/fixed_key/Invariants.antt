@@ -1,6 +1,4 @@
-use Rattle.std.proofs.Common.{◌≡◌, List, take, true}
-use Rattle.catalog_core.specs.Conditions.{is_satisfied}
-use Rattle.sql_statements.specs.Plain.{plain_condition}
+use Rattle.std.proofs.Common.{take}
 use Rattle.period_keys.specs.FixedKeys.{EquatesKey, FixesKey}
 use Rattle.period_keys.proofs.fixed_keys.fixed_key.Given as goal
 

@@ -4,6 +4,7 @@ use Rattle.std.specs.List.{filter_map, slice_get}
 use Rattle.std.proofs.lemmas.List.{take_more}
 use Rattle.std.proofs.lemmas.List.Elements.{filter_map-append}
 use Rattle.period_core.specs.declared.value.Value.{Value}
+use Rattle.period_keys.specs.FixedKeys.{FixesWithin}
 use Rattle.period_keys.proofs.fixed_keys.fixed_key_within.Goals as goal
 
 pub loop-position-preserved : goal.loop-position-preserved
@@ -13,11 +14,12 @@ loop-position-preserved c =
     let x : ℕ = get_or positions i 0 in
     let key : List Value = c.loop-position.key.items in
     let value : Value = c.in-Some.value.now in
+    let its : FixesWithin c.args.conditions.now c.args.start c.args.width x value = rw c.in-Some.is at c.in_ok-value.ensures in
     let copied : value ≡ c.in_ok-copy.field-0 = sym c.in_ok-copy.ensures in
     λ first values rest long wide met.
     ap (filter_map (slice_get values)) (take_more positions i 0 (omega arith))
     ∙ filter_map-append (slice_get values) (take i positions) (x ∷ [])
     ∙ ap (λ (k : List Value). k ++ filter_map (slice_get values) (x ∷ [])) (c.loop-position.invariant first values rest long wide met)
-    ∙ ap (λ (o : Option Value). key ++ filter_map (λ (x : Option Value). x) (o ∷ [])) (c.in-Some.ensures first values rest long wide met)
+    ∙ ap (λ (o : Option Value). key ++ filter_map (λ (x : Option Value). x) (o ∷ [])) (its first values rest long wide met)
     ∙ ap (λ (v : Value). key ++ v ∷ []) copied
     ∙ sym c.in_ok-push.ensures.items
