@@ -1,5 +1,4 @@
 //! Conditions, assignments and portions of accepted statements, with positions in place of names.
-//! The only error is out of memory.
 
 ghost use Rattle.std.specs.Prelude.{◌≡◌, IfOk, Some, false, map};
 ghost use Rattle.std.specs.List.{list_any};

@@ -15,8 +15,7 @@ pub use merging::Coalesce;
 use period_core::{Memory, PeriodRow, Witness};
 use std::alloc::Global;
 
-/// The shortest list with the same snapshots, in the order of values and then first day. The only
-/// error is out of memory.
+/// The shortest list with the same snapshots, in the order of values and then first day.
 pub fn coalesce(alloc: Global, rows: Vec<PeriodRow>) -> Result<Vec<PeriodRow>, Memory>
     ensures equivalent { IfOk result (λ answer. Equivalent rows.items answer.items) }
     ensures shortest { IfOk result (λ answer. IsShortest answer.items) }
@@ -30,8 +29,7 @@ pub fn coalesce(alloc: Global, rows: Vec<PeriodRow>) -> Result<Vec<PeriodRow>, M
     Ok(merged)
 }
 
-/// The first day of each row and the day before it, in the rows' order. The only error is out of
-/// memory.
+/// The first day of each row and the day before it, in the rows' order.
 pub fn witnesses(alloc: Global, rows: &[PeriodRow]) -> Result<Vec<Witness>, Memory>
     ensures days { IfOk result (λ w. w.items ≡ map witness_of rows.now) }
 

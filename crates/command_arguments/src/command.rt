@@ -7,7 +7,8 @@ ghost use Rattle.std.specs.String.{string_bytes};
 ghost use Rattle.clap.specs.Words.{app_of, fault_of, first_of, found_of, kind_of, rows_of, rule_of};
 ghost use Rattle.clap.specs.Words.{subcommand_of};
 ghost use Rattle.clap.specs.declared.builder.Command.TheViews.{out-Command};
-ghost use Rattle.command_arguments.specs.CommandLine.{AsksFor, Chooses, IsAudited, IsMode, audit_flag};
+ghost use Rattle.command_arguments.specs.CommandLine.{AsksFor, Chooses, IsAudited, IsMode};
+ghost use Rattle.command_arguments.specs.CommandLine.{audit_flag};
 ghost use Rattle.command_arguments.specs.CommandLine.{bitemporal, file_word, run_command};
 ghost use Rattle.command_arguments.specs.CommandLine.{script_command};
 

@@ -17,8 +17,8 @@ const CHUNK: usize = 4096;
 // How many interrupted reads of one script are tried again.
 const MOST_RETRIES: usize = 1000;
 
-/// Reads the script, but at most one byte more than it may have. A read that is interrupted is tried
-/// again, up to 1,000 times in all; any other fault of the reader ends this.
+/// Reads the script, but at most one byte more than it may have. A read that is interrupted is
+/// tried again, up to 1,000 times in all; any other fault of the reader ends this.
 pub fn read_script<R: Read>(alloc: Global, input: &mut Tracked<R>) -> Result<Vec<u8>, RunFault>
     ensures bytes { IfOk result
         (λ text. IfSome (R.remaining input.old.inner) (λ all. text.items ≡ read_of all)) }

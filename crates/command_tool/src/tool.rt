@@ -123,8 +123,8 @@ fn report_check<R: Read, W: Write>(
     Ok(exit_status(results.as_slice()))
 }
 
-// What a run of the script over a new store keeps of its statements: their results, or with them the
-// audits of their answers.
+// What a run of the script over a new store keeps of its statements: their results, or with them
+// the audits of their answers.
 fn run_results<R: Read, K: Kept<MemoryStore> + Drop>(
     alloc: Global,
     input: &mut Tracked<R>,

@@ -37,7 +37,8 @@ IsCutTo slice whole cut =
 -- each table reference sees its list cut to the slice
 abbrev pub AreCutTo : Slice → List (List PeriodRow) → List (List PeriodRow) → Type 0
 AreCutTo slice tables cuts =
-    (reference : QueryReference) → IsCutTo slice (rows_for tables reference) (rows_for cuts reference)
+    (reference : QueryReference)
+    → IsCutTo slice (rows_for tables reference) (rows_for cuts reference)
 
 -- the rows have on each day the set that the query gives over the tables cut to the slice
 pub record IsPartOver (query : Query) (tables : List (List PeriodRow)) (slice : Slice)

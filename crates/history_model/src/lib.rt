@@ -1,8 +1,8 @@
 //! What the tables held at each moment: what a change makes of a day and of versions, the histories
 //! of a store and their states, what windows see, and the ordinary query on a day. The definitions
-//! are in `specs/`; each function here does nothing, and its contract is a law over them. A new form
-//! of change gets its clauses in `specs/Effects` and `specs/Portions`, a new form of query its clause
-//! in `specs/OrdinaryQuery`.
+//! are in `specs/`; each function here does nothing, and its contract is a law over them. A new
+//! form of change gets its clauses in `specs/Effects` and `specs/Portions`, a new form of query its
+//! clause in `specs/OrdinaryQuery`.
 #![tactic(auto)]
 
 ghost use Rattle.history_model.specs.Laws.{AdvancesMoveTheClock, ChangesAreRepresented};

@@ -68,9 +68,9 @@ fn both_ways(rt: HostRuntime) -> Result<(), Fail> {
 
 #[test]
 fn bytes_of_no_definition(rt: HostRuntime) -> Result<(), Fail> {
-    // the table's name in another case, and one that begins with a digit; a reserved word; counts of
-    // columns; kinds of ENO, and its number; the p of SS; places of the period and of the key; the
-    // length of the key; a reference too many
+    // the table's name in another case, and one that begins with a digit; a reserved word; counts
+    // of columns; kinds of ENO, and its number; the p of SS; places of the period and of the key;
+    // the length of the key; a reference too many
     let places = [
         (1, b'e'),
         (1, b'1'),

@@ -18,7 +18,7 @@ pub struct PeriodRow {
 }
 
 impl PeriodRow {
-    /// An equal row. The only error is out of memory.
+    /// An equal row.
     pub fn copy(&self, alloc: Global) -> Result<PeriodRow, Memory>
         ensures { IfOk result (λ r. r ≡ self.now) }
     {

@@ -26,7 +26,7 @@ pub struct VersionRow {
 }
 
 impl VersionRow {
-    /// An equal version. The only error is out of memory.
+    /// An equal version.
     pub fn copy(&self, alloc: Global) -> Result<VersionRow, Memory>
         ensures { IfOk result (λ version. version ≡ self.now) }
     {

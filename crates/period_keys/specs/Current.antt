@@ -92,8 +92,8 @@ pub record HaveMoreIndexes (old new : List TableRows) : Type 0 where
 
 -- ---- catalogs
 
--- each reference is to an earlier table: CREATE refuses one to a table that is not there yet, so also
--- to itself
+-- each reference is to an earlier table: CREATE refuses one to a table that is not there yet, so
+-- also to itself
 abbrev pub ReferToEarlier : List TableDef → Type 0
 ReferToEarlier catalog =
     (number : ℕ) (child : TableDef) (reference : Reference) (parent : TableDef)

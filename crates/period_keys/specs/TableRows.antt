@@ -23,7 +23,8 @@ pub record HasTableRows (wanted : List VersionRow) (old new : TableRows) : Type 
 pub record HasMoreIndexes (old new : TableRows) : Type 0 where
   pub positions : new.positions ≡ old.positions
   pub rows : new.rows ≡ old.rows
-  pub indexed : (positions : List ℕ) → Contains old.indexed positions → Contains new.indexed positions
+  pub indexed : (positions : List ℕ)
+      → Contains old.indexed positions → Contains new.indexed positions
 
 -- these are the rows' keys by all of the table's positions
 pub record AreTouchedKeys (table : TableRows) (rows : List PeriodRow) (keys : TouchedKeys)

@@ -12,7 +12,7 @@ use crate::keys::key_of;
 use period_core::{Memory, PeriodRow};
 use std::alloc::Global;
 
-/// The keys of the rows, row by row. The only error is out of memory.
+/// The keys of the rows, row by row.
 pub fn keys_of(alloc: Global, positions: &[usize], rows: &[PeriodRow]) -> Result<Vec<Key>, Memory>
     ensures { IfOk result (λ keys. keys.items ≡ map (key_values positions.now) rows.now) }
 {
@@ -23,7 +23,7 @@ pub fn keys_of(alloc: Global, positions: &[usize], rows: &[PeriodRow]) -> Result
     Ok(keys)
 }
 
-/// Adds the rows, whose keys are handed in, or none of them. The only error is out of memory.
+/// Adds the rows, whose keys are handed in, or none of them.
 pub fn add_rows(
     alloc: Global,
     index: &mut KeyedPeriods,
@@ -48,8 +48,9 @@ pub fn add_rows(
     Ok(())
 }
 
-/// Takes out the rows, whose keys are handed in. It takes no memory: so where several indexes follow
-/// one change, the rows that were added to some can be taken out again once another was refused.
+/// Takes out the rows, whose keys are handed in. It takes no memory: so where several indexes
+/// follow one change, the rows that were added to some can be taken out again once another was
+/// refused.
 pub fn take_rows(index: &mut KeyedPeriods, keys: &[Key], rows: &[PeriodRow])
     requires { length keys.now ≡ length rows.now }
     ensures { (positions : List ℕ) (rest : List Row)

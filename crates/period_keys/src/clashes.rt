@@ -16,7 +16,7 @@ use crate::sweep::rows_clash;
 use period_core::{Day, Memory, PeriodRow, VersionRow};
 use std::alloc::Global;
 
-/// An index of the rows by their values at these positions. The only error is out of memory.
+/// An index of the rows by their values at these positions.
 pub fn index_of(
     alloc: Global,
     positions: &[usize],
@@ -32,7 +32,7 @@ pub fn index_of(
     Ok(index)
 }
 
-/// An index of versions by their values at these positions. The only error is out of memory.
+/// An index of versions by their values at these positions.
 pub fn index_of_versions(
     alloc: Global,
     positions: &[usize],
@@ -45,7 +45,7 @@ pub fn index_of_versions(
     Ok(index)
 }
 
-/// Adds versions to an index by these positions. The only error is out of memory.
+/// Adds versions to an index by these positions.
 fn add_versions(
     alloc: Global,
     positions: &[usize],
@@ -63,7 +63,7 @@ fn add_versions(
     Ok(())
 }
 
-/// An index of a table's current rows by these positions. The only error is out of memory.
+/// An index of a table's current rows by these positions.
 pub fn index_of_current(
     alloc: Global,
     positions: &[usize],
@@ -80,7 +80,7 @@ pub fn index_of_current(
 
 /// The least day on which two rows of a table share its key once the ended rows are gone and the
 /// added ones are there: what a look at all rows would find, where no two shared it before. The
-/// ended ones are among the current rows. The only error is out of memory.
+/// ended ones are among the current rows.
 pub fn key_clash_after(
     alloc: Global,
     current: &CurrentRows,

@@ -67,7 +67,8 @@ impl CurrentRows {
 
     /// Their periods, in two lists, each in the order of their starts.
     pub fn periods_of_key(&self, key: &Key) -> (&[Period], &[Period])
-        ensures periods { result.0.now ++ result.1.now ≡ map period_of (rows_of_key self.now key.now) }
+        ensures periods { result.0.now ++ result.1.now
+            ≡ map period_of (rows_of_key self.now key.now) }
         ensures first { AreInOrder result.0.now }
         ensures second { AreInOrder result.1.now }
     {
@@ -84,7 +85,7 @@ impl CurrentRows {
         self.groups.values()
     }
 
-    /// Adds a row. The only error is out of memory, and changes nothing.
+    /// Adds a row. An error changes nothing.
     pub fn add(&mut self, alloc: Global, row: VersionRow) -> Result<(), Memory>
         ensures ok { OnOk result (HasRows (row ∷ self.old.rows) self.old self.new) }
         ensures err { OnErr result (self.new ≡ self.old) }
@@ -125,8 +126,7 @@ impl CurrentRows {
         }
     }
 
-    /// Adds rows that begin at a moment, whose keys are handed in, or none of them. The only error
-    /// is out of memory.
+    /// Adds rows that begin at a moment, whose keys are handed in, or none of them.
     pub fn add_all(
         &mut self,
         alloc: Global,
@@ -168,7 +168,8 @@ impl CurrentRows {
         row: &PeriodRow,
     ) -> Result<(), Memory>
         requires { key.now ≡ key_values self.old.positions row.now }
-        ensures ok { OnOk result (HasRows (begun moment row.now ∷ self.old.rows) self.old self.new) }
+        ensures ok { OnOk result
+            (HasRows (begun moment row.now ∷ self.old.rows) self.old self.new) }
         ensures err { OnErr result (self.new ≡ self.old) }
     {
         let version = VersionRow {

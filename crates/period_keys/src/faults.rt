@@ -21,8 +21,7 @@ use catalog_core::{Change, Plan};
 use period_core::{Day, Memory, PeriodRow, VersionRow};
 use std::alloc::Global;
 
-/// The least day on which the change would let two rows of its table share the key. The only error
-/// is out of memory.
+/// The least day on which the change would let two rows of its table share the key.
 pub fn key_fault(
     alloc: Global,
     current: &CurrentRows,
@@ -41,7 +40,7 @@ pub fn key_fault(
 }
 
 /// The least day on which a row of the changed table would have no parent by one of its references
-/// to another table, whose own columns are at these positions. The only error is out of memory.
+/// to another table, whose own columns are at these positions.
 pub fn child_fault(
     alloc: Global,
     own: &[usize],
@@ -62,7 +61,7 @@ pub fn child_fault(
 }
 
 /// The least day on which a row of another table would have no parent in the changed one, by one of
-/// its references, to the columns at these positions. The only error is out of memory.
+/// its references, to the columns at these positions.
 pub fn parent_fault(
     alloc: Global,
     keys: &[usize],
@@ -86,7 +85,7 @@ pub fn parent_fault(
     Ok(found)
 }
 
-/// The versions without their system time. The only error is out of memory.
+/// The versions without their system time.
 pub fn rows_of(alloc: Global, versions: &[VersionRow]) -> Result<Vec<PeriodRow>, Memory>
     ensures { IfOk result (λ rows. rows.items ≡ map row_of versions.now) }
 {

@@ -7,7 +7,8 @@ ghost use Rattle.catalog_core.specs.Conditions.{meets};
 ghost use Rattle.catalog_core.specs.declared.condition.Comparand.TheVariants.{Literal, Position};
 ghost use Rattle.history_model.specs.OrdinaryQuery.{meets_all};
 ghost use Rattle.period_core.specs.declared.value.Value.{Value as ColumnValue};
-ghost use Rattle.period_keys.specs.FixedKeys.{AreEqualPlaces, Equates, EquatesKey, FixesKey, FixesKeyWithin};
+ghost use Rattle.period_keys.specs.FixedKeys.{AreEqualPlaces, Equates, EquatesKey, FixesKey};
+ghost use Rattle.period_keys.specs.FixedKeys.{FixesKeyWithin};
 ghost use Rattle.period_keys.specs.FixedKeys.{FixesWithin, IsEquation};
 
 use crate::key::Key;
@@ -91,7 +92,7 @@ impl Equation for VersionTest {
 
 /// The key at these positions of each row that meets the condition, exactly where it says `column =
 /// literal` of each as a whole, or as a part of an AND that is in no NOT and in no OR with other
-/// parts. The only error is out of memory.
+/// parts.
 pub fn fixed_key<T: Equation>(
     alloc: Global,
     condition: &Tree<T>,
@@ -115,7 +116,7 @@ pub fn fixed_key<T: Equation>(
 /// The key of a table's row that is part of a combined row: its values begin at `start`, and are
 /// `width` many. Where for each of these positions among them one of the conditions says `column =
 /// literal`, or of a position that it equates with that one, each such row of a combined row that
-/// meets all conditions has this key. The only error is out of memory.
+/// meets all conditions has this key.
 pub fn fixed_key_within(
     alloc: Global,
     conditions: &[Cond],
@@ -136,8 +137,8 @@ pub fn fixed_key_within(
     Ok(Some(Key::new(Values::from_vec(key))))
 }
 
-// The value that the conditions fix at a position of such a row: at its place in the combined row, or
-// at one that equals it.
+// The value that the conditions fix at a position of such a row: at its place in the combined row,
+// or at one that equals it.
 fn value_within(
     alloc: Global,
     conditions: &[Cond],
@@ -176,7 +177,8 @@ fn value_by_one(conditions: &[Cond], place: usize) -> Option<&Value>
     None
 }
 
-// The place, and others whose values equal that at the place, by the conditions, one after the other.
+// The place, and others whose values equal that at the place, by the conditions, one after the
+// other.
 fn equal_places(alloc: Global, conditions: &[Cond], place: usize) -> Result<Vec<usize>, Memory>
     ensures { IfOk result (λ places. AreEqualPlaces conditions.now place places.items) }
 {

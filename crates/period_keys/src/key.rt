@@ -37,7 +37,7 @@ impl Key {
         Key { leading, values }
     }
 
-    /// An equal key. The only error is out of memory.
+    /// An equal key.
     pub fn copy(&self, alloc: Global) -> Result<Key, Memory>
         ensures { IfOk result (λ key. key ≡ self.now) }
     {

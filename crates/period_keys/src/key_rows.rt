@@ -13,8 +13,8 @@ use period_core::{Memory, Moment, Period, Values, VersionRow};
 use std::alloc::Global;
 
 /// The rows of one key, and beside them their periods. First come the settled rows, in the order of
-/// their periods' starts, and behind them, in that order too, the late ones: they came in since, and
-/// belong far before the last. So a row moves few others, in whatever order rows come in.
+/// their periods' starts, and behind them, in that order too, the late ones: they came in since,
+/// and belong far before the last. So a row moves few others, in whatever order rows come in.
 #[derive(Drop)]
 pub struct KeyRows {
     rows: Vec<VersionRow>,
@@ -65,7 +65,7 @@ impl KeyRows {
         self.rows.is_empty()
     }
 
-    /// Adds a row. The only error is out of memory, and changes nothing.
+    /// Adds a row. An error changes nothing.
     pub fn add(&mut self, row: VersionRow) -> Result<(), Memory>
         ensures ok { OnOk result
             (IsPermutation self.new.rows.items (self.old.rows.items ++ row ∷ [])) }

@@ -52,7 +52,7 @@ impl KeyedPeriods {
         }
     }
 
-    /// The keys that have a period, in ascending order. The only error is out of memory.
+    /// The keys that have a period, in ascending order.
     pub fn keys(&self, alloc: Global) -> Result<Vec<&Key>, Memory>
         ensures exact { IfOk result (λ keys. (key : List ColumnValue)
             → (Contains (map (λ k. k.now) keys.items) key
@@ -69,7 +69,7 @@ impl KeyedPeriods {
         Ok(keys)
     }
 
-    /// Adds a period to those of a key. The only error is out of memory, and changes nothing.
+    /// Adds a period to those of a key. An error changes nothing.
     pub fn add(&mut self, alloc: Global, key: &Key, period: Period) -> Result<(), Memory>
         ensures ok { OnOk result ((other : List ColumnValue)
             → IsPermutation (periods_at self.new other)

@@ -8,14 +8,14 @@ use crate::key::Key;
 use period_core::{Memory, PeriodRow, Value, Values};
 use std::alloc::Global;
 
-/// A row's values at these positions, in this order. The only error is out of memory.
+/// A row's values at these positions, in this order.
 pub fn key_of(alloc: Global, positions: &[usize], row: &PeriodRow) -> Result<Key, Memory>
     ensures { IfOk result (λ key. key ≡ key_values positions.now row.now) }
 {
     values_of(alloc, positions, row.values.as_slice())
 }
 
-/// The values at these positions, in this order. The only error is out of memory.
+/// The values at these positions, in this order.
 pub fn values_of(alloc: Global, positions: &[usize], values: &[Value]) -> Result<Key, Memory>
     ensures { IfOk result (λ key. key ≡ values_at positions.now values.now) }
 {

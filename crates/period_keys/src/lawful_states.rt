@@ -18,7 +18,7 @@ use catalog_core::{Catalog, Reference, TableDef, of_number};
 use period_core::{Memory, PeriodRow};
 use std::alloc::Global;
 
-/// Whether the rows of all tables hold a lawful state. The only error is out of memory.
+/// Whether the rows of all tables hold a lawful state.
 pub fn is_lawful(alloc: Global, catalog: &Catalog, tables: &[TableIndex]) -> Result<bool, Memory>
     requires count { length tables.now ≡ length catalog.now.tables }
     requires indexed { HaveIndexes catalog.now.tables tables.now }

@@ -2,7 +2,8 @@
 //! one that comes in moves few others.
 
 ghost use Rattle.std.specs.Prelude.{◌≡◌, ◌↔◌, ◌<◌, ◌≤◌, ◌<ℤ◌, ◌≤ℤ◌, ◌+◌, ◌++◌, ◌∷◌, []};
-ghost use Rattle.std.specs.Prelude.{Contains, IfOk, IsPermutation, IsTrue, MatchOption, OnErr, OnOk};
+ghost use Rattle.std.specs.Prelude.{Contains, IfOk, IsPermutation, IsTrue, MatchOption, OnErr};
+ghost use Rattle.std.specs.Prelude.{OnOk};
 ghost use Rattle.std.specs.Prelude.{drop, false, length, slice_index_or, take, ℕ};
 ghost use Rattle.std.specs.Bool.{OnFalse, OnTrue};
 ghost use Rattle.period_core.specs.declared.period.Period.{Period as PeriodModel};
@@ -36,7 +37,7 @@ impl OrderedPeriods {
         }
     }
 
-    /// These periods, sorted. The only error is out of memory.
+    /// These periods, sorted.
     pub fn sorted(alloc: Global, periods: &[Period]) -> Result<OrderedPeriods, Memory>
         ensures { IfOk result (λ sorted. IsPermutation periods.now sorted.items.items) }
     {
@@ -54,7 +55,7 @@ impl OrderedPeriods {
         self.items.as_slice()
     }
 
-    /// Adds a period. The only error is out of memory, and changes nothing.
+    /// Adds a period. An error changes nothing.
     pub fn add(&mut self, period: Period) -> Result<(), Memory>
         ensures ok { OnOk result
             (IsPermutation self.new.items.items (self.old.items.items ++ period ∷ [])) }

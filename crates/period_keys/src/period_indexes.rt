@@ -43,7 +43,7 @@ impl PeriodIndex {
     }
 }
 
-/// The rows' keys by each of the indexes. The only error is out of memory.
+/// The rows' keys by each of the indexes.
 pub fn keys_by_each(
     alloc: Global,
     indexes: &[PeriodIndex],
@@ -60,8 +60,7 @@ pub fn keys_by_each(
     Ok(keys)
 }
 
-/// Adds rows, whose keys are handed in, to each of the indexes, or to none of them. The only error
-/// is out of memory.
+/// Adds rows, whose keys are handed in, to each of the indexes, or to none of them.
 pub fn add_to_each(
     alloc: Global,
     indexes: &mut [PeriodIndex],
@@ -84,8 +83,8 @@ pub fn add_to_each(
     Ok(())
 }
 
-/// Takes rows, which are there and whose keys are handed in, out of each of the indexes. It takes no
-/// memory.
+/// Takes rows, which are there and whose keys are handed in, out of each of the indexes. It takes
+/// no memory.
 pub fn take_from_each(indexes: &mut [PeriodIndex], keys: &[Items<Key>], rows: &[PeriodRow])
     requires { AreKeysByEach rows.now (map positions_by indexes.old) keys.now }
     ensures same { map positions_by indexes.new ≡ map positions_by indexes.old }

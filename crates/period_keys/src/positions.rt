@@ -8,7 +8,7 @@ use period_core::Memory;
 use std::alloc::Global;
 
 /// The positions, among a row's values, of the value columns that are declared at these places, in
-/// this order. The only error is out of memory.
+/// this order.
 pub fn positions_of(alloc: Global, def: &TableDef, places: &[usize]) -> Result<Vec<usize>, Memory>
     ensures { IfOk result
         (λ positions. positions.items ≡ positions_of_places def.now places.now) }

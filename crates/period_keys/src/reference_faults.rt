@@ -1,5 +1,5 @@
-//! The least day on which a change would leave a row without its parent, over all references that it
-//! touches: those from the changed table, and those to it.
+//! The least day on which a change would leave a row without its parent, over all references that
+//! it touches: those from the changed table, and those to it.
 
 ghost use Rattle.std.specs.Prelude.{◌≡◌, ℕ, Contains, IfOk, List, Some, map};
 ghost use Rattle.catalog_core.specs.declared.change.Change.{Change as ChangeModel};
@@ -25,8 +25,7 @@ use period_core::{Day, Memory};
 use std::alloc::Global;
 
 /// The least day on which a row of some table would have no parent by one of its references. The
-/// change is planned over the rows of its table, and each table refers to earlier ones alone. The
-/// only error is out of memory.
+/// change is planned over the rows of its table, and each table refers to earlier ones alone.
 pub fn reference_fault(
     alloc: Global,
     catalog: &Catalog,

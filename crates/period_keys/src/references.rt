@@ -19,7 +19,7 @@ use period_core::{Day, Memory, Period, PeriodRow};
 use std::alloc::Global;
 
 /// The least day on which a child has no parent once added children are there, for an index of the
-/// parents by their keys. Children that went make no difference. The only error is out of memory.
+/// parents by their keys. Children that went make no difference.
 pub fn uncovered_by_children(
     alloc: Global,
     own: &[usize],
@@ -44,7 +44,7 @@ pub fn uncovered_by_children(
     Ok(found)
 }
 
-/// The least day on which one of the children has no parent. The only error is out of memory.
+/// The least day on which one of the children has no parent.
 pub fn rows_uncovered(
     alloc: Global,
     own: &[usize],
@@ -61,7 +61,7 @@ pub fn rows_uncovered(
 
 /// The least day on which a child has no parent once the ended parents are gone and the added ones
 /// are there, for children that each had one before, and indexes of both tables by the columns of
-/// the reference. The only error is out of memory.
+/// the reference.
 pub fn uncovered_by_parents(
     alloc: Global,
     keys: &[usize],

@@ -14,8 +14,7 @@ use crate::shared_days::earlier;
 use period_core::{Day, Memory, PeriodRow};
 use std::alloc::Global;
 
-/// The least day on which two of the rows share their values at these positions. The only error is
-/// out of memory.
+/// The least day on which two of the rows share their values at these positions.
 pub fn rows_clash(
     alloc: Global,
     positions: &[usize],
@@ -28,7 +27,7 @@ pub fn rows_clash(
     Ok(first_repeat(keyed.as_slice()))
 }
 
-/// The rows with their values at these positions alone. The only error is out of memory.
+/// The rows with their values at these positions alone.
 pub fn key_rows(
     alloc: Global,
     positions: &[usize],

@@ -85,8 +85,7 @@ impl TableIndex {
         None
     }
 
-    /// Indexes the rows' periods by their values at these positions too. The only error is out of
-    /// memory, and changes nothing.
+    /// Indexes the rows' periods by their values at these positions too. An error changes nothing.
     pub fn index_by(&mut self, alloc: Global, positions: Items<usize>) -> Result<(), Memory>
         ensures ok { OnOk result (self.new ≡ record {
           positions = self.old.positions;
@@ -100,8 +99,7 @@ impl TableIndex {
         Ok(())
     }
 
-    /// Indexes the rows' periods by their values at these positions, if they are not yet. The only
-    /// error is out of memory.
+    /// Indexes the rows' periods by their values at these positions, if they are not yet.
     pub fn index_once(&mut self, alloc: Global, positions: Items<usize>) -> Result<(), Memory>
         ensures ok { OnOk result (Contains self.new.indexed positions) }
         ensures kept { HasMoreIndexes self.old self.new }
@@ -112,7 +110,7 @@ impl TableIndex {
         }
     }
 
-    /// The rows' keys by all of the table's positions. The only error is out of memory.
+    /// The rows' keys by all of the table's positions.
     pub fn keys_of(&self, alloc: Global, rows: &[PeriodRow]) -> Result<TouchedKeys, Memory>
         ensures { IfOk result (λ keys. AreTouchedKeys self.now rows.now keys) }
     {
@@ -122,8 +120,7 @@ impl TableIndex {
         })
     }
 
-    /// Adds rows that begin at a moment, whose keys are handed in, or none of them. The only error
-    /// is out of memory.
+    /// Adds rows that begin at a moment, whose keys are handed in, or none of them.
     pub fn add_all(
         &mut self,
         alloc: Global,

@@ -15,8 +15,7 @@ use catalog_core::{Catalog, Reference, TableDef, of_number};
 use period_core::{Items, Memory};
 use std::alloc::Global;
 
-/// The current rows of each table of a catalog, with the indexes that its references need. The only
-/// error is out of memory.
+/// The current rows of each table of a catalog, with the indexes that its references need.
 pub fn tables_of(
     alloc: Global,
     catalog: &Catalog,
@@ -35,8 +34,8 @@ pub fn tables_of(
 }
 
 /// Adds a table without rows, which the catalog does not have yet, with the indexes that its
-/// references to earlier tables need. The only error is out of memory: then no table is added, and those that are
-/// there have the same rows. They may have an index more, which no one asks for.
+/// references to earlier tables need. On an error no table is added, and those that are there have
+/// the same rows. They may have an index more, which no one asks for.
 pub fn add_table(
     alloc: Global,
     catalog: &Catalog,

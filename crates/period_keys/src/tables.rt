@@ -11,7 +11,7 @@ use catalog_core::{Reference, TableDef};
 use period_core::{Day, Memory, PeriodRow};
 use std::alloc::Global;
 
-/// The least day on which two of the table's rows share their key. The only error is out of memory.
+/// The least day on which two of the table's rows share their key.
 pub fn key_clash(alloc: Global, def: &TableDef, rows: &[PeriodRow]) -> Result<Option<Day>, Memory>
     ensures { IfOk result
         (IsLeastOf (IsKeyClash (positions_of_places def.now def.now.key) rows.now)) }
@@ -21,8 +21,7 @@ pub fn key_clash(alloc: Global, def: &TableDef, rows: &[PeriodRow]) -> Result<Op
     Ok(found)
 }
 
-/// The least day on which a child row holds and no parent row with the key that it names. The only
-/// error is out of memory.
+/// The least day on which a child row holds and no parent row with the key that it names.
 pub fn uncovered(
     alloc: Global,
     child: &TableDef,

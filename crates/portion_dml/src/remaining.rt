@@ -18,7 +18,7 @@ fn is_same(version: &VersionRow, other: &VersionRow) -> bool
     *version == *other
 }
 
-/// References to the versions. The only error is out of memory.
+/// References to the versions.
 fn references_to(alloc: Global, versions: &[VersionRow]) -> Result<Vec<&VersionRow>, Memory>
     ensures { IfOk result (λ v. map (λ r. r.now) v.items ≡ versions.now) }
 {
@@ -72,7 +72,7 @@ fn period_row(alloc: Global, version: &VersionRow) -> Result<PeriodRow, Memory>
 
 /// The rows that would be current after a plan. The plan ends rows of the list, each once, in any
 /// order; it is quickest where it ends them in the order of the list, as each plan of this crate
-/// does. The only error is out of memory.
+/// does.
 pub fn after(alloc: Global, current: &[VersionRow], plan: &Plan) -> Result<Vec<PeriodRow>, Memory>
     requires { EndsRows current.now plan.now }
     ensures left { IfOk result (λ rows. AreLeftCurrent current.now plan.now rows.items) }

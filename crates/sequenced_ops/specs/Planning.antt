@@ -34,7 +34,8 @@ RulesOut conjuncts start values =
     (first rest : List Value) → length first ≡ start
     → IsTrue (meets_all conjuncts (first ++ (values ++ rest))) → ⊥
 
--- the rows are of the set, and lack none that can be these values of a row that meets the conditions
+-- the rows are of the set, and lack none that can be these values of a row that meets the
+-- conditions
 pub record IsPruned (conjuncts : List Cond) (start : ℕ) (InSet : ℤ → List Value → Type 0)
     (rows : List PeriodRow) : Type 0 where
   pub sound : (day : ℤ) (values : List Value) → InSnapshot rows day values → InSet day values

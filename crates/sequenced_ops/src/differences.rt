@@ -72,8 +72,7 @@ fn push_outside<'a>(
     Ok(rest)
 }
 
-/// On each day the values that the left side holds and the right side does not. The only error is
-/// out of memory.
+/// On each day the values that the left side holds and the right side does not.
 pub fn difference(
     alloc: Global,
     left: Vec<PeriodRow>,

@@ -17,7 +17,7 @@ pub struct Equality {
     pub right: usize,
 }
 
-/// The positions of this side, equality by equality. The only error is out of memory.
+/// The positions of this side, equality by equality.
 pub fn columns_of(alloc: Global, equalities: &[Equality], side: &Side) -> Result<Vec<usize>, Memory>
     ensures { IfOk result (λ columns. columns.items ≡ columns_on side.now equalities.now) }
 {

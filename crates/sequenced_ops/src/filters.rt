@@ -7,8 +7,7 @@ use catalog_core::{Cond, holds};
 use period_core::{Memory, PeriodRow};
 use std::alloc::Global;
 
-/// On each day the values that the rows hold and that meet the condition. The only error is out of
-/// memory.
+/// On each day the values that the rows hold and that meet the condition.
 pub fn filter(
     alloc: Global,
     rows: Vec<PeriodRow>,

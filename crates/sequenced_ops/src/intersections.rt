@@ -73,7 +73,7 @@ fn push_inside<'a>(
     Ok(rest)
 }
 
-/// On each day the values that both sides hold. The only error is out of memory.
+/// On each day the values that both sides hold.
 pub fn intersection(
     alloc: Global,
     left: Vec<PeriodRow>,

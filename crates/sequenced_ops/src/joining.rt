@@ -66,8 +66,7 @@ fn equality_of(test: &CompareValues, width: usize, more: usize) -> Option<Equali
 }
 
 /// Adds the equalities between both sides that each row that meets the condition must meet: those
-/// of its test, or of each part of an AND; none of an OR of several parts. The only error is out of
-/// memory.
+/// of its test, or of each part of an AND; none of an OR of several parts.
 fn push_equalities(
     condition: &Cond,
     width: usize,
@@ -100,7 +99,7 @@ fn push_equalities(
     }
 }
 
-/// The equalities between both sides among the conditions. The only error is out of memory.
+/// The equalities between both sides among the conditions.
 fn equalities_of(
     alloc: Global,
     conjuncts: &[Cond],
@@ -118,7 +117,7 @@ fn equalities_of(
 
 /// What is given of the pairs of both sides, but of those that differ in an equality between the
 /// sides, and of those that the conditions rule out. Rows of the right side that the conditions
-/// rule out by themselves are left out before. The only error is out of memory.
+/// rule out by themselves are left out before.
 fn join_by_keys(
     alloc: Global,
     conjuncts: &[Cond],
@@ -151,7 +150,7 @@ fn join_by_keys(
 
 /// What is given of what is joined so far with one more reference's rows, but of pairs that cannot
 /// meet the conditions. Positions say what is of which side only where all rows of each side have
-/// the same number of values; otherwise it goes by no equality. The only error is out of memory.
+/// the same number of values; otherwise it goes by no equality.
 pub fn join_next(
     alloc: Global,
     conjuncts: &[Cond],
@@ -174,7 +173,6 @@ pub fn join_next(
 /// On each day the values of a left row and behind them those of a right row, for all pairs of rows
 /// that meet the condition. Where it asks that a column of the left side equals one of the right,
 /// as a whole or in its outermost AND, only pairs of rows with the same values there are looked at.
-/// The only error is out of memory.
 pub fn join(
     alloc: Global,
     left: &[PeriodRow],

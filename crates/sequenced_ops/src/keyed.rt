@@ -43,7 +43,6 @@ pub struct KeyedRow<'a> {
 }
 
 /// A key of this lead, whose rest is the values at these positions: `None` where one is not there.
-/// The only error is out of memory.
 fn read_rest(
     alloc: Global,
     lead: &i64,
@@ -61,7 +60,6 @@ fn read_rest(
 }
 
 /// The key of a row whose key has its values at these positions: `None` where one is not there.
-/// The only error is out of memory.
 fn read_key(alloc: Global, columns: &[usize], values: &[Value]) -> Result<Option<Key>, Memory>
     ensures { IfOk result (λ found. MatchOption found
         ((read : List ColumnValue) → ReadsColumns columns.now values.now read → ⊥)
@@ -82,7 +80,7 @@ fn read_key(alloc: Global, columns: &[usize], values: &[Value]) -> Result<Option
     }
 }
 
-/// Adds the rows of a side that have a key. The only error is out of memory.
+/// Adds the rows of a side that have a key.
 pub fn push_keyed<'a>(
     alloc: Global,
     keyed: &mut Vec<KeyedRow<'a>>,

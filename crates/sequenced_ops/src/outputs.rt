@@ -60,7 +60,7 @@ fn select_more(
 }
 
 /// Selects the pairs, if columns are to be given and there are a batch of pairs. What it gives are
-/// the rows selected so far. The only error is out of memory.
+/// the rows selected so far.
 pub fn select_batch(
     alloc: Global,
     conjuncts: &[Cond],
@@ -85,8 +85,7 @@ pub fn select_batch(
     }
 }
 
-/// What is given of all pairs: of those that have been selected, and of those that are left. The
-/// only error is out of memory.
+/// What is given of all pairs: of those that have been selected, and of those that are left.
 pub fn given(
     alloc: Global,
     conjuncts: &[Cond],

@@ -10,8 +10,8 @@ use crate::columns::read_columns;
 use period_core::{Memory, PeriodRow};
 use std::alloc::Global;
 
-/// Adds the values at these positions of the row, over its period. The only error is out of memory,
-/// which leaves the rows as they were.
+/// Adds the values at these positions of the row, over its period. An error leaves the rows as they
+/// were.
 pub fn project_into(
     alloc: Global,
     rows: &mut Vec<PeriodRow>,

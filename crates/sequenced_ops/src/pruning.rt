@@ -21,7 +21,7 @@ pub fn rules_some_out(conjuncts: &[Cond], start: usize, rows: &[PeriodRow]) -> b
 }
 
 /// Copies of the rows, whose values a combined row has from a position on, but of those that the
-/// conditions rule out. The only error is out of memory.
+/// conditions rule out.
 pub fn copy_pruned(
     alloc: Global,
     conjuncts: &[Cond],

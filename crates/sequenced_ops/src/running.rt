@@ -21,7 +21,7 @@ use period_core::{Memory, PeriodRow};
 use sql_statements::SetOperator;
 use std::alloc::Global;
 
-/// The positions of the items. The only error is out of memory.
+/// The positions of the items.
 fn positions_of(alloc: Global, items: &[AnswerColumn]) -> Result<Vec<usize>, Memory>
     ensures { IfOk result
         (λ columns. columns.items ≡ map (λ (item : Item). item.position) items.now) }
@@ -114,7 +114,7 @@ fn run_part(alloc: Global, query: &Query, tables: &Tables) -> Result<Vec<PeriodR
 
 /// The rows that a query gives: on each day they hold the set of the ordinary query over what the
 /// table references see on that day. They may overlap and repeat. The tables are the query's, as
-/// `fits` tests. The only error is out of memory.
+/// `fits` tests.
 pub fn run_query(alloc: Global, query: &Query, tables: &Tables) -> Result<Vec<PeriodRow>, Memory>
     requires { fits (plain_query query.now) tables.now ≡ true }
     ensures { IfOk result (λ rows. SnapshotsAre

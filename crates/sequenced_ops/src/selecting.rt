@@ -15,7 +15,7 @@ use period_core::{Memory, PeriodRow};
 use std::alloc::Global;
 
 /// Adds the row's values at these positions, over its period, if the row meets the condition and
-/// has a value at each. The only error is out of memory, which leaves the rows as they were.
+/// has a value at each. An error leaves the rows as they were.
 pub fn select_into(
     alloc: Global,
     rows: &mut Vec<PeriodRow>,
@@ -39,8 +39,7 @@ pub fn select_into(
     Ok(())
 }
 
-/// On each day the values at these positions of the rows that meet the condition. The only error is
-/// out of memory.
+/// On each day the values at these positions of the rows that meet the condition.
 pub fn select(
     alloc: Global,
     rows: &[PeriodRow],
@@ -59,7 +58,7 @@ pub fn select(
 }
 
 /// Adds the row's values at these positions, over its period, if the row meets all conditions and
-/// has a value at each. The only error is out of memory.
+/// has a value at each.
 fn push_meeting(
     alloc: Global,
     rows: &mut Vec<PeriodRow>,
@@ -78,8 +77,7 @@ fn push_meeting(
     Ok(())
 }
 
-/// On each day the values at these positions of the rows that meet all conditions. The only error
-/// is out of memory.
+/// On each day the values at these positions of the rows that meet all conditions.
 pub fn select_meeting(
     alloc: Global,
     rows: &[PeriodRow],

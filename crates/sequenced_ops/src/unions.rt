@@ -5,7 +5,7 @@ ghost use Rattle.sequenced_ops.specs.Operations.{SnapshotsAre, InUnion};
 
 use period_core::{Memory, PeriodRow};
 
-/// On each day the values that either side holds. The only error is out of memory.
+/// On each day the values that either side holds.
 pub fn union(left: Vec<PeriodRow>, right: Vec<PeriodRow>) -> Result<Vec<PeriodRow>, Memory>
     ensures { IfOk result (λ rows. SnapshotsAre (InUnion left.items right.items) rows.items) }
 {

@@ -1,5 +1,6 @@
 -- When a row of a list and its witness are sound, and the first that is not.
-use Rattle.std.specs.Prelude.{◌≡◌, ◌<◌, ◌≤◌, ◌+◌, ◌⊎◌, ◌-ℤ◌, ℕ, pos, List, Some, length, take, Contains, slice_get}
+use Rattle.std.specs.Prelude.{◌≡◌, ◌<◌, ◌≤◌, ◌+◌, ◌⊎◌, ◌-ℤ◌, ℕ, pos, List, Some, length, take}
+use Rattle.std.specs.Prelude.{Contains, slice_get}
 use Rattle.period_core.specs.declared.row.PeriodRow.{PeriodRow}
 use Rattle.period_core.specs.declared.answer.Witness.{Witness}
 use Rattle.temporal_model.specs.Snapshot.{InSnapshot}

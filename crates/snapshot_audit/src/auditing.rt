@@ -6,7 +6,8 @@ ghost use Rattle.history_model.specs.OrdinaryQuery.{InAnswerOver, InQuery};
 ghost use Rattle.temporal_model.specs.Snapshot.{IsDay};
 ghost use Rattle.snapshot_audit.specs.ActiveRows.{ActiveSights, InActive};
 ghost use Rattle.snapshot_audit.specs.ChangeDays.{seen_lists};
-ghost use Rattle.snapshot_audit.specs.Verdicts.{AgreesOnAll, DiffersFirst, HaveSameMembers, IsVerdict};
+ghost use Rattle.snapshot_audit.specs.Verdicts.{AgreesOnAll, DiffersFirst, HaveSameMembers};
+ghost use Rattle.snapshot_audit.specs.Verdicts.{IsVerdict};
 
 use crate::days::change_days;
 use crate::evaluation::evaluated;
@@ -22,7 +23,7 @@ use std::alloc::Global;
 
 /// Compares the answer's snapshot with the query's set on each change day, and then checks the
 /// witnesses. Each reference of the query sees the list in its place; none, where there is no such
-/// list. The only error is out of memory.
+/// list.
 pub fn audit(
     alloc: Global,
     query: &Query,

@@ -10,8 +10,7 @@ use period_core::{Day, Memory, PeriodRow};
 use std::alloc::Global;
 
 /// 0001-01-01, and each day on which a row of the list starts or ends, or a row that a reference of
-/// the query sees, in ascending order, each once. 9999-12-31 may be among the days, as an end. The
-/// only error is out of memory.
+/// the query sees, in ascending order, each once. 9999-12-31 may be among the days, as an end.
 pub fn change_days(
     alloc: Global,
     query: &Query,

@@ -14,8 +14,7 @@ use catalog_core::resolved::{Query, Tables};
 use period_core::{Day, Memory, Values};
 use std::alloc::Global;
 
-/// The set of a query by the active rows, in ascending order, each list of values once. The only
-/// error is out of memory.
+/// The set of a query by the active rows, in ascending order, each list of values once.
 pub(crate) fn evaluated(alloc: Global, query: &Query, seen: &[Sweep]) -> Result<Vec<Values>, Memory>
     ensures { IfOk result (λ set.
         ListsSet (InQuery (ActiveSights seen.now) (plain_query query.now)) set.items) }
@@ -30,8 +29,8 @@ pub(crate) fn evaluated(alloc: Global, query: &Query, seen: &[Sweep]) -> Result<
     }
 }
 
-/// What the ordinary query gives on a day, where each reference sees that day's snapshot of the list
-/// in its place: in ascending order, each list of values once. The only error is out of memory.
+/// What the ordinary query gives on a day, where each reference sees that day's snapshot of the
+/// list in its place: in ascending order, each list of values once.
 pub fn eval_on(
     alloc: Global,
     query: &Query,

@@ -115,14 +115,14 @@ fn add_rest(
     Ok(())
 }
 
-/// The set of a select by the active rows, in ascending order, each list of values once. The only
-/// error is out of memory.
+/// The set of a select by the active rows, in ascending order, each list of values once.
 pub(crate) fn selected(
     alloc: Global,
     select: &Select,
     seen: &[Sweep],
 ) -> Result<Vec<Values>, Memory>
-    ensures { IfOk result (λ set. ListsSet (InSelect (ActiveSights seen.now) select.now) set.items) }
+    ensures { IfOk result
+        (λ set. ListsSet (InSelect (ActiveSights seen.now) select.now) set.items) }
 {
     let mut rows = Vec::new(alloc);
     add_rest(

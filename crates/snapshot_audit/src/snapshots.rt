@@ -24,7 +24,7 @@ pub(crate) fn is_held_on(rows: &[PeriodRow], values: &Values, day: i32) -> bool
     false
 }
 
-/// The rows that cover the day. The only error is out of memory.
+/// The rows that cover the day.
 pub(crate) fn active_on<'a>(
     alloc: Global,
     rows: &'a [PeriodRow],
@@ -41,8 +41,7 @@ pub(crate) fn active_on<'a>(
     Ok(active)
 }
 
-/// The values of the rows, in ascending order, each list of values once. The only error is out of
-/// memory.
+/// The values of the rows, in ascending order, each list of values once.
 pub(crate) fn values_of(alloc: Global, active: &[&PeriodRow]) -> Result<Vec<Values>, Memory>
     ensures { IfOk result (λ set. ListsSet (InActive active.now) set.items) }
 {
@@ -53,8 +52,7 @@ pub(crate) fn values_of(alloc: Global, active: &[&PeriodRow]) -> Result<Vec<Valu
     sorted_once(held)
 }
 
-/// The snapshot of the rows on a day, in ascending order, each list of values once. The only error
-/// is out of memory.
+/// The snapshot of the rows on a day, in ascending order, each list of values once.
 pub fn rows_on(alloc: Global, rows: &[PeriodRow], day: Day) -> Result<Vec<Values>, Memory>
     ensures { IfOk result (λ set. ListsSet (InSnapshot rows.now day) set.items) }
 {

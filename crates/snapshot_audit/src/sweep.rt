@@ -15,7 +15,7 @@ pub(crate) struct Sweep<'s, 'a> {
     pub(crate) active: Vec<&'a PeriodRow>,
 }
 
-/// The rows of a list in the order of their first days. The only error is out of memory.
+/// The rows of a list in the order of their first days.
 pub(crate) fn by_first_day<'a>(
     alloc: Global,
     rows: &'a [PeriodRow],
@@ -54,8 +54,7 @@ fn going_on<'a>(active: Vec<&'a PeriodRow>, day: Day) -> Vec<&'a PeriodRow>
 }
 
 impl<'s, 'a> Sweep<'s, 'a> {
-    /// The sweep at this day, which is not before the day at which it was. The only error is out
-    /// of memory.
+    /// The sweep at this day, which is not before the day at which it was.
     pub(crate) fn moved_to(self, day: Day) -> Result<Sweep<'s, 'a>, Memory>
         ensures { IfOk result (λ next. HasMovedTo day self.entry next) }
     {

@@ -11,7 +11,7 @@ use catalog_core::resolved::Tables;
 use period_core::{Day, Memory, PeriodRow};
 use std::alloc::Global;
 
-/// The rows of each list in the order of their first days. The only error is out of memory.
+/// The rows of each list in the order of their first days.
 pub(crate) fn lists_by_first_day<'a>(
     alloc: Global,
     tables: &'a Tables,
@@ -25,7 +25,7 @@ pub(crate) fn lists_by_first_day<'a>(
     Ok(lists)
 }
 
-/// A sweep over each list, with all rows before it. The only error is out of memory.
+/// A sweep over each list, with all rows before it.
 pub(crate) fn sweeps_over<'s, 'a>(
     alloc: Global,
     lists: &'s [Vec<&'a PeriodRow>],
@@ -42,8 +42,7 @@ pub(crate) fn sweeps_over<'s, 'a>(
     Ok(sweeps)
 }
 
-/// Each sweep at this day, which is not before the day at which it was. The only error is out of
-/// memory.
+/// Each sweep at this day, which is not before the day at which it was.
 pub(crate) fn all_moved_to<'s, 'a>(
     alloc: Global,
     sweeps: Vec<Sweep<'s, 'a>>,
@@ -58,8 +57,7 @@ pub(crate) fn all_moved_to<'s, 'a>(
     Ok(next)
 }
 
-/// For each list a sweep that has its rows of the day, and goes no further. The only error is out
-/// of memory.
+/// For each list a sweep that has its rows of the day, and goes no further.
 pub(crate) fn sweeps_on<'a>(
     alloc: Global,
     tables: &'a Tables,

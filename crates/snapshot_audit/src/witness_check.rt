@@ -21,7 +21,8 @@ pub fn check_witnesses(rows: &[PeriodRow], witnesses: &[Witness]) -> Option<usiz
     ensures faultless { IfNone result (IsFaultless rows.now witnesses.now) }
     ensures certified { IfNone result (IsCertified rows.now) }
     ensures shortest { IfNone result (IsShortest rows.now) }
-    ensures witnesses { IfNone result (WitnessEachRow (InSnapshot rows.now) rows.now witnesses.now) }
+    ensures witnesses { IfNone result
+        (WitnessEachRow (InSnapshot rows.now) rows.now witnesses.now) }
 
     ensures fault { IfSome result (IsFirstFault rows.now witnesses.now) }
 {

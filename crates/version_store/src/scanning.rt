@@ -55,8 +55,8 @@ fn selection_of(window: Window) -> Option<Selection>
     }
 }
 
-/// Hands the version row that a row of the query shows over to the visitor. The row of a version that
-/// can be read is refused for memory alone, or by the visitor.
+/// Hands the version row that a row of the query shows over to the visitor. The row of a version
+/// that can be read is refused for memory alone, or by the visitor.
 fn visit_row<V: RowVisitor>(alloc: Global, row: &Row, visitor: &mut V) -> Result<(), Refusal>
     ensures visited { OnOk result ((version : TableVersion)
         → (row.now ≡ shown (written_version version)) → All IsColumnValue version.values

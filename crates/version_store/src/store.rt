@@ -225,8 +225,8 @@ impl<S: Alter> VersionStore<S> {
     /// Hands the version rows of the table of a number that the window sees over to the visitor,
     /// one at a time: by values, then period start, then system start. A refusal of the visitor
     /// ends the scan and is answered; every other is out of memory, or comes of a fault of the
-    /// database. On `Err` the visitor has been handed some of the first rows. Nothing is changed. An
-    /// empty window hands over nothing, and the database is not called.
+    /// database. On `Err` the visitor has been handed some of the first rows. Nothing is changed.
+    /// An empty window hands over nothing, and the database is not called.
     pub fn scan<V: RowVisitor>(
         &mut self,
         alloc: Global,

@@ -24,8 +24,8 @@ pub trait RowVisitor {
     /// Which refusals it may answer.
     ghost may_refuse: { AnyRefusal → Type 0 };
 
-    /// What it tells of how it answered last: by a refusal, or by none. One that keeps nothing of it
-    /// tells nothing.
+    /// What it tells of how it answered last: by a refusal, or by none. One that keeps nothing of
+    /// it tells nothing.
     ghost answered: { Self → Option AnyRefusal → Type 0 };
 
     /// Takes a row, or refuses it. A refused row leaves the meaning.

@@ -4,7 +4,8 @@
 ghost use Rattle.std.specs.Prelude.{◌≡◌, ◌+◌, length};
 ghost use Rattle.version_tables.specs.Represents.{ended, key_of, removed};
 ghost use Rattle.version_tables.specs.Represents.{with_clock, with_definition, with_ends};
-ghost use Rattle.version_tables.specs.Steps.{CommitsNothing, ChangesKey, ChangesRecords, ChangesWhere};
+ghost use Rattle.version_tables.specs.Steps.{CommitsNothing, ChangesKey, ChangesRecords};
+ghost use Rattle.version_tables.specs.Steps.{ChangesWhere};
 
 use sqlite::{Alter, Error, Transaction, params};
 

@@ -1,6 +1,7 @@
 -- For private functions: the faults of a query, collected over its parts. Of a query they are the
 -- conditions of its refusals.
-use Rattle.std.specs.Prelude.{◌==◌, ◌||◌, Bool, false, not, List, [], ◌∷◌, Option, Some, None, filter}
+use Rattle.std.specs.Prelude.{◌==◌, ◌||◌, Bool, false, not, List, [], ◌∷◌, Option, Some, None}
+use Rattle.std.specs.Prelude.{filter}
 use Rattle.std.specs.Prelude.{is_none, length, map, slice_get}
 use Rattle.std.specs.List.{list_any, zip}
 use Rattle.std.specs.Option.{option_map}

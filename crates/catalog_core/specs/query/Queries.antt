@@ -1,4 +1,5 @@
--- Sequenced queries with positions in place of names, as plain trees, and what their references see.
+-- Sequenced queries with positions in place of names, as plain trees, and what their references
+-- see.
 use Rattle.std.specs.Prelude.{◌++◌, List, [], slice_index_or}
 use Rattle.period_core.specs.declared.row.PeriodRow.{PeriodRow}
 use Rattle.sql_statements.specs.declared.tree.SetOperator.{SetOperator}

@@ -133,7 +133,8 @@ abbrev mutual
       × ResolvesSteps catalog (both operator left right) steps query
 
 -- the same query, whose references have their places in the order of the text
-pub record ResolvesSequenced (catalog : List TableDef) (written : written.Query) (query : Query) : Type 0
+pub record ResolvesSequenced (catalog : List TableDef) (written : written.Query) (query : Query)
+    : Type 0
   where
     pub same : ResolvesTree catalog written query
     pub placed : are_in_place 0 (references_of query) ≡ true

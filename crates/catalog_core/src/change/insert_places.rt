@@ -34,7 +34,7 @@ fn wanted_places(alloc: Global, table: &TableDef) -> Result<Vec<usize>, Memory>
 }
 
 /// The place of the column that each value of a row is given for. Each name of the list is that of
-/// a column. The only error is out of memory.
+/// a column.
 pub fn given_places(
     alloc: Global,
     table: &TableDef,

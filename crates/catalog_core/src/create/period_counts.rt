@@ -9,7 +9,7 @@ use sql_statements::{CreateTable, Name};
 use std::alloc::Global;
 use std::collections::BTreeMap;
 
-/// For the name of each period, how many periods have it. The only error is out of memory.
+/// For the name of each period, how many periods have it.
 pub fn period_counts<'a>(
     alloc: Global,
     create: &'a CreateTable,

@@ -1,5 +1,4 @@
-//! The parts of an accepted select, with positions in place of names. The only error is out of
-//! memory.
+//! The parts of an accepted select, with positions in place of names.
 
 ghost use Rattle.std.specs.Prelude.{◌≡◌, ◌++◌, ◌+◌, ◌<◌, ◌∷◌, IfOk, false, length};
 ghost use Rattle.std.specs.Prelude.{map, true};

@@ -137,7 +137,7 @@ fn table_faults(catalog: &Catalog, references: &[&TableReference]) -> Faults
     }
 }
 
-/// Those of a select. The only error is out of memory.
+/// Those of a select.
 pub fn select_faults(
     alloc: Global,
     catalog: &Catalog,

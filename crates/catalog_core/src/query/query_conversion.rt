@@ -1,4 +1,4 @@
-//! An accepted query, with positions in place of names. The only error is out of memory.
+//! An accepted query, with positions in place of names.
 
 ghost use Rattle.std.specs.Prelude.{◌≡◌, ◌+◌, ◌<◌, IfOk, false, length, true};
 ghost use Rattle.std.specs.List.{list_any};
@@ -35,7 +35,8 @@ pub fn number_query(
     query: &QueryTree<SelectDistinct>,
     place: &mut usize,
 ) -> Result<Query, Memory>
-    requires sound { list_any (is_refused catalog.now.tables) (selects_of (plain_query query.now)) ≡ false }
+    requires sound { list_any (is_refused catalog.now.tables) (selects_of (plain_query query.now))
+        ≡ false }
     requires room { place.old + table_count (selects_of (plain_query query.now)) < 1_000 }
     ensures same { IfOk result (λ numbered. ResolvesTree catalog.now.tables
         (plain_query query.now) (resolved.plain_query numbered)) }

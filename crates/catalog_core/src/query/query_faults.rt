@@ -114,7 +114,7 @@ fn faults_of_operators(
     }
 }
 
-/// The faults of a query. The only error is out of memory.
+/// The faults of a query.
 pub fn query_faults(
     alloc: Global,
     catalog: &Catalog,

@@ -1,7 +1,8 @@
 //! The parts of a sequenced query as it is written: its limits, and its first select, which names
 //! the columns.
 
-ghost use Rattle.std.specs.Prelude.{◌≡◌, ◌+◌, ◌<◌, ◌||◌, IfNone, IfSome, flat_map, length, map, nat_lt};
+ghost use Rattle.std.specs.Prelude.{◌≡◌, ◌+◌, ◌<◌, ◌||◌, IfNone, IfSome, flat_map, length, map};
+ghost use Rattle.std.specs.Prelude.{nat_lt};
 ghost use Rattle.std.specs.List.{list_any};
 ghost use Rattle.sql_statements.specs.Plain.{plain_chain, plain_query, plain_select};
 ghost use Rattle.catalog_core.specs.Limits.{most_operators, most_select_tables};

@@ -24,7 +24,7 @@ impl<'a> Named for &'a TableReference {
     }
 }
 
-/// Adds the references of a chain. The only error is out of memory.
+/// Adds the references of a chain.
 fn push_chain<'a>(
     references: &mut Vec<&'a TableReference>,
     chain: &'a JoinChain,
@@ -39,7 +39,7 @@ fn push_chain<'a>(
     Ok(())
 }
 
-/// The references of a select. The only error is out of memory.
+/// The references of a select.
 pub fn references_of(alloc: Global, select: &SelectDistinct) -> Result<Vec<&TableReference>, Memory>
     ensures value { IfOk result (λ references.
         map (λ r. r.now) references.items ≡ tables_of (plain_select select.now)) }

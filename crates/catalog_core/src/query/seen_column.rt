@@ -119,8 +119,7 @@ pub fn look_up(columns: &[SeenColumn<'_>], reference: &ColumnReference) -> Match
     found
 }
 
-/// Adds the columns of the table that a reference names: none, where it is not there. The only
-/// error is out of memory.
+/// Adds the columns of the table that a reference names: none, where it is not there.
 pub fn push_columns<'a>(
     columns: &mut Vec<SeenColumn<'a>>,
     catalog: &'a Catalog,

@@ -1,6 +1,7 @@
-//! An accepted select, with positions in place of names. The only error is out of memory.
+//! An accepted select, with positions in place of names.
 
-ghost use Rattle.std.specs.Prelude.{◌≡◌, ◌++◌, ◌+◌, ◌<◌, ◌∷◌, [], List, IfOk, false, flat_map, length};
+ghost use Rattle.std.specs.Prelude.{◌≡◌, ◌++◌, ◌+◌, ◌<◌, ◌∷◌, [], List, IfOk, false, flat_map};
+ghost use Rattle.std.specs.Prelude.{length};
 ghost use Rattle.std.specs.Prelude.{map, true};
 ghost use Rattle.sql_statements.specs.Plain.{plain_chain, plain_select};
 ghost use Rattle.sql_statements.specs.declared.statement.TableReference.{TableReference as Named};
@@ -88,7 +89,8 @@ pub fn number_select(
     place: usize,
 ) -> Result<Select, Memory>
     requires there { lacks_table catalog.now.tables (plain_select select.now) ≡ false }
-    requires named { some_column_matches Nothing catalog.now.tables (plain_select select.now) ≡ false }
+    requires named { some_column_matches Nothing catalog.now.tables (plain_select select.now)
+        ≡ false }
     requires values { names_period catalog.now.tables (plain_select select.now) ≡ false }
     requires room { place + length (tables_of (plain_select select.now)) < 1_000 }
     ensures resolved { IfOk result

@@ -1,5 +1,4 @@
-//! The conditions of accepted stored queries, with positions in place of names. The only error is
-//! out of memory.
+//! The conditions of accepted stored queries, with positions in place of names.
 
 ghost use Rattle.std.specs.Prelude.{◌≡◌, IfOk, Some, false};
 ghost use Rattle.std.specs.Option.{option_map};

@@ -100,8 +100,7 @@ pub fn place_among<T: Named>(elements: &[T], name: &Name) -> Option<usize>
     None
 }
 
-/// The places of the first elements that the names match. Each matches some. The only error is out
-/// of memory.
+/// The places of the first elements that the names match. Each matches some.
 pub fn places_among<T: Named>(
     alloc: Global,
     elements: &[T],

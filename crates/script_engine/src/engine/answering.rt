@@ -265,7 +265,6 @@ fn column_names(alloc: Global, items: &[AnswerColumn]) -> Result<Items<Text>, Me
 }
 
 /// The answer of a query over what its references see: its rows, coalesced, with their witnesses.
-/// The only error is out of memory.
 pub fn answer_over(alloc: Global, query: &Query, tables: &Tables) -> Result<Answer, Memory>
     requires { fits (plain_query query.now) tables.now ≡ true }
     ensures right { IfOk result

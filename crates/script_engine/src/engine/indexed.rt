@@ -43,8 +43,8 @@ pub fn rows_of_number(tables: &[TableIndex], number: u8) -> Option<&CurrentRows>
 }
 
 /// Adds a table without rows, of a definition that the catalog does not have yet, with the indexes
-/// that its references need. The only error is out of memory: then no table is added, and those
-/// that are there have the same rows.
+/// that its references need. On an error no table is added, and those that are there have the same
+/// rows.
 pub fn add_index(
     alloc: Global,
     catalog: &Catalog,

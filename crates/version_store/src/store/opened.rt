@@ -26,10 +26,10 @@ use std::alloc::Global;
 use std::marker::Model;
 use version_tables::{Presence, tables_there};
 
-/// A store as `VersionStore::open` gives it. Its definitions, its clock and each of its versions are
-/// those of a good store. Whether its current rows keep the keys and references of their tables is
-/// still to be judged, by whoever knows these; so it can only be read. `accept` gives the store for
-/// use, `refuse` gives the connection back.
+/// A store as `VersionStore::open` gives it. Its definitions, its clock and each of its versions
+/// are those of a good store. Whether its current rows keep the keys and references of their tables
+/// is still to be judged, by whoever knows these; so it can only be read. `accept` gives the store
+/// for use, `refuse` gives the connection back.
 #[derive(Drop)]
 pub struct OpenedStore<S: Alter> {
     store: VersionStore<S>,
@@ -97,8 +97,8 @@ impl<S: Alter> VersionStore<S> {
     /// tables they are made, as by `create`. Where all three are there, the store is opened exactly
     /// if it is a good one but for its keys and references; what it holds is then as it was closed.
     /// Of three tables that are not as the store makes them, or have other tables beside them, no
-    /// more is said than that a refusal changes nothing. On `Err` nothing is changed, the connection
-    /// is handed back, and no transaction is open on it.
+    /// more is said than that a refusal changes nothing. On `Err` nothing is changed, the
+    /// connection is handed back, and no transaction is open on it.
     pub fn open(
         alloc: Global,
         mut connection: Connection<S>,
