@@ -49,6 +49,7 @@ pub(crate) fn inspect<S: Alter>(
     if !columns_there(connection) {
         return Err(Refusal::BadStore);
     }
+    // For the proof alone: while a connection is open, no two rows share a key.
     let _live = connection.schema();
     let metas = match meta_rows(connection) {
         Ok(rows) => rows,

@@ -199,6 +199,7 @@ impl<S: Alter> VersionStore<S> {
             → (c : Contents) → StoreRepresents S.Store self.old c → HaveDistinctKeys c.versions }
         ensures named { IfErr result IsStoreRefusal }
     {
+        // For the proof alone: while a connection is open, no two rows share a key.
         let _live = self.connection.schema();
         write_plan(alloc, &mut self.connection, table, moment, plan)
     }

@@ -32,6 +32,7 @@ pub(crate) fn write_plan<S: Alter>(
     ensures mode { connection.new.in_transaction ≡ false }
     ensures named { IfErr result IsStoreRefusal }
 {
+    // For the proof alone: whether a transaction is open is known by this call.
     let _settled = connection.is_autocommit();
     let mut transaction = connection.transaction();
     put_plan(alloc, &mut transaction, table, moment, plan)?;
@@ -87,6 +88,7 @@ pub(crate) fn write_table<S: Alter>(
     ensures mode { connection.new.in_transaction ≡ false }
     ensures named { IfErr result IsStoreRefusal }
 {
+    // For the proof alone: whether a transaction is open is known by this call.
     let _settled = connection.is_autocommit();
     let mut transaction = connection.transaction();
     put_table(&mut transaction, number, definition)?;
@@ -108,6 +110,7 @@ pub(crate) fn write_clock<S: Alter>(
     ensures mode { connection.new.in_transaction ≡ false }
     ensures named { IfErr result IsStoreRefusal }
 {
+    // For the proof alone: whether a transaction is open is known by this call.
     let _settled = connection.is_autocommit();
     let mut transaction = connection.transaction();
     put_clock(&mut transaction, moment)?;

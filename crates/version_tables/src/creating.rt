@@ -86,6 +86,7 @@ pub fn create<S: Alter>(connection: &mut Connection<S>, form: i64, clock: i64) -
         → OnErr result (IsTrue (state S.Store connection.old).is_open) }
     ensures mode { connection.new.in_transaction ≡ false }
 {
+    // For the proof alone: whether a transaction is open is known by this call.
     let _settled = connection.is_autocommit();
     let mut transaction = connection.transaction();
     create_meta(&mut transaction)?;

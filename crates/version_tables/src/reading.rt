@@ -37,6 +37,7 @@ pub fn rows_of<S: Alter>(
         (λ rows. HasGivenRows S.Store table selection connection.old rows.conn.now []) }
     ensures mode { IfOk result (λ rows. rows.conn.now.in_transaction ≡ false) }
 {
+    // For the proof alone: whether a transaction is open is known by this call.
     let _settled = connection.is_autocommit();
     match selection {
         Selection::Whole => connection.query(
@@ -85,6 +86,7 @@ pub fn meta_rows<S: Alter>(connection: &mut Connection<S>) -> Result<Vec<Row>, E
     ensures reads { OnlyReads S.Store connection.old connection.new result }
     ensures mode { connection.new.in_transaction ≡ false }
 {
+    // For the proof alone: whether a transaction is open is known by this call.
     let _settled = connection.is_autocommit();
     connection.query_all("SELECT id, form, clock FROM bt_meta ORDER BY id", &[])
 }
@@ -97,6 +99,7 @@ pub fn table_rows<S: Alter>(connection: &mut Connection<S>) -> Result<Vec<Row>, 
     ensures reads { OnlyReads S.Store connection.old connection.new result }
     ensures mode { connection.new.in_transaction ≡ false }
 {
+    // For the proof alone: whether a transaction is open is known by this call.
     let _settled = connection.is_autocommit();
     connection.query_all("SELECT id, def FROM bt_table ORDER BY id", &[])
 }
@@ -110,6 +113,7 @@ pub fn version_rows<S: Alter>(connection: &mut Connection<S>) -> Result<Vec<Row>
     ensures reads { OnlyReads S.Store connection.old connection.new result }
     ensures mode { connection.new.in_transaction ≡ false }
 {
+    // For the proof alone: whether a transaction is open is known by this call.
     let _settled = connection.is_autocommit();
     connection.query_all(
         "SELECT tab, vals, s, e, ss, se FROM bt_version ORDER BY tab, vals, s, ss",
@@ -125,6 +129,7 @@ pub fn rowids<S: Alter>(connection: &mut Connection<S>) -> Result<Vec<Row>, Erro
     ensures reads { OnlyReads S.Store connection.old connection.new result }
     ensures mode { connection.new.in_transaction ≡ false }
 {
+    // For the proof alone: whether a transaction is open is known by this call.
     let _settled = connection.is_autocommit();
     connection.query_all("SELECT rowid FROM bt_version ORDER BY rowid", &[])
 }

@@ -133,6 +133,7 @@ impl<S: Alter> VersionStore<S> {
         ensures settled { IfErr result (λ failed. failed.1.in_transaction ≡ false) }
         ensures named { IfErr result (λ failed. IsOpenRefusal failed.0) }
     {
+        // For the proof alone: whether a transaction is open is known by this call.
         let _settled = connection.is_autocommit();
         match tables_there(&connection) {
             Presence::Missing => match VersionStore::create(alloc, connection) {
@@ -164,6 +165,7 @@ impl<S: Alter> VersionStore<S> {
             → failed.0 ≢ BadStore) }
     {
         let connection = self.close();
+        // For the proof alone: while a connection is open, no two rows share a key.
         let _live = connection.schema();
         VersionStore::open(alloc, connection)
     }
