@@ -1,10 +1,10 @@
 pub mod Cursors
-pub mod Heads
+pub mod SortPrefixes
 pub mod Heights
 pub mod RowTrees
 pub mod Forks
 pub mod ForkDepths
-pub mod Lows
+pub mod Countable
 pub mod Places
 pub mod Edits
 pub mod Undos

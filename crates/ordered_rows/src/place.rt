@@ -1,32 +1,32 @@
 //! What the rows of a tree are compared with in an edit or a seek.
 
 ghost use Rattle.std.specs.Prelude.{◌≡◌};
-ghost use Rattle.ordered_rows.specs.Heads.{IsHead};
+ghost use Rattle.ordered_rows.specs.SortPrefixes.{IsPrefixOf};
 
-use crate::head::Head;
-use crate::kept::KeptRow;
+use crate::head::SortPrefix;
+use crate::kept::CachedRow;
 use sqlite_value::keys::Order;
 use sqlite_value::row::Row;
 use std::cmp::Ordering;
 
 /// An entry of an index, or the key of a seek, and the order that it is compared in.
 #[derive(Clone, Copy)]
-pub(crate) struct Sought<'a> {
+pub(crate) struct Probe<'a> {
     pub order: Order,
-    pub head: Head,
+    pub head: SortPrefix,
     pub row: &'a Row,
-    pub ghost headed: { IsHead head row.now },
+    pub ghost headed: { IsPrefixOf head row.now },
 }
 
-impl<'a> Sought<'a> {
+impl<'a> Probe<'a> {
     /// A row in this order.
-    pub(crate) fn new(order: Order, row: &'a Row) -> Sought<'a>
+    pub(crate) fn new(order: Order, row: &'a Row) -> Probe<'a>
         ensures order { result.order ≡ order }
         ensures row { result.row.now ≡ row.now }
     {
-        Sought {
+        Probe {
             order,
-            head: Head::of(row),
+            head: SortPrefix::of(row),
             row,
         }
     }
@@ -36,7 +36,7 @@ impl<'a> Sought<'a> {
 #[derive(Clone, Copy)]
 pub(crate) enum Place<'a> {
     Rowid(i64),
-    Entry(&'a Sought<'a>),
+    Entry(&'a Probe<'a>),
 }
 
 impl Place<'_> {
@@ -44,7 +44,7 @@ impl Place<'_> {
 
     /// Whether a row is below the place, at it or above it.
     #[inline(always)]
-    pub(crate) fn side(self, row: &KeptRow) -> Ordering
+    pub(crate) fn side(self, row: &CachedRow) -> Ordering
         ensures { result ≡ side self.entry row.now }
     {
         match self {

@@ -1,31 +1,31 @@
 //! Why tokens could not be read.
 
 ghost use Rattle.std.specs.Prelude.{◌≡◌};
-ghost use Rattle.sql_front.specs.declared.unread.Unread.TheVariants.{Memory};
+ghost use Rattle.sql_front.specs.declared.unread.ReadError.TheVariants.{Memory};
 
 use std::alloc::{AllocError, AllocFailed};
 
 /// Why no value was read.
 #[derive(Clone, Copy, Debug)]
-pub enum Unread {
+pub enum ReadError {
     /// Memory ran out.
     Memory,
     /// No value is spelled so.
     Syntax,
 }
 
-impl From<AllocError> for Unread {
+impl From<AllocError> for ReadError {
     ghost from_gives = { λ _ unread. unread ≡ Memory };
 
-    fn from(_error: AllocError) -> Unread {
-        Unread::Memory
+    fn from(_error: AllocError) -> ReadError {
+        ReadError::Memory
     }
 }
 
-impl<T: Drop> From<AllocFailed<T>> for Unread {
+impl<T: Drop> From<AllocFailed<T>> for ReadError {
     ghost from_gives = { λ _ unread. unread ≡ Memory };
 
-    fn from(_error: AllocFailed<T>) -> Unread {
-        Unread::Memory
+    fn from(_error: AllocFailed<T>) -> ReadError {
+        ReadError::Memory
     }
 }

@@ -39,24 +39,24 @@ pub trait RowVisitor {
 
 /// A visitor that keeps all rows, in the order in which it is handed them.
 #[derive(Drop, Debug)]
-pub struct KeptRows {
+pub struct CollectRows {
     /// The rows so far.
     pub rows: Vec<VersionRow>,
 }
 
-impl KeptRows {
+impl CollectRows {
     /// No rows so far.
-    pub fn new(alloc: Global) -> KeptRows
+    pub fn new(alloc: Global) -> CollectRows
         ensures { result.rows.items ≡ [] }
     {
-        KeptRows {
+        CollectRows {
             rows: Vec::new(alloc),
         }
     }
 }
 
 // A row is refused where there is no memory for it.
-impl RowVisitor for KeptRows {
+impl RowVisitor for CollectRows {
     ghost Meaning = { List AnyRow };
 
     ghost meaning = { λ kept. kept.rows.items };
