@@ -274,14 +274,14 @@ fn reopen_refused(
     first: u64,
 ) -> Result<bool, Fail> {
     let store = match VersionStore::open(alloc, connection) {
-        Ok(store) => store,
+        Ok(store) => store.accept(),
         Err((refusal, _connection)) => return Err(refusal)?,
     };
     refusals_begin(first, 1, 1);
     let result = store.reopen(alloc);
     let refused = refusals_end();
     let connection = match result {
-        Ok(store) => store.close(),
+        Ok(store) => store.refuse(),
         Err((Refusal::Memory, connection)) => connection,
         Err((_refusal, _connection)) => return Err("a reopen is refused otherwise")?,
     };
