@@ -14,6 +14,14 @@ def build():
         subprocess.run([ROOT / 'bitemporal', '--prove'], check=True)
 
 
+def scripts(folder=ROOT / 'tests/scripts'):
+    """The scripts in a folder and in the folders below it, by folder and name. No two have one name."""
+    found = sorted(folder.rglob('*.sql'))
+    names = [script.stem for script in found]
+    assert len(names) == len(set(names)), sorted(name for name in names if names.count(name) > 1)
+    return found
+
+
 def got(words, given=b'', **how):
     """The status, the output and what standard error got, after so many words and this input."""
     if isinstance(given, bytes):
