@@ -18,12 +18,12 @@ use Rattle.sql_statements.specs.declared.statement.StoredTest.TheVariants.{Conta
 use Rattle.catalog_core.specs.change.Insertion.{is_of_other_kind, is_too_long}
 use Rattle.catalog_core.specs.query.Refusals.{are_matching, are_of_period}
 use Rattle.catalog_core.specs.query.Scopes.{is_qualified, matches_in}
-use Rattle.catalog_core.specs.query.Selection.{names_non_value_column}
+use Rattle.catalog_core.specs.query.Selection.{names_no_value}
 use Rattle.catalog_core.specs.table.Kinds.{differ, kind_of_value}
 use Rattle.catalog_core.specs.table.Matches.{is_matching}
 use Rattle.catalog_core.specs.table.TableWords.{def_kind, def_matches}
 use Rattle.catalog_core.specs.declared.flaw.Flaw.{Flaw}
-use Rattle.catalog_core.specs.declared.flaw.Flaw.TheVariants.{Unknown, Ambiguous, NotValueColumn}
+use Rattle.catalog_core.specs.declared.flaw.Flaw.TheVariants.{Unknown, Ambiguous, NoValue}
 use Rattle.catalog_core.specs.declared.flaw.Flaw.TheVariants.{OtherKind, TooLong, Empty}
 use Rattle.catalog_core.specs.declared.table.matching.Matching.TheVariants.{Nothing, Several}
 use Rattle.catalog_core.specs.declared.table.ValueKind.{ValueKind}
@@ -36,7 +36,7 @@ use Rattle.catalog_core.specs.declared.table.TableDef.{TableDef}
 unfoldable pub is_flawed_column : Flaw → TableDef → ColumnReference → Bool
 is_flawed_column Unknown t r = are_matching Nothing (matches_in t.name t r)
 is_flawed_column Ambiguous t r = are_matching Several (matches_in t.name t r)
-is_flawed_column NotValueColumn t r = are_of_period (matches_in t.name t r)
+is_flawed_column NoValue t r = are_of_period (matches_in t.name t r)
 is_flawed_column _ t r = false
 
 -- ==== SET ====
@@ -46,7 +46,7 @@ is_flawed_column _ t r = false
 unfoldable pub is_flawed_set : Flaw → TableDef → Assignment → Bool
 is_flawed_set Unknown t a = is_matching Nothing (def_matches t a.column)
 is_flawed_set Ambiguous t a = is_matching Several (def_matches t a.column)
-is_flawed_set NotValueColumn t a = names_non_value_column t a.column
+is_flawed_set NoValue t a = names_no_value t a.column
 is_flawed_set OtherKind t a = is_of_other_kind t (a.column, a.value)
 is_flawed_set TooLong t a = is_too_long t (a.column, a.value)
 is_flawed_set Empty t a = false

@@ -13,7 +13,7 @@ ghost use Rattle.catalog_core.specs.Flaws.{is_set_again, sets_twice, side_kind, 
 
 use crate::change::insert_values::is_longer;
 use crate::query::seen::{count_in, is_qualified, names_period_in};
-use crate::table::columns::names_non_value_column;
+use crate::table::columns::names_no_value;
 use crate::table::kinds::{def_kind, differ, kind_of_value};
 use crate::table::matching::{Matching, def_matches};
 use crate::table::{TableDef, ValueKind};
@@ -30,7 +30,7 @@ pub enum Flaw {
     /// A column's name that several columns have.
     Ambiguous,
     /// A period or system column where a value column has to stand.
-    NotValueColumn,
+    NoValue,
     /// A value or a comparison over two kinds.
     OtherKind,
     /// A text that its column does not take.
@@ -79,7 +79,7 @@ impl Flaw {
         match self {
             Flaw::Unknown => Matching::Nothing.takes(count_in(&table.name, table, column)),
             Flaw::Ambiguous => Matching::Several.takes(count_in(&table.name, table, column)),
-            Flaw::NotValueColumn => names_period_in(&table.name, table, column),
+            Flaw::NoValue => names_period_in(&table.name, table, column),
             Flaw::OtherKind | Flaw::TooLong | Flaw::Empty => false,
         }
     }
@@ -92,7 +92,7 @@ impl Flaw {
         match self {
             Flaw::Unknown => Matching::Nothing.takes(def_matches(table, &set.column)),
             Flaw::Ambiguous => Matching::Several.takes(def_matches(table, &set.column)),
-            Flaw::NotValueColumn => names_non_value_column(table, &set.column),
+            Flaw::NoValue => names_no_value(table, &set.column),
             Flaw::OtherKind => is_of_other_kind(table, &set.column, &set.value),
             Flaw::TooLong => is_too_long(table, &set.column, &set.value),
             Flaw::Empty => false,

@@ -9,7 +9,7 @@ ghost use Rattle.catalog_core.specs.Flaws.{is_flawed_set};
 ghost use Rattle.catalog_core.specs.Numbering.{ResolvesWhere, map_condition, numbered_compare};
 ghost use Rattle.catalog_core.specs.Numbering.{numbered_set, period_days, portion_days};
 ghost use Rattle.catalog_core.specs.Placing.{place_compare, place_side};
-ghost use Rattle.catalog_core.specs.declared.flaw.Flaw.TheVariants.{Empty, NotValueColumn, Unknown};
+ghost use Rattle.catalog_core.specs.declared.flaw.Flaw.TheVariants.{Empty, NoValue, Unknown};
 
 use crate::change::Assignment;
 use crate::condition::{Comparand, CompareValues, Cond};
@@ -23,7 +23,6 @@ use std::alloc::Global;
 /// names.
 pub trait Positions {
     ghost use Rattle.std.specs.Prelude.{◌≡◌, ℕ};
-    ghost use Rattle.sql_statements.specs.declared.statement.ColumnReference.{};
     ghost use Rattle.sql_statements.specs.declared.statement.ColumnReference.{ColumnReference as Named};
 
     /// The position of each.
@@ -80,7 +79,7 @@ pub fn number_compare<P: Positions>(
 }
 
 /// A condition.
-pub fn resolve_condition<P: Positions>(
+pub fn number_condition<P: Positions>(
     alloc: Global,
     positions: &P,
     condition: &Tree<Compare>,
@@ -94,21 +93,21 @@ pub fn resolve_condition<P: Positions>(
         Tree::Or(first, others) => {
             let mut numbered = Vec::new(alloc);
             for part in others {
-                numbered.push(resolve_condition(alloc, positions, part)?)?;
+                numbered.push(number_condition(alloc, positions, part)?)?;
             }
-            let first = resolve_condition(alloc, positions, first)?;
+            let first = number_condition(alloc, positions, first)?;
             Ok(Tree::Or(Box::new(alloc, first)?, numbered))
         }
         Tree::And(first, others) => {
             let mut numbered = Vec::new(alloc);
             for part in others {
-                numbered.push(resolve_condition(alloc, positions, part)?)?;
+                numbered.push(number_condition(alloc, positions, part)?)?;
             }
-            let first = resolve_condition(alloc, positions, first)?;
+            let first = number_condition(alloc, positions, first)?;
             Ok(Tree::And(Box::new(alloc, first)?, numbered))
         }
         Tree::Not(part) => {
-            let part = resolve_condition(alloc, positions, part)?;
+            let part = number_condition(alloc, positions, part)?;
             Ok(Tree::Not(Box::new(alloc, part)?))
         }
         Tree::Test(compare) => Ok(Tree::Test(number_compare(alloc, positions, compare)?)),
@@ -123,13 +122,13 @@ pub fn number_where(
 ) -> Result<Option<Cond>, Memory>
     requires there { has_test (is_flawed_compare Unknown table.now)
         (option_map plain_condition condition.now) ≡ false }
-    requires value { has_test (is_flawed_compare NotValueColumn table.now)
+    requires value { has_test (is_flawed_compare NoValue table.now)
         (option_map plain_condition condition.now) ≡ false }
     ensures { IfOk result (λ numbered. ResolvesWhere (numbered_compare table.now)
         (option_map plain_condition condition.now) numbered) }
 {
     match condition {
-        Some(condition) => Ok(Some(resolve_condition(alloc, table, condition)?)),
+        Some(condition) => Ok(Some(number_condition(alloc, table, condition)?)),
         None => Ok(None),
     }
 }
@@ -141,7 +140,7 @@ fn number_set(
     set: &sql_statements::Assignment,
 ) -> Result<Assignment, Memory>
     requires there { is_flawed_set Unknown table.now set.now ≡ false }
-    requires value { is_flawed_set NotValueColumn table.now set.now ≡ false }
+    requires value { is_flawed_set NoValue table.now set.now ≡ false }
     ensures { IfOk result (λ numbered. numbered_set table.now set.now ≡ Some numbered) }
 {
     let Some(position) = value_position(table, &set.column) else {
@@ -152,14 +151,13 @@ fn number_set(
 }
 
 /// The assignments of SET.
-pub fn resolve_sets(
+pub fn number_sets(
     alloc: Global,
     table: &TableDef,
     assignments: &[sql_statements::Assignment],
 ) -> Result<Items<Assignment>, Memory>
     requires there { list_any (λ a. is_flawed_set Unknown table.now a) assignments.now ≡ false }
-    requires value { list_any (λ a. is_flawed_set NotValueColumn table.now a) assignments.now
-        ≡ false }
+    requires value { list_any (λ a. is_flawed_set NoValue table.now a) assignments.now ≡ false }
     ensures { IfOk result (λ numbered.
         map (numbered_set table.now) assignments.now ≡ map (λ a. Some a) numbered) }
 {

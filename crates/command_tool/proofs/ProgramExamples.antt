@@ -14,7 +14,7 @@ use Rattle.script_engine.specs.declared.entry.Entry.{Entry}
 use Rattle.script_engine.specs.declared.engine.outcome.Outcome.TheVariants.{Answer as Answered, Done}
 use Rattle.script_engine.specs.declared.engine.outcome.Word.TheVariants.{Create}
 use Rattle.command_arguments.specs.CommandLine.{Chooses}
-use Rattle.command_tool.specs.Lines.{IsReported, fault_line}
+use Rattle.command_tool.specs.Lines.{IsTold, fault_line}
 use Rattle.command_tool.specs.Program.{MayEndSilently, audited_status, status_of}
 use Rattle.command_arguments.specs.declared.command.Mode.TheVariants.{Run, RunAudited}
 use Rattle.command_tool.specs.declared.fault.RunFault.TheVariants.{Script, Read, Write}
@@ -30,10 +30,10 @@ writer-line : fault_line Write ≡ codes "bitemporal: cannot write the report\n"
 writer-line = refl
 
 -- a line is told whole, or in part by a writer that failed
-part_of_line : IsReported true (Some (codes "a")) (Some (codes "abitem")) (fault_line Read)
+part_of_line : IsTold true (Some (codes "a")) (Some (codes "abitem")) (fault_line Read)
 part_of_line = inr (refl, (5, refl))
 
-no_part_of_line : IsReported false (Some []) (Some []) (fault_line Read) → ⊥
+no_part_of_line : IsTold false (Some []) (Some []) (fault_line Read) → ⊥
 no_part_of_line (inl told) = cc
 no_part_of_line (inr told) = cc
 

@@ -56,8 +56,8 @@ abbrev pub GetsFrontOf : Option (List ℕ) → Option (List ℕ) → List ℕ �
 GetsFrontOf old new line = (count : ℕ) × Appends old new (take count line)
 
 -- known bytes grow by the line; or, where a write failed, by a front of it
-abbrev pub IsReported : Bool → Option (List ℕ) → Option (List ℕ) → List ℕ → Type 0
-IsReported has_failed old new line =
+abbrev pub IsTold : Bool → Option (List ℕ) → Option (List ℕ) → List ℕ → Type 0
+IsTold has_failed old new line =
     Appends old new line ⊎ ((has_failed ≡ true) × GetsFrontOf old new line)
 
 -- the fault is that of a refused script, whose line takes memory
@@ -66,5 +66,5 @@ IsOfScript (Script refusal) = ⊤
 IsOfScript _ = ⊥
 
 -- a fault is told by its own line, or that of a refused script as out of memory
-abbrev pub MayBeReportedAs : RunFault → RunFault → Type 0
-MayBeReportedAs fault told = (told ≡ fault) ⊎ (IsOfScript fault × (told ≡ Memory))
+abbrev pub MayBeToldAs : RunFault → RunFault → Type 0
+MayBeToldAs fault told = (told ≡ fault) ⊎ (IsOfScript fault × (told ≡ Memory))

@@ -15,7 +15,7 @@ use Rattle.script_engine.specs.report.CheckReport.{check_text}
 use Rattle.script_engine.specs.report.Report.{report}
 use Rattle.script_engine.specs.script.Script.{IsRunOf, MayRefuseNewRun, MayRefuseScript}
 use Rattle.script_engine.specs.script.Script.{ScriptApplies, most_bytes}
-use Rattle.command_tool.specs.Lines.{IsReported, fault_line}
+use Rattle.command_tool.specs.Lines.{IsTold, fault_line}
 use Rattle.command_arguments.specs.declared.command.Mode.{Mode}
 use Rattle.command_arguments.specs.declared.command.Mode.TheVariants.{Run, RunAudited, Check}
 use Rattle.command_tool.specs.declared.fault.RunFault.{RunFault}
@@ -135,7 +135,7 @@ EndsInReport r = r.status ≢ 2
 abbrev pub EndsInFault : ProgramRun → Type 0
 EndsInFault r = r.status ≡ 2 → (fault : RunFault)
     × MayEndIn r.mode r.script r.read_failed r.out_before r.out_after fault
-    × IsReported r.err_failed r.err_before r.err_after (fault_line fault)
+    × IsTold r.err_failed r.err_before r.err_after (fault_line fault)
 
 -- a script that is refused as a whole ends with status 2, and the output got nothing
 abbrev pub EndsRefused : ProgramRun → Type 0

@@ -3,8 +3,7 @@
 ghost use Rattle.std.specs.Prelude.{◌≡◌, ◌⊎◌, [], IfOk, Some};
 ghost use Rattle.std.specs.String.{string_bytes};
 ghost use Rattle.std.specs.IoError.{error_kind};
-ghost use Rattle.command_tool.specs.Lines.{IsReported, MayBeReportedAs, detail_of, fault_line};
-ghost use Rattle.command_tool.specs.Lines.{line_of};
+ghost use Rattle.command_tool.specs.Lines.{IsTold, MayBeToldAs, detail_of, fault_line, line_of};
 ghost use Rattle.command_tool.specs.Lines.{offset_of, refusal_line, words_fault};
 
 use crate::tracked::Tracked;
@@ -102,8 +101,8 @@ fn offset_line(alloc: Global, code: u8, name: &str, offset: usize) -> Result<Str
 // Writes the line of a fault: the whole line, unless a write failed. Where there is no memory for
 // the line of a refusal, it is the line of out of memory.
 fn tell<W: Write>(alloc: Global, err: &mut Tracked<W>, fault: RunFault)
-    ensures { (told : RunFault) × MayBeReportedAs fault told
-        × IsReported err.new.has_failed (W.contents err.old.inner) (W.contents err.new.inner)
+    ensures { (told : RunFault) × MayBeToldAs fault told
+        × IsTold err.new.has_failed (W.contents err.old.inner) (W.contents err.new.inner)
         (fault_line told) }
 {
     match fault {
@@ -121,8 +120,8 @@ fn tell<W: Write>(alloc: Global, err: &mut Tracked<W>, fault: RunFault)
 /// Ends the program in a fault: writes its line, and gives the exit status.
 pub fn end_in<W: Write>(alloc: Global, err: &mut Tracked<W>, fault: RunFault) -> u8
     ensures status { result ≡ 2 }
-    ensures told { (told : RunFault) × MayBeReportedAs fault told
-        × IsReported err.new.has_failed (W.contents err.old.inner) (W.contents err.new.inner)
+    ensures told { (told : RunFault) × MayBeToldAs fault told
+        × IsTold err.new.has_failed (W.contents err.old.inner) (W.contents err.new.inner)
         (fault_line told) }
 {
     tell(alloc, err, fault);
@@ -131,7 +130,7 @@ pub fn end_in<W: Write>(alloc: Global, err: &mut Tracked<W>, fault: RunFault) ->
 
 // Writes the line, or as much of it as the writer takes before it fails.
 fn write_line<W: Write>(err: &mut Tracked<W>, line: &[u8])
-    ensures { IsReported err.new.has_failed
+    ensures { IsTold err.new.has_failed
         (W.contents err.old.inner) (W.contents err.new.inner) line.now }
 {
     let mut written = 0;

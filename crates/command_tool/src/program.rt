@@ -5,7 +5,7 @@ ghost use Rattle.std.specs.String.{string_bytes};
 ghost use Rattle.std.specs.Io.KnownBytes.{Keeps};
 ghost use Rattle.std.specs.IoError.{error_kind};
 ghost use Rattle.command_arguments.specs.CommandLine.{AsksFor};
-ghost use Rattle.command_tool.specs.Lines.{IsReported, fault_line, words_fault};
+ghost use Rattle.command_tool.specs.Lines.{IsTold, fault_line, words_fault};
 ghost use Rattle.command_tool.specs.Program.{EndsWell, may_fail, script_of};
 
 use crate::fault::{RunFault, end_in};

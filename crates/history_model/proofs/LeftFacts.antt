@@ -15,8 +15,8 @@ use Rattle.period_core.specs.declared.version.VersionRow.{VersionRow}
 use Rattle.catalog_core.specs.declared.change.Action.{Action}
 use Rattle.catalog_core.specs.declared.change.Change.{Change}
 use Rattle.history_model.specs.Effects.{effect, given_of, rows_after}
-use Rattle.history_model.specs.Histories.{Advanced, AreInOrder, Queried, Changed, Created, Event, History, IsInOrder, changed_until, state_at, versions_in, with_event}
-use Rattle.history_model.specs.Left.{AreVersionsOf, AppliesActionIf, after_event, begun_at, is_touched, its_row, left_of, touched_rows, versions_after, versions_of}
+use Rattle.history_model.specs.Histories.{Advanced, AreInOrder, Asked, Changed, Created, Event, History, IsInOrder, changed_until, state_at, versions_in, with_event}
+use Rattle.history_model.specs.Left.{AreLeftBy, MakesIf, after_event, begun_at, is_touched, its_row, left_of, touched_rows, versions_after, versions_of}
 use Rattle.history_model.specs.Portions.{PlainRow, added, plain_given, replacements}
 use Rattle.history_model.specs.Versions.{PlainVersion, plain_version, values_at}
 use Rattle.history_model.proofs.Lists.{flat_map-permutation}
@@ -88,9 +88,9 @@ follows table moment day before clock open_clock (Changed at change ∷ events) 
     subst (IsPermutation (flat_map (seen moment day) (fold (after_event table) (after_event table old (Changed at change)) events))) (sym (folded-changed moment table day at change events state))
     (follows table moment day before at opens events (subst (λ (c : ℤ). AreInOrder c events) (sym order.0) order.1) (after_event table old (Changed at change)) (event_sound table at change old opens now)
     (after_change moment table day at change state) (made table at moment day change old state before now held))
-follows table moment day before clock open_clock (Queried ∷ events) order old sound state held = follows table moment day before clock open_clock events order old sound state held
+follows table moment day before clock open_clock (Asked ∷ events) order old sound state held = follows table moment day before clock open_clock events order old sound state held
 
-pub left_hold : (history : History) (table : ℕ) (versions : List VersionRow) → IsInOrder history → AreVersionsOf history table versions → (moment day : ℤ) → moment <ℤ forever
+pub left_hold : (history : History) (table : ℕ) (versions : List VersionRow) → IsInOrder history → AreLeftBy history table versions → (moment day : ℤ) → moment <ℤ forever
     → IsPermutation (values_at versions moment day) (state_at history moment table day)
 left_hold history table versions order left moment day before =
     let first : List VersionRow = versions_in history.opening table in
@@ -126,12 +126,12 @@ versions_after-permutation moment action xs ys p =
 pub versions_of-event : (history : History) (event : Event) (table : ℕ) → versions_of (with_event history event) table ≡ after_event table (versions_of history table) event
 versions_of-event history event table = fold-append (after_event table) (map plain_version (versions_in history.opening table)) history.events (event ∷ [])
 
-pub left_more : (history : History) (at : ℤ) (change : Change) (table : ℕ) (old new : List VersionRow) → AreVersionsOf history table old
-    → AppliesActionIf (nat_eq table change.table) at change.action old new → AreVersionsOf (with_event history (Changed at change)) table new
+pub left_more : (history : History) (at : ℤ) (change : Change) (table : ℕ) (old new : List VersionRow) → AreLeftBy history table old
+    → MakesIf (nat_eq table change.table) at change.action old new → AreLeftBy (with_event history (Changed at change)) table new
 left_more history at change table old new left makes =
     subst (IsPermutation (map plain_version new)) (sym (versions_of-event history (Changed at change) table)) (go (nat_eq table change.table) makes)
   where
-    go : (b : Bool) → AppliesActionIf b at change.action old new → IsPermutation (map plain_version new) (cond b (versions_after at change.action (versions_of history table)) (versions_of history table))
+    go : (b : Bool) → MakesIf b at change.action old new → IsPermutation (map plain_version new) (cond b (versions_after at change.action (versions_of history table)) (versions_of history table))
     go true makes =
         IsPermutation-trans (map plain_version new) (versions_after at change.action (map plain_version old)) (versions_after at change.action (versions_of history table)) makes
         (versions_after-permutation at change.action (map plain_version old) (versions_of history table) left)
@@ -181,7 +181,7 @@ from_images {X} {Y} f one xs ys p = to_permutation xs ys (go xs ys (from_permuta
         let joined : map f (before ++ after) ≡ front ++ back = map-append f before after ∙ ap₂ (λ (a b : List Y). a ++ b) low high in
         (before, after, is ∙ ap (λ (z : X). before ++ z ∷ after) same, go xs (before ++ after) (subst (Rearranged (map f xs)) (sym joined) rest))
 
-pub one_list : (history : History) (table : ℕ) (versions others : List VersionRow) → AreVersionsOf history table versions → AreVersionsOf history table others → IsPermutation versions others
+pub one_list : (history : History) (table : ℕ) (versions others : List VersionRow) → AreLeftBy history table versions → AreLeftBy history table others → IsPermutation versions others
 one_list history table versions others left also =
     from_images plain_version version_same versions others
     (IsPermutation-trans (map plain_version versions) (versions_of history table) (map plain_version others) left (IsPermutation-sym (map plain_version others) (versions_of history table) also))

@@ -8,6 +8,6 @@ pub mod Changes
 pub mod Shown
 pub mod ModelExamples
 pub mod ChangeExamples
-pub mod Visible
+pub mod Sights
 pub mod Parts
 pub mod QueryExamples

@@ -11,7 +11,7 @@ use Rattle.period_core.specs.declared.version.VersionRow.{VersionRow}
 use Rattle.period_core.specs.declared.window.Window.TheVariants.{Now}
 use Rattle.history_model.specs.Versions.{current, last_moment, values_at}
 use Rattle.history_model.specs.Effects.{effect}
-use Rattle.history_model.specs.Histories.{Advanced, Queried, Changed, History, clock_of, last_state, new_database, opened, state_at, with_event}
+use Rattle.history_model.specs.Histories.{Advanced, Asked, Changed, History, clock_of, last_state, new_database, opened, state_at, with_event}
 use Rattle.catalog_core.specs.declared.change.Action.TheVariants.{Insert}
 use Rattle.catalog_core.specs.declared.change.Change.{Change}
 use Rattle.catalog_core.specs.declared.change.GivenRow.{GivenRow}
@@ -39,7 +39,7 @@ last_day : effect inserted 1 (pos 19) (other ∷ []) ≡ other ∷ worker ∷ []
 last_day = refl
 
 abbrev history : History
-history = with_event (with_event (opened new_database) (Changed (pos 0) inserted)) Queried
+history = with_event (with_event (opened new_database) (Changed (pos 0) inserted)) Asked
 
 -- AT moves the clock
 abbrev later : History

@@ -8,7 +8,7 @@ use Rattle.period_core.specs.Windows.{window_sees}
 use Rattle.period_core.specs.declared.version.VersionRow.{VersionRow}
 use Rattle.period_core.specs.declared.window.Window.TheVariants.{Now}
 use Rattle.catalog_core.specs.declared.change.Action.{Action}
-use Rattle.history_model.specs.Histories.{Advanced, Queried, Changed, Created, Event, History}
+use Rattle.history_model.specs.Histories.{Advanced, Asked, Changed, Created, Event, History}
 use Rattle.history_model.specs.Histories.{versions_in}
 use Rattle.history_model.specs.Portions.{PlainRow, added, touches}
 use Rattle.history_model.specs.Versions.{PlainVersion, plain_version}
@@ -60,7 +60,7 @@ after_event table versions (Advanced moment) = versions
 after_event table versions (Created definition) = versions
 after_event table versions (Changed moment change) =
     if table == change.table then versions_after moment change.action versions else versions
-after_event table versions Queried = versions
+after_event table versions Asked = versions
 
 -- a table's versions after the history: those of the opening, after each event in turn
 abbrev pub versions_of : History → ℕ → List PlainVersion
@@ -68,16 +68,16 @@ versions_of history table =
     fold (after_event table) (map plain_version (versions_in history.opening table)) history.events
 
 -- the versions are, up to their order, those that the history leaves of the table
-abbrev pub AreVersionsOf : History → ℕ → List VersionRow → Type 0
-AreVersionsOf history table versions =
+abbrev pub AreLeftBy : History → ℕ → List VersionRow → Type 0
+AreLeftBy history table versions =
     IsPermutation (map plain_version versions) (versions_of history table)
 
 -- the second versions are, up to their order, what an action makes of the first at a moment
-abbrev pub AppliesAction : ℤ → Action → List VersionRow → List VersionRow → Type 0
-AppliesAction moment action old new =
+abbrev pub Makes : ℤ → Action → List VersionRow → List VersionRow → Type 0
+Makes moment action old new =
     IsPermutation (map plain_version new) (versions_after moment action (map plain_version old))
 
 -- the change of the table is made, and any other leaves its versions
-abbrev pub AppliesActionIf : Bool → ℤ → Action → List VersionRow → List VersionRow → Type 0
-AppliesActionIf true moment action old new = AppliesAction moment action old new
-AppliesActionIf false moment action old new = IsPermutation new old
+abbrev pub MakesIf : Bool → ℤ → Action → List VersionRow → List VersionRow → Type 0
+MakesIf true moment action old new = Makes moment action old new
+MakesIf false moment action old new = IsPermutation new old

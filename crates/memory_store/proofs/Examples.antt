@@ -6,8 +6,8 @@ use Rattle.sqlite_trees.specs.declared.store.Shape.TheVariants.{Table}
 use Rattle.sqlite_trees.specs.Listing.{no_heading}
 use Rattle.ordered_rows.specs.declared.undo.Change.TheVariants.{Out}
 use Rattle.ordered_rows.specs.declared.undo.Undo.{Undo as RowsUndo}
-use Rattle.memory_store.specs.declared.undo.Undo.TheVariants.{SlotAdded, Relisted, Mark, Rows, Version}
-use Rattle.memory_store.specs.TreeStates.{TreeState, before, marked, shows}
+use Rattle.memory_store.specs.declared.undo.Undo.TheVariants.{Grown, Listed, Mark, Rows, Version}
+use Rattle.memory_store.specs.Stands.{Stand, before, marked, shows}
 
 abbrev two : Row
 two = Int (pos 2) ∷ []
@@ -16,7 +16,7 @@ abbrev five : Row
 five = Int (pos 5) ∷ []
 
 -- the table has the number 0, and no tree the number 1
-abbrev now : TreeState
+abbrev now : Stand
 now = record { headings = (Table, 0, []) ∷ no_heading ∷ []; rows = (two ∷ five ∷ []) ∷ [] ∷ []; version = 7 }
 
 -- the row 5 is taken out
@@ -26,11 +26,11 @@ without_five = record { change = Out 1; low = omega arith }
 row-out : before (Rows 0 without_five) now ≡ record now { rows = (two ∷ []) ∷ [] ∷ [] }
 row-out = refl
 
-number-back : before SlotAdded now ≡ record now { headings = (Table, 0, []) ∷ []; rows = (two ∷ five ∷ []) ∷ [] }
+number-back : before Grown now ≡ record now { headings = (Table, 0, []) ∷ []; rows = (two ∷ five ∷ []) ∷ [] }
 number-back = refl
 
 -- the shape stays, and so do the rows
-listed-back : before (Relisted 0 two 3) now ≡ record now { headings = (Table, 3, two) ∷ no_heading ∷ [] }
+listed-back : before (Listed 0 two 3) now ≡ record now { headings = (Table, 3, two) ∷ no_heading ∷ [] }
 listed-back = refl
 
 -- two savepoints: the older goes back to version 5, the newer to the rows without 5

@@ -3,5 +3,5 @@ pub mod Logs
 pub mod Opened
 pub mod Seen
 pub mod Shaped
-pub mod TreeStates
+pub mod Stands
 pub mod Views

@@ -5,48 +5,48 @@ use Rattle.std.proofs.Math.Seq.{get_or-append_seam}
 use Rattle.std.proofs.Math.Logic.{∥∥₁_map}
 use Rattle.sqlite_trees.specs.View.{Snapshot}
 use Rattle.memory_store.specs.declared.undo.Undo.{Undo}
-use Rattle.memory_store.specs.declared.undo.Undo.TheVariants.{SlotAdded, Relisted, Mark, Nothing, Rows, Version}
+use Rattle.memory_store.specs.declared.undo.Undo.TheVariants.{Grown, Listed, Mark, Nothing, Rows, Version}
 use Rattle.memory_store.specs.declared.undo.Undo.TheVariants as undo
-use Rattle.memory_store.specs.TreeStates.{LogIsValid, AreUnmarked, IsNewestMark, RowsFitShapes, TreeState, before, before_all, is_mark, marked, shorter, shows, stand}
+use Rattle.memory_store.specs.Stands.{ArePast, AreUnmarked, IsNewestMark, IsShapely, Stand, before, before_all, is_mark, marked, shorter, shows, stand}
 use Rattle.memory_store.specs.declared.history.History.{History}
 use Rattle.memory_store.specs.History.{Keeps}
-use Rattle.memory_store.proofs.TreeStates.{shorter_push}
+use Rattle.memory_store.proofs.Stands.{shorter_push}
 
-pub before_append : (us vs : List Undo) (s : TreeState) → before_all (us ++ vs) s ≡ before_all us (before_all vs s)
+pub before_append : (us vs : List Undo) (s : Stand) → before_all (us ++ vs) s ≡ before_all us (before_all vs s)
 before_append [] vs s = refl
 before_append (u ∷ us) vs s = ap (before u) (before_append us vs s)
 
-pub marked_append : (us vs : List Undo) (s : TreeState) → marked (us ++ vs) s ≡ marked us (before_all vs s) ++ marked vs s
+pub marked_append : (us vs : List Undo) (s : Stand) → marked (us ++ vs) s ≡ marked us (before_all vs s) ++ marked vs s
 marked_append [] vs s = refl
 marked_append (Mark ∷ us) vs s = λ i. shows (before_append us vs s i) ∷ marked_append us vs s i
 marked_append (Nothing ∷ us) vs s = marked_append us vs s
 marked_append (Rows t u ∷ us) vs s = marked_append us vs s
-marked_append (SlotAdded ∷ us) vs s = marked_append us vs s
+marked_append (Grown ∷ us) vs s = marked_append us vs s
 marked_append (undo.Tree t old ∷ us) vs s = marked_append us vs s
-marked_append (Relisted t d r ∷ us) vs s = marked_append us vs s
+marked_append (Listed t d r ∷ us) vs s = marked_append us vs s
 marked_append (Version v ∷ us) vs s = marked_append us vs s
 
-pub past_split : (us vs : List Undo) (s : TreeState) → LogIsValid (us ++ vs) s → LogIsValid us (before_all vs s) × LogIsValid vs s
+pub past_split : (us vs : List Undo) (s : Stand) → ArePast (us ++ vs) s → ArePast us (before_all vs s) × ArePast vs s
 past_split [] vs s h = (tt, h)
 past_split (u ∷ us) vs s h =
     let more = past_split us vs s h.1 in
     ((rw (before_append us vs s) at h.0, more.0), more.1)
 
-pub past_join : (us vs : List Undo) (s : TreeState) → LogIsValid us (before_all vs s) → LogIsValid vs s → LogIsValid (us ++ vs) s
+pub past_join : (us vs : List Undo) (s : Stand) → ArePast us (before_all vs s) → ArePast vs s → ArePast (us ++ vs) s
 past_join [] vs s h k = k
 past_join (u ∷ us) vs s h k = (rw (before_append us vs s) h.0, past_join us vs s h.1 k)
 
-unmarked_one : (u : Undo) (us : List Undo) (s : TreeState) → is_mark u ≡ false → marked (u ∷ us) s ≡ marked us s
+unmarked_one : (u : Undo) (us : List Undo) (s : Stand) → is_mark u ≡ false → marked (u ∷ us) s ≡ marked us s
 unmarked_one Mark us s none = absurd (true≢false none)
 unmarked_one Nothing us s none = refl
 unmarked_one (Rows t u) us s none = refl
-unmarked_one SlotAdded us s none = refl
+unmarked_one Grown us s none = refl
 unmarked_one (undo.Tree t old) us s none = refl
-unmarked_one (Relisted t d r) us s none = refl
+unmarked_one (Listed t d r) us s none = refl
 unmarked_one (Version v) us s none = refl
 
 -- no mark, so no savepoint
-pub unmarked : (us : List Undo) (s : TreeState) → AreUnmarked us → marked us s ≡ []
+pub unmarked : (us : List Undo) (s : Stand) → AreUnmarked us → marked us s ≡ []
 unmarked [] s none = refl
 unmarked (u ∷ us) s none = unmarked_one u us s none.0 ∙ unmarked us s none.1
 
@@ -56,7 +56,7 @@ pub last_pushed : {X : Type 0} (xs : List X) (x d : X) → get_or (xs ++ x ∷ [
 last_pushed xs x d =
     ap (λ n. get_or (xs ++ x ∷ []) n d) (omega (arith, length-append xs (x ∷ []))) ∙ get_or-append_seam xs x [] d
 
-module _ (us : List Undo) (u : Undo) (old new : TreeState) (back : before u new ≡ old) where
+module _ (us : List Undo) (u : Undo) (old new : Stand) (back : before u new ≡ old) where
   pub base_stays : before_all (us ++ u ∷ []) new ≡ before_all us old
   base_stays = before_append us (u ∷ []) new ∙ ap (before_all us) back
 
@@ -66,12 +66,12 @@ module _ (us : List Undo) (u : Undo) (old new : TreeState) (back : before u new 
       ∙ (λ i. marked us (back i) ++ unmarked (u ∷ []) new (none, tt) i)
       ∙ append-nil (marked us old)
 
-  pub past_grows : LogIsValid us old → RowsFitShapes old → LogIsValid (us ++ u ∷ []) new
+  pub past_grows : ArePast us old → IsShapely old → ArePast (us ++ u ∷ []) new
   past_grows past shapely = past_join us (u ∷ []) new (rw back past) (rw back shapely, tt)
 
 -- ---- entries of a history
 
-pub logged_past : (us log : List Undo) (u : Undo) (old new : TreeState) → log ≡ us ++ u ∷ [] → before u new ≡ old → RowsFitShapes old → ∥ LogIsValid us old ∥₁ → ∥ LogIsValid log new ∥₁
+pub logged_past : (us log : List Undo) (u : Undo) (old new : Stand) → log ≡ us ++ u ∷ [] → before u new ≡ old → IsShapely old → ∥ ArePast us old ∥₁ → ∥ ArePast log new ∥₁
 logged_past us log u old new is back shapely past = ∥∥₁_map past (λ h. rw is (past_grows us u old new back h shapely))
 
 pub logged_keeps : (old new : History) (u : Undo) → new.log.items ≡ old.log.items ++ u ∷ [] → before u (stand new.content) ≡ stand old.content → is_mark u ≡ false → Keeps old new
@@ -85,7 +85,7 @@ keeps_twice a b c h k = record { base = k.base ∙ h.base; marks = k.marks ∙ h
 
 -- ---- the newest mark
 
-module _ (log : List Undo) (at : ℕ) (h : IsNewestMark log at) (s : TreeState) where
+module _ (log : List Undo) (at : ℕ) (h : IsNewestMark log at) (s : Stand) where
   abbrev pub post : List Undo
   post = drop (at + 1) log
 
@@ -118,7 +118,7 @@ module _ (log : List Undo) (at : ℕ) (h : IsNewestMark log at) (s : TreeState) 
       ∙ append-nil (marked (take at log) (before_all post s))
       ∙ sym (ap shorter marks_split ∙ shorter_push (marked (take at log) (before_all post s)) (shows (before_all post s)))
 
-  pub released_past : LogIsValid log s → LogIsValid (set log at Nothing) s
+  pub released_past : ArePast log s → ArePast (set log at Nothing) s
   released_past past =
       let parts = past_split (take at log) (Mark ∷ post) s (rw split at past) in
       rw released (past_join (take at log) (Nothing ∷ post) s parts.0 parts.1)
@@ -129,10 +129,10 @@ module _ (log : List Undo) (at : ℕ) (h : IsNewestMark log at) (s : TreeState) 
       ∙ last_pushed (marked (take at log) (before_all post s)) (shows (before_all post s)) seen
 
 -- so many entries stay, and the others are undone
-pub undone_base : (log : List Undo) (n : ℕ) (s : TreeState) → before_all (take n log) (before_all (drop n log) s) ≡ before_all log s
+pub undone_base : (log : List Undo) (n : ℕ) (s : Stand) → before_all (take n log) (before_all (drop n log) s) ≡ before_all log s
 undone_base log n s = sym (before_append (take n log) (drop n log) s) ∙ ap (λ us. before_all us s) (take-append-drop n log)
 
-pub undone_marks : (log : List Undo) (n : ℕ) (s : TreeState) → AreUnmarked (drop n log) → marked (take n log) (before_all (drop n log) s) ≡ marked log s
+pub undone_marks : (log : List Undo) (n : ℕ) (s : Stand) → AreUnmarked (drop n log) → marked (take n log) (before_all (drop n log) s) ≡ marked log s
 undone_marks log n s none =
     sym (append-nil (marked (take n log) (before_all (drop n log) s)))
     ∙ ap (λ l. marked (take n log) (before_all (drop n log) s) ++ l) (sym (unmarked (drop n log) s none))
@@ -144,12 +144,12 @@ shorter_with : {X : Type 0} (xs : List X) → xs ≡ shorter xs ++ drop (length 
 shorter_with xs = sym (take-append-drop (length xs - 1) xs)
 
 -- so far the log was undone to here
-pub record IsUndone (first now : List Undo) (from to : TreeState) : Type 0 where
+pub record IsUndone (first now : List Undo) (from to : Stand) : Type 0 where
   pub done : List Undo
   pub is : first ≡ now ++ done
   pub stand : to ≡ before_all done from
 
-pub once_more : (first now next : List Undo) (from to then_ : TreeState) → IsUndone first now from to → next ≡ shorter now → then_ ≡ before_all (drop (length now - 1) now) to → IsUndone first next from then_
+pub once_more : (first now next : List Undo) (from to then_ : Stand) → IsUndone first now from to → next ≡ shorter now → then_ ≡ before_all (drop (length now - 1) now) to → IsUndone first next from then_
 once_more first now next from to then_ h log stands =
     let last = drop (length now - 1) now in
     record {

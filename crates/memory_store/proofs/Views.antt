@@ -11,7 +11,7 @@ use Rattle.memory_store.specs.declared.store.MemoryStore.{MemoryStore}
 use Rattle.memory_store.specs.Content.{seen}
 use Rattle.memory_store.specs.History.{Keeps, base}
 use Rattle.memory_store.specs.Memory.{left_in, memory_view}
-use Rattle.memory_store.specs.TreeStates.{before_all, marked, shows, stand}
+use Rattle.memory_store.specs.Stands.{before_all, marked, shows, stand}
 use Rattle.memory_store.proofs.Seen.{cond_under}
 
 -- the content is seen so, and the last commit and the savepoints stay

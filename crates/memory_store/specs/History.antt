@@ -2,10 +2,10 @@
 use Rattle.std.specs.Prelude.{◌≡◌, List}
 use Rattle.sqlite_trees.specs.View.{Snapshot}
 use Rattle.memory_store.specs.declared.history.History.{History}
-use Rattle.memory_store.specs.TreeStates.{TreeState, before_all, marked, stand}
+use Rattle.memory_store.specs.Stands.{Stand, before_all, marked, stand}
 
 -- how the last commit left the content
-abbrev pub base : History → TreeState
+abbrev pub base : History → Stand
 base h = before_all h.log.items (stand h.content)
 
 -- what each savepoint goes back to, the newest last

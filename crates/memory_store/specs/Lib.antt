@@ -1,6 +1,6 @@
 pub mod Edit
 pub mod Content
-pub mod TreeStates
+pub mod Stands
 pub mod History
 pub mod Memory
 pub mod Laws

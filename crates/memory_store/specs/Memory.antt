@@ -8,7 +8,7 @@ use Rattle.memory_store.specs.declared.store.Cursor.{Cursor}
 use Rattle.memory_store.specs.declared.store.MemoryStore.{MemoryStore}
 use Rattle.memory_store.specs.Content.{seen}
 use Rattle.memory_store.specs.History.{base, marks}
-use Rattle.memory_store.specs.TreeStates.{shows}
+use Rattle.memory_store.specs.Stands.{shows}
 
 -- the rows that a cursor has still to give
 abbrev pub left_in : Content → Cursor → List Row

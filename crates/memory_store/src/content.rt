@@ -28,7 +28,7 @@ pub(crate) struct Content {
 impl Content {
     ghost use Rattle.memory_store.specs.Edit.{Fits, edited};
     ghost use Rattle.memory_store.specs.Content.{MayList, seen, with_edit, with_listed};
-    ghost use Rattle.memory_store.specs.TreeStates.{RowsFitShapes, before, stand};
+    ghost use Rattle.memory_store.specs.Stands.{IsShapely, before, stand};
 
     pub(crate) fn shape(&self, tree: u32) -> Shape
         ensures { result ≡ (seen self.now).shape tree }
@@ -131,11 +131,11 @@ impl Content {
     pub(crate) fn relist(&mut self, tree: u32, described: Row, reals: u64) -> (Row, u64)
         requires { tree < length self.old.trees.items }
         ensures stand { stand self.new
-            ≡ before (Undo.Relisted tree described reals) (stand self.old) }
+            ≡ before (Undo.Listed tree described reals) (stand self.old) }
         ensures seen { (o : Object) → described ≡ description o → reals ≡ o.reals
             → MayList (seen self.old) (tree, o)
             → seen self.new ≡ with_listed (seen self.old) ((tree, o) ∷ []) }
-        ensures undo { before (Undo.Relisted tree result.0 result.1) (stand self.new)
+        ensures undo { before (Undo.Listed tree result.0 result.1) (stand self.new)
             ≡ stand self.old }
     {
         let found = &mut self.trees[tree as usize];
@@ -146,13 +146,13 @@ impl Content {
 
     /// A change is undone, if no other came after it.
     pub(crate) fn undo(&mut self, undo: Undo)
-        requires { ∥ RowsFitShapes (before undo (stand self.old)) ∥₁ }
+        requires { ∥ IsShapely (before undo (stand self.old)) ∥₁ }
         ensures { stand self.new ≡ before undo (stand self.old) }
     {
         match undo {
             Undo::Nothing | Undo::Mark => {}
             Undo::Rows(tree, undo) => self.undo_rows(tree, undo),
-            Undo::SlotAdded => {
+            Undo::Grown => {
                 self.trees.pop();
             }
             Undo::Tree(tree, old) => {
@@ -160,7 +160,7 @@ impl Content {
                     self.replace(tree, old);
                 }
             }
-            Undo::Relisted(tree, described, reals) => {
+            Undo::Listed(tree, described, reals) => {
                 if (tree as usize) < self.trees.len() {
                     self.relist(tree, described, reals);
                 }
@@ -170,7 +170,7 @@ impl Content {
     }
 
     fn undo_rows(&mut self, tree: u32, undo: RowsUndo)
-        requires { ∥ RowsFitShapes (before (Undo.Rows tree undo) (stand self.old)) ∥₁ }
+        requires { ∥ IsShapely (before (Undo.Rows tree undo) (stand self.old)) ∥₁ }
         ensures { stand self.new ≡ before (Undo.Rows tree undo) (stand self.old) }
     {
         if (tree as usize) < self.trees.len() {

@@ -6,8 +6,8 @@ ghost use Rattle.std.specs.Prelude.{drop, length, pos, slice_index_or, take};
 ghost use Rattle.std.specs.List.{AllByRecursion};
 ghost use Rattle.sqlite_trees.specs.Objects.{object_row, version_rows, version_tree};
 ghost use Rattle.sqlite_trees.specs.Tree.{put_row, without_rowid};
-ghost use Rattle.memory_store.specs.TreeStates.{LogIsValid, AreUnmarked, IsNewestMark, before_all};
-ghost use Rattle.memory_store.specs.TreeStates.{shorter, stand};
+ghost use Rattle.memory_store.specs.Stands.{ArePast, AreUnmarked, IsNewestMark, before_all};
+ghost use Rattle.memory_store.specs.Stands.{shorter, stand};
 
 use crate::content::Content;
 use crate::edit::Edit;
@@ -24,7 +24,7 @@ use std::mem;
 pub(crate) struct History {
     pub content: Content,
     log: Vec<Undo>,
-    pub ghost past: { ∥ LogIsValid log.items (stand content) ∥₁ },
+    pub ghost past: { ∥ ArePast log.items (stand content) ∥₁ },
 }
 
 impl History {
@@ -72,7 +72,7 @@ impl History {
     {
         self.log.reserve(1)?;
         self.content.trees.push(Tree::absent(alloc))?;
-        self.log.push_reserved(Undo::SlotAdded);
+        self.log.push_reserved(Undo::Grown);
         Ok(())
     }
 
@@ -135,8 +135,7 @@ impl History {
         let described = object.describe(alloc)?;
         self.log.reserve(1)?;
         let (described, reals) = self.content.relist(tree, described, object.reals);
-        self.log
-            .push_reserved(Undo::Relisted(tree, described, reals));
+        self.log.push_reserved(Undo::Listed(tree, described, reals));
         Ok(())
     }
 
@@ -155,7 +154,7 @@ impl History {
         self.mark()?;
         let relisted = self.relist_each(alloc, changes);
         if relisted.is_err() {
-            self.roll_back_to();
+            self.go_back();
         }
         self.release();
         relisted
@@ -255,7 +254,7 @@ impl History {
     }
 
     /// Goes back to the newest savepoint, which stays, or answers false where there is none.
-    pub(crate) fn roll_back_to(&mut self) -> bool
+    pub(crate) fn go_back(&mut self) -> bool
         ensures none { marks self.old ≡ [] → result ≡ false }
         ensures same { result ≡ false → self.new ≡ self.old }
         ensures back { seen self.new.content

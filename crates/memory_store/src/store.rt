@@ -203,7 +203,7 @@ impl Store for MemoryStore {
     }
 
     fn rollback_to(&mut self) -> Result<(), StoreError> {
-        if self.history.roll_back_to() {
+        if self.history.go_back() {
             self.cursors.clear();
         }
         Ok(())

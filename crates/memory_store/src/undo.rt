@@ -15,17 +15,17 @@ pub(crate) enum Undo {
     /// The rows of the tree with this number were edited.
     Rows(u32, RowsUndo),
     /// One more number was made.
-    SlotAdded,
+    Grown,
     /// This tree had the number.
     Tree(u32, Tree),
     /// The tree with this number had this description and these REAL columns.
-    Relisted(u32, Row, u64),
+    Listed(u32, Row, u64),
     /// This was the version.
     Version(u32),
 }
 
 impl Undo {
-    ghost use Rattle.memory_store.specs.TreeStates.{is_mark};
+    ghost use Rattle.memory_store.specs.Stands.{is_mark};
 
     pub(crate) fn is_mark(&self) -> bool
         ensures { result ≡ is_mark self.now }

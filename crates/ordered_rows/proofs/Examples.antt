@@ -7,7 +7,7 @@ use Rattle.ordered_rows.specs.declared.undo.Change.TheVariants.{Out, Over}
 use Rattle.ordered_rows.specs.declared.undo.Undo.{Undo}
 use Rattle.ordered_rows.specs.Cursors.{Gives, left_from}
 use Rattle.ordered_rows.specs.Edits.{inserted, with_new}
-use Rattle.ordered_rows.specs.Heights.{IsCountable}
+use Rattle.ordered_rows.specs.Heights.{IsLow}
 use Rattle.ordered_rows.specs.Undos.{Undoes}
 
 abbrev number : Row → ℤ
@@ -32,7 +32,7 @@ abbrev nine : Row
 nine = Int (pos 9) ∷ []
 
 -- three rows are too few for a height of five, which is a chain's
-chain-low : IsCountable 3 3 → ⊥
+chain-low : IsLow 3 3 → ⊥
 chain-low h = omega (arith, h)
 
 left-forward : left_from Forward 1 (two ∷ five ∷ nine ∷ []) ≡ five ∷ nine ∷ []

@@ -3,22 +3,22 @@ use Rattle.std.proofs.Common.{◌≡◌, ◌⊎◌, inl, inr, ℕ, zero, suc, �
 use Rattle.std.proofs.Math.Nat.{le_of_mul-le-mul_right, le_trans, one-le-pow, pow-le-pow_left, pow-suc, pow-zero}
 use Rattle.std.proofs.lemmas.Bool.{cases_lt}
 use Rattle.std.proofs.lemmas.Nat.{mul-pow, pow-add}
-use Rattle.ordered_rows.specs.Heights.{DifferByAtMost, IsCountable, IsLogarithmic}
+use Rattle.ordered_rows.specs.Heights.{DifferByAtMost, IsLow, IsLogarithmic}
 
 -- ---- a row above two trees
 
-low_same : (h l r : ℕ) → IsCountable h l → IsCountable h r → IsCountable (suc h) (l + suc r)
+low_same : (h l r : ℕ) → IsLow h l → IsLow h r → IsLow (suc h) (l + suc r)
 low_same h l r p q = rw (pow-suc 21 h, pow-suc 13 h) (omega (arith, p, q))
 
-low_step : (h k l r : ℕ) → h ≡ suc k → IsCountable h l → IsCountable k r → IsCountable (suc h) (l + suc r)
+low_step : (h k l r : ℕ) → h ≡ suc k → IsLow h l → IsLow k r → IsLow (suc h) (l + suc r)
 low_step h k l r is p q =
     let upper : 21 ^ k * 21 ≤ 13 ^ k * 13 * (l + 1) = rw (is, pow-suc 21 k, pow-suc 13 k) at p in
     rw (is, pow-suc 21 (suc k), pow-suc 21 k, pow-suc 13 (suc k), pow-suc 13 k) (omega (arith, upper, q))
 
-turned : (h l r : ℕ) → IsCountable h (l + suc r) → IsCountable h (r + suc l)
-turned h l r p = let same : l + suc r ≡ r + suc l = omega arith in subst (IsCountable h) same p
+turned : (h l r : ℕ) → IsLow h (l + suc r) → IsLow h (r + suc l)
+turned h l r p = let same : l + suc r ≡ r + suc l = omega arith in subst (IsLow h) same p
 
-pub joined_low : (hl hr l r : ℕ) → DifferByAtMost 1 hl hr → IsCountable hl l → IsCountable hr r → IsCountable (max hl hr + 1) (l + suc r)
+pub joined_low : (hl hr l r : ℕ) → DifferByAtMost 1 hl hr → IsLow hl l → IsLow hr r → IsLow (max hl hr + 1) (l + suc r)
 joined_low hl hr l r near p q = go (three hl hr near)
   where
     three : (a b : ℕ) → DifferByAtMost 1 a b → (a ≡ b) ⊎ ((a ≡ suc b) ⊎ (b ≡ suc a))
@@ -31,16 +31,16 @@ joined_low hl hr l r near p q = go (three hl hr near)
           ]
         ]
 
-    go : (hl ≡ hr) ⊎ ((hl ≡ suc hr) ⊎ (hr ≡ suc hl)) → IsCountable (max hl hr + 1) (l + suc r)
+    go : (hl ≡ hr) ⊎ ((hl ≡ suc hr) ⊎ (hr ≡ suc hl)) → IsLow (max hl hr + 1) (l + suc r)
     go (inl same) =
         let height : max hl hr + 1 ≡ suc hl = omega (arith, same) in
-        subst (λ h. IsCountable h (l + suc r)) (sym height) (low_same hl l r p (subst (λ h. IsCountable h r) (sym same) q))
+        subst (λ h. IsLow h (l + suc r)) (sym height) (low_same hl l r p (subst (λ h. IsLow h r) (sym same) q))
     go (inr (inl left)) =
         let height : max hl hr + 1 ≡ suc hl = omega (arith, left) in
-        subst (λ h. IsCountable h (l + suc r)) (sym height) (low_step hl hr l r left p q)
+        subst (λ h. IsLow h (l + suc r)) (sym height) (low_step hl hr l r left p q)
     go (inr (inr right)) =
         let height : max hl hr + 1 ≡ suc hr = omega (arith, right) in
-        subst (λ h. IsCountable h (l + suc r)) (sym height) (turned (suc hr) r l (low_step hr hl r l right q p))
+        subst (λ h. IsLow h (l + suc r)) (sym height) (turned (suc hr) r l (low_step hr hl r l right q p))
 
 -- ---- the binary logarithm
 
@@ -59,7 +59,7 @@ pow_times a m (suc h) =
     let more : m * suc h ≡ m * h + m = omega arith in
     ap (λ n. a ^ n) more ∙ pow-add a (m * h) m ∙ ap (λ n. n * a ^ m) (pow_times a m h) ∙ sym (pow-suc (a ^ m) h)
 
-pub logarithmic : (height rows : ℕ) → IsCountable height rows → IsLogarithmic height rows
+pub logarithmic : (height rows : ℕ) → IsLow height rows → IsLogarithmic height rows
 logarithmic height rows low =
     let base : 2 ^ 20 * 13 ^ 29 ≤ 21 ^ 29 = lit≤ tt in
     let left : 2 ^ (20 * height) * (13 ^ height) ^ 29 ≡ (2 ^ 20 * 13 ^ 29) ^ height =

@@ -3,7 +3,7 @@ use Rattle.std.specs.Prelude.{◌≡◌, ◌+◌, ◌-◌, ◌^◌, ◌%◌, ◌
 use Rattle.ordered_rows.specs.declared.tree.Fork.{Fork as ForkOf}
 use Rattle.ordered_rows.specs.declared.tree.Link.{Link}
 use Rattle.ordered_rows.specs.declared.tree.Link.TheVariants.{Leaf, Fork}
-use Rattle.ordered_rows.specs.Heights.{DifferByAtMost, IsCountable}
+use Rattle.ordered_rows.specs.Heights.{DifferByAtMost, IsLow}
 use Rattle.ordered_rows.specs.RowTrees.{RowTree}
 
 -- a fork's row between those of its sides, and one more than the height of its higher side
@@ -26,7 +26,7 @@ pub record IsBalanced (height count : ℕ) (f : ForkOf) : Type 0 where
   pub height_is : height ≡ (fork_tree f).height % 256
   pub count_is : count ≡ min (length (fork_tree f).rows) most
   pub balanced : DifferByAtMost 1 f.left.height f.right.height
-  pub low : IsCountable (fork_tree f).height (length (fork_tree f).rows)
+  pub low : IsLow (fork_tree f).height (length (fork_tree f).rows)
 
 abbrev pub IsSound : Link → Type 0
 IsSound Leaf = ⊤

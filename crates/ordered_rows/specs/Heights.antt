@@ -15,8 +15,8 @@ pub record IsSettled (left right height : ℕ) : Type 0 where
   pub balanced : DifferByAtMost 1 left right → height ≡ max left right + 1
 
 -- the height is at most the logarithm to the base 21/13 of one more than the number of rows
-abbrev pub IsCountable : ℕ → ℕ → Type 0
-IsCountable height rows = 21 ^ height ≤ 13 ^ height * (rows + 1)
+abbrev pub IsLow : ℕ → ℕ → Type 0
+IsLow height rows = 21 ^ height ≤ 13 ^ height * (rows + 1)
 
 -- the height is at most 1.45 times the binary logarithm of one more than the number of rows
 abbrev pub IsLogarithmic : ℕ → ℕ → Type 0
@@ -24,4 +24,4 @@ IsLogarithmic height rows = 2 ^ (20 * height) ≤ (rows + 1) ^ 29
 
 -- a low tree's height is at most 1.45 times the binary logarithm
 abbrev pub LowIsLogarithmic : Type 0
-LowIsLogarithmic = (height rows : ℕ) → IsCountable height rows → IsLogarithmic height rows
+LowIsLogarithmic = (height rows : ℕ) → IsLow height rows → IsLogarithmic height rows

@@ -1,10 +1,10 @@
 pub mod Cursors
-pub mod SortPrefixes
+pub mod Heads
 pub mod Heights
 pub mod RowTrees
 pub mod Forks
 pub mod ForkDepths
-pub mod Countable
+pub mod Lows
 pub mod Places
 pub mod Edits
 pub mod Undos

@@ -2,8 +2,7 @@
 
 ghost use Rattle.std.specs.Prelude.{◌≡◌, ◌<◌, ℕ, slice_index_or};
 ghost use Rattle.sqlite_value.specs.declared.value.Value.TheVariants.{Blob};
-ghost use Rattle.ordered_rows.specs.SortPrefixes.{IsPrefixOf, head_after, head_cmp, integer_of};
-ghost use Rattle.ordered_rows.specs.SortPrefixes.{spelled};
+ghost use Rattle.ordered_rows.specs.Heads.{IsHead, head_after, head_cmp, integer_of, spelled};
 
 use sqlite_value::row::Row;
 use sqlite_value::value::ValueRef;
@@ -13,7 +12,7 @@ use std::cmp::Ordering;
 /// begins with its table's number and then the bytes of its values: one byte tells the kind of the
 /// first, and the eight after it are the value where it is an integer.
 #[derive(Clone, Copy)]
-pub(crate) enum SortPrefix {
+pub(crate) enum Head {
     /// The row begins with no integer.
     Other,
     /// It begins with this one.
@@ -23,28 +22,28 @@ pub(crate) enum SortPrefix {
     IntegerAndBlob(u8, i64, u64),
 }
 
-impl SortPrefix {
+impl Head {
     /// The head of a row.
-    pub(crate) fn of(row: &Row) -> SortPrefix
-        ensures { IsPrefixOf result row.now }
+    pub(crate) fn of(row: &Row) -> Head
+        ensures { IsHead result row.now }
     {
         let ValueRef::Int(first) = row.get(0) else {
-            return SortPrefix::Other;
+            return Head::Other;
         };
         let ValueRef::Blob(blob) = row.get(1) else {
-            return SortPrefix::Integer(first);
+            return Head::Integer(first);
         };
-        SortPrefix::after(first, blob)
+        Head::after(first, blob)
     }
 
     // The head of a row that begins with this integer and this blob.
-    fn after(first: i64, blob: &[u8]) -> SortPrefix
+    fn after(first: i64, blob: &[u8]) -> Head
         ensures value { result ≡ head_after first (Blob blob.now) }
         ensures bounded { (at : ℕ) → slice_index_or blob.now at 0 < 256 }
     {
         match blob {
-            [byte, bytes @ ..] => SortPrefix::IntegerAndBlob(*byte, first, number(bytes)),
-            [] => SortPrefix::Integer(first),
+            [byte, bytes @ ..] => Head::IntegerAndBlob(*byte, first, number(bytes)),
+            [] => Head::Integer(first),
         }
     }
 
@@ -54,21 +53,21 @@ impl SortPrefix {
         ensures { result ≡ integer_of self }
     {
         match self {
-            SortPrefix::Integer(first) => Some(first),
-            SortPrefix::IntegerAndBlob(_, first, _) => Some(first),
-            SortPrefix::Other => None,
+            Head::Integer(first) => Some(first),
+            Head::IntegerAndBlob(_, first, _) => Some(first),
+            Head::Other => None,
         }
     }
 
     /// How two rows compare by what is kept of them: where this is `Equal`, it tells nothing.
     #[inline(always)]
-    pub(crate) fn cmp(self, other: SortPrefix) -> Ordering
+    pub(crate) fn cmp(self, other: Head) -> Ordering
         ensures { result ≡ head_cmp self other }
     {
         match (self, other) {
             (
-                SortPrefix::IntegerAndBlob(byte, first, number),
-                SortPrefix::IntegerAndBlob(other_byte, other_first, other_number),
+                Head::IntegerAndBlob(byte, first, number),
+                Head::IntegerAndBlob(other_byte, other_first, other_number),
             ) => {
                 let first = first.cmp(&other_first);
                 let byte = byte.cmp(&other_byte);

@@ -6,8 +6,8 @@ ghost use Rattle.sqlite_value.specs.Keys.{entry_cmp, prefix_cmp};
 ghost use Rattle.sqlite_value.specs.Order.{value_cmp};
 ghost use Rattle.sqlite_value.specs.declared.value.Value.TheVariants.{Int};
 
-use crate::head::SortPrefix;
-use crate::place::Probe;
+use crate::head::Head;
+use crate::place::Sought;
 use sqlite_value::order::compare;
 use sqlite_value::row::Row;
 use sqlite_value::value::ValueRef;
@@ -17,15 +17,15 @@ use std::marker::Model;
 
 /// Contracts see the row alone. Its head is kept beside it.
 #[derive(Drop)]
-pub(crate) struct CachedRow {
-    head: SortPrefix,
+pub(crate) struct KeptRow {
+    head: Head,
     row: Row,
 }
 
-impl Model for CachedRow {
+impl Model for KeptRow {
     ghost use Rattle.sqlite_value.specs.Order.{Row as AnyRow};
     ghost use Rattle.sqlite_value.specs.contracts.row.Row.{the_row};
-    ghost use Rattle.ordered_rows.specs.SortPrefixes.{IsPrefixOf};
+    ghost use Rattle.ordered_rows.specs.Heads.{IsHead};
 
     ghost Value = { AnyRow };
 
@@ -33,17 +33,17 @@ impl Model for CachedRow {
 
     ghost view = { λ k. k.row };
 
-    ghost invariant = { λ k. IsPrefixOf k.head k.row };
+    ghost invariant = { λ k. IsHead k.head k.row };
 }
 
-impl CachedRow {
+impl KeptRow {
     /// A copy of the row.
-    pub(crate) fn new(alloc: Global, row: &Row) -> Result<CachedRow, AllocError>
+    pub(crate) fn new(alloc: Global, row: &Row) -> Result<KeptRow, AllocError>
         ensures { IfOk result (λ kept. kept ≡ row.now) }
     {
-        let head = SortPrefix::of(row);
+        let head = Head::of(row);
         let row = row.copy(alloc)?;
-        Ok(CachedRow { head, row })
+        Ok(KeptRow { head, row })
     }
 
     pub(crate) fn row(&self) -> &Row
@@ -65,7 +65,7 @@ impl CachedRow {
 
     /// Whether the row is below an entry, at it or above it.
     #[inline(always)]
-    pub(crate) fn cmp_entry(&self, sought: &Probe<'_>) -> Ordering
+    pub(crate) fn cmp_entry(&self, sought: &Sought<'_>) -> Ordering
         ensures { result ≡ entry_cmp sought.now.order self.now sought.now.row.now }
     {
         match self.cmp_head(sought) {
@@ -76,7 +76,7 @@ impl CachedRow {
 
     /// The same over the columns that a key has.
     #[inline(always)]
-    pub(crate) fn cmp_prefix(&self, sought: &Probe<'_>) -> Ordering
+    pub(crate) fn cmp_prefix(&self, sought: &Sought<'_>) -> Ordering
         ensures { result ≡ prefix_cmp sought.now.order self.now sought.now.row.now }
     {
         match self.cmp_head(sought) {
@@ -87,7 +87,7 @@ impl CachedRow {
 
     // What the heads tell of either: `Equal` tells nothing.
     #[inline(always)]
-    fn cmp_head(&self, sought: &Probe<'_>) -> Ordering
+    fn cmp_head(&self, sought: &Sought<'_>) -> Ordering
         ensures entry { result ≢ Ordering.Equal
             → entry_cmp sought.now.order self.now sought.now.row.now ≡ result }
         ensures prefix { result ≢ Ordering.Equal

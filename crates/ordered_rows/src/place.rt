@@ -1,32 +1,32 @@
 //! What the rows of a tree are compared with in an edit or a seek.
 
 ghost use Rattle.std.specs.Prelude.{◌≡◌};
-ghost use Rattle.ordered_rows.specs.SortPrefixes.{IsPrefixOf};
+ghost use Rattle.ordered_rows.specs.Heads.{IsHead};
 
-use crate::head::SortPrefix;
-use crate::kept::CachedRow;
+use crate::head::Head;
+use crate::kept::KeptRow;
 use sqlite_value::keys::Order;
 use sqlite_value::row::Row;
 use std::cmp::Ordering;
 
 /// An entry of an index, or the key of a seek, and the order that it is compared in.
 #[derive(Clone, Copy)]
-pub(crate) struct Probe<'a> {
+pub(crate) struct Sought<'a> {
     pub order: Order,
-    pub head: SortPrefix,
+    pub head: Head,
     pub row: &'a Row,
-    pub ghost headed: { IsPrefixOf head row.now },
+    pub ghost headed: { IsHead head row.now },
 }
 
-impl<'a> Probe<'a> {
+impl<'a> Sought<'a> {
     /// A row in this order.
-    pub(crate) fn new(order: Order, row: &'a Row) -> Probe<'a>
+    pub(crate) fn new(order: Order, row: &'a Row) -> Sought<'a>
         ensures order { result.order ≡ order }
         ensures row { result.row.now ≡ row.now }
     {
-        Probe {
+        Sought {
             order,
-            head: SortPrefix::of(row),
+            head: Head::of(row),
             row,
         }
     }
@@ -36,7 +36,7 @@ impl<'a> Probe<'a> {
 #[derive(Clone, Copy)]
 pub(crate) enum Place<'a> {
     Rowid(i64),
-    Entry(&'a Probe<'a>),
+    Entry(&'a Sought<'a>),
 }
 
 impl Place<'_> {
@@ -44,7 +44,7 @@ impl Place<'_> {
 
     /// Whether a row is below the place, at it or above it.
     #[inline(always)]
-    pub(crate) fn side(self, row: &CachedRow) -> Ordering
+    pub(crate) fn side(self, row: &KeptRow) -> Ordering
         ensures { result ≡ side self.entry row.now }
     {
         match self {

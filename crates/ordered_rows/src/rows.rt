@@ -11,8 +11,8 @@ ghost use Rattle.ordered_rows.specs.Places.{side};
 ghost use Rattle.ordered_rows.specs.Undos.{Undoes, undone};
 
 use crate::cursor::RowCursor;
-use crate::kept::CachedRow;
-use crate::place::{Place, Probe};
+use crate::kept::KeptRow;
+use crate::place::{Place, Sought};
 use crate::tree::{Fork, Tree};
 use crate::undo::{Change, Undo};
 use sqlite_trees::store::{Direction, Shape};
@@ -72,7 +72,7 @@ impl OrderedRows {
             unreachable!()
         };
         let (at, found) = self.placed(Place::Rowid(id))?;
-        let new = CachedRow::new(self.alloc, row)?;
+        let new = KeptRow::new(self.alloc, row)?;
         if found {
             Ok(self.replace(at, new))
         } else {
@@ -100,12 +100,12 @@ impl OrderedRows {
         ensures ok { IfOk result (Undoes self.old self.new (insert_entry order entry.now)) }
         ensures err { OnErr result (self.new ≡ self.old) }
     {
-        let sought = Probe::new(order, entry);
+        let sought = Sought::new(order, entry);
         let (at, found) = self.placed(Place::Entry(&sought))?;
         if found {
             Ok(Undo::nothing())
         } else {
-            let new = CachedRow::new(self.alloc, entry)?;
+            let new = KeptRow::new(self.alloc, entry)?;
             self.add(at, new)
         }
     }
@@ -116,7 +116,7 @@ impl OrderedRows {
         ensures ok { IfOk result (Undoes self.old self.new (remove_entry order entry.now)) }
         ensures err { OnErr result ((self.new ≡ self.old) × (most ≤ length self.old)) }
     {
-        let sought = Probe::new(order, entry);
+        let sought = Sought::new(order, entry);
         let (at, found) = self.placed(Place::Entry(&sought))?;
         if found {
             Ok(self.take_out(at))
@@ -156,7 +156,7 @@ impl OrderedRows {
             ≡ sought (order_of shape) direction key.now self.now) }
         ensures err { OnErr result (most ≤ length self.now) }
     {
-        let sought = Probe::new(key_order(shape), key);
+        let sought = Sought::new(key_order(shape), key);
         let at = match direction {
             Direction::Forward => self.tree.rank_from(&sought),
             Direction::Backward => self.tree.rank_up_to(&sought),
@@ -210,7 +210,7 @@ impl OrderedRows {
     }
 
     // A new row before the one with this number.
-    fn add(&mut self, at: u32, new: CachedRow) -> Result<Undo, AllocError>
+    fn add(&mut self, at: u32, new: KeptRow) -> Result<Undo, AllocError>
         requires low { at < most }
         requires within { at ≤ length self.old }
         ensures ok { IfOk result (Undoes self.old self.new (inserted at new)) }
@@ -232,7 +232,7 @@ impl OrderedRows {
     }
 
     // A new row over the one with this number.
-    fn replace(&mut self, at: u32, new: CachedRow) -> Undo
+    fn replace(&mut self, at: u32, new: KeptRow) -> Undo
         requires { at < most }
         ensures { Undoes self.old self.new (λ rows. slice_set rows at new) result }
     {

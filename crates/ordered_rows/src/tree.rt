@@ -2,9 +2,9 @@
 
 ghost use Rattle.std.specs.Prelude.{◌≡◌, ◌↔◌, ◌+◌, ◌%◌, ◌<◌, [], IsTrue, length, min};
 ghost use Rattle.ordered_rows.specs.Forks.{fork_tree, most};
-ghost use Rattle.ordered_rows.specs.Heights.{DifferByAtMost, IsCountable};
+ghost use Rattle.ordered_rows.specs.Heights.{DifferByAtMost, IsLow};
 
-use crate::kept::CachedRow;
+use crate::kept::KeptRow;
 use std::marker::Model;
 use std::mem;
 
@@ -34,7 +34,7 @@ pub(crate) enum Link {
 pub(crate) struct Fork {
     pub left: Tree,
     pub right: Tree,
-    pub row: CachedRow,
+    pub row: KeptRow,
 }
 
 impl Model for Tree {
@@ -78,7 +78,7 @@ impl Tree {
     /// The height modulo 256. It is low for the number of rows.
     fn height(&self) -> u8
         ensures value { result ≡ self.now.height % 256 }
-        ensures low { IsCountable self.now.height (length self.now.rows) }
+        ensures low { IsLow self.now.height (length self.now.rows) }
     {
         match &self.root {
             Link::Leaf => 0,

@@ -1,17 +1,17 @@
 //! What takes an edit back.
 
 ghost use Rattle.std.specs.Prelude.{◌≡◌};
-ghost use Rattle.ordered_rows.specs.Countable.{IsCountable};
+ghost use Rattle.ordered_rows.specs.Lows.{IsLow};
 ghost use Rattle.ordered_rows.specs.declared.undo.Change.TheVariants.{Nothing};
 
-use crate::kept::CachedRow;
+use crate::kept::KeptRow;
 use crate::tree::Fork;
 
 /// Of one edit of a tree's rows: the tree that it gave is as it was once this is undone.
 #[derive(Drop)]
 pub struct Undo {
     pub(crate) change: Change,
-    pub ghost low: { IsCountable change },
+    pub ghost low: { IsLow change },
 }
 
 impl Undo {
@@ -31,5 +31,5 @@ pub(crate) enum Change {
     Nothing,
     Out(u32),
     In(u32, Box<Fork>),
-    Over(u32, CachedRow),
+    Over(u32, KeptRow),
 }

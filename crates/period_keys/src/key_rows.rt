@@ -8,7 +8,7 @@ ghost use Rattle.period_core.specs.declared.version.VersionRow.{VersionRow as Ve
 ghost use Rattle.period_keys.specs.Ordered.{AreInOrder};
 ghost use Rattle.period_keys.specs.Versions.{period_of, recorded};
 
-use crate::ordered_periods::{insertion_point, place_after, should_merge};
+use crate::ordered_periods::{are_many, place_after, place_for};
 use period_core::{Memory, Moment, Period, Values, VersionRow};
 use std::alloc::Global;
 
@@ -72,7 +72,7 @@ impl KeyRows {
         ensures err { OnErr result (self.new.rows.items ≡ self.old.rows.items) }
     {
         let period = row.period;
-        let (place, settles) = insertion_point(self.periods.as_slice(), self.settled, period.start);
+        let (place, settles) = place_for(self.periods.as_slice(), self.settled, period.start);
         self.rows.insert(place, row)?;
         if let Err(refused) = self.periods.insert(place, period) {
             let _taken = self.rows.remove(place);
@@ -80,7 +80,7 @@ impl KeyRows {
         }
         if settles {
             self.settled += 1;
-        } else if should_merge(self.rows.len() - self.settled, self.settled) {
+        } else if are_many(self.rows.len() - self.settled, self.settled) {
             self.settle();
         }
         Ok(())

@@ -61,11 +61,11 @@ impl OrderedPeriods {
             (IsPermutation self.new.items.items (self.old.items.items ++ period ∷ [])) }
         ensures err { OnErr result (self.new.items.items ≡ self.old.items.items) }
     {
-        let (place, settles) = insertion_point(self.items.as_slice(), self.settled, period.start);
+        let (place, settles) = place_for(self.items.as_slice(), self.settled, period.start);
         self.items.insert(place, period)?;
         if settles {
             self.settled += 1;
-        } else if should_merge(self.items.len() - self.settled, self.settled) {
+        } else if are_many(self.items.len() - self.settled, self.settled) {
             self.settle();
         }
         Ok(())
@@ -122,7 +122,7 @@ impl OrderedPeriods {
 
 /// The place among periods in two runs of one that starts on the day, and whether it is settled
 /// there: else it is late.
-pub fn insertion_point(periods: &[Period], settled: usize, day: Day) -> (usize, bool)
+pub fn place_for(periods: &[Period], settled: usize, day: Day) -> (usize, bool)
     requires within { settled ≤ length periods.now }
     requires ordered { AreInOrder (take settled periods.now) }
     requires late { AreInOrder (drop settled periods.now) }
@@ -141,7 +141,7 @@ pub fn insertion_point(periods: &[Period], settled: usize, day: Day) -> (usize, 
 
 /// Whether so many late periods are enough to be settled. Each settled one moves then, so they are
 /// as many as the square root of these at least.
-pub fn should_merge(late: usize, settled: usize) -> bool {
+pub fn are_many(late: usize, settled: usize) -> bool {
     late >= MOST_MOVED && late >= settled / late
 }
 

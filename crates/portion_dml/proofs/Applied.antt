@@ -13,7 +13,7 @@ use Rattle.period_core.specs.declared.version.VersionRow.{VersionRow}
 use Rattle.period_core.specs.declared.window.Window.TheVariants.{Now}
 use Rattle.catalog_core.specs.declared.change.Action.{Action}
 use Rattle.history_model.specs.Effects.{rows_after}
-use Rattle.history_model.specs.Left.{AppliesAction, begun_at, closed_at, is_touched, its_row, left_of, touched_rows, versions_after}
+use Rattle.history_model.specs.Left.{Makes, begun_at, closed_at, is_touched, its_row, left_of, touched_rows, versions_after}
 use Rattle.history_model.specs.Portions.{PlainRow, added, plain_row, touches}
 use Rattle.history_model.specs.Versions.{IsRecorded, PlainVersion, current, plain_version, values_at}
 use Rattle.history_model.proofs.Changes.{makes_earlier, makes_later}
@@ -122,7 +122,7 @@ module _ (moment : ℤ) (action : Action) (old new : List VersionRow) (applied :
       ap (versions_after moment action) whole
       ∙ ap₂ (λ (a : List PlainVersion) (b : List PlainRow). a ++ map (begun_at moment) b) left (ap (added action) rows ∙ sym applied.plans.added)
 
-  pub applied_makes : AppliesAction moment action old new
+  pub applied_makes : Makes moment action old new
   applied_makes =
       let C : List PlainVersion = flat_map (closed_at moment) (map plain_version applied.plan.ended) in
       let Q : List PlainVersion = map plain_version applied.applies.stay in

@@ -17,7 +17,7 @@ use Rattle.catalog_core.specs.Flaws.{is_flawed_column, is_flawed_compare, is_fla
 use Rattle.catalog_core.specs.change.Insertion.{is_longer, is_of_other_kind, is_too_long}
 use Rattle.catalog_core.specs.change.PortionChanges.{is_flawed_update, lacks_named}
 use Rattle.catalog_core.specs.change.Resolution.{change_conditions, empty_period}
-use Rattle.catalog_core.specs.query.Selection.{names_non_value_column, value_position}
+use Rattle.catalog_core.specs.query.Selection.{names_no_value, value_position}
 use Rattle.catalog_core.specs.stored.StoredQueries.{is_flawed_stored, stored_conditions}
 use Rattle.catalog_core.specs.table.Kinds.{differ, kind_of_column, same_kind}
 use Rattle.catalog_core.specs.table.Matches.{is_matching}
@@ -26,7 +26,7 @@ use Rattle.catalog_core.specs.table.TableWords.{def_kind, is_value_column, numbe
 use Rattle.catalog_core.specs.declared.change.Action.TheVariants as action
 use Rattle.catalog_core.specs.declared.change.Change.{Change}
 use Rattle.version_store.specs.Contents.{version_cmp, version_in}
-use Rattle.history_model.specs.Histories.{Advanced, Queried, Changed, History, last_state, with_event}
+use Rattle.history_model.specs.Histories.{Advanced, Asked, Changed, History, last_state, with_event}
 use Rattle.history_model.specs.Versions.{plain_version}
 use Rattle.script_engine.specs.engine.Runs.{StatementApplies, Step}
 use Rattle.script_engine.specs.declared.engine.outcome.Cell.TheVariants as cell
@@ -80,7 +80,7 @@ moved_to department = with_event later (Changed (pos 100) (set_to department))
 
 -- no condition of a refusal holds for it
 setting_is_sound : NoneApplies (StatementApplies later (statement.update (setting 9)))
-unfolding is_flawed_column is_flawed_compare is_flawed_portion is_flawed_set is_set_again sets_twice is_longer is_of_other_kind is_too_long kind_of_column same_kind differ is_matching is_flawed_update lacks_named names_non_value_column def_kind find_among matches_among is_value_column number_of table_of_name chars
+unfolding is_flawed_column is_flawed_compare is_flawed_portion is_flawed_set is_set_again sets_twice is_longer is_of_other_kind is_too_long kind_of_column same_kind differ is_matching is_flawed_update lacks_named names_no_value def_kind find_among matches_among is_value_column number_of table_of_name chars
 setting_is_sound =
     none_if_no_first
     (change_conditions (emp ∷ []) (statement.update (setting 9)) ++ empty_period (emp ∷ []) (statement.update (setting 9)) ∷ [])
@@ -128,7 +128,7 @@ shown rows = record {
 one_row : (v : VersionRow) → IsSorted version_cmp (map (version_in 1) (v ∷ []))
 one_row v k d low high = absurd (omega arith)
 
-pub stored : Step later (statement.stored all_of_emp) (Ok (Versions (shown (kept ∷ [])))) (with_event later Queried)
+pub stored : Step later (statement.stored all_of_emp) (Ok (Versions (shown (kept ∷ [])))) (with_event later Asked)
 unfolding is_flawed_stored is_flawed_test is_flawed_compare is_flawed_column is_flawed_period lacks_named is_matching find_among matches_among differ same_kind kind_of_column def_kind is_value_column number_of table_of_name
 stored = (
   none_if_no_first (stored_conditions (emp ∷ []) (statement.stored all_of_emp)) refl,

@@ -27,8 +27,8 @@ use Rattle.version_store.specs.DistinctKeys.{HaveDistinctKeys}
 use Rattle.version_store.specs.GoodStore.{AreLawful, IsGoodVersion}
 use Rattle.version_store.proofs.Spared.{other_tables}
 use Rattle.history_model.specs.Effects.{effect}
-use Rattle.history_model.specs.Histories.{Advanced, Queried, Changed, Created, Event, History, catalog_of, changed_until, created_by, last_state, with_event}
-use Rattle.history_model.specs.Left.{AppliesAction, begun_at, closed_at, versions_of}
+use Rattle.history_model.specs.Histories.{Advanced, Asked, Changed, Created, Event, History, catalog_of, changed_until, created_by, last_state, with_event}
+use Rattle.history_model.specs.Left.{Makes, begun_at, closed_at, versions_of}
 use Rattle.history_model.specs.Portions.{plain_row}
 use Rattle.history_model.specs.Versions.{PlainVersion, current, last_moment, plain_version}
 use Rattle.history_model.proofs.HistoryLemmas.{catalog_of-event, clock_of-event, state_at-event}
@@ -154,16 +154,16 @@ said-created history c definition room next none said = record {
 
 -- ---- queries
 
-pub said-asked : (history : History) (c : Contents) → AreOfHistory history c → AreOfHistory (with_event history Queried) c
+pub said-asked : (history : History) (c : Contents) → AreOfHistory history c → AreOfHistory (with_event history Asked) c
 said-asked history c said = record {
-  order = order-event history Queried said.order tt;
-  clock = said.clock ∙ sym (clock_of-event history Queried);
-  tables = said.tables ∙ sym (catalog_of-event history Queried ∙ append-nil (catalog_of history));
+  order = order-event history Asked said.order tt;
+  clock = said.clock ∙ sym (clock_of-event history Asked);
+  tables = said.tables ∙ sym (catalog_of-event history Asked ∙ append-nil (catalog_of history));
   versions = λ table.
       let holds = said.versions table in
       record { rows = holds.rows; left = left-asked history table holds.rows holds.left; all = holds.all };
   good = record { clock = said.good.clock; few = said.good.few; lawful = said.good.lawful; versions = said.good.versions; constrained = tt };
-  lawful = lawful_still history Queried c said refl refl;
+  lawful = lawful_still history Asked c said refl refl;
 }
 
 -- ---- changes
@@ -206,7 +206,7 @@ module _ (moment : ℤ) (action : Action) (plan : Plan) (rows : List VersionRow)
       (IsPermutation-append_left S (filter (is_hit action) rows) E (hits_end action rows over.listed plan over.are_current over.plans))
 
   -- what stands after the plan is what the action makes
-  makes_planned : AppliesAction moment action rows (rows_after moment action plan rows)
+  makes_planned : Makes moment action rows (rows_after moment action plan rows)
   makes_planned =
       let C : List VersionRow = flat_map (closed_row moment) E in
       let B : List VersionRow = map (begun moment) plan.added in

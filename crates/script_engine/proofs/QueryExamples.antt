@@ -16,7 +16,7 @@ use Rattle.sql_statements.specs.declared.statement.TableReference.{TableReferenc
 use Rattle.sql_statements.specs.Trees.{combined, last, simple}
 use Rattle.history_model.specs.Versions.{last_moment}
 use Rattle.history_model.specs.OrdinaryQuery.{InAnswerOn, IsProjection, read_items}
-use Rattle.history_model.specs.Histories.{Queried, History, last_state, state_at, with_event}
+use Rattle.history_model.specs.Histories.{Asked, History, last_state, state_at, with_event}
 use Rattle.catalog_core.specs.Judged.{Holds}
 use Rattle.catalog_core.specs.table.Matches.{is_matching}
 use Rattle.catalog_core.specs.query.Refusals.{compares_kinds, is_too_long, lacks_table, names_period, names_twice, some_column_matches}
@@ -166,7 +166,7 @@ right_by InSet same = record {
 }
 
 -- the query is answered, and the rows stay as they are
-pub asked : Step with_row (statement.sequenced question) (Ok (Answered answer)) (with_event with_row Queried)
+pub asked : Step with_row (statement.sequenced question) (Ok (Answered answer)) (with_event with_row Asked)
 asked = (
   question_is_sound,
   (

@@ -14,7 +14,7 @@ use Rattle.catalog_core.specs.declared.table.TableDef.{TableDef}
 use Rattle.version_store.specs.Contents.{Contents}
 use Rattle.version_store.specs.Scans.{AreFirstSeen, Visits}
 use Rattle.version_store.specs.StoreState.{IsStoreRefusal}
-use Rattle.history_model.specs.Histories.{Queried, History, with_event}
+use Rattle.history_model.specs.Histories.{Asked, History, with_event}
 use Rattle.script_engine.specs.engine.Runs.{StepsTo}
 use Rattle.script_engine.specs.engine.Shown.{AreShownIn, AreShownOf, version_columns}
 use Rattle.script_engine.specs.engine.EngineState.{EngineState}
@@ -57,7 +57,7 @@ module _ {S : Type 0} (g : Ghosts S) (history : History) (old : EngineState S) (
   shown_step new query definition columns rows sound resolved there are has shown =
       let holds = kept.said.versions query.table in
       let list : VersionList = record { columns = columns; rows = rows } in (
-        with_event history Queried,
+        with_event history Asked,
         (
           subst (λ (tables : List TableDef). NoneApplies (Holds (stored_query_conditions tables asked))) (tables_of g history old kept) sound,
           (

@@ -19,7 +19,7 @@ use Rattle.temporal_model.specs.Snapshot.{covers_day}
 use Rattle.temporal_model.proofs.Members.{Contains-nil}
 use Rattle.history_model.specs.Effects.{Given, Kept, given_row, kept, traced}
 use Rattle.history_model.specs.Histories.{Changed, Created, History, last_state, new_database, opened, with_event}
-use Rattle.catalog_core.specs.change.Insertion.{wanted_names, given_names, lacks_table, lists_unknown, lists_ambiguous, repeats_column, is_system_name, some_system_name, lists_system, omits_a_column, has_row_of_other_length, has_other_count, is_of_other_kind, is_longer, is_too_long, is_wrong, gives_wrong, has_wrong, given_value, value_for, is_no_period, gives_no_period, has_no_period}
+use Rattle.catalog_core.specs.change.Insertion.{wanted_names, given_names, lacks_table, lists_unknown, lists_ambiguous, lists_twice, is_system_name, some_system_name, lists_system, lacks_some, some_other_length, has_other_count, is_of_other_kind, is_longer, is_too_long, is_wrong, gives_wrong, has_wrong, given_value, value_for, is_no_period, gives_no_period, has_no_period}
 use Rattle.catalog_core.specs.Judged.{Holds, Judged, first_holding}
 use Rattle.catalog_core.specs.table.Kinds.{kind_of_type, kind_of_column, same_kind, differ}
 use Rattle.catalog_core.specs.table.Matches.{is_matching, is_of_sort}
@@ -157,7 +157,7 @@ no_references (suc (suc place)) child is = cc
 
 -- no condition of a refusal holds for it
 insertion_is_sound : NoneApplies (StatementApplies with_table (statement.insert insertion))
-unfolding matches_among some_match_among def_kind repeats is_matching number_of table_of_name kind_of_column same_kind differ wanted_names given_names lacks_table lists_unknown lists_ambiguous repeats_column is_system_name some_system_name lists_system omits_a_column has_row_of_other_length has_other_count is_of_other_kind is_longer is_too_long is_wrong gives_wrong has_wrong given_value value_for is_no_period gives_no_period has_no_period is_value_column chars find_among
+unfolding matches_among some_match_among def_kind repeats is_matching number_of table_of_name kind_of_column same_kind differ wanted_names given_names lacks_table lists_unknown lists_ambiguous lists_twice is_system_name some_system_name lists_system lacks_some some_other_length has_other_count is_of_other_kind is_longer is_too_long is_wrong gives_wrong has_wrong given_value value_for is_no_period gives_no_period has_no_period is_value_column chars find_among
 insertion_is_sound =
     none_if_no_first
     (change_conditions (emp ∷ []) (statement.insert insertion) ++ empty_period (emp ∷ []) (statement.insert insertion) ∷ [])

@@ -17,7 +17,7 @@ use Rattle.catalog_core.specs.table.Kinds.{differ, kind_of_column, same_kind}
 use Rattle.catalog_core.specs.table.Matches.{is_matching}
 use Rattle.catalog_core.specs.table.Naming.{matches_among, repeats}
 use Rattle.catalog_core.specs.table.TableWords.{is_value_column, number_of, table_of_name}
-use Rattle.history_model.specs.Histories.{Queried, with_event}
+use Rattle.history_model.specs.Histories.{Asked, with_event}
 use Rattle.history_model.specs.OrdinaryQuery.{InAnswerOn}
 use Rattle.script_engine.specs.Headline.{IsSequencedAnswer}
 use Rattle.script_engine.specs.engine.Runs.{Step}
@@ -49,7 +49,7 @@ union_daily day values = (
   λ united. elim united [ inl a ↦ (daily day values).1 a | inr b ↦ (daily day values).1 b ],
 )
 
-pub united : Step with_row (statement.sequenced (twice Union)) (Ok (Answered answer)) (with_event with_row Queried)
+pub united : Step with_row (statement.sequenced (twice Union)) (Ok (Answered answer)) (with_event with_row Asked)
 united = (
   twice_is_sound Union,
   (
@@ -72,7 +72,7 @@ intersected_daily day values = (
   λ (left, right). (daily day values).1 left,
 )
 
-pub intersected : Step with_row (statement.sequenced (twice Intersect)) (Ok (Answered answer)) (with_event with_row Queried)
+pub intersected : Step with_row (statement.sequenced (twice Intersect)) (Ok (Answered answer)) (with_event with_row Asked)
 intersected = (
   twice_is_sound Intersect,
   (
@@ -102,7 +102,7 @@ nothing_by InSet none = record {
 }
 
 -- the difference of a set and itself has no rows
-pub subtracted : Step with_row (statement.sequenced (twice Except)) (Ok (Answered nothing)) (with_event with_row Queried)
+pub subtracted : Step with_row (statement.sequenced (twice Except)) (Ok (Answered nothing)) (with_event with_row Asked)
 subtracted = (
   twice_is_sound Except,
   (

@@ -8,7 +8,7 @@ ghost use Rattle.period_keys.specs.Versions.{begun};
 ghost use Rattle.period_core.specs.declared.refusal.Refusal.TheVariants.{BadStore};
 ghost use Rattle.catalog_core.specs.change.Resolution.{IsChange};
 ghost use Rattle.sqlite.specs.Held.{state};
-ghost use Rattle.version_tables.specs.Presence.{NoneExist};
+ghost use Rattle.version_tables.specs.Presence.{IsNoneThere};
 ghost use Rattle.version_tables.specs.Steps.{IsAsBefore};
 ghost use Rattle.version_store.specs.Changed.{planned};
 ghost use Rattle.version_store.specs.Contents.{AreRowsOf, Contents};
@@ -105,7 +105,7 @@ impl<S: Alter> Engine<S> {
             → EngineRepresents S.Store history engine) }
         ensures good { IfOk result (λ engine. IsUsable S.Store engine.connection
             → IsOurs (state S.Store connection).now.schema
-            → NoneExist (state S.Store connection).now.schema
+            → IsNoneThere (state S.Store connection).now.schema
             ⊎ (IsGoodStore AreConstrained (state S.Store connection).now
             × ((history : History) × EngineRepresents S.Store history engine))) }
 

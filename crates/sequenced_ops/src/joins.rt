@@ -5,7 +5,7 @@ ghost use Rattle.std.specs.Prelude.{IfOk, OnOk, IsTrue};
 ghost use Rattle.period_core.specs.declared.row.PeriodRow.{PeriodRow as Row};
 ghost use Rattle.sequenced_ops.specs.declared.keyed.KeyedRow.{KeyedRow};
 ghost use Rattle.sequenced_ops.specs.Joining.{Adds, Follows, InEqualPairs, InPairs};
-ghost use Rattle.sequenced_ops.specs.Joining.{InPairsWith, HasExpired, PairHolds, SidedPair};
+ghost use Rattle.sequenced_ops.specs.Joining.{InPairsWith, IsGone, PairHolds, SidedPair};
 ghost use Rattle.sequenced_ops.specs.Outputs.{GivesSome};
 ghost use Rattle.sequenced_ops.specs.Planning.{IsPruned};
 
@@ -105,8 +105,7 @@ fn meet<'a>(
     ensures kept { IfOk result (λ left. (other : KeyedRow) →
         Contains left.items other → Contains active.entry.items other) }
     ensures gone { IfOk result (λ left. (other : KeyedRow) →
-        Contains active.entry.items other
-        → (Contains left.items other ⊎ HasExpired other row.now)) }
+        Contains active.entry.items other → (Contains left.items other ⊎ IsGone other row.now)) }
 {
     let mut left = Vec::new(alloc);
     for other in active {

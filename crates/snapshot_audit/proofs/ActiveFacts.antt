@@ -10,8 +10,8 @@ use Rattle.temporal_model.proofs.Snapshots.{CoversDay, held, in_snapshot}
 use Rattle.temporal_model.proofs.Members.{Contains-there, Contains-nil, Contains-cons_cases}
 use Rattle.catalog_core.specs.declared.query.resolved.QueryReference.{QueryReference}
 use Rattle.catalog_core.specs.query.Queries.{Query, rows_for}
-use Rattle.history_model.specs.OrdinaryQuery.{InAnswerOver, InQuery, VisibleInTables}
-use Rattle.history_model.proofs.Visible.{query_seen}
+use Rattle.history_model.specs.OrdinaryQuery.{InAnswerOver, InQuery, TableSights}
+use Rattle.history_model.proofs.Sights.{query_seen}
 use Rattle.snapshot_audit.specs.declared.sweep.Sweep.{Sweep}
 use Rattle.snapshot_audit.specs.ActiveRows.{RowReferences, ContainsRow, AreActive, InActive, active_lists, active_for, ActiveSights, AllAreActive}
 use Rattle.snapshot_audit.proofs.Zips.{zip_at, zip_map}
@@ -141,7 +141,7 @@ active_at seen place sweep inside is =
 pub seen_alike :
     (tables : List (List PeriodRow)) (seen : List Sweep) (day : ℤ) → AllAreActive tables seen day
     → (reference : QueryReference) (values : List Value)
-    → (ActiveSights seen reference values ↔ VisibleInTables tables day reference values)
+    → (ActiveSights seen reference values ↔ TableSights tables day reference values)
 seen_alike tables seen day all reference =
     active_snapshot (rows_for tables reference) (active_for seen reference) day
     (zip_at (λ rows active. AreActive rows active day) [] [] (AreActive-none day) tables (active_lists seen) reference.place
@@ -152,4 +152,4 @@ pub answered_alike :
     (tables : List (List PeriodRow)) (seen : List Sweep) (day : ℤ) → AllAreActive tables seen day
     → (query : Query) (row : List Value) → (InQuery (ActiveSights seen) query row ↔ InAnswerOver query tables day row)
 answered_alike tables seen day all query row =
-    query_seen (ActiveSights seen) (VisibleInTables tables day) query (λ reference c. seen_alike tables seen day all reference) row
+    query_seen (ActiveSights seen) (TableSights tables day) query (λ reference c. seen_alike tables seen day all reference) row

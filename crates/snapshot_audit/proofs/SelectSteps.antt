@@ -10,7 +10,7 @@ use Rattle.temporal_model.proofs.Members.{Contains-nil}
 use Rattle.catalog_core.specs.declared.query.AnswerColumn.{AnswerColumn}
 use Rattle.catalog_core.specs.declared.query.resolved.QueryReference.{QueryReference}
 use Rattle.catalog_core.specs.declared.query.resolved.Select.{Select}
-use Rattle.history_model.specs.OrdinaryQuery.{Visible, InSelect, IsProjection, meets_all, read_items}
+use Rattle.history_model.specs.OrdinaryQuery.{Sights, InSelect, IsProjection, meets_all, read_items}
 use Rattle.snapshot_audit.specs.declared.sweep.Sweep.{Sweep}
 use Rattle.snapshot_audit.specs.ActiveRows.{RowReferences, active_for, ActiveSights}
 use Rattle.snapshot_audit.specs.Selections.{IsSelected, InRest, InRests}
@@ -79,7 +79,7 @@ selected_skipped select values rows none other = (
 -- ---- one reference more
 
 pub rest_none :
-    (Sees : Visible) (select : Select) (front row : List Value) → (IsSelected select front row ↔ InRest Sees select [] front row)
+    (Sees : Sights) (select : Select) (front row : List Value) → (IsSelected select front row ↔ InRest Sees select [] front row)
 rest_none Sees select front row = (
   λ h. ([], refl, subst (λ vs. IsSelected select vs row) (sym (append-nil front)) h),
   λ (rest, none, its). subst (λ vs. IsSelected select vs row) (append-nil front) (subst (λ r. IsSelected select (front ++ r) row) none its),
@@ -171,7 +171,7 @@ HasRests-all seen select reference more front old rows has row =
 
 -- once no reference is left
 pub rest_done :
-    (Sees : Visible) (select : Select) (front : List Value) (old rows : List (List Value))
+    (Sees : Sights) (select : Select) (front : List Value) (old rows : List (List Value))
     → ((row : List Value) → (Contains rows row ↔ (Contains old row ⊎ IsSelected select front row))) → (row : List Value)
     → (Contains rows row ↔ (Contains old row ⊎ InRest Sees select [] front row))
 rest_done Sees select front old rows step row =

@@ -12,7 +12,7 @@ use Rattle.period_core.specs.declared.row.PeriodRow.{PeriodRow}
 use Rattle.temporal_model.proofs.Members.{Contains-here, Contains-cons_cases, AllPairs-head, AllPairs-tail}
 use Rattle.snapshot_audit.specs.ActiveRows.{RowReferences, ContainsRow, AreActive}
 use Rattle.snapshot_audit.proofs.ActiveFacts.{AreRows, ContainsRow-nil, ContainsRow-there, ContainsRow-cons_cases, ContainsRow-push, ContainsRow-before, ContainsRow-push_cases}
-use Rattle.snapshot_audit.specs.Sweeping.{BeginInOrder, AreByFirstDay, StayActiveAfter, AreSweptTo}
+use Rattle.snapshot_audit.specs.Sweeping.{BeginInOrder, AreByFirstDay, GoOnAfter, AreSweptTo}
 
 -- the first element of a list and the others, as a pattern of a slice reads them
 pub first_of : {X : Type 0} (xs : List X) (x : X) → 1 ≤ length xs → x ≡ get_or xs 0 x → xs ≡ x ∷ take (length xs - 1) (drop 1 xs)
@@ -52,8 +52,8 @@ abbrev goes_on : ℤ → Bor PeriodRow → Bool
 goes_on day r = int_lt day r.now.period.end
 
 kept_cons :
-    (day : ℤ) (r : Bor PeriodRow) (active : RowReferences) (b : Bool) → goes_on day r ≡ b → StayActiveAfter active day (filter (goes_on day) active)
-    → StayActiveAfter (r ∷ active) day (filter (goes_on day) (r ∷ active))
+    (day : ℤ) (r : Bor PeriodRow) (active : RowReferences) (b : Bool) → goes_on day r ≡ b → GoOnAfter active day (filter (goes_on day) active)
+    → GoOnAfter (r ∷ active) day (filter (goes_on day) (r ∷ active))
 kept_cons day r active true e rest row =
     let ends : day <ℤ r.now.period.end = grind (arith, e) in
     rw e (
@@ -76,7 +76,7 @@ kept_cons day r active false e rest row =
       ],
     )
 
-pub kept : (day : ℤ) (active : RowReferences) → StayActiveAfter active day (filter (goes_on day) active)
+pub kept : (day : ℤ) (active : RowReferences) → GoOnAfter active day (filter (goes_on day) active)
 kept day [] row = (λ c. absurd (ContainsRow-nil row c), λ (c, after). absurd (ContainsRow-nil row c))
 kept day (r ∷ active) row = kept_cons day r active (goes_on day r) refl (kept day active) row
 
@@ -107,7 +107,7 @@ sweep_later rows later active day next upto is = record {
 
 -- rows that have ended by the day go
 pub sweep_ended :
-    (rows : List PeriodRow) (later active left : RowReferences) (day : ℤ) → StayActiveAfter active day left → AreSweptTo rows later active day
+    (rows : List PeriodRow) (later active left : RowReferences) (day : ℤ) → GoOnAfter active day left → AreSweptTo rows later active day
     → AreSweptTo rows later left day
 sweep_ended rows later active left day goes is = record {
   ordered = is.ordered;
@@ -123,7 +123,7 @@ sweep_ended rows later active left day goes is = record {
 abbrev pub AllGoOn : RowReferences → ℤ → Type 0
 AllGoOn active day = (row : PeriodRow) → ContainsRow active row → day <ℤ row.period.end
 
-pub AllGoOn-ended : (active left : RowReferences) (day : ℤ) → StayActiveAfter active day left → AllGoOn left day
+pub AllGoOn-ended : (active left : RowReferences) (day : ℤ) → GoOnAfter active day left → AllGoOn left day
 AllGoOn-ended active left day goes row c = ((goes row).0 c).1
 
 pub AllGoOn-push : (active : RowReferences) (r : Bor PeriodRow) (day : ℤ) → day <ℤ r.now.period.end → AllGoOn active day → AllGoOn (active ++ r ∷ []) day

@@ -19,8 +19,8 @@ use Rattle.temporal_model.proofs.Witnesses.{witnessed_by_sets}
 use Rattle.snapshot_audit.specs.ChangeDays.{AreChangeDays, IsChangeDay, IsConstantBetween, seen_lists}
 use Rattle.snapshot_audit.specs.Faults.{IsFaultless}
 use Rattle.catalog_core.specs.query.Queries.{Query, references_of, rows_for}
-use Rattle.history_model.specs.OrdinaryQuery.{InAnswerOver, InQuery, VisibleInTables}
-use Rattle.history_model.proofs.Visible.{query_seen}
+use Rattle.history_model.specs.OrdinaryQuery.{InAnswerOver, InQuery, TableSights}
+use Rattle.history_model.proofs.Sights.{query_seen}
 use Rattle.snapshot_audit.specs.declared.sweep.Sweep.{Sweep}
 use Rattle.snapshot_audit.specs.ActiveRows.{RowReferences, AreActive, AllAreActive, ActiveSights, InActive}
 use Rattle.snapshot_audit.specs.Sweeping.{AreByFirstDay, AllAreByFirstDay, Begins, IsSweptTo, AllAreSweptTo, IsAt, HasMovedTo}
@@ -124,7 +124,7 @@ sweeping_moves tables rows days n day next sweep inside at all one later after =
 -- between change days the query's sets stay
 pub constant_over : (query : Query) (tables : List (List PeriodRow)) → IsConstantBetween (seen_lists query tables) (InAnswerOver query tables)
 constant_over query tables first second order none row =
-    query_seen (VisibleInTables tables first) (VisibleInTables tables second) query (λ reference c values.
+    query_seen (TableSights tables first) (TableSights tables second) query (λ reference c values.
     constant_between (rows_for tables reference) first second order (none (rows_for tables reference) (contains_map (rows_for tables) (references_of query) reference c)) values) row
 
 -- no change day comes before 0001-01-01

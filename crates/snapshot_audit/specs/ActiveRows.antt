@@ -5,7 +5,7 @@ use Rattle.std.specs.List.{AllZip}
 use Rattle.period_core.specs.declared.row.PeriodRow.{PeriodRow}
 use Rattle.period_core.specs.declared.value.Value.{Value}
 use Rattle.catalog_core.specs.declared.query.resolved.QueryReference.{QueryReference}
-use Rattle.history_model.specs.OrdinaryQuery.{Visible}
+use Rattle.history_model.specs.OrdinaryQuery.{Sights}
 use Rattle.snapshot_audit.specs.declared.sweep.Sweep.{Sweep}
 
 -- rows by reference
@@ -39,7 +39,7 @@ abbrev pub active_for : List Sweep → QueryReference → RowReferences
 active_for seen reference = slice_index_or (active_lists seen) reference.place []
 
 -- so each reference sees the values of these rows
-abbrev pub ActiveSights : List Sweep → Visible
+abbrev pub ActiveSights : List Sweep → Sights
 ActiveSights seen reference values = InActive (active_for seen reference) values
 
 -- each sweep has those rows of its list that cover the day

@@ -5,7 +5,7 @@ use Rattle.period_core.specs.declared.row.PeriodRow.{PeriodRow}
 use Rattle.period_core.specs.declared.value.Value.{Value}
 use Rattle.catalog_core.specs.declared.query.resolved.QueryReference.{QueryReference}
 use Rattle.catalog_core.specs.declared.query.resolved.Select.{Select}
-use Rattle.history_model.specs.OrdinaryQuery.{Visible, InProduct, IsProjection, meets_all}
+use Rattle.history_model.specs.OrdinaryQuery.{Sights, InProduct, IsProjection, meets_all}
 use Rattle.snapshot_audit.specs.ActiveRows.{RowReferences}
 
 -- the combined row meets every ON and WHERE, and this is the select list's row of it
@@ -14,12 +14,12 @@ IsSelected select values row =
     IsTrue (meets_all select.conjuncts values) × IsProjection select.items values row
 
 -- the select list's row of a combined row that begins with these values
-abbrev pub InRest : Visible → Select → List QueryReference → List Value → List Value → Type 0
+abbrev pub InRest : Sights → Select → List QueryReference → List Value → List Value → Type 0
 InRest Sees select references front row =
     (rest : List Value) × InProduct Sees references rest × IsSelected select (front ++ rest) row
 
 -- the same where the values of one of these rows come next
-abbrev pub InRests : Visible → Select → List QueryReference → List Value → RowReferences
+abbrev pub InRests : Sights → Select → List QueryReference → List Value → RowReferences
     → List Value → Type 0
 InRests Sees select references front active row =
     (next : Bor PeriodRow) × Contains active next

@@ -17,8 +17,8 @@ pub record AreByFirstDay (rows : List PeriodRow) (references : RowReferences) : 
   pub members : (row : PeriodRow) → (ContainsRow references row ↔ Contains rows row)
 
 -- those of the active rows that end after the day
-abbrev pub StayActiveAfter : RowReferences → ℤ → RowReferences → Type 0
-StayActiveAfter active day left =
+abbrev pub GoOnAfter : RowReferences → ℤ → RowReferences → Type 0
+GoOnAfter active day left =
     (row : PeriodRow) → (ContainsRow left row ↔ (ContainsRow active row × (day <ℤ row.period.end)))
 
 -- each row of the list is either later, or has begun by the day and is active if it goes on

@@ -1,7 +1,7 @@
 //! A sweep over days: the rows of a list that cover a day, and from there those of a later day.
 
 ghost use Rattle.std.specs.Prelude.{◌↔◌, ◌<ℤ◌, IfOk, IsTrue};
-ghost use Rattle.snapshot_audit.specs.Sweeping.{AreByFirstDay, StayActiveAfter, HasMovedTo};
+ghost use Rattle.snapshot_audit.specs.Sweeping.{AreByFirstDay, GoOnAfter, HasMovedTo};
 
 use period_core::{Day, Memory, PeriodRow};
 use std::alloc::Global;
@@ -46,7 +46,7 @@ fn ends_after(row: &PeriodRow, day: Day) -> bool
 
 // The rows that end after the day.
 fn going_on<'a>(active: Vec<&'a PeriodRow>, day: Day) -> Vec<&'a PeriodRow>
-    ensures { StayActiveAfter active.entry.items day result.items }
+    ensures { GoOnAfter active.entry.items day result.items }
 {
     let mut left = active;
     left.retain(|row| ends_after(row, day));

@@ -3,7 +3,7 @@ use Rattle.std.proofs.Common.{List, [], ◌∷◌, refl, codes}
 use Rattle.sql_statements.specs.declared.create.Generated.TheVariants.{Start, End}
 use Rattle.sql_statements.specs.declared.create.TypeName.{TypeName}
 use Rattle.sql_statements.specs.declared.create.TypeName.TheVariants.{Integer, Date, Varchar, Timestamp}
-use Rattle.sql_front.specs.Language.{Language, keyword, symbol, Built, Choice, Fixed, Optional, Preceded, Yields}
+use Rattle.sql_front.specs.Language.{Language, keyword, symbol, Built, Choice, Fixed, Optional, Preceded, StandsFor}
 use Rattle.sql_front.specs.Builders.{column_of, column_element}
 use Rattle.sql_front.proofs.ReadGrammar.{IsLength, IsType, IsGenerated, IsNotNull, IsColumnElement}
 use Rattle.sql_front.specs.reading.Reading.{Reader, built_read, preceded_read}
@@ -100,7 +100,7 @@ reads_type =
     reads_timestamp)))
 
 -- START | END
-reads_row_end : Reads (Choice (Yields Start (keyword (codes "START"))) (Yields End (keyword (codes "END")))) Any row_end_read
+reads_row_end : Reads (Choice (StandsFor Start (keyword (codes "START"))) (StandsFor End (keyword (codes "END")))) Any row_end_read
 unfolding row_end_read
 reads_row_end =
     let start = starts_stands Start (keyword (codes "START")) in

@@ -4,13 +4,13 @@ use Rattle.sql_statements.specs.declared.statement.Comparison.{Comparison}
 use Rattle.sql_statements.specs.declared.statement.Comparison.TheVariants.{Equal, NotEqual, Less, LessOrEqual, Greater, GreaterOrEqual}
 use Rattle.sql_statements.specs.declared.statement.Operand.TheVariants.{Column, Literal}
 use Rattle.sql_statements.specs.Lexemes.{Lexeme}
-use Rattle.sql_front.specs.Language.{Language, keyword, symbol, Built, Choice, Enclosed, Fixed, Optional, Preceded, Sequence, Yields}
+use Rattle.sql_front.specs.Language.{Language, keyword, symbol, Built, Choice, Enclosed, Fixed, Optional, Preceded, Sequence, StandsFor}
 use Rattle.sql_statements.specs.Trees.{Condition, negated, test}
 use Rattle.sql_front.specs.Builders.{all_of, column_reference_of, compare_of}
 use Rattle.sql_front.specs.Grammar.{ConditionBelow, IsCondition, IsConjunction, IsFactor, IsTest, IsWhere}
 use Rattle.sql_front.proofs.ReadGrammar.{IsColumn, IsCompare, IsComparison, IsName, IsOperand}
 use Rattle.sql_front.specs.Builders as builders
-use Rattle.sql_front.specs.reading.Reading.{Reader, yields_read}
+use Rattle.sql_front.specs.reading.Reading.{Reader, stands_read}
 use Rattle.sql_front.specs.reading.ConditionReaders.{column_read, compare_read, comparison_read, condition_read, condition_with, conjunction_read, conjunction_with, factor_read, factor_with, inner_read, operand_read, test_read, test_with, where_read}
 use Rattle.sql_front.proofs.First.{Starts, begins_apart, or_apart, starts_built, starts_choice, starts_preceded, starts_sequence, starts_stands}
 use Rattle.period_core.proofs.OptionFacts.{none_some}
@@ -68,12 +68,12 @@ abbrev pub comparison_firsts : List Sort
 comparison_firsts = sign (codes "=") ∷ not_equal_firsts
 
 abbrev Stands : Comparison → List ℕ → Language Comparison
-Stands c s = Yields c (symbol s)
+Stands c s = StandsFor c (symbol s)
 
 starts_sign : (c : Comparison) (s : List ℕ) → Starts (any_of (sign s ∷ [])) (Stands c s)
 starts_sign c s = starts_stands c (symbol s)
 
-reads_sign : (c : Comparison) (s : List ℕ) → Reads (Stands c s) Any (yields_read c (symbol s))
+reads_sign : (c : Comparison) (s : List ℕ) → Reads (Stands c s) Any (stands_read c (symbol s))
 reads_sign c s = reads_stands c (symbol s)
 
 abbrev IsGreater : Language Comparison

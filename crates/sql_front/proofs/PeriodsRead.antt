@@ -4,11 +4,11 @@ use Rattle.sql_statements.specs.declared.statement.PeriodOperand.{PeriodOperand}
 use Rattle.sql_statements.specs.declared.statement.PeriodOperand.TheVariants.{Named}
 use Rattle.sql_statements.specs.declared.statement.PeriodPredicate.{PeriodPredicate}
 use Rattle.sql_statements.specs.declared.statement.PeriodPredicate.TheVariants.{Overlaps, Equals, Contains, Precedes, Succeeds, ImmediatelyPrecedes, ImmediatelySucceeds}
-use Rattle.sql_front.specs.Language.{Language, keyword, Built, Choice, Enclosed, Preceded, Sequence, Yields}
+use Rattle.sql_front.specs.Language.{Language, keyword, Built, Choice, Enclosed, Preceded, Sequence, StandsFor}
 use Rattle.sql_front.specs.Builders.{dates_of}
 use Rattle.sql_front.specs.Grammar.{comma}
 use Rattle.sql_front.proofs.ReadGrammar.{IsColumn, IsDate, IsPeriodOperand, IsRelation}
-use Rattle.sql_front.specs.reading.Reading.{begins, choice_read, yields_read}
+use Rattle.sql_front.specs.reading.Reading.{begins, choice_read, stands_read}
 use Rattle.sql_front.specs.reading.PredicateReaders.{period_operand_read, relation_read, dates_read}
 use Rattle.sql_front.proofs.First.{Starts, starts_built, starts_choice, starts_preceded, starts_stands}
 use Rattle.sql_front.proofs.Laws.{Any, Reads, reads_both, reads_built, reads_preceded, reads_stands}
@@ -58,12 +58,12 @@ abbrev pub relation_firsts : List Sort
 relation_firsts = word (codes "OVERLAPS") ∷ equals_firsts
 
 abbrev Stands : PeriodPredicate → List ℕ → Language PeriodPredicate
-Stands r w = Yields r (keyword w)
+Stands r w = StandsFor r (keyword w)
 
 pub starts_word : (r : PeriodPredicate) (w : List ℕ) → Starts (any_of (word w ∷ [])) (Stands r w)
 starts_word r w = starts_stands r (keyword w)
 
-reads_word : (r : PeriodPredicate) (w : List ℕ) → Reads (Stands r w) Any (yields_read r (keyword w))
+reads_word : (r : PeriodPredicate) (w : List ℕ) → Reads (Stands r w) Any (stands_read r (keyword w))
 reads_word r w = reads_stands r (keyword w)
 
 abbrev Either : PeriodPredicate → PeriodPredicate → Language PeriodPredicate
@@ -72,7 +72,7 @@ Either r s = Choice (Stands r (codes "PRECEDES")) (Stands s (codes "SUCCEEDS"))
 starts_either : (r s : PeriodPredicate) → Starts (any_of order_firsts) (Either r s)
 starts_either r s = starts_choice (starts_word r (codes "PRECEDES")) (starts_word s (codes "SUCCEEDS"))
 
-reads_either : (r s : PeriodPredicate) → Reads (Either r s) Any (choice_read (begins (keyword (codes "PRECEDES"))) (yields_read r (keyword (codes "PRECEDES"))) (yields_read s (keyword (codes "SUCCEEDS"))))
+reads_either : (r s : PeriodPredicate) → Reads (Either r s) Any (choice_read (begins (keyword (codes "PRECEDES"))) (stands_read r (keyword (codes "PRECEDES"))) (stands_read s (keyword (codes "SUCCEEDS"))))
 reads_either r s = reads_choice_next (word (codes "PRECEDES") ∷ []) (word (codes "SUCCEEDS") ∷ []) refl (starts_word r (codes "PRECEDES")) (starts_word s (codes "SUCCEEDS")) (reads_word r (codes "PRECEDES")) (reads_word s (codes "SUCCEEDS"))
 
 abbrev IsImmediate : Language PeriodPredicate

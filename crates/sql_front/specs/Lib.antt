@@ -10,7 +10,7 @@ pub mod PieceRefusals
 pub mod Laws
 pub mod reading
 pub mod Marks
-pub mod Placeholders
+pub mod StandIns
 pub mod Quoting
 pub mod LiteralTests
 pub mod LiteralRefusals

@@ -20,7 +20,7 @@ use crate::conditions::read_where;
 use crate::leaves::{read_clock_moment, read_date, read_literal, read_name, read_names};
 use crate::list::{Item, separated};
 use crate::mark::{Mark, skip, starts};
-use crate::unread::ReadError;
+use crate::unread::Unread;
 use period_core::{Day, Value};
 use sql_statements::clock_moment::ClockMoment;
 use sql_statements::name::Name;
@@ -32,7 +32,7 @@ use std::alloc::Global;
 
 /// AT with a moment, and the tokens after it.
 #[tactic(auto, unfolding(crate::specs::reading::ChangeReaders::at_read))]
-pub fn read_at<'a, 'b>(tokens: &'b [Token<'a>]) -> Result<(ClockMoment, &'b [Token<'a>]), ReadError>
+pub fn read_at<'a, 'b>(tokens: &'b [Token<'a>]) -> Result<(ClockMoment, &'b [Token<'a>]), Unread>
     ensures value { Gives (λ x. (x.0, lexemes x.1.now)) result (at_read (lexemes tokens.now)) }
     ensures rest { IfOk result (λ x. length x.1.now ≤ length tokens.now) }
 {
@@ -44,7 +44,7 @@ pub fn read_at<'a, 'b>(tokens: &'b [Token<'a>]) -> Result<(ClockMoment, &'b [Tok
 fn read_columns<'a, 'b>(
     alloc: Global,
     tokens: &'b [Token<'a>],
-) -> Result<(Option<NonEmpty<Name>>, &'b [Token<'a>]), ReadError>
+) -> Result<(Option<NonEmpty<Name>>, &'b [Token<'a>]), Unread>
     ensures value { Gives (λ x. (x.0, lexemes x.1.now)) result (columns_read (lexemes tokens.now)) }
     ensures rest { IfOk result (λ x. length x.1.now ≤ length tokens.now) }
 {
@@ -59,7 +59,7 @@ fn read_columns<'a, 'b>(
 fn read_rows<'a, 'b>(
     alloc: Global,
     tokens: &'b [Token<'a>],
-) -> Result<(NonEmpty<NonEmpty<Value>>, &'b [Token<'a>]), ReadError>
+) -> Result<(NonEmpty<NonEmpty<Value>>, &'b [Token<'a>]), Unread>
     ensures value { Gives (λ x. (x.0, lexemes x.1.now)) result
         (separated_read comma tuple_read (lexemes tokens.now)) }
     ensures rest { IfOk result (λ x. length x.1.now ≤ length tokens.now) }
@@ -73,7 +73,7 @@ fn read_rows<'a, 'b>(
 fn read_values<'a, 'b>(
     alloc: Global,
     tokens: &'b [Token<'a>],
-) -> Result<(NonEmpty<NonEmpty<Value>>, &'b [Token<'a>]), ReadError>
+) -> Result<(NonEmpty<NonEmpty<Value>>, &'b [Token<'a>]), Unread>
     ensures value { Gives (λ x. (x.0, lexemes x.1.now)) result (values_read (lexemes tokens.now)) }
     ensures rest { IfOk result (λ x. length x.1.now ≤ length tokens.now) }
 {
@@ -85,7 +85,7 @@ fn read_values<'a, 'b>(
 fn read_inserted<'a, 'b>(
     alloc: Global,
     tokens: &'b [Token<'a>],
-) -> Result<(InsertRows, &'b [Token<'a>]), ReadError>
+) -> Result<(InsertRows, &'b [Token<'a>]), Unread>
     ensures value { Gives (λ x. (x.0, lexemes x.1.now)) result
         (inserted_read (lexemes tokens.now)) }
     ensures rest { IfOk result (λ x. length x.1.now ≤ length tokens.now) }
@@ -108,7 +108,7 @@ fn read_inserted<'a, 'b>(
 pub fn read_insert<'a, 'b>(
     alloc: Global,
     tokens: &'b [Token<'a>],
-) -> Result<(InsertRows, &'b [Token<'a>]), ReadError>
+) -> Result<(InsertRows, &'b [Token<'a>]), Unread>
     ensures value { Gives (λ x. (x.0, lexemes x.1.now)) result (insert_read (lexemes tokens.now)) }
     ensures rest { IfOk result (λ x. length x.1.now ≤ length tokens.now) }
 {
@@ -118,7 +118,7 @@ pub fn read_insert<'a, 'b>(
 
 /// FROM a day TO another, and the tokens after them.
 #[tactic(auto, unfolding(crate::specs::reading::ChangeReaders::bounds_read))]
-fn read_bounds<'a, 'b>(tokens: &'b [Token<'a>]) -> Result<((Day, Day), &'b [Token<'a>]), ReadError>
+fn read_bounds<'a, 'b>(tokens: &'b [Token<'a>]) -> Result<((Day, Day), &'b [Token<'a>]), Unread>
     ensures value { Gives (λ x. (x.0, lexemes x.1.now)) result (bounds_read (lexemes tokens.now)) }
     ensures rest { IfOk result (λ x. length x.1.now ≤ length tokens.now) }
 {
@@ -137,7 +137,7 @@ fn read_bounds<'a, 'b>(tokens: &'b [Token<'a>]) -> Result<((Day, Day), &'b [Toke
 fn read_named_portion<'a, 'b>(
     alloc: Global,
     tokens: &'b [Token<'a>],
-) -> Result<(Portion, &'b [Token<'a>]), ReadError>
+) -> Result<(Portion, &'b [Token<'a>]), Unread>
     ensures value { Gives (λ x. (x.0, lexemes x.1.now)) result
         (named_portion_read (lexemes tokens.now)) }
     ensures rest { IfOk result (λ x. length x.1.now ≤ length tokens.now) }
@@ -153,7 +153,7 @@ fn read_named_portion<'a, 'b>(
 fn read_in_portion<'a, 'b>(
     alloc: Global,
     tokens: &'b [Token<'a>],
-) -> Result<(Portion, &'b [Token<'a>]), ReadError>
+) -> Result<(Portion, &'b [Token<'a>]), Unread>
     ensures value { Gives (λ x. (x.0, lexemes x.1.now)) result
         (in_portion_read (lexemes tokens.now)) }
     ensures rest { IfOk result (λ x. length x.1.now ≤ length tokens.now) }
@@ -168,7 +168,7 @@ fn read_in_portion<'a, 'b>(
 pub fn read_portion<'a, 'b>(
     alloc: Global,
     tokens: &'b [Token<'a>],
-) -> Result<(Option<Portion>, &'b [Token<'a>]), ReadError>
+) -> Result<(Option<Portion>, &'b [Token<'a>]), Unread>
     ensures value { Gives (λ x. (x.0, lexemes x.1.now)) result (portion_read (lexemes tokens.now)) }
     ensures rest { IfOk result (λ x. length x.1.now ≤ length tokens.now) }
 {
@@ -191,7 +191,7 @@ impl<'a> Item<'a> for Assignment {
         alloc: Global,
         _depth: usize,
         tokens: &'b [Token<'a>],
-    ) -> Result<(Self, &'b [Token<'a>]), ReadError> {
+    ) -> Result<(Self, &'b [Token<'a>]), Unread> {
         let (column, rest) = read_name(alloc, tokens)?;
         let (value, rest) = read_literal(alloc, skip(rest, Mark::Symbol("="))?)?;
         Ok((Assignment { column, value }, rest))
@@ -202,7 +202,7 @@ impl<'a> Item<'a> for Assignment {
 fn read_assignments<'a, 'b>(
     alloc: Global,
     tokens: &'b [Token<'a>],
-) -> Result<(NonEmpty<Assignment>, &'b [Token<'a>]), ReadError>
+) -> Result<(NonEmpty<Assignment>, &'b [Token<'a>]), Unread>
     ensures value { Gives (λ x. (x.0, lexemes x.1.now)) result
         (separated_read comma assignment_read (lexemes tokens.now)) }
     ensures rest { IfOk result (λ x. length x.1.now ≤ length tokens.now) }
@@ -223,7 +223,7 @@ fn read_set<'a, 'b>(
         (NonEmpty<Assignment>, Option<Tree<Compare>>),
         &'b [Token<'a>],
     ),
-    ReadError,
+    Unread,
 >
     ensures value { Gives (λ x. ((x.0.0, option_map plain_condition x.0.1), lexemes x.1.now)) result
         (set_read depth (lexemes tokens.now)) }
@@ -240,7 +240,7 @@ pub fn read_update<'a, 'b>(
     alloc: Global,
     depth: usize,
     tokens: &'b [Token<'a>],
-) -> Result<(UpdateRows, &'b [Token<'a>]), ReadError>
+) -> Result<(UpdateRows, &'b [Token<'a>]), Unread>
     ensures value { Gives (λ x. (plain_update x.0, lexemes x.1.now)) result
         (update_read depth (lexemes tokens.now)) }
     ensures rest { IfOk result (λ x. length x.1.now ≤ length tokens.now) }
@@ -266,7 +266,7 @@ fn read_deleted<'a, 'b>(
     alloc: Global,
     depth: usize,
     tokens: &'b [Token<'a>],
-) -> Result<(DeleteRows, &'b [Token<'a>]), ReadError>
+) -> Result<(DeleteRows, &'b [Token<'a>]), Unread>
     ensures value { Gives (λ x. (plain_delete x.0, lexemes x.1.now)) result
         (deleted_read depth (lexemes tokens.now)) }
     ensures rest { IfOk result (λ x. length x.1.now ≤ length tokens.now) }
@@ -290,7 +290,7 @@ pub fn read_delete<'a, 'b>(
     alloc: Global,
     depth: usize,
     tokens: &'b [Token<'a>],
-) -> Result<(DeleteRows, &'b [Token<'a>]), ReadError>
+) -> Result<(DeleteRows, &'b [Token<'a>]), Unread>
     ensures value { Gives (λ x. (plain_delete x.0, lexemes x.1.now)) result
         (delete_read depth (lexemes tokens.now)) }
     ensures rest { IfOk result (λ x. length x.1.now ≤ length tokens.now) }

@@ -11,14 +11,14 @@ ghost use Rattle.sql_front.specs.reading.Reading.{optional_read};
 
 use crate::leaves::{read_name, read_number};
 use crate::mark::{Mark, after, skip, starts};
-use crate::unread::ReadError;
+use crate::unread::Unread;
 use sql_statements::create::{ColumnElement, Generated, TypeName};
 use sql_statements::token::Token;
 use std::alloc::Global;
 
 // A number in parentheses.
 #[tactic(auto, unfolding(crate::specs::reading::ElementReaders::length_read))]
-fn read_length<'a, 'b>(tokens: &'b [Token<'a>]) -> Result<(u64, &'b [Token<'a>]), ReadError>
+fn read_length<'a, 'b>(tokens: &'b [Token<'a>]) -> Result<(u64, &'b [Token<'a>]), Unread>
     ensures value { Gives (λ x. (x.0, lexemes x.1.now)) result (length_read (lexemes tokens.now)) }
     ensures rest { IfOk result (λ x. length x.1.now ≤ length tokens.now) }
 {
@@ -28,7 +28,7 @@ fn read_length<'a, 'b>(tokens: &'b [Token<'a>]) -> Result<(u64, &'b [Token<'a>])
 
 // TIMESTAMP with a precision or without.
 #[tactic(auto, unfolding(crate::specs::reading::ElementReaders::timestamp_read))]
-fn read_timestamp<'a, 'b>(tokens: &'b [Token<'a>]) -> Result<(TypeName, &'b [Token<'a>]), ReadError>
+fn read_timestamp<'a, 'b>(tokens: &'b [Token<'a>]) -> Result<(TypeName, &'b [Token<'a>]), Unread>
     ensures value { Gives (λ x. (x.0, lexemes x.1.now)) result
         (timestamp_read (lexemes tokens.now)) }
     ensures rest { IfOk result (λ x. length x.1.now ≤ length tokens.now) }
@@ -43,7 +43,7 @@ fn read_timestamp<'a, 'b>(tokens: &'b [Token<'a>]) -> Result<(TypeName, &'b [Tok
 
 // A type by its keywords.
 #[tactic(auto, unfolding(crate::specs::reading::ElementReaders::type_read))]
-fn read_type<'a, 'b>(tokens: &'b [Token<'a>]) -> Result<(TypeName, &'b [Token<'a>]), ReadError>
+fn read_type<'a, 'b>(tokens: &'b [Token<'a>]) -> Result<(TypeName, &'b [Token<'a>]), Unread>
     ensures value { Gives (λ x. (x.0, lexemes x.1.now)) result (type_read (lexemes tokens.now)) }
     ensures rest { IfOk result (λ x. length x.1.now ≤ length tokens.now) }
 {
@@ -66,7 +66,7 @@ fn read_type<'a, 'b>(tokens: &'b [Token<'a>]) -> Result<(TypeName, &'b [Token<'a
 
 // START or END.
 #[tactic(auto, unfolding(crate::specs::reading::ElementReaders::row_end_read))]
-fn read_row_end<'a, 'b>(tokens: &'b [Token<'a>]) -> Result<(Generated, &'b [Token<'a>]), ReadError>
+fn read_row_end<'a, 'b>(tokens: &'b [Token<'a>]) -> Result<(Generated, &'b [Token<'a>]), Unread>
     ensures value { Gives (λ x. (x.0, lexemes x.1.now)) result (row_end_read (lexemes tokens.now)) }
     ensures rest { IfOk result (λ x. length x.1.now ≤ length tokens.now) }
 {
@@ -80,7 +80,7 @@ fn read_row_end<'a, 'b>(tokens: &'b [Token<'a>]) -> Result<(Generated, &'b [Toke
 #[tactic(auto, unfolding(crate::specs::reading::ElementReaders::generated_read))]
 fn read_generated<'a, 'b>(
     tokens: &'b [Token<'a>],
-) -> Result<(Option<Generated>, &'b [Token<'a>]), ReadError>
+) -> Result<(Option<Generated>, &'b [Token<'a>]), Unread>
     ensures value { Gives (λ x. (x.0, lexemes x.1.now)) result
         (optional_read (keyword (codes "GENERATED")) generated_read (lexemes tokens.now)) }
     ensures rest { IfOk result (λ x. length x.1.now ≤ length tokens.now) }
@@ -96,9 +96,7 @@ fn read_generated<'a, 'b>(
 
 // NOT NULL or nothing.
 #[tactic(auto, unfolding(crate::specs::reading::ElementReaders::not_null_read))]
-fn read_not_null<'a, 'b>(
-    tokens: &'b [Token<'a>],
-) -> Result<(Option<()>, &'b [Token<'a>]), ReadError>
+fn read_not_null<'a, 'b>(tokens: &'b [Token<'a>]) -> Result<(Option<()>, &'b [Token<'a>]), Unread>
     ensures value { Gives (λ x. (x.0, lexemes x.1.now)) result
         (optional_read (keyword (codes "NOT")) not_null_read (lexemes tokens.now)) }
     ensures rest { IfOk result (λ x. length x.1.now ≤ length tokens.now) }
@@ -114,7 +112,7 @@ fn read_not_null<'a, 'b>(
 pub fn read_column_element<'a, 'b>(
     alloc: Global,
     tokens: &'b [Token<'a>],
-) -> Result<(ColumnElement, &'b [Token<'a>]), ReadError>
+) -> Result<(ColumnElement, &'b [Token<'a>]), Unread>
     ensures value { Gives (λ x. (x.0, lexemes x.1.now)) result
         (column_element_read (lexemes tokens.now)) }
     ensures rest { IfOk result (λ x. length x.1.now ≤ length tokens.now) }

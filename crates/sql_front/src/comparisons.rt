@@ -9,7 +9,7 @@ ghost use Rattle.sql_statements.specs.Lexemes.{lexemes};
 use crate::conditions::Test;
 use crate::leaves::{read_literal, read_name};
 use crate::mark::{Mark, after, skip, starts_name};
-use crate::unread::ReadError;
+use crate::unread::Unread;
 use sql_statements::statement::{ColumnReference, Compare, Comparison, Operand};
 use sql_statements::token::Token;
 use std::alloc::Global;
@@ -19,7 +19,7 @@ use std::alloc::Global;
 pub fn read_column<'a, 'b>(
     alloc: Global,
     tokens: &'b [Token<'a>],
-) -> Result<(ColumnReference, &'b [Token<'a>]), ReadError>
+) -> Result<(ColumnReference, &'b [Token<'a>]), Unread>
     ensures value { Gives (λ x. (x.0, lexemes x.1.now)) result (column_read (lexemes tokens.now)) }
     ensures rest { IfOk result (λ x. length x.1.now ≤ length tokens.now) }
 {
@@ -43,7 +43,7 @@ pub fn read_column<'a, 'b>(
 fn read_operand<'a, 'b>(
     alloc: Global,
     tokens: &'b [Token<'a>],
-) -> Result<(Operand, &'b [Token<'a>]), ReadError>
+) -> Result<(Operand, &'b [Token<'a>]), Unread>
     ensures value { Gives (λ x. (x.0, lexemes x.1.now)) result (operand_read (lexemes tokens.now)) }
     ensures rest { IfOk result (λ x. length x.1.now ≤ length tokens.now) }
 {
@@ -56,9 +56,7 @@ fn read_operand<'a, 'b>(
 }
 
 #[tactic(auto, unfolding(crate::specs::reading::ConditionReaders::comparison_read))]
-fn read_comparison<'a, 'b>(
-    tokens: &'b [Token<'a>],
-) -> Result<(Comparison, &'b [Token<'a>]), ReadError>
+fn read_comparison<'a, 'b>(tokens: &'b [Token<'a>]) -> Result<(Comparison, &'b [Token<'a>]), Unread>
     ensures value { Gives (λ x. (x.0, lexemes x.1.now)) result
         (comparison_read (lexemes tokens.now)) }
     ensures rest { IfOk result (λ x. length x.1.now ≤ length tokens.now) }
@@ -89,7 +87,7 @@ fn read_comparison<'a, 'b>(
 pub fn read_compare<'a, 'b>(
     alloc: Global,
     tokens: &'b [Token<'a>],
-) -> Result<(Compare, &'b [Token<'a>]), ReadError>
+) -> Result<(Compare, &'b [Token<'a>]), Unread>
     ensures value { Gives (λ x. (x.0, lexemes x.1.now)) result (compare_read (lexemes tokens.now)) }
     ensures rest { IfOk result (λ x. length x.1.now ≤ length tokens.now) }
 {
@@ -110,7 +108,7 @@ impl Test for Compare {
     fn read<'a, 'b>(
         alloc: Global,
         tokens: &'b [Token<'a>],
-    ) -> Result<(Self, &'b [Token<'a>]), ReadError> {
+    ) -> Result<(Self, &'b [Token<'a>]), Unread> {
         read_compare(alloc, tokens)
     }
 }

@@ -12,7 +12,7 @@ ghost use Rattle.sql_statements.specs.Plain.{plain_condition};
 ghost use Rattle.sql_statements.specs.Trees.{test};
 
 use crate::mark::{Mark, after, skip, starts};
-use crate::unread::ReadError;
+use crate::unread::Unread;
 use sql_statements::token::Token;
 use sql_statements::tree::Tree;
 use std::alloc::Global;
@@ -25,18 +25,14 @@ pub trait Test: Sized + Drop {
     fn read<'a, 'b>(
         alloc: Global,
         tokens: &'b [Token<'a>],
-    ) -> Result<(Self, &'b [Token<'a>]), ReadError>
+    ) -> Result<(Self, &'b [Token<'a>]), Unread>
         ensures value { Gives (λ x. (x.0, lexemes x.1.now)) result (reader (lexemes tokens.now)) }
         ensures rest { IfOk result (λ x. length x.1.now ≤ length tokens.now) };
 }
 
 /// The chain of OR of the first part and of the others after it.
 #[tactic(auto, using(crate::proofs::ConditionViews::or_view))]
-fn or_chain<T: Drop>(
-    alloc: Global,
-    first: Tree<T>,
-    others: Vec<Tree<T>>,
-) -> Result<Tree<T>, ReadError>
+fn or_chain<T: Drop>(alloc: Global, first: Tree<T>, others: Vec<Tree<T>>) -> Result<Tree<T>, Unread>
     ensures { Gives plain_condition result
         (Some (any_of (plain_condition first ∷ map plain_condition others.items))) }
 {
@@ -49,7 +45,7 @@ fn and_chain<T: Drop>(
     alloc: Global,
     first: Tree<T>,
     others: Vec<Tree<T>>,
-) -> Result<Tree<T>, ReadError>
+) -> Result<Tree<T>, Unread>
     ensures { Gives plain_condition result
         (Some (all_of (plain_condition first ∷ map plain_condition others.items))) }
 {
@@ -71,7 +67,7 @@ pub fn read_condition<'a, 'b, T: Test>(
     alloc: Global,
     depth: usize,
     tokens: &'b [Token<'a>],
-) -> Result<(Tree<T>, &'b [Token<'a>]), ReadError>
+) -> Result<(Tree<T>, &'b [Token<'a>]), Unread>
     ensures value { Gives (λ x. (plain_condition x.0, lexemes x.1.now)) result
         (condition_read T.reader depth (lexemes tokens.now)) }
     ensures rest { IfOk result (λ x. length x.1.now ≤ length tokens.now) }
@@ -92,7 +88,7 @@ fn read_conjunction<'a, 'b, T: Test>(
     alloc: Global,
     depth: usize,
     tokens: &'b [Token<'a>],
-) -> Result<(Tree<T>, &'b [Token<'a>]), ReadError>
+) -> Result<(Tree<T>, &'b [Token<'a>]), Unread>
     ensures value { Gives (λ x. (plain_condition x.0, lexemes x.1.now)) result
         (conjunction_read T.reader depth (lexemes tokens.now)) }
     ensures rest { IfOk result (λ x. length x.1.now ≤ length tokens.now) }
@@ -113,7 +109,7 @@ fn read_factor<'a, 'b, T: Test>(
     alloc: Global,
     depth: usize,
     tokens: &'b [Token<'a>],
-) -> Result<(Tree<T>, &'b [Token<'a>]), ReadError>
+) -> Result<(Tree<T>, &'b [Token<'a>]), Unread>
     ensures value { Gives (λ x. (plain_condition x.0, lexemes x.1.now)) result
         (factor_read T.reader depth (lexemes tokens.now)) }
     ensures rest { IfOk result (λ x. length x.1.now ≤ length tokens.now) }
@@ -131,7 +127,7 @@ fn read_test<'a, 'b, T: Test>(
     alloc: Global,
     depth: usize,
     tokens: &'b [Token<'a>],
-) -> Result<(Tree<T>, &'b [Token<'a>]), ReadError>
+) -> Result<(Tree<T>, &'b [Token<'a>]), Unread>
     ensures value { Gives (λ x. (plain_condition x.0, lexemes x.1.now)) result
         (test_read T.reader depth (lexemes tokens.now)) }
     ensures rest { IfOk result (λ x. length x.1.now ≤ length tokens.now) }
@@ -158,13 +154,13 @@ fn read_nested<'a, 'b, T: Test>(
     alloc: Global,
     depth: usize,
     tokens: &'b [Token<'a>],
-) -> Result<(Tree<T>, &'b [Token<'a>]), ReadError>
+) -> Result<(Tree<T>, &'b [Token<'a>]), Unread>
     ensures value { Gives (λ x. (plain_condition x.0, lexemes x.1.now)) result
         (inner_read T.reader depth (lexemes tokens.now)) }
     ensures rest { IfOk result (λ x. length x.1.now ≤ length tokens.now) }
 {
     if depth == 0 {
-        return Err(ReadError::Syntax);
+        return Err(Unread::Syntax);
     }
     read_condition::<T>(alloc, depth - 1, tokens)
 }
@@ -175,7 +171,7 @@ pub fn read_where<'a, 'b, T: Test>(
     alloc: Global,
     depth: usize,
     tokens: &'b [Token<'a>],
-) -> Result<(Option<Tree<T>>, &'b [Token<'a>]), ReadError>
+) -> Result<(Option<Tree<T>>, &'b [Token<'a>]), Unread>
     ensures value { Gives (λ x. (option_map plain_condition x.0, lexemes x.1.now)) result
         (where_read T.reader depth (lexemes tokens.now)) }
     ensures rest { IfOk result (λ x. length x.1.now ≤ length tokens.now) }

@@ -17,7 +17,7 @@ use crate::digits::{negative_value, number_value};
 use crate::list::{Item, separated};
 use crate::mark::{Mark, name, number, skip, skip_optional, starts, starts_text, text};
 use crate::texts::text_of;
-use crate::unread::ReadError;
+use crate::unread::Unread;
 use period_core::{Day, Moment, Value};
 use sql_statements::clock_moment::ClockMoment;
 use sql_statements::name::Name;
@@ -30,20 +30,20 @@ use std::alloc::Global;
 pub fn read_name<'a, 'b>(
     alloc: Global,
     tokens: &'b [Token<'a>],
-) -> Result<(Name, &'b [Token<'a>]), ReadError>
+) -> Result<(Name, &'b [Token<'a>]), Unread>
     ensures value { Gives (λ x. (x.0, lexemes x.1.now)) result (name_read (lexemes tokens.now)) }
     ensures rest { IfOk result (λ x. length x.1.now ≤ length tokens.now) }
 {
     let (word, rest) = name(tokens)?;
     match Name::of_word(alloc, word) {
         Ok(name) => Ok((name, rest)),
-        Err(_) => Err(ReadError::Memory),
+        Err(_) => Err(Unread::Memory),
     }
 }
 
 /// A number, and the tokens after it.
 #[tactic(auto, unfolding(crate::specs::reading::Leaves::number_read))]
-pub fn read_number<'a, 'b>(tokens: &'b [Token<'a>]) -> Result<(u64, &'b [Token<'a>]), ReadError>
+pub fn read_number<'a, 'b>(tokens: &'b [Token<'a>]) -> Result<(u64, &'b [Token<'a>]), Unread>
     ensures value { Gives (λ x. (x.0, lexemes x.1.now)) result (number_read (lexemes tokens.now)) }
     ensures fits { IfOk result (λ x. x.0 ≤ greatest_number) }
     ensures rest { IfOk result (λ x. length x.1.now ≤ length tokens.now) }
@@ -54,7 +54,7 @@ pub fn read_number<'a, 'b>(tokens: &'b [Token<'a>]) -> Result<(u64, &'b [Token<'
 
 /// A moment, and the tokens after it.
 #[tactic(auto, unfolding(crate::specs::reading::Leaves::moment_read))]
-pub fn read_moment<'a, 'b>(tokens: &'b [Token<'a>]) -> Result<(Moment, &'b [Token<'a>]), ReadError>
+pub fn read_moment<'a, 'b>(tokens: &'b [Token<'a>]) -> Result<(Moment, &'b [Token<'a>]), Unread>
     ensures value { Gives (λ x. (x.0, lexemes x.1.now)) result (moment_read (lexemes tokens.now)) }
     ensures rest { IfOk result (λ x. length x.1.now ≤ length tokens.now) }
 {
@@ -66,7 +66,7 @@ pub fn read_moment<'a, 'b>(tokens: &'b [Token<'a>]) -> Result<(Moment, &'b [Toke
 #[tactic(auto, unfolding(crate::specs::reading::Leaves::clock_moment_read))]
 pub fn read_clock_moment<'a, 'b>(
     tokens: &'b [Token<'a>],
-) -> Result<(ClockMoment, &'b [Token<'a>]), ReadError>
+) -> Result<(ClockMoment, &'b [Token<'a>]), Unread>
     ensures value { Gives (λ x. (x.0, lexemes x.1.now)) result
         (clock_moment_read (lexemes tokens.now)) }
     ensures rest { IfOk result (λ x. length x.1.now ≤ length tokens.now) }
@@ -77,7 +77,7 @@ pub fn read_clock_moment<'a, 'b>(
 
 /// A date, and the tokens after it.
 #[tactic(auto, unfolding(crate::specs::reading::Leaves::date_read))]
-pub fn read_date<'a, 'b>(tokens: &'b [Token<'a>]) -> Result<(Day, &'b [Token<'a>]), ReadError>
+pub fn read_date<'a, 'b>(tokens: &'b [Token<'a>]) -> Result<(Day, &'b [Token<'a>]), Unread>
     ensures value { Gives (λ x. (x.0, lexemes x.1.now)) result (date_read (lexemes tokens.now)) }
     ensures rest { IfOk result (λ x. length x.1.now ≤ length tokens.now) }
 {
@@ -87,7 +87,7 @@ pub fn read_date<'a, 'b>(tokens: &'b [Token<'a>]) -> Result<(Day, &'b [Token<'a>
 
 /// A number without a minus as a value, and the tokens after it.
 #[tactic(auto, unfolding(crate::specs::reading::Leaves::unsigned_read))]
-fn read_unsigned<'a, 'b>(tokens: &'b [Token<'a>]) -> Result<(Value, &'b [Token<'a>]), ReadError>
+fn read_unsigned<'a, 'b>(tokens: &'b [Token<'a>]) -> Result<(Value, &'b [Token<'a>]), Unread>
     ensures value { Gives (λ x. (x.0, lexemes x.1.now)) result
         (unsigned_read (lexemes tokens.now)) }
     ensures rest { IfOk result (λ x. length x.1.now ≤ length tokens.now) }
@@ -100,7 +100,7 @@ fn read_unsigned<'a, 'b>(tokens: &'b [Token<'a>]) -> Result<(Value, &'b [Token<'
 fn read_text<'a, 'b>(
     alloc: Global,
     tokens: &'b [Token<'a>],
-) -> Result<(Value, &'b [Token<'a>]), ReadError>
+) -> Result<(Value, &'b [Token<'a>]), Unread>
     ensures value { Gives (λ x. (x.0, lexemes x.1.now)) result
         (built_read builders.text_of (one_read language.text) (lexemes tokens.now)) }
     ensures rest { IfOk result (λ x. length x.1.now ≤ length tokens.now) }
@@ -108,7 +108,7 @@ fn read_text<'a, 'b>(
     let (token, rest) = text(tokens)?;
     match text_of(alloc, token) {
         Ok(value) => Ok((Value::Text(value), rest)),
-        Err(_) => Err(ReadError::Memory),
+        Err(_) => Err(Unread::Memory),
     }
 }
 
@@ -117,7 +117,7 @@ fn read_text<'a, 'b>(
 pub fn read_literal<'a, 'b>(
     alloc: Global,
     tokens: &'b [Token<'a>],
-) -> Result<(Value, &'b [Token<'a>]), ReadError>
+) -> Result<(Value, &'b [Token<'a>]), Unread>
     ensures value { Gives (λ x. (x.0, lexemes x.1.now)) result (literal_read (lexemes tokens.now)) }
     ensures rest { IfOk result (λ x. length x.1.now ≤ length tokens.now) }
 {
@@ -148,7 +148,7 @@ impl<'a> Item<'a> for Name {
         alloc: Global,
         _depth: usize,
         tokens: &'b [Token<'a>],
-    ) -> Result<(Self, &'b [Token<'a>]), ReadError> {
+    ) -> Result<(Self, &'b [Token<'a>]), Unread> {
         read_name(alloc, tokens)
     }
 }
@@ -164,7 +164,7 @@ impl<'a> Item<'a> for Value {
         alloc: Global,
         _depth: usize,
         tokens: &'b [Token<'a>],
-    ) -> Result<(Self, &'b [Token<'a>]), ReadError> {
+    ) -> Result<(Self, &'b [Token<'a>]), Unread> {
         read_literal(alloc, tokens)
     }
 }
@@ -174,7 +174,7 @@ impl<'a> Item<'a> for Value {
 pub fn read_names<'a, 'b>(
     alloc: Global,
     tokens: &'b [Token<'a>],
-) -> Result<(NonEmpty<Name>, &'b [Token<'a>]), ReadError>
+) -> Result<(NonEmpty<Name>, &'b [Token<'a>]), Unread>
     ensures value { Gives (λ x. (x.0, lexemes x.1.now)) result (names_read (lexemes tokens.now)) }
     ensures rest { IfOk result (λ x. length x.1.now ≤ length tokens.now) }
 {
@@ -188,7 +188,7 @@ pub fn read_names<'a, 'b>(
 pub fn read_tuple<'a, 'b>(
     alloc: Global,
     tokens: &'b [Token<'a>],
-) -> Result<(NonEmpty<Value>, &'b [Token<'a>]), ReadError>
+) -> Result<(NonEmpty<Value>, &'b [Token<'a>]), Unread>
     ensures value { Gives (λ x. (x.0, lexemes x.1.now)) result (tuple_read (lexemes tokens.now)) }
     ensures rest { IfOk result (λ x. length x.1.now ≤ length tokens.now) }
 {
@@ -208,7 +208,7 @@ impl<'a> Item<'a> for NonEmpty<Value> {
         alloc: Global,
         _depth: usize,
         tokens: &'b [Token<'a>],
-    ) -> Result<(Self, &'b [Token<'a>]), ReadError> {
+    ) -> Result<(Self, &'b [Token<'a>]), Unread> {
         read_tuple(alloc, tokens)
     }
 }

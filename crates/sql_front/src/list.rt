@@ -7,7 +7,7 @@ ghost use Rattle.sql_front.specs.reading.Reading.{separated_read};
 ghost use Rattle.sql_front.specs.reading.Gives.{Gives};
 
 use crate::mark::{Mark, skip, starts};
-use crate::unread::ReadError;
+use crate::unread::Unread;
 use sql_statements::token::Token;
 use std::alloc::Global;
 
@@ -24,7 +24,7 @@ pub trait Item<'a>: Sized + Drop {
         alloc: Global,
         depth: usize,
         tokens: &'b [Token<'a>],
-    ) -> Result<(Self, &'b [Token<'a>]), ReadError>
+    ) -> Result<(Self, &'b [Token<'a>]), Unread>
         ensures value { Gives (λ x. (view x.0, lexemes x.1.now)) result
             (reader depth (lexemes tokens.now)) }
         ensures rest { IfOk result (λ x. length x.1.now ≤ length tokens.now) };
@@ -35,7 +35,7 @@ pub fn separated<'a, 'b, T: Item<'a>>(
     alloc: Global,
     depth: usize,
     tokens: &'b [Token<'a>],
-) -> Result<(Vec<T>, &'b [Token<'a>]), ReadError>
+) -> Result<(Vec<T>, &'b [Token<'a>]), Unread>
     ensures value { Gives (λ x. (map T.view x.0.items, lexemes x.1.now)) result
         (separated_read (symbol (codes ",")) (T.reader depth) (lexemes tokens.now)) }
     ensures rest { IfOk result (λ x. length x.1.now ≤ length tokens.now) }

@@ -10,7 +10,7 @@ ghost use Rattle.sql_front.specs.reading.Reading.{one_read};
 ghost use Rattle.sql_front.specs.Marks.{mark};
 ghost use Rattle.sql_front.specs.reading.Gives.{Gives};
 
-use crate::unread::ReadError;
+use crate::unread::Unread;
 use sql_statements::token::{Token, TokenKind};
 use sql_statements::word_text::is_plain_word;
 use sql_statements::words::is_same_word;
@@ -55,14 +55,14 @@ pub fn third(tokens: &[Token<'_>], want: Mark<'_>) -> bool
 }
 
 /// The tokens after this mark.
-pub fn skip<'a, 'b>(tokens: &'b [Token<'a>], want: Mark<'_>) -> Result<&'b [Token<'a>], ReadError>
+pub fn skip<'a, 'b>(tokens: &'b [Token<'a>], want: Mark<'_>) -> Result<&'b [Token<'a>], Unread>
     ensures value { Gives (λ rest. (tt, lexemes rest.now)) result
         (fixed_read (mark want.entry) (lexemes tokens.now)) }
     ensures rest { IfOk result (λ r. length r.now < length tokens.now) }
 {
     match tokens {
         [first, rest @ ..] if is_mark(first, want) => Ok(rest),
-        _ => Err(ReadError::Syntax),
+        _ => Err(Unread::Syntax),
     }
 }
 
@@ -97,7 +97,7 @@ fn is_name(token: &Token<'_>) -> bool
 }
 
 /// A name, as it is written, and the tokens after it.
-pub fn name<'a, 'b>(tokens: &'b [Token<'a>]) -> Result<(&'a str, &'b [Token<'a>]), ReadError>
+pub fn name<'a, 'b>(tokens: &'b [Token<'a>]) -> Result<(&'a str, &'b [Token<'a>]), Unread>
     ensures value { Gives (λ x. (x.0.now, lexemes x.1.now)) result
         (one_read name (lexemes tokens.now)) }
     ensures rest { IfOk result (λ x. length x.1.now < length tokens.now) }
@@ -105,31 +105,31 @@ pub fn name<'a, 'b>(tokens: &'b [Token<'a>]) -> Result<(&'a str, &'b [Token<'a>]
 {
     match tokens {
         [first, rest @ ..] if is_name(first) => Ok((first.text, rest)),
-        _ => Err(ReadError::Syntax),
+        _ => Err(Unread::Syntax),
     }
 }
 
 /// A number's digits, and the tokens after it.
-pub fn number<'a, 'b>(tokens: &'b [Token<'a>]) -> Result<(&'a str, &'b [Token<'a>]), ReadError>
+pub fn number<'a, 'b>(tokens: &'b [Token<'a>]) -> Result<(&'a str, &'b [Token<'a>]), Unread>
     ensures value { Gives (λ x. (x.0.now, lexemes x.1.now)) result
         (one_read number (lexemes tokens.now)) }
     ensures rest { IfOk result (λ x. length x.1.now < length tokens.now) }
 {
     match tokens {
         [first, rest @ ..] if first.kind == TokenKind::Number => Ok((first.text, rest)),
-        _ => Err(ReadError::Syntax),
+        _ => Err(Unread::Syntax),
     }
 }
 
 /// A text with its quotes, and the tokens after it.
-pub fn text<'a, 'b>(tokens: &'b [Token<'a>]) -> Result<(&'a str, &'b [Token<'a>]), ReadError>
+pub fn text<'a, 'b>(tokens: &'b [Token<'a>]) -> Result<(&'a str, &'b [Token<'a>]), Unread>
     ensures value { Gives (λ x. (x.0.now, lexemes x.1.now)) result
         (one_read text (lexemes tokens.now)) }
     ensures rest { IfOk result (λ x. length x.1.now < length tokens.now) }
 {
     match tokens {
         [first, rest @ ..] if first.kind == TokenKind::Text => Ok((first.text, rest)),
-        _ => Err(ReadError::Syntax),
+        _ => Err(Unread::Syntax),
     }
 }
 

@@ -14,7 +14,7 @@ use crate::comparisons::{read_column, read_compare};
 use crate::conditions::Test;
 use crate::leaves::read_date;
 use crate::mark::{Mark, after, is_mark, skip, starts, starts_name};
-use crate::unread::ReadError;
+use crate::unread::Unread;
 use period_core::Day;
 use sql_statements::statement::{PeriodOperand, PeriodPredicate, StoredTest};
 use sql_statements::token::Token;
@@ -22,7 +22,7 @@ use std::alloc::Global;
 
 /// Two days in parentheses, and the tokens after them.
 #[tactic(auto, unfolding(crate::specs::reading::PredicateReaders::dates_read))]
-fn read_dates<'a, 'b>(tokens: &'b [Token<'a>]) -> Result<((Day, Day), &'b [Token<'a>]), ReadError>
+fn read_dates<'a, 'b>(tokens: &'b [Token<'a>]) -> Result<((Day, Day), &'b [Token<'a>]), Unread>
     ensures value { Gives (λ x. (x.0, lexemes x.1.now)) result (dates_read (lexemes tokens.now)) }
     ensures rest { IfOk result (λ x. length x.1.now ≤ length tokens.now) }
 {
@@ -42,7 +42,7 @@ fn read_dates<'a, 'b>(tokens: &'b [Token<'a>]) -> Result<((Day, Day), &'b [Token
 fn read_period_operand<'a, 'b>(
     alloc: Global,
     tokens: &'b [Token<'a>],
-) -> Result<(PeriodOperand, &'b [Token<'a>]), ReadError>
+) -> Result<(PeriodOperand, &'b [Token<'a>]), Unread>
     ensures value { Gives (λ x. (x.0, lexemes x.1.now)) result
         (period_operand_read (lexemes tokens.now)) }
     ensures rest { IfOk result (λ x. length x.1.now ≤ length tokens.now) }
@@ -60,7 +60,7 @@ fn read_period_operand<'a, 'b>(
 #[tactic(auto, unfolding(crate::specs::reading::PredicateReaders::relation_read))]
 fn read_relation<'a, 'b>(
     tokens: &'b [Token<'a>],
-) -> Result<(PeriodPredicate, &'b [Token<'a>]), ReadError>
+) -> Result<(PeriodPredicate, &'b [Token<'a>]), Unread>
     ensures value { Gives (λ x. (x.0, lexemes x.1.now)) result
         (relation_read (lexemes tokens.now)) }
     ensures rest { IfOk result (λ x. length x.1.now ≤ length tokens.now) }
@@ -106,7 +106,7 @@ fn starts_contains_date(tokens: &[Token<'_>]) -> bool
 fn read_predicate<'a, 'b>(
     alloc: Global,
     tokens: &'b [Token<'a>],
-) -> Result<(StoredTest, &'b [Token<'a>]), ReadError>
+) -> Result<(StoredTest, &'b [Token<'a>]), Unread>
     ensures value { Gives (λ x. (x.0, lexemes x.1.now)) result
         (predicate_read (lexemes tokens.now)) }
     ensures rest { IfOk result (λ x. length x.1.now ≤ length tokens.now) }
@@ -163,7 +163,7 @@ fn is_predicate_ahead(tokens: &[Token<'_>]) -> bool
 pub fn read_stored_test<'a, 'b>(
     alloc: Global,
     tokens: &'b [Token<'a>],
-) -> Result<(StoredTest, &'b [Token<'a>]), ReadError>
+) -> Result<(StoredTest, &'b [Token<'a>]), Unread>
     ensures value { Gives (λ x. (x.0, lexemes x.1.now)) result
         (stored_test_read (lexemes tokens.now)) }
     ensures rest { IfOk result (λ x. length x.1.now ≤ length tokens.now) }
@@ -181,7 +181,7 @@ impl Test for StoredTest {
     fn read<'a, 'b>(
         alloc: Global,
         tokens: &'b [Token<'a>],
-    ) -> Result<(Self, &'b [Token<'a>]), ReadError> {
+    ) -> Result<(Self, &'b [Token<'a>]), Unread> {
         read_stored_test(alloc, tokens)
     }
 }

@@ -7,7 +7,7 @@ ghost use Rattle.sql_statements.specs.Lexemes.{lexemes};
 ghost use Rattle.sql_statements.specs.Plain.{plain_query, plain_select, plain_step, steps_of};
 ghost use Rattle.sql_front.specs.reading.Reading.{begins};
 ghost use Rattle.sql_statements.specs.Trees as trees;
-ghost use Rattle.sql_front.specs.reading.QueryReaders.{begins_set_operator, inner_query_read};
+ghost use Rattle.sql_front.specs.reading.QueryReaders.{begins_step, inner_query_read};
 ghost use Rattle.sql_front.specs.reading.QueryReaders.{intersection_read, intersections_read};
 ghost use Rattle.sql_front.specs.reading.QueryReaders.{operator_read, primary_read, query_read};
 ghost use Rattle.sql_front.specs.reading.QueryReaders.{sequenced_read, step_read, steps_read};
@@ -15,24 +15,22 @@ ghost use Rattle.sql_front.specs.reading.QueryReaders.{term_read};
 
 use crate::mark::{Mark, after, skip, skip_optional, starts};
 use crate::selects::read_select;
-use crate::unread::ReadError;
+use crate::unread::Unread;
 use sql_statements::statement::SelectDistinct;
 use sql_statements::token::Token;
 use sql_statements::tree::{QueryTree, SetOperator};
 use std::alloc::Global;
 
 /// Does UNION or EXCEPT come next?
-fn starts_set_operator(tokens: &[Token<'_>]) -> bool
-    ensures { result ≡ begins begins_set_operator (lexemes tokens.now) }
+fn starts_step(tokens: &[Token<'_>]) -> bool
+    ensures { result ≡ begins begins_step (lexemes tokens.now) }
 {
     starts(tokens, Mark::Keyword("UNION")) || starts(tokens, Mark::Keyword("EXCEPT"))
 }
 
 /// UNION or EXCEPT, and the tokens after it.
 #[tactic(auto, unfolding(crate::specs::reading::QueryReaders::operator_read))]
-fn read_operator<'a, 'b>(
-    tokens: &'b [Token<'a>],
-) -> Result<(SetOperator, &'b [Token<'a>]), ReadError>
+fn read_operator<'a, 'b>(tokens: &'b [Token<'a>]) -> Result<(SetOperator, &'b [Token<'a>]), Unread>
     ensures value { Gives (λ x. (x.0, lexemes x.1.now)) result
         (operator_read (lexemes tokens.now)) }
     ensures rest { IfOk result (λ x. length x.1.now < length tokens.now) }
@@ -57,7 +55,7 @@ fn combined(
     alloc: Global,
     first: QueryTree<SelectDistinct>,
     steps: Vec<(SetOperator, QueryTree<SelectDistinct>)>,
-) -> Result<QueryTree<SelectDistinct>, ReadError>
+) -> Result<QueryTree<SelectDistinct>, Unread>
     ensures { Gives plain_query result
         (Some (trees.combined (plain_query first) (steps_of (map plain_step steps.items)))) }
 {
@@ -69,7 +67,7 @@ fn term(
     alloc: Global,
     first: QueryTree<SelectDistinct>,
     steps: Vec<(SetOperator, QueryTree<SelectDistinct>)>,
-) -> Result<QueryTree<SelectDistinct>, ReadError>
+) -> Result<QueryTree<SelectDistinct>, Unread>
     ensures { Gives plain_query result
         (Some (term_of (plain_query first, map plain_step steps.items))) }
 {
@@ -86,7 +84,7 @@ pub fn read_query<'a, 'b>(
     alloc: Global,
     depth: usize,
     tokens: &'b [Token<'a>],
-) -> Result<(QueryTree<SelectDistinct>, &'b [Token<'a>]), ReadError>
+) -> Result<(QueryTree<SelectDistinct>, &'b [Token<'a>]), Unread>
     ensures value { Gives (λ x. (plain_query x.0, lexemes x.1.now)) result
         (query_read depth (lexemes tokens.now)) }
     ensures rest { IfOk result (λ x. length x.1.now ≤ length tokens.now) }
@@ -127,14 +125,14 @@ fn read_steps<'a, 'b>(
         Vec<(SetOperator, QueryTree<SelectDistinct>)>,
         &'b [Token<'a>],
     ),
-    ReadError,
+    Unread,
 >
     ensures value { Gives (λ x. (map plain_step x.0.items, lexemes x.1.now)) result
         (steps_read depth (lexemes tokens.now)) }
     ensures rest { IfOk result (λ x. length x.1.now ≤ length tokens.now) }
 {
     let (mut items, mut rest) = no_steps(alloc, tokens);
-    'items: while starts_set_operator(rest) {
+    'items: while starts_step(rest) {
         let (next, after) = read_step(alloc, depth, rest)?;
         items.push(next)?;
         rest = after;
@@ -149,7 +147,7 @@ fn read_step<'a, 'b>(
     alloc: Global,
     depth: usize,
     tokens: &'b [Token<'a>],
-) -> Result<((SetOperator, QueryTree<SelectDistinct>), &'b [Token<'a>]), ReadError>
+) -> Result<((SetOperator, QueryTree<SelectDistinct>), &'b [Token<'a>]), Unread>
     ensures value { Gives (λ x. (plain_step x.0, lexemes x.1.now)) result
         (step_read depth (lexemes tokens.now)) }
     ensures rest { IfOk result (λ x. length x.1.now < length tokens.now) }
@@ -167,7 +165,7 @@ fn read_term<'a, 'b>(
     alloc: Global,
     depth: usize,
     tokens: &'b [Token<'a>],
-) -> Result<(QueryTree<SelectDistinct>, &'b [Token<'a>]), ReadError>
+) -> Result<(QueryTree<SelectDistinct>, &'b [Token<'a>]), Unread>
     ensures value { Gives (λ x. (plain_query x.0, lexemes x.1.now)) result
         (term_read depth (lexemes tokens.now)) }
     ensures rest { IfOk result (λ x. length x.1.now ≤ length tokens.now) }
@@ -195,7 +193,7 @@ fn read_intersections<'a, 'b>(
         Vec<(SetOperator, QueryTree<SelectDistinct>)>,
         &'b [Token<'a>],
     ),
-    ReadError,
+    Unread,
 >
     ensures value { Gives (λ x. (map plain_step x.0.items, lexemes x.1.now)) result
         (intersections_read depth (lexemes tokens.now)) }
@@ -217,7 +215,7 @@ fn read_intersection<'a, 'b>(
     alloc: Global,
     depth: usize,
     tokens: &'b [Token<'a>],
-) -> Result<((SetOperator, QueryTree<SelectDistinct>), &'b [Token<'a>]), ReadError>
+) -> Result<((SetOperator, QueryTree<SelectDistinct>), &'b [Token<'a>]), Unread>
     ensures value { Gives (λ x. (plain_step x.0, lexemes x.1.now)) result
         (intersection_read depth (lexemes tokens.now)) }
     ensures rest { IfOk result (λ x. length x.1.now < length tokens.now) }
@@ -235,7 +233,7 @@ fn read_primary<'a, 'b>(
     alloc: Global,
     depth: usize,
     tokens: &'b [Token<'a>],
-) -> Result<(QueryTree<SelectDistinct>, &'b [Token<'a>]), ReadError>
+) -> Result<(QueryTree<SelectDistinct>, &'b [Token<'a>]), Unread>
     ensures value { Gives (λ x. (plain_query x.0, lexemes x.1.now)) result
         (primary_read depth (lexemes tokens.now)) }
     ensures rest { IfOk result (λ x. length x.1.now ≤ length tokens.now) }
@@ -262,13 +260,13 @@ fn read_inner_query<'a, 'b>(
     alloc: Global,
     depth: usize,
     tokens: &'b [Token<'a>],
-) -> Result<(QueryTree<SelectDistinct>, &'b [Token<'a>]), ReadError>
+) -> Result<(QueryTree<SelectDistinct>, &'b [Token<'a>]), Unread>
     ensures value { Gives (λ x. (plain_query x.0, lexemes x.1.now)) result
         (inner_query_read depth (lexemes tokens.now)) }
     ensures rest { IfOk result (λ x. length x.1.now ≤ length tokens.now) }
 {
     if depth == 0 {
-        return Err(ReadError::Syntax);
+        return Err(Unread::Syntax);
     }
     read_query(alloc, depth - 1, tokens)
 }
@@ -279,7 +277,7 @@ pub fn read_sequenced<'a, 'b>(
     alloc: Global,
     depth: usize,
     tokens: &'b [Token<'a>],
-) -> Result<(QueryTree<SelectDistinct>, &'b [Token<'a>]), ReadError>
+) -> Result<(QueryTree<SelectDistinct>, &'b [Token<'a>]), Unread>
     ensures value { Gives (λ x. (plain_query x.0, lexemes x.1.now)) result
         (sequenced_read depth (lexemes tokens.now)) }
     ensures rest { IfOk result (λ x. length x.1.now ≤ length tokens.now) }

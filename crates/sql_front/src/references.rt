@@ -12,7 +12,7 @@ use crate::comparisons::read_column;
 use crate::leaves::read_name;
 use crate::list::Item;
 use crate::mark::{Mark, skip_optional, starts, starts_name};
-use crate::unread::ReadError;
+use crate::unread::Unread;
 use crate::windows::read_for_window;
 use sql_statements::name::Name;
 use sql_statements::statement::{SelectItem, TableReference};
@@ -31,7 +31,7 @@ fn starts_new_name(tokens: &[Token<'_>]) -> bool
 fn read_new_name<'a, 'b>(
     alloc: Global,
     tokens: &'b [Token<'a>],
-) -> Result<(Option<Name>, &'b [Token<'a>]), ReadError>
+) -> Result<(Option<Name>, &'b [Token<'a>]), Unread>
     ensures value { Gives (λ x. (x.0, lexemes x.1.now)) result
         (new_name_read (lexemes tokens.now)) }
     ensures rest { IfOk result (λ x. length x.1.now ≤ length tokens.now) }
@@ -48,7 +48,7 @@ fn read_new_name<'a, 'b>(
 pub fn read_reference<'a, 'b>(
     alloc: Global,
     tokens: &'b [Token<'a>],
-) -> Result<(TableReference, &'b [Token<'a>]), ReadError>
+) -> Result<(TableReference, &'b [Token<'a>]), Unread>
     ensures value { Gives (λ x. (x.0, lexemes x.1.now)) result
         (reference_read (lexemes tokens.now)) }
     ensures rest { IfOk result (λ x. length x.1.now ≤ length tokens.now) }
@@ -82,7 +82,7 @@ impl<'a> Item<'a> for SelectItem {
         alloc: Global,
         _depth: usize,
         tokens: &'b [Token<'a>],
-    ) -> Result<(Self, &'b [Token<'a>]), ReadError> {
+    ) -> Result<(Self, &'b [Token<'a>]), Unread> {
         let (column, rest) = read_column(alloc, tokens)?;
         let (new_name, rest) = read_new_name(alloc, rest)?;
         Ok((SelectItem { column, new_name }, rest))

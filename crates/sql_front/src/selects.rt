@@ -18,7 +18,7 @@ use crate::conditions::{read_condition, read_where};
 use crate::list::{Item, separated};
 use crate::mark::{Mark, skip, skip_optional, starts};
 use crate::references::read_reference;
-use crate::unread::ReadError;
+use crate::unread::Unread;
 use period_core::Items;
 use sql_statements::nonempty::NonEmpty;
 use sql_statements::statement::{
@@ -41,7 +41,7 @@ fn read_joined<'a, 'b>(
     alloc: Global,
     depth: usize,
     tokens: &'b [Token<'a>],
-) -> Result<((TableReference, Tree<Compare>), &'b [Token<'a>]), ReadError>
+) -> Result<((TableReference, Tree<Compare>), &'b [Token<'a>]), Unread>
     ensures value { Gives (λ x. ((x.0.0, plain_condition x.0.1), lexemes x.1.now)) result
         (joined_read depth (lexemes tokens.now)) }
     ensures rest { IfOk result (λ x. length x.1.now < length tokens.now) }
@@ -58,7 +58,7 @@ fn read_join<'a, 'b>(
     alloc: Global,
     depth: usize,
     tokens: &'b [Token<'a>],
-) -> Result<(Join, &'b [Token<'a>]), ReadError>
+) -> Result<(Join, &'b [Token<'a>]), Unread>
     ensures value { Gives (λ x. (plain_join x.0, lexemes x.1.now)) result
         (join_read depth (lexemes tokens.now)) }
     ensures rest { IfOk result (λ x. length x.1.now < length tokens.now) }
@@ -80,7 +80,7 @@ fn read_chain<'a, 'b>(
     alloc: Global,
     depth: usize,
     tokens: &'b [Token<'a>],
-) -> Result<(JoinChain, &'b [Token<'a>]), ReadError>
+) -> Result<(JoinChain, &'b [Token<'a>]), Unread>
     ensures value { Gives (λ x. (plain_chain x.0, lexemes x.1.now)) result
         (chain_read depth (lexemes tokens.now)) }
     ensures rest { IfOk result (λ x. length x.1.now ≤ length tokens.now) }
@@ -112,7 +112,7 @@ impl<'a> Item<'a> for JoinChain {
         alloc: Global,
         depth: usize,
         tokens: &'b [Token<'a>],
-    ) -> Result<(Self, &'b [Token<'a>]), ReadError> {
+    ) -> Result<(Self, &'b [Token<'a>]), Unread> {
         read_chain(alloc, depth, tokens)
     }
 }
@@ -121,7 +121,7 @@ impl<'a> Item<'a> for JoinChain {
 fn read_items<'a, 'b>(
     alloc: Global,
     tokens: &'b [Token<'a>],
-) -> Result<(NonEmpty<SelectItem>, &'b [Token<'a>]), ReadError>
+) -> Result<(NonEmpty<SelectItem>, &'b [Token<'a>]), Unread>
     ensures value { Gives (λ x. (x.0, lexemes x.1.now)) result
         (separated_read comma item_read (lexemes tokens.now)) }
     ensures rest { IfOk result (λ x. length x.1.now ≤ length tokens.now) }
@@ -135,7 +135,7 @@ fn read_chains<'a, 'b>(
     alloc: Global,
     depth: usize,
     tokens: &'b [Token<'a>],
-) -> Result<(NonEmpty<JoinChain>, &'b [Token<'a>]), ReadError>
+) -> Result<(NonEmpty<JoinChain>, &'b [Token<'a>]), Unread>
     ensures value { Gives (λ x. (map plain_chain x.0, lexemes x.1.now)) result
         (separated_read comma (chain_read depth) (lexemes tokens.now)) }
     ensures rest { IfOk result (λ x. length x.1.now ≤ length tokens.now) }
@@ -156,7 +156,7 @@ fn read_from<'a, 'b>(
         (NonEmpty<JoinChain>, Option<Tree<Compare>>),
         &'b [Token<'a>],
     ),
-    ReadError,
+    Unread,
 >
     ensures value { Gives
         (λ x. ((map plain_chain x.0.0, option_map plain_condition x.0.1), lexemes x.1.now)) result
@@ -175,7 +175,7 @@ fn read_selected<'a, 'b>(
     alloc: Global,
     depth: usize,
     tokens: &'b [Token<'a>],
-) -> Result<(SelectDistinct, &'b [Token<'a>]), ReadError>
+) -> Result<(SelectDistinct, &'b [Token<'a>]), Unread>
     ensures value { Gives (λ x. (plain_select x.0, lexemes x.1.now)) result
         (selected_read depth (lexemes tokens.now)) }
     ensures rest { IfOk result (λ x. length x.1.now ≤ length tokens.now) }
@@ -199,7 +199,7 @@ pub fn read_select<'a, 'b>(
     alloc: Global,
     depth: usize,
     tokens: &'b [Token<'a>],
-) -> Result<(SelectDistinct, &'b [Token<'a>]), ReadError>
+) -> Result<(SelectDistinct, &'b [Token<'a>]), Unread>
     ensures value { Gives (λ x. (plain_select x.0, lexemes x.1.now)) result
         (select_read depth (lexemes tokens.now)) }
     ensures rest { IfOk result (λ x. length x.1.now ≤ length tokens.now) }

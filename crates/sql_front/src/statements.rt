@@ -1,7 +1,7 @@
 //! A statement, read from all of its tokens.
 
 ghost use Rattle.std.specs.Prelude.{◌≡◌, IfOk};
-ghost use Rattle.sql_front.specs.declared.unread.ReadError.TheVariants.{Syntax};
+ghost use Rattle.sql_front.specs.declared.unread.Unread.TheVariants.{Syntax};
 ghost use Rattle.sql_front.specs.Depth.{most_open};
 ghost use Rattle.sql_front.specs.reading.Gives.{Gives};
 ghost use Rattle.sql_front.specs.Grammar.{Spells};
@@ -9,7 +9,7 @@ ghost use Rattle.sql_statements.specs.Lexemes.{lexemes};
 ghost use Rattle.sql_front.specs.PieceRefusals.{IsTooDeep, SpellsNone};
 ghost use Rattle.sql_statements.specs.Plain.{plain, plain_form};
 ghost use Rattle.sql_front.specs.reading.Reading.{whole_read};
-ghost use Rattle.sql_front.specs.Placeholders.{placeholder};
+ghost use Rattle.sql_front.specs.StandIns.{stand_in};
 ghost use Rattle.sql_front.specs.reading.StatementReaders.{later_statement_read};
 ghost use Rattle.sql_front.specs.reading.StatementReaders.{query_statement_read, statement_read};
 
@@ -19,7 +19,7 @@ use crate::mark::{Mark, starts};
 use crate::queries::read_sequenced;
 use crate::stored::read_stored;
 use crate::tables::read_create;
-use crate::unread::ReadError;
+use crate::unread::Unread;
 use sql_statements::statement::{Statement, StatementForm};
 use sql_statements::token::Token;
 use std::alloc::Global;
@@ -29,7 +29,7 @@ use std::alloc::Global;
 fn read_query_statement<'a, 'b>(
     alloc: Global,
     tokens: &'b [Token<'a>],
-) -> Result<(StatementForm, &'b [Token<'a>]), ReadError>
+) -> Result<(StatementForm, &'b [Token<'a>]), Unread>
     ensures { Gives (λ x. (plain_form x.0, lexemes x.1.now)) result
         (query_statement_read most_open (lexemes tokens.now)) }
 {
@@ -46,7 +46,7 @@ fn read_query_statement<'a, 'b>(
 fn read_later_statement<'a, 'b>(
     alloc: Global,
     tokens: &'b [Token<'a>],
-) -> Result<(StatementForm, &'b [Token<'a>]), ReadError>
+) -> Result<(StatementForm, &'b [Token<'a>]), Unread>
     ensures { Gives (λ x. (plain_form x.0, lexemes x.1.now)) result
         (later_statement_read most_open (lexemes tokens.now)) }
 {
@@ -69,7 +69,7 @@ fn read_later_statement<'a, 'b>(
 fn read_statement<'a, 'b>(
     alloc: Global,
     tokens: &'b [Token<'a>],
-) -> Result<(StatementForm, &'b [Token<'a>]), ReadError>
+) -> Result<(StatementForm, &'b [Token<'a>]), Unread>
     ensures { Gives (λ x. (plain_form x.0, lexemes x.1.now)) result
         (statement_read most_open (lexemes tokens.now)) }
 {
@@ -86,22 +86,22 @@ fn read_statement<'a, 'b>(
     read_later_statement(alloc, tokens)
 }
 
-fn read_all(alloc: Global, tokens: &[Token<'_>]) -> Result<Statement, ReadError>
+fn read_all(alloc: Global, tokens: &[Token<'_>]) -> Result<Statement, Unread>
     ensures { Gives plain result (whole_read (statement_read most_open) (lexemes tokens.now)) }
 {
     let (found, rest) = read_statement(alloc, tokens)?;
     if !rest.is_empty() {
         // By a call: the proof of an implicit drop goes through each kind of statement.
         drop(found);
-        return Err(ReadError::Syntax);
+        return Err(Unread::Syntax);
     }
     Ok(Statement::new(found))
 }
 
 /// The statement that the tokens spell, all of them, with at most 32 parentheses open.
-pub fn spelled(alloc: Global, tokens: &[Token<'_>]) -> Result<Statement, ReadError>
+pub fn spelled(alloc: Global, tokens: &[Token<'_>]) -> Result<Statement, Unread>
     // The tokens spell what is read, with a stand-in for a literal that names no value.
-    ensures found { IfOk result (λ s. Spells placeholder (lexemes tokens.now) (plain s)) }
+    ensures found { IfOk result (λ s. Spells stand_in (lexemes tokens.now) (plain s)) }
 
     // No statement is spelled so, whatever its literals mean.
     ensures none { result ≡ Err Syntax

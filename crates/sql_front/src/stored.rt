@@ -9,7 +9,7 @@ ghost use Rattle.sql_front.specs.reading.StatementReaders.{stored_read, stored_t
 use crate::conditions::read_where;
 use crate::leaves::read_name;
 use crate::mark::{Mark, skip};
-use crate::unread::ReadError;
+use crate::unread::Unread;
 use crate::windows::read_for_window;
 use sql_statements::statement::{StoredQuery, StoredTest};
 use sql_statements::token::Token;
@@ -22,7 +22,7 @@ fn read_stored_table<'a, 'b>(
     alloc: Global,
     depth: usize,
     tokens: &'b [Token<'a>],
-) -> Result<(StoredQuery, &'b [Token<'a>]), ReadError>
+) -> Result<(StoredQuery, &'b [Token<'a>]), Unread>
     ensures value { Gives (λ x. (plain_stored x.0, lexemes x.1.now)) result
         (stored_table_read depth (lexemes tokens.now)) }
     ensures rest { IfOk result (λ x. length x.1.now ≤ length tokens.now) }
@@ -49,7 +49,7 @@ pub fn read_stored<'a, 'b>(
     alloc: Global,
     depth: usize,
     tokens: &'b [Token<'a>],
-) -> Result<(StoredQuery, &'b [Token<'a>]), ReadError>
+) -> Result<(StoredQuery, &'b [Token<'a>]), Unread>
     ensures value { Gives (λ x. (plain_stored x.0, lexemes x.1.now)) result
         (stored_read depth (lexemes tokens.now)) }
     ensures rest { IfOk result (λ x. length x.1.now ≤ length tokens.now) }

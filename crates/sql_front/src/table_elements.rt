@@ -16,7 +16,7 @@ ghost use Rattle.sql_statements.specs.Lexemes.{lexemes};
 use crate::leaves::read_name;
 use crate::list::separated;
 use crate::mark::{Mark, skip, starts, starts_name};
-use crate::unread::ReadError;
+use crate::unread::Unread;
 use sql_statements::create::{KeyElement, PeriodElement, ReferenceElement, SystemElement};
 use sql_statements::name::Name;
 use sql_statements::nonempty::NonEmpty;
@@ -28,7 +28,7 @@ use std::alloc::Global;
 fn read_pair<'a, 'b>(
     alloc: Global,
     tokens: &'b [Token<'a>],
-) -> Result<((Name, Name), &'b [Token<'a>]), ReadError>
+) -> Result<((Name, Name), &'b [Token<'a>]), Unread>
     ensures value { Gives (λ x. (x.0, lexemes x.1.now)) result (pair_read (lexemes tokens.now)) }
     ensures rest { IfOk result (λ x. length x.1.now ≤ length tokens.now) }
 {
@@ -42,7 +42,7 @@ fn read_pair<'a, 'b>(
 pub fn read_period_element<'a, 'b>(
     alloc: Global,
     tokens: &'b [Token<'a>],
-) -> Result<(PeriodElement, &'b [Token<'a>]), ReadError>
+) -> Result<(PeriodElement, &'b [Token<'a>]), Unread>
     ensures value { Gives (λ x. (x.0, lexemes x.1.now)) result
         (period_element_read (lexemes tokens.now)) }
     ensures rest { IfOk result (λ x. length x.1.now ≤ length tokens.now) }
@@ -59,7 +59,7 @@ pub fn read_period_element<'a, 'b>(
 pub fn read_system_element<'a, 'b>(
     alloc: Global,
     tokens: &'b [Token<'a>],
-) -> Result<(SystemElement, &'b [Token<'a>]), ReadError>
+) -> Result<(SystemElement, &'b [Token<'a>]), Unread>
     ensures value { Gives (λ x. (x.0, lexemes x.1.now)) result
         (system_element_read (lexemes tokens.now)) }
     ensures rest { IfOk result (λ x. length x.1.now ≤ length tokens.now) }
@@ -73,15 +73,15 @@ pub fn read_system_element<'a, 'b>(
 
 // The names before the last, and the last. A lone name has none before it.
 #[tactic(auto, using(crate::proofs::SplitLast::split_views))]
-fn split_off_last(names: Vec<Name>) -> Result<(NonEmpty<Name>, Name), ReadError>
+fn split_off_last(names: Vec<Name>) -> Result<(NonEmpty<Name>, Name), Unread>
     ensures { Gives (λ x. x) result (split_last names.items) }
 {
     let mut names = names;
     let Some(last) = names.pop() else {
-        return Err(ReadError::Syntax);
+        return Err(Unread::Syntax);
     };
     if names.is_empty() {
-        return Err(ReadError::Syntax);
+        return Err(Unread::Syntax);
     }
     Ok((NonEmpty::from_vec(names), last))
 }
@@ -91,7 +91,7 @@ fn split_off_last(names: Vec<Name>) -> Result<(NonEmpty<Name>, Name), ReadError>
 fn read_key_names<'a, 'b>(
     alloc: Global,
     tokens: &'b [Token<'a>],
-) -> Result<((NonEmpty<Name>, Name), &'b [Token<'a>]), ReadError>
+) -> Result<((NonEmpty<Name>, Name), &'b [Token<'a>]), Unread>
     ensures value { Gives (λ x. (x.0, lexemes x.1.now)) result
         (key_names_read (lexemes tokens.now)) }
     ensures rest { IfOk result (λ x. length x.1.now ≤ length tokens.now) }
@@ -102,7 +102,7 @@ fn read_key_names<'a, 'b>(
 
 // The tokens after WITHOUT OVERLAPS.
 #[tactic(auto, unfolding(crate::specs::reading::ElementReaders::without_overlaps_read))]
-fn skip_without_overlaps<'a, 'b>(tokens: &'b [Token<'a>]) -> Result<&'b [Token<'a>], ReadError>
+fn skip_without_overlaps<'a, 'b>(tokens: &'b [Token<'a>]) -> Result<&'b [Token<'a>], Unread>
     ensures value { Gives (λ x. (tt, lexemes x.now)) result
         (without_overlaps_read (lexemes tokens.now)) }
     ensures rest { IfOk result (λ x. length x.now ≤ length tokens.now) }
@@ -118,7 +118,7 @@ fn skip_without_overlaps<'a, 'b>(tokens: &'b [Token<'a>]) -> Result<&'b [Token<'
 fn read_key_list<'a, 'b>(
     alloc: Global,
     tokens: &'b [Token<'a>],
-) -> Result<(KeyElement, &'b [Token<'a>]), ReadError>
+) -> Result<(KeyElement, &'b [Token<'a>]), Unread>
     ensures value { Gives (λ x. (x.0, lexemes x.1.now)) result
         (key_list_read (lexemes tokens.now)) }
     ensures rest { IfOk result (λ x. length x.1.now ≤ length tokens.now) }
@@ -135,7 +135,7 @@ fn read_key_list<'a, 'b>(
 pub fn read_key_element<'a, 'b>(
     alloc: Global,
     tokens: &'b [Token<'a>],
-) -> Result<(KeyElement, &'b [Token<'a>]), ReadError>
+) -> Result<(KeyElement, &'b [Token<'a>]), Unread>
     ensures value { Gives (λ x. (x.0, lexemes x.1.now)) result
         (key_element_read (lexemes tokens.now)) }
     ensures rest { IfOk result (λ x. length x.1.now ≤ length tokens.now) }
@@ -159,7 +159,7 @@ fn names_one_more(tokens: &[Token<'_>]) -> bool
 fn read_leading_names<'a, 'b>(
     alloc: Global,
     tokens: &'b [Token<'a>],
-) -> Result<(NonEmpty<Name>, &'b [Token<'a>]), ReadError>
+) -> Result<(NonEmpty<Name>, &'b [Token<'a>]), Unread>
     ensures value { Gives (λ x. (x.0, lexemes x.1.now)) result
         (leading_names_read (lexemes tokens.now)) }
     ensures rest { IfOk result (λ x. length x.1.now ≤ length tokens.now) }
@@ -180,7 +180,7 @@ fn read_leading_names<'a, 'b>(
 fn read_last_period<'a, 'b>(
     alloc: Global,
     tokens: &'b [Token<'a>],
-) -> Result<(Name, &'b [Token<'a>]), ReadError>
+) -> Result<(Name, &'b [Token<'a>]), Unread>
     ensures value { Gives (λ x. (x.0, lexemes x.1.now)) result
         (last_period_read (lexemes tokens.now)) }
     ensures rest { IfOk result (λ x. length x.1.now ≤ length tokens.now) }
@@ -194,7 +194,7 @@ fn read_last_period<'a, 'b>(
 fn read_reference_list<'a, 'b>(
     alloc: Global,
     tokens: &'b [Token<'a>],
-) -> Result<((NonEmpty<Name>, Name), &'b [Token<'a>]), ReadError>
+) -> Result<((NonEmpty<Name>, Name), &'b [Token<'a>]), Unread>
     ensures value { Gives (λ x. (x.0, lexemes x.1.now)) result
         (reference_list_read (lexemes tokens.now)) }
     ensures rest { IfOk result (λ x. length x.1.now ≤ length tokens.now) }
@@ -209,7 +209,7 @@ fn read_reference_list<'a, 'b>(
 fn read_parent<'a, 'b>(
     alloc: Global,
     tokens: &'b [Token<'a>],
-) -> Result<((Name, (NonEmpty<Name>, Name)), &'b [Token<'a>]), ReadError>
+) -> Result<((Name, (NonEmpty<Name>, Name)), &'b [Token<'a>]), Unread>
     ensures value { Gives (λ x. (x.0, lexemes x.1.now)) result (parent_read (lexemes tokens.now)) }
     ensures rest { IfOk result (λ x. length x.1.now ≤ length tokens.now) }
 {
@@ -223,7 +223,7 @@ fn read_parent<'a, 'b>(
 pub fn read_reference_element<'a, 'b>(
     alloc: Global,
     tokens: &'b [Token<'a>],
-) -> Result<(ReferenceElement, &'b [Token<'a>]), ReadError>
+) -> Result<(ReferenceElement, &'b [Token<'a>]), Unread>
     ensures value { Gives (λ x. (x.0, lexemes x.1.now)) result
         (reference_element_read (lexemes tokens.now)) }
     ensures rest { IfOk result (λ x. length x.1.now ≤ length tokens.now) }

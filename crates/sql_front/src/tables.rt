@@ -16,7 +16,7 @@ use crate::mark::{Mark, skip, starts, starts_name, third};
 use crate::table_elements::{
     read_key_element, read_period_element, read_reference_element, read_system_element,
 };
-use crate::unread::ReadError;
+use crate::unread::Unread;
 use period_core::{Items, Memory};
 use sql_statements::create::{
     ColumnElement, CreateStatement, CreateTable, KeyElement, PeriodElement, ReferenceElement,
@@ -41,7 +41,7 @@ enum TableElement {
 fn read_some_period<'a, 'b>(
     alloc: Global,
     tokens: &'b [Token<'a>],
-) -> Result<(TableElement, &'b [Token<'a>]), ReadError>
+) -> Result<(TableElement, &'b [Token<'a>]), Unread>
     ensures value { Gives (λ x. (plain_element x.0, lexemes x.1.now)) result
         (some_period_read (lexemes tokens.now)) }
     ensures rest { IfOk result (λ x. length x.1.now ≤ length tokens.now) }
@@ -59,7 +59,7 @@ fn read_some_period<'a, 'b>(
 fn read_element<'a, 'b>(
     alloc: Global,
     tokens: &'b [Token<'a>],
-) -> Result<(TableElement, &'b [Token<'a>]), ReadError>
+) -> Result<(TableElement, &'b [Token<'a>]), Unread>
     ensures value { Gives (λ x. (plain_element x.0, lexemes x.1.now)) result
         (element_read (lexemes tokens.now)) }
     ensures rest { IfOk result (λ x. length x.1.now ≤ length tokens.now) }
@@ -90,7 +90,7 @@ impl<'a> Item<'a> for TableElement {
         alloc: Global,
         _depth: usize,
         tokens: &'b [Token<'a>],
-    ) -> Result<(Self, &'b [Token<'a>]), ReadError> {
+    ) -> Result<(Self, &'b [Token<'a>]), Unread> {
         read_element(alloc, tokens)
     }
 }
@@ -100,7 +100,7 @@ impl<'a> Item<'a> for TableElement {
 fn read_elements<'a, 'b>(
     alloc: Global,
     tokens: &'b [Token<'a>],
-) -> Result<(Vec<TableElement>, &'b [Token<'a>]), ReadError>
+) -> Result<(Vec<TableElement>, &'b [Token<'a>]), Unread>
     ensures value { Gives (λ x. (map plain_element x.0.items, lexemes x.1.now)) result
         (elements_read (lexemes tokens.now)) }
     ensures rest { IfOk result (λ x. length x.1.now ≤ length tokens.now) }
@@ -129,7 +129,7 @@ fn table_with(
     alloc: Global,
     name: Name,
     elements: Vec<TableElement>,
-) -> Result<CreateStatement, ReadError>
+) -> Result<CreateStatement, Unread>
     requires { 0 < length elements.items }
     ensures { Gives (λ t. t) result
         (Some (table_of (name, (map plain_element elements.items, tt)))) }
@@ -144,7 +144,7 @@ fn table_with(
     };
     for element in elements {
         if add_element(&mut table, element).is_err() {
-            return Err(ReadError::Memory);
+            return Err(Unread::Memory);
         }
     }
     Ok(CreateStatement::new(table))
@@ -152,7 +152,7 @@ fn table_with(
 
 // The tokens after WITH SYSTEM VERSIONING.
 #[tactic(auto, unfolding(crate::specs::reading::ElementReaders::versioning_read))]
-fn skip_versioning<'a, 'b>(tokens: &'b [Token<'a>]) -> Result<&'b [Token<'a>], ReadError>
+fn skip_versioning<'a, 'b>(tokens: &'b [Token<'a>]) -> Result<&'b [Token<'a>], Unread>
     ensures value { Gives (λ x. (tt, lexemes x.now)) result (versioning_read (lexemes tokens.now)) }
     ensures rest { IfOk result (λ x. length x.now ≤ length tokens.now) }
 {
@@ -166,7 +166,7 @@ fn skip_versioning<'a, 'b>(tokens: &'b [Token<'a>]) -> Result<&'b [Token<'a>], R
 fn read_table<'a, 'b>(
     alloc: Global,
     tokens: &'b [Token<'a>],
-) -> Result<(CreateStatement, &'b [Token<'a>]), ReadError>
+) -> Result<(CreateStatement, &'b [Token<'a>]), Unread>
     ensures value { Gives (λ x. (x.0, lexemes x.1.now)) result
         (created_table_read (lexemes tokens.now)) }
     ensures rest { IfOk result (λ x. length x.1.now ≤ length tokens.now) }
@@ -182,7 +182,7 @@ fn read_table<'a, 'b>(
 pub fn read_create<'a, 'b>(
     alloc: Global,
     tokens: &'b [Token<'a>],
-) -> Result<(CreateStatement, &'b [Token<'a>]), ReadError>
+) -> Result<(CreateStatement, &'b [Token<'a>]), Unread>
     ensures value { Gives (λ x. (x.0, lexemes x.1.now)) result (create_read (lexemes tokens.now)) }
     ensures rest { IfOk result (λ x. length x.1.now ≤ length tokens.now) }
 {

@@ -9,7 +9,7 @@ ghost use Rattle.sql_front.specs.Marks.{mark};
 
 use crate::leaves::{read_clock_moment, read_moment};
 use crate::mark::{Mark, after, skip};
-use crate::unread::ReadError;
+use crate::unread::Unread;
 use period_core::Moment;
 use sql_statements::statement::SystemTime;
 use sql_statements::token::Token;
@@ -22,7 +22,7 @@ use sql_statements::token::Token;
 fn read_two_moments<'a, 'b>(
     tokens: &'b [Token<'a>],
     between: Mark<'_>,
-) -> Result<((Moment, Moment), &'b [Token<'a>]), ReadError>
+) -> Result<((Moment, Moment), &'b [Token<'a>]), Unread>
     ensures value { Gives (λ x. (x.0, lexemes x.1.now)) result
         (two_moments_read (mark between.entry) (lexemes tokens.now)) }
     ensures rest { IfOk result (λ x. length x.1.now ≤ length tokens.now) }
@@ -39,7 +39,7 @@ fn read_two_moments<'a, 'b>(
 
 /// A window, and the tokens after it.
 #[tactic(auto, unfolding(crate::specs::reading::WindowReaders::window_read))]
-fn read_window<'a, 'b>(tokens: &'b [Token<'a>]) -> Result<(SystemTime, &'b [Token<'a>]), ReadError>
+fn read_window<'a, 'b>(tokens: &'b [Token<'a>]) -> Result<(SystemTime, &'b [Token<'a>]), Unread>
     ensures value { Gives (λ x. (x.0, lexemes x.1.now)) result (window_read (lexemes tokens.now)) }
     ensures rest { IfOk result (λ x. length x.1.now ≤ length tokens.now) }
 {
@@ -66,7 +66,7 @@ fn read_window<'a, 'b>(tokens: &'b [Token<'a>]) -> Result<(SystemTime, &'b [Toke
 #[tactic(auto, unfolding(crate::specs::reading::WindowReaders::for_window_read))]
 pub fn read_for_window<'a, 'b>(
     tokens: &'b [Token<'a>],
-) -> Result<(Option<SystemTime>, &'b [Token<'a>]), ReadError>
+) -> Result<(Option<SystemTime>, &'b [Token<'a>]), Unread>
     ensures value { Gives (λ x. (x.0, lexemes x.1.now)) result
         (for_window_read (lexemes tokens.now)) }
     ensures rest { IfOk result (λ x. length x.1.now ≤ length tokens.now) }

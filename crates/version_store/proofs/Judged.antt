@@ -14,12 +14,12 @@ use Rattle.catalog_core.specs.declared.table.TableDef.{TableDef}
 use Rattle.sqlite.specs.Order.{Row}
 use Rattle.sqlite.specs.declared.types.Value.TheVariants.{Int, Blob}
 use Rattle.sqlite_value.specs.Order.{column}
-use Rattle.version_tables.specs.Good.{IsClockRow}
+use Rattle.version_tables.specs.Good.{SayClock}
 use Rattle.version_tables.specs.Rows.{AreBytesAt, IsNumberAt}
 use Rattle.version_tables.specs.Good as raw
 use Rattle.version_tables.specs.Represents.{Version, meta_row, stored}
 use Rattle.version_store.specs.Contents.{TableVersion}
-use Rattle.version_store.specs.GoodStore.{AreTableRows, IsTableRow, SayRows, IsVersionRow}
+use Rattle.version_store.specs.GoodStore.{AreTableRows, IsTableRow, SayRows, SaysVersion}
 use Rattle.catalog_core.specs.create.Lawful.{IsLawful}
 use Rattle.version_store.specs.RowValues.{are_row_values}
 use Rattle.version_store.specs.Written.{IsReadable, written_table, written_version}
@@ -100,15 +100,15 @@ table_known tables (suc n) d there = (omega arith, within tables n d there)
     within (t ∷ tables) zero d there = omega arith
     within (t ∷ tables) (suc n) d there = let more = within tables n d there in omega (arith, more)
 
-pub raw_version : (tables : List TableDef) (clock : ℤ) (row : Row) → IsVersionRow tables clock row → raw.IsVersionRow clock (length tables) row
+pub raw_version : (tables : List TableDef) (clock : ℤ) (row : Row) → SaysVersion tables clock row → raw.SaysVersion clock (length tables) row
 raw_version tables clock row (v, is, good) =
     let known = table_known tables v.table good.definition good.table in
     (written_version v, is, record { known = record { low = omega (arith, ints, known.0); high = omega (arith, ints, known.1) }; days = good.days; moments = good.moments })
 
-pub number_there : (clock : ℤ) (tables : ℕ) (row : Row) → raw.IsVersionRow clock tables row → (n : ℤ) × IsNumberAt row 0 n
+pub number_there : (clock : ℤ) (tables : ℕ) (row : Row) → raw.SaysVersion clock tables row → (n : ℤ) × IsNumberAt row 0 n
 number_there clock tables row (v, is, good) = (pos v.table, rw is (omega arith, refl))
 
-pub values_there : (clock : ℤ) (tables : ℕ) (row : Row) → raw.IsVersionRow clock tables row → (b : List ℕ) × AreBytesAt row 1 b
+pub values_there : (clock : ℤ) (tables : ℕ) (row : Row) → raw.SaysVersion clock tables row → (b : List ℕ) × AreBytesAt row 1 b
 values_there clock tables row (v, is, good) = (v.values, rw is (omega arith, refl))
 
 same_number : (row : Row) (n m : ℤ) → column row 0 ≡ Int n → column row 0 ≡ Int m → n ≡ m
@@ -120,11 +120,11 @@ same_bytes row a b p q = cc
 same_pos : (n m : ℕ) → pos n ≡ pos m → n ≡ m
 same_pos n m e = cc
 
-pub number_is : (clock : ℤ) (tables : ℕ) (row : Row) (n : ℤ) (says : raw.IsVersionRow clock tables row) → IsNumberAt row 0 n → n ≡ pos says.0.table
+pub number_is : (clock : ℤ) (tables : ℕ) (row : Row) (n : ℤ) (says : raw.SaysVersion clock tables row) → IsNumberAt row 0 n → n ≡ pos says.0.table
 number_is clock tables row n (v, is, good) at = same_number row n (pos v.table) at.1 (ap (λ (r : Row). column r 0) is)
 
-pub says_by : (tables : List TableDef) (clock : ℤ) (row : Row) (n : ℕ) (b : List ℕ) (definition : TableDef) (values : List Value) → raw.IsVersionRow clock (length tables) row → IsNumberAt row 0 (pos n) → AreBytesAt row 1 b
-    → table_of tables n ≡ Some definition → encoded values ≡ b → All IsColumnValue values → are_row_values definition values ≡ true → IsVersionRow tables clock row
+pub says_by : (tables : List TableDef) (clock : ℤ) (row : Row) (n : ℕ) (b : List ℕ) (definition : TableDef) (values : List Value) → raw.SaysVersion clock (length tables) row → IsNumberAt row 0 (pos n) → AreBytesAt row 1 b
+    → table_of tables n ≡ Some definition → encoded values ≡ b → All IsColumnValue values → are_row_values definition values ≡ true → SaysVersion tables clock row
 says_by tables clock row n b definition values (v, is, good) number bytes table same held fits =
     let w : TableVersion = record { table = v.table; values = values; start = v.start; end = v.end; from = v.from; to = v.to } in
     let number_same : n ≡ v.table = same_pos n v.table (number_is clock (length tables) row (pos n) (v, is, good) number) in
@@ -143,16 +143,16 @@ says_by tables clock row n b definition values (v, is, good) number bytes table 
     )
 
 -- what a version's row says of its number, and of its bytes
-pub row_number : (tables : List TableDef) (clock : ℤ) (row : Row) (n : ℕ) (says : IsVersionRow tables clock row) → IsNumberAt row 0 (pos n) → n ≡ says.0.table
+pub row_number : (tables : List TableDef) (clock : ℤ) (row : Row) (n : ℕ) (says : SaysVersion tables clock row) → IsNumberAt row 0 (pos n) → n ≡ says.0.table
 row_number tables clock row n (v, is, good) at = same_pos n v.table (same_number row (pos n) (pos v.table) at.1 (ap (λ (r : Row). column r 0) is))
 
-pub row_table : (tables : List TableDef) (clock : ℤ) (row : Row) (n : ℕ) (says : IsVersionRow tables clock row) → IsNumberAt row 0 (pos n) → table_of tables n ≡ Some says.2.definition
+pub row_table : (tables : List TableDef) (clock : ℤ) (row : Row) (n : ℕ) (says : SaysVersion tables clock row) → IsNumberAt row 0 (pos n) → table_of tables n ≡ Some says.2.definition
 row_table tables clock row n (v, is, good) at = ap (table_of tables) (row_number tables clock row n (v, is, good) at) ∙ good.table
 
-pub row_bytes : (tables : List TableDef) (clock : ℤ) (row : Row) (b : List ℕ) (says : IsVersionRow tables clock row) → AreBytesAt row 1 b → encoded says.0.values ≡ b
+pub row_bytes : (tables : List TableDef) (clock : ℤ) (row : Row) (b : List ℕ) (says : SaysVersion tables clock row) → AreBytesAt row 1 b → encoded says.0.values ≡ b
 row_bytes tables clock row b (v, is, good) at = same_bytes row (encoded v.values) b (ap (λ (r : Row). column r 1) is) at.1
 
-pub row_fits : (tables : List TableDef) (clock : ℤ) (row : Row) (n : ℕ) (b : List ℕ) (definition : TableDef) (values : List Value) → IsVersionRow tables clock row → IsNumberAt row 0 (pos n) → AreBytesAt row 1 b
+pub row_fits : (tables : List TableDef) (clock : ℤ) (row : Row) (n : ℕ) (b : List ℕ) (definition : TableDef) (values : List Value) → SaysVersion tables clock row → IsNumberAt row 0 (pos n) → AreBytesAt row 1 b
     → table_of tables n ≡ Some definition → encoded values ≡ b → All IsColumnValue values → are_row_values definition values ≡ true
 row_fits tables clock row n b definition values (v, is, good) number bytes table same held =
     let d : Some good.definition ≡ Some definition = sym (row_table tables clock row n (v, is, good) number) ∙ table in
@@ -173,13 +173,13 @@ same_tables before (row ∷ rows) (t ∷ ts) (u ∷ us) p q =
     let more : ts ≡ us = same_tables (before ++ u ∷ []) rows ts us (subst (λ (d : TableDef). AreTableRows (before ++ d ∷ []) rows ts) one p.1) q.1 in
     cc
 
-pub same_clock : (rows : List Row) (a b : ℤ) → IsClockRow rows a → IsClockRow rows b → a ≡ b
+pub same_clock : (rows : List Row) (a b : ℤ) → SayClock rows a → SayClock rows b → a ≡ b
 same_clock rows a b p q =
     let e : meta_row (pos 1) a ∷ [] ≡ meta_row (pos 1) b ∷ [] = sym p.0 ∙ q.0 in
     cc
 
-pub other_versions : (metas tables versions : List Row) (ts us : List TableDef) (a b : ℤ) → AreTableRows [] tables ts → IsClockRow metas a → ¬ AllByRecursion (IsVersionRow ts a) versions → ¬ SayRows metas tables versions us b
+pub other_versions : (metas tables versions : List Row) (ts us : List TableDef) (a b : ℤ) → AreTableRows [] tables ts → SayClock metas a → ¬ AllByRecursion (SaysVersion ts a) versions → ¬ SayRows metas tables versions us b
 other_versions metas tables versions ts us a b read clock none says =
     let same = same_tables [] tables us ts says.defined.each read in
     let at = same_clock metas b a says.meta clock in
-    none (subst (λ (n : ℤ). AllByRecursion (IsVersionRow ts n) versions) at (subst (λ (known : List TableDef). AllByRecursion (IsVersionRow known b) versions) same says.each))
+    none (subst (λ (n : ℤ). AllByRecursion (SaysVersion ts n) versions) at (subst (λ (known : List TableDef). AllByRecursion (SaysVersion known b) versions) same says.each))

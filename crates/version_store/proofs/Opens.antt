@@ -20,14 +20,14 @@ use Rattle.sqlite.specs.View.{is_int}
 use Rattle.sqlite.specs.declared.types.Value.TheVariants.{Int, Blob}
 use Rattle.version_tables.proofs.Ordered.{defined_table, definitions_in_order, length-defined, same_tables}
 use Rattle.period_core.specs.Moments.{IsMomentNumber}
-use Rattle.version_tables.specs.Good.{AreDays, IsClockRow}
+use Rattle.version_tables.specs.Good.{AreDays, SayClock}
 use Rattle.version_tables.specs.Rows.{InOrder, by_rowid}
-use Rattle.version_tables.specs.Represents.{HaveDistinctRowids, defined, meta_row, meta_shown, stored, table_shown, version_shown}
+use Rattle.version_tables.specs.Represents.{AreUntied, defined, meta_row, meta_shown, stored, table_shown, version_shown}
 use Rattle.version_tables.specs.Tables.{store_schema}
 use Rattle.version_store.proofs.Dated.{good_is_dated}
 use Rattle.version_store.proofs.Judged.{same_written}
 use Rattle.version_store.specs.Contents.{AreDated, Contents, HaveColumnValues, IsDated, TableVersion, same_version}
-use Rattle.version_store.specs.GoodStore.{AreLawful, AreTableRows, HaveTables, IsGoodStore, IsGoodVersion, NothingMore, SayRows, IsVersionRow, AreGood}
+use Rattle.version_store.specs.GoodStore.{AreLawful, AreTableRows, HaveTables, IsGoodStore, IsGoodVersion, NothingMore, SayRows, SaysVersion, AreGood}
 use Rattle.version_store.specs.Written.{Has, IsReadable, written_table, written_version}
 
 -- ---- definitions
@@ -70,7 +70,7 @@ pub twice : (vs : List TableVersion) → map stored (map written_version vs) ≡
 twice [] = refl
 twice (v ∷ vs) = ap (λ l. stored_version v ∷ l) (twice vs)
 
-says_all : (tables : List TableDef) (clock : ℤ) (rows : List Row) → AllByRecursion (IsVersionRow tables clock) rows → (vs : List TableVersion) × (rows ≡ map stored_version vs) × AllByRecursion (IsGoodVersion tables clock) vs
+says_all : (tables : List TableDef) (clock : ℤ) (rows : List Row) → AllByRecursion (SaysVersion tables clock) rows → (vs : List TableVersion) × (rows ≡ map stored_version vs) × AllByRecursion (IsGoodVersion tables clock) vs
 says_all tables clock [] all = ([], refl, tt)
 says_all tables clock (row ∷ rows) all =
     let more = says_all tables clock rows all.1 in
@@ -88,7 +88,7 @@ module _ (db : Database) (metas tables versions : List Row) (pm : IsPermutation 
   pub points_hold : db.schema ≡ store_schema → KeepsKeys db → (known : List TableDef) (clock : ℤ) → SayRows metas tables versions known clock
       → (good : IsGoodStore NothingMore db) × (good.contents.tables ≡ known) × (good.contents.clock ≡ clock)
   points_hold there keys known clock says =
-      let all = all-permutation (IsVersionRow known clock) _ _ (IsPermutation-sym _ _ pv) says.each in
+      let all = all-permutation (SaysVersion known clock) _ _ (IsPermutation-sym _ _ pv) says.each in
       let vs = says_all known clock (map version_shown (db.trees 2)) all in
       let held : HaveColumnValues vs.0 = all_weaker (IsGoodVersion known clock) (λ (v : TableVersion). All IsColumnValue v.values) (λ v good. good.held) vs.0 vs.2 in
       let is = spelled_all [] tables known says.defined.each in
@@ -118,13 +118,13 @@ module _ (db : Database) (metas tables versions : List Row) (pm : IsPermutation 
       let c = good.contents in
       let is : tables ≡ defined 1 (map written_table c.tables) = definitions_in_order (db.trees 1) tables (map written_table c.tables) pt good.says.tables in
       let long : length tables ≡ length c.tables = ap length is ∙ length-defined 1 (map written_table c.tables) ∙ length-map c.tables written_table in
-      let meta : IsClockRow metas c.clock = (one_permutation _ _ (subst (λ l. IsPermutation l metas) good.says.meta pm), good.clock) in
-      let each : AllByRecursion (IsVersionRow c.tables c.clock) (map stored_version c.versions) = all-map (IsVersionRow c.tables c.clock) stored_version c.versions (all_weaker (IsGoodVersion c.tables c.clock) (λ v. IsVersionRow c.tables c.clock (stored_version v)) (λ v good. (v, refl, good)) c.versions good.versions) in
-      let shown = all-permutation (IsVersionRow c.tables c.clock) _ _ (subst (λ l. IsPermutation l (map version_shown (db.trees 2))) (twice c.versions) good.says.versions) each in
+      let meta : SayClock metas c.clock = (one_permutation _ _ (subst (λ l. IsPermutation l metas) good.says.meta pm), good.clock) in
+      let each : AllByRecursion (SaysVersion c.tables c.clock) (map stored_version c.versions) = all-map (SaysVersion c.tables c.clock) stored_version c.versions (all_weaker (IsGoodVersion c.tables c.clock) (λ v. SaysVersion c.tables c.clock (stored_version v)) (λ v good. (v, refl, good)) c.versions good.versions) in
+      let shown = all-permutation (SaysVersion c.tables c.clock) _ _ (subst (λ l. IsPermutation l (map version_shown (db.trees 2))) (twice c.versions) good.says.versions) each in
       none c.tables c.clock (record {
         meta = meta;
         defined = record { few = subst (λ n. n ≤ 64) (sym long) good.few; each = subst (λ rows. AreTableRows [] rows c.tables) (sym is) (rows_of_tables [] c.tables good.readable good.lawful) };
-        each = all-permutation (IsVersionRow c.tables c.clock) _ _ pv shown;
+        each = all-permutation (SaysVersion c.tables c.clock) _ _ pv shown;
       })
 
   pub judged_good : db.schema ≡ store_schema → KeepsKeys db → (r : Result (Catalog × ℤ) Refusal) → IfOk r (λ found. SayRows metas tables versions found.0.tables found.1)
@@ -138,14 +138,14 @@ module _ (db : Database) (metas tables versions : List Row) (pm : IsPermutation 
   judged_bad (Err e) none = λ bad good. points_fail good (none bad)
 
 -- a good store has its contents
-pub has_contents : (db : Database) (good : IsGoodStore NothingMore db) → HaveDistinctRowids (db.trees 2) → AllByRecursion (λ r. is_int (rowid r) ≡ true) (db.trees 2) → Has db good.contents
+pub has_contents : (db : Database) (good : IsGoodStore NothingMore db) → AreUntied (db.trees 2) → AllByRecursion (λ r. is_int (rowid r) ≡ true) (db.trees 2) → Has db good.contents
 has_contents db good untied keyed = record {
   rows = record { schema = good.tables_there; says = good.says; untied = untied; keyed = keyed };
   definitions = good.readable;
   values = all_weaker (IsGoodVersion good.contents.tables good.contents.clock) (λ (v : TableVersion). All IsColumnValue v.values) (λ v fine. fine.held) good.contents.versions good.versions;
 }
 
-pub found_contents : (db : Database) → HaveDistinctRowids (db.trees 2) → AllByRecursion (λ r. is_int (rowid r) ≡ true) (db.trees 2) → (r : Result (Catalog × ℤ) Refusal)
+pub found_contents : (db : Database) → AreUntied (db.trees 2) → AllByRecursion (λ r. is_int (rowid r) ≡ true) (db.trees 2) → (r : Result (Catalog × ℤ) Refusal)
     → IfOk r (λ found. (good : IsGoodStore NothingMore db) × (good.contents.tables ≡ found.0.tables) × (good.contents.clock ≡ found.1))
     → IfOk r (λ found. (good : IsGoodStore NothingMore db) × Has db good.contents × (good.contents.tables ≡ found.0.tables) × (good.contents.clock ≡ found.1))
 found_contents db untied keyed (Err e) says = tt

@@ -10,7 +10,7 @@ use Rattle.sqlite.specs.Effect.{Database}
 use Rattle.sqlite.specs.Order.{Row}
 use Rattle.sqlite.specs.Tree.{IsAscending}
 use Rattle.sqlite.specs.declared.types.Value.TheVariants.{Int, Blob}
-use Rattle.version_tables.specs.Good.{AreDays, AreMoments, IsClock, IsClockRow}
+use Rattle.version_tables.specs.Good.{AreDays, AreMoments, IsClock, SayClock}
 use Rattle.version_tables.specs.Represents.{Says, stored}
 use Rattle.version_tables.specs.Tables.{store_schema}
 use Rattle.version_store.specs.Contents.{Contents, TableVersion, same_version}
@@ -93,13 +93,13 @@ pub record AreTables (rows : List Row) (tables : List TableDef) : Type 0 where
   pub each : AreTableRows [] rows tables
 
 -- a row of bt_version: that of a good version
-abbrev pub IsVersionRow : List TableDef → ℤ → Row → Type 0
-IsVersionRow tables clock row =
+abbrev pub SaysVersion : List TableDef → ℤ → Row → Type 0
+SaysVersion tables clock row =
     (v : TableVersion) × (row ≡ stored (written_version v)) × IsGoodVersion tables clock v
 
 -- the rows of all three
 pub record SayRows (metas tables versions : List Row) (known : List TableDef) (clock : ℤ)
     : Type 0 where
-  pub meta : IsClockRow metas clock
+  pub meta : SayClock metas clock
   pub defined : AreTables tables known
-  pub each : AllByRecursion (IsVersionRow known clock) versions
+  pub each : AllByRecursion (SaysVersion known clock) versions

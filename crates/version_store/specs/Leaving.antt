@@ -31,9 +31,9 @@ pub record HasBut (db : Database) (table : ℕ) (moment : ℤ) (leaving : List P
   pub values : HaveColumnValues c.versions
 
 -- on Ok the transaction goes on, the contents are changed, and so are the places of what is leaving
-abbrev pub CarriesExcept : {S X : Type 0} → Ghosts S → Held S → Held S → Result X Refusal
+abbrev pub CarriesBut : {S X : Type 0} → Ghosts S → Held S → Held S → Result X Refusal
     → ℕ → ℤ → List Place → List Place → (Contents → Contents) → Type 0
-CarriesExcept g old new result table moment before after change =
+CarriesBut g old new result table moment before after change =
     HasCleanDisk (state g new) → IsTrue old.in_transaction
     → OnOk result (IsTrue new.in_transaction
     × ((c : Contents) → HasBut (state g old).now table moment before c

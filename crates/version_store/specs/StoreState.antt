@@ -11,7 +11,7 @@ use Rattle.sqlite.specs.Held.{Held, held_code, state}
 use Rattle.sqlite.specs.Steps.{over_memory}
 use Rattle.sqlite_trees.specs.declared.memory.MemStore.{MemStore}
 use Rattle.sqlite.specs.Schema.{Schema}
-use Rattle.version_tables.specs.Presence.{AllExist}
+use Rattle.version_tables.specs.Presence.{AreAllThere}
 use Rattle.version_tables.specs.Steps.{HasFault, IsAsBefore, KeepsFaults}
 use Rattle.version_tables.specs.Tables.{store_schema}
 use Rattle.version_store.specs.Contents.{AreDated, Contents}
@@ -82,4 +82,4 @@ IsOpenRefusal refusal = (refusal ≡ BadStore) ⊎ IsStoreRefusal refusal
 -- the three tables, where all of them are there, are as the store makes them, and no other is
 -- beside them
 abbrev pub IsOurs : Schema → Type 0
-IsOurs schema = AllExist schema → schema ≡ store_schema
+IsOurs schema = AreAllThere schema → schema ≡ store_schema

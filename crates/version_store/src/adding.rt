@@ -6,7 +6,7 @@ ghost use Rattle.period_core.specs.Moments.{forever};
 ghost use Rattle.version_tables.specs.Represents.{added, all_added, new_version, removed};
 ghost use Rattle.version_tables.specs.Steps.{ChangesRecords, CommitsNothing};
 ghost use Rattle.version_store.specs.Changed.{added_at};
-ghost use Rattle.version_store.specs.Leaving.{CarriesExcept, key_at};
+ghost use Rattle.version_store.specs.Leaving.{CarriesBut, key_at};
 ghost use Rattle.version_store.specs.StoreState.{IsStoreRefusal};
 
 use crate::place::{new_row, new_rows};
@@ -106,7 +106,7 @@ fn add_row<S: Alter>(
     leaving: &mut BTreeSet<Place>,
 ) -> Result<(), Refusal>
     ensures same_reference { transaction.new.conn.ghost_name ≡ transaction.old.conn.ghost_name }
-    ensures made { CarriesExcept S.Store transaction.old.conn.now transaction.new.conn.now result
+    ensures made { CarriesBut S.Store transaction.old.conn.now transaction.new.conn.now result
         table moment leaving.old.keys leaving.new.keys (added_at table moment (row.now ∷ [])) }
     ensures inside { CommitsNothing S.Store transaction.old.conn.now transaction.new.conn.now }
     ensures named { IfErr result IsStoreRefusal }
@@ -129,7 +129,7 @@ pub(crate) fn add_rows<S: Alter>(
     leaving: &mut BTreeSet<Place>,
 ) -> Result<(), Refusal>
     ensures same_reference { transaction.new.conn.ghost_name ≡ transaction.old.conn.ghost_name }
-    ensures made { CarriesExcept S.Store transaction.old.conn.now transaction.new.conn.now result
+    ensures made { CarriesBut S.Store transaction.old.conn.now transaction.new.conn.now result
         table moment leaving.old.keys leaving.new.keys (added_at table moment rows.now) }
     ensures inside { CommitsNothing S.Store transaction.old.conn.now transaction.new.conn.now }
     ensures named { IfErr result IsStoreRefusal }

@@ -6,7 +6,7 @@ ghost use Rattle.catalog_core.specs.Limits.{most_tables};
 ghost use Rattle.catalog_core.specs.table.TableWords.{has_date_period, has_distinct_names};
 ghost use Rattle.catalog_core.specs.declared.table.TableDef.{TableDef as AnyTable};
 ghost use Rattle.period_core.specs.declared.refusal.Refusal.TheVariants.{BadStore};
-ghost use Rattle.version_store.specs.GoodStore.{AreTables, IsTableRow, SayRows, IsVersionRow};
+ghost use Rattle.version_store.specs.GoodStore.{AreTables, IsTableRow, SayRows, SaysVersion};
 ghost use Rattle.version_store.specs.StoreState.{IsOpenRefusal};
 
 use crate::row_values::are_row_values;
@@ -74,9 +74,9 @@ fn read_tables(alloc: Global, rows: &[Row]) -> Result<Catalog, Refusal>
 
 /// Judges the row of a version, by the tables and the clock.
 fn judge_version(alloc: Global, catalog: &Catalog, clock: i64, row: &Row) -> Result<(), Refusal>
-    ensures good { IfOk result (λ _. IsVersionRow catalog.now.tables clock row.now) }
+    ensures good { IfOk result (λ _. SaysVersion catalog.now.tables clock row.now) }
     ensures bad { IfErr result (λ refusal. refusal ≡ BadStore
-        → ¬ IsVersionRow catalog.now.tables clock row.now) }
+        → ¬ SaysVersion catalog.now.tables clock row.now) }
     ensures named { IfErr result IsOpenRefusal }
 {
     if !is_version(row, clock, catalog.len() as u32) {
@@ -109,9 +109,9 @@ fn judge_version(alloc: Global, catalog: &Catalog, clock: i64, row: &Row) -> Res
 /// Judges the rows of the versions.
 fn judge_versions(alloc: Global, catalog: &Catalog, clock: i64, rows: &[Row]) -> Result<(), Refusal>
     ensures good { IfOk result
-        (λ _. AllByRecursion (IsVersionRow catalog.now.tables clock) rows.now) }
+        (λ _. AllByRecursion (SaysVersion catalog.now.tables clock) rows.now) }
     ensures bad { IfErr result (λ refusal. refusal ≡ BadStore
-        → ¬ AllByRecursion (IsVersionRow catalog.now.tables clock) rows.now) }
+        → ¬ AllByRecursion (SaysVersion catalog.now.tables clock) rows.now) }
     ensures named { IfErr result IsOpenRefusal }
 {
     for row in rows {

@@ -21,4 +21,4 @@ mod writing;
 pub use laws::{memory_is_usable, others_stay, plans_leave_other_tables};
 pub use store::VersionStore;
 pub use store::opened::OpenedStore;
-pub use visitor::{CollectRows, RowVisitor};
+pub use visitor::{KeptRows, RowVisitor};

@@ -5,7 +5,7 @@ ghost use Rattle.std.specs.Prelude.{◌≡◌, ◌∷◌, [], IfErr, OnOk};
 ghost use Rattle.version_tables.specs.Represents.{removed};
 ghost use Rattle.version_tables.specs.Steps.{ChangesRecords, CommitsNothing};
 ghost use Rattle.version_store.specs.Changed.{ended_at, planned};
-ghost use Rattle.version_store.specs.Leaving.{CarriesExcept, key_at};
+ghost use Rattle.version_store.specs.Leaving.{CarriesBut, key_at};
 ghost use Rattle.version_store.specs.StoreState.{IsStoreRefusal};
 ghost use Rattle.version_store.specs.Steps.{Carries};
 
@@ -30,7 +30,7 @@ fn end_row<S: Alter>(
     leaving: &mut BTreeSet<Place>,
 ) -> Result<(), Refusal>
     ensures same_reference { transaction.new.conn.ghost_name ≡ transaction.old.conn.ghost_name }
-    ensures made { CarriesExcept S.Store transaction.old.conn.now transaction.new.conn.now result
+    ensures made { CarriesBut S.Store transaction.old.conn.now transaction.new.conn.now result
         table moment leaving.old.keys leaving.new.keys (ended_at table moment (row.now ∷ [])) }
     ensures inside { CommitsNothing S.Store transaction.old.conn.now transaction.new.conn.now }
     ensures named { IfErr result IsStoreRefusal }
@@ -66,7 +66,7 @@ fn end_rows<S: Alter>(
     leaving: &mut BTreeSet<Place>,
 ) -> Result<(), Refusal>
     ensures same_reference { transaction.new.conn.ghost_name ≡ transaction.old.conn.ghost_name }
-    ensures made { CarriesExcept S.Store transaction.old.conn.now transaction.new.conn.now result
+    ensures made { CarriesBut S.Store transaction.old.conn.now transaction.new.conn.now result
         table moment leaving.old.keys leaving.new.keys (ended_at table moment rows.now) }
     ensures inside { CommitsNothing S.Store transaction.old.conn.now transaction.new.conn.now }
     ensures named { IfErr result IsStoreRefusal }
@@ -110,7 +110,7 @@ fn remove_rows<S: Alter>(
     leaving: &mut BTreeSet<Place>,
 ) -> Result<(), Refusal>
     ensures same_reference { transaction.new.conn.ghost_name ≡ transaction.old.conn.ghost_name }
-    ensures made { CarriesExcept S.Store transaction.old.conn.now transaction.new.conn.now result
+    ensures made { CarriesBut S.Store transaction.old.conn.now transaction.new.conn.now result
         table moment leaving.old.keys [] (λ c. c) }
     ensures inside { CommitsNothing S.Store transaction.old.conn.now transaction.new.conn.now }
     ensures named { IfErr result IsStoreRefusal }

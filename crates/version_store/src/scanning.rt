@@ -20,7 +20,7 @@ ghost use Rattle.version_store.specs.Written.{Has, written_version};
 
 use crate::reading::read_version;
 use crate::refused::refusal_of;
-use crate::visitor::{CollectRows, RowVisitor};
+use crate::visitor::{KeptRows, RowVisitor};
 use period_core::{Moment, Refusal, VersionRow, Window};
 use sqlite::{Connection, Row};
 use sqlite_trees::store::Alter;
@@ -172,7 +172,7 @@ pub(crate) fn table_rows<S: Alter>(
     ensures mode { connection.new.in_transaction ≡ false }
     ensures named { IfErr result IsStoreRefusal }
 {
-    let mut kept = CollectRows::new(alloc);
+    let mut kept = KeptRows::new(alloc);
     match scan_selected(alloc, connection, table, Selection::Whole, &mut kept) {
         Ok(()) => Ok(kept.rows),
         Err(refusal) => Err(refusal),

@@ -39,24 +39,24 @@ pub trait RowVisitor {
 
 /// A visitor that keeps all rows, in the order in which it is handed them.
 #[derive(Drop, Debug)]
-pub struct CollectRows {
+pub struct KeptRows {
     /// The rows so far.
     pub rows: Vec<VersionRow>,
 }
 
-impl CollectRows {
+impl KeptRows {
     /// No rows so far.
-    pub fn new(alloc: Global) -> CollectRows
+    pub fn new(alloc: Global) -> KeptRows
         ensures { result.rows.items ≡ [] }
     {
-        CollectRows {
+        KeptRows {
             rows: Vec::new(alloc),
         }
     }
 }
 
 // A row is refused where there is no memory for it.
-impl RowVisitor for CollectRows {
+impl RowVisitor for KeptRows {
     ghost Meaning = { List AnyRow };
 
     ghost meaning = { λ kept. kept.rows.items };

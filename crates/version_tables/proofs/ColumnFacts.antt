@@ -8,7 +8,7 @@ use Rattle.sqlite.specs.Order.{Row}
 use Rattle.sqlite.specs.Tree.{rowid}
 use Rattle.sqlite.specs.View.{is_int}
 use Rattle.version_tables.specs.Represents.{Version, version, meta_row, stored}
-use Rattle.version_tables.specs.Good.{IsClock, IsKnown, AreDays, AreMoments, IsGoodParts, IsClockRow, IsVersionRow, IsDefinition}
+use Rattle.version_tables.specs.Good.{IsClock, IsKnown, AreDays, AreMoments, IsGoodParts, SayClock, SaysVersion, IsDefinition}
 use Rattle.version_tables.specs.Rows.{IsNumberAt, AreBytesAt, Rise}
 
 pub never : {P : Type 0} → IsTrue false → P
@@ -39,7 +39,7 @@ pub record ClockColumns (row : Row) (clock : ℤ) : Type 0 where
   pub at : IsNumberAt row 2 clock
   pub is_clock : IsClock clock
 
-pub clock_columns : (row : Row) (clock : ℤ) → IsClockRow (row ∷ []) clock → ClockColumns row clock
+pub clock_columns : (row : Row) (clock : ℤ) → SayClock (row ∷ []) clock → ClockColumns row clock
 clock_columns row clock h =
     let same : row ≡ meta_row (pos 1) clock = let e = h.0 in cc in
     rw same (record { width = refl; id = (omega arith, refl); form = (omega arith, refl); at = (omega arith, refl); is_clock = h.1 })
@@ -67,7 +67,7 @@ pub record VersionColumns (clock : ℤ) (tables : ℕ) (row : Row) : Type 0 wher
   pub to : IsNumberAt row 5 it.to
   pub good : IsGoodParts clock tables (pos it.table) it.start it.end it.from it.to
 
-pub version_columns : (clock : ℤ) (tables : ℕ) (row : Row) → IsVersionRow clock tables row → VersionColumns clock tables row
+pub version_columns : (clock : ℤ) (tables : ℕ) (row : Row) → SaysVersion clock tables row → VersionColumns clock tables row
 version_columns clock tables row h =
     let at : (n : ℕ) → n < 6 → n < length row = λ n low. rw h.1 low in
     let v = h.0 in
@@ -89,7 +89,7 @@ natural tables (pos k) h = (k, refl)
 natural tables (negsuc k) h = absurd (let low = h.low in omega (arith, ints))
 
 pub says_version : (clock : ℤ) (tables : ℕ) (row : Row) (table : ℤ) (values : List ℕ) (start end from to : ℤ) → length row ≡ 6 → IsNumberAt row 0 table → AreBytesAt row 1 values
-    → IsNumberAt row 2 start → IsNumberAt row 3 end → IsNumberAt row 4 from → IsNumberAt row 5 to → IsKnown tables table → AreDays start end → AreMoments clock from to → IsVersionRow clock tables row
+    → IsNumberAt row 2 start → IsNumberAt row 3 end → IsNumberAt row 4 from → IsNumberAt row 5 to → IsKnown tables table → AreDays start end → AreMoments clock from to → SaysVersion clock tables row
 says_version clock tables row table values start end from to width a b c d e f known days moments =
     let whole = six row width in
     let n = natural tables table known in
@@ -104,7 +104,7 @@ says_version clock tables row table values start end from to width a b c d e f k
     (v, same, record { known = subst (IsKnown tables) n.1 known; days = days; moments = moments })
 
 pub good_parts : (clock : ℤ) (tables : ℕ) (row : Row) (table start end from to : ℤ) → IsNumberAt row 0 table → IsNumberAt row 2 start → IsNumberAt row 3 end → IsNumberAt row 4 from → IsNumberAt row 5 to
-    → IsVersionRow clock tables row → IsGoodParts clock tables table start end from to
+    → SaysVersion clock tables row → IsGoodParts clock tables table start end from to
 good_parts clock tables row table start end from to a c d e f says =
     let has = version_columns clock tables row says in
     let p = same_int table (pos has.it.table) _ a.1 has.table.1 in

@@ -15,7 +15,7 @@ use Rattle.sqlite.specs.Order.{Row}
 use Rattle.sqlite.specs.Tree.{rowid, IsTable}
 use Rattle.sqlite.specs.View.{is_int}
 use Rattle.std.proofs.lemmas.Int.{ints}
-use Rattle.version_tables.specs.Represents.{rowid_shown, table_shown, defined, tied, HaveDistinctRowids}
+use Rattle.version_tables.specs.Represents.{rowid_shown, table_shown, defined, tied, AreUntied}
 use Rattle.version_tables.specs.Rows.{AreNumbered, AreRising, InOrder, Rise, by_rowid}
 use Rattle.version_tables.proofs.Goes.{untied_along, tied_turned}
 
@@ -91,7 +91,7 @@ rest_sorted x xs s k d low high =
     let next : suc k + 1 ≡ suc (k + 1) = omega arith in
     subst (λ (n : ℕ). is_lt (by_rowid (get_or (x ∷ xs) n d) (get_or xs k d)) ≡ false) next e
 
-pub sorted_table : (xs : List Row) → IsSorted by_rowid xs → HaveDistinctRowids xs → IsTable xs
+pub sorted_table : (xs : List Row) → IsSorted by_rowid xs → AreUntied xs → IsTable xs
 sorted_table [] s u = tt
 sorted_table (x ∷ []) s u = (tt, tt)
 sorted_table (x ∷ y ∷ xs) s u =
@@ -99,7 +99,7 @@ sorted_table (x ∷ y ∷ xs) s u =
     let first = not_after x y (s 0 [] (omega arith) (omega arith)) u.0.0 in
     ((first, all_weaker (λ r. by_rowid y r ≡ Less) (λ r. by_rowid x r ≡ Less) (λ r below. value_cmp_total.trans _ _ _ first below) xs rest.0), rest)
 
-table_untied : (xs : List Row) → IsTable xs → HaveDistinctRowids xs
+table_untied : (xs : List Row) → IsTable xs → AreUntied xs
 table_untied xs = ascending_weaker (λ a b. by_rowid a b ≡ Less) (λ a b. tied a b ≡ false) (λ a b below. ap is_eq below) xs
 
 pub definitions_in_order : (tree tables : List Row) (ds : List (List ℕ)) → InOrder table_shown by_rowid tree tables → IsPermutation (defined 1 ds) (map table_shown tree) → tables ≡ defined 1 ds
@@ -107,7 +107,7 @@ definitions_in_order tree tables ds order says =
     let to = order.0 in
     let same : IsPermutation (defined 1 ds) (map table_shown to) = IsPermutation-trans _ _ _ says (IsPermutation-map table_shown _ _ order.1) in
     let table = defined_table 1 ds in
-    let untied : HaveDistinctRowids (map table_shown to) = untied_along _ _ same (table_untied _ table) in
+    let untied : AreUntied (map table_shown to) = untied_along _ _ same (table_untied _ table) in
     let up : IsTable to = sorted_table to order.3 (ascending_from_map (λ a b. tied a b ≡ false) table_shown to untied) in
     order.2 ∙ sym (same_tables (defined 1 ds) (map table_shown to) table (ascending-map (λ a b. by_rowid a b ≡ Less) table_shown to up) same)
 
@@ -128,7 +128,7 @@ rising_table (x ∷ y ∷ rows) up =
     let first : by_rowid x y ≡ Less = rises_by x y (up 0 (omega arith)) in
     ((first, all_weaker (λ r. by_rowid y r ≡ Less) (λ r. by_rowid x r ≡ Less) (λ r below. value_cmp_total.trans _ _ _ first below) rows rest.0), rest)
 
-pub own_rowids : (tree ids : List Row) → IsPermutation (map rowid_shown tree) ids → AreNumbered ids → AreRising ids → HaveDistinctRowids tree × AllByRecursion (λ r. is_int (rowid r) ≡ true) tree
+pub own_rowids : (tree ids : List Row) → IsPermutation (map rowid_shown tree) ids → AreNumbered ids → AreRising ids → AreUntied tree × AllByRecursion (λ r. is_int (rowid r) ≡ true) tree
 own_rowids tree ids same ints up =
     let back = IsPermutation-sym _ _ same in (
       ascending_from_map (λ a b. tied a b ≡ false) rowid_shown tree (untied_along _ _ back (table_untied ids (rising_table ids up))),

@@ -5,7 +5,7 @@ ghost use Rattle.std.specs.Prelude.{◌↔◌, ◌∷◌, [], ℤ, IsTrue, Match
 ghost use Rattle.period_core.specs.Calendar.{IsDayNumber};
 ghost use Rattle.period_core.specs.Moments.{IsMomentNumber};
 ghost use Rattle.version_tables.specs.Good.{AreDays, AreMoments, IsClock, IsDefinition, IsKnown};
-ghost use Rattle.version_tables.specs.Good.{IsRecordedBy, IsClockRow, IsVersionRow};
+ghost use Rattle.version_tables.specs.Good.{IsPast, SayClock, SaysVersion};
 ghost use Rattle.version_tables.specs.Rows.{AreNumbered, AreRising, HaveOneKey, RepeatKey};
 ghost use Rattle.version_tables.specs.Rows.{Rise, ShareBytes, ShareNumber};
 
@@ -22,7 +22,7 @@ fn is_clock(moment: i64) -> bool
 /// The clock, if the row is one of bt_meta with form 1 and a clock.
 fn clock_in(row: &Row) -> Option<i64>
     ensures { MatchOption result
-        (¬ ((clock : ℤ) × IsClockRow (row.now ∷ []) clock)) (IsClockRow (row.now ∷ [])) }
+        (¬ ((clock : ℤ) × SayClock (row.now ∷ []) clock)) (SayClock (row.now ∷ [])) }
 {
     if row.column_count() != 3 {
         return None;
@@ -41,7 +41,7 @@ fn clock_in(row: &Row) -> Option<i64>
 /// form are 1 and whose clock is a moment below FOREVER.
 pub fn clock_of(rows: &[Row]) -> Option<i64>
     ensures { MatchOption result
-        (¬ ((clock : ℤ) × IsClockRow rows.now clock)) (IsClockRow rows.now) }
+        (¬ ((clock : ℤ) × SayClock rows.now clock)) (SayClock rows.now) }
 {
     match rows {
         [row] => clock_in(row),
@@ -93,7 +93,7 @@ fn is_moment(number: i64) -> bool
 }
 
 fn is_past(from: i64, to: i64, clock: i64) -> bool
-    ensures { IsTrue result ↔ IsRecordedBy clock from to }
+    ensures { IsTrue result ↔ IsPast clock from to }
 {
     from <= clock && (to <= clock || to == Moment::forever().number())
 }
@@ -114,7 +114,7 @@ fn are_moments(from: i64, to: i64, clock: i64) -> bool
 /// this moment and there are so many tables: a table that is there, a period of days, a system time
 /// that begins up to the clock and ends up to it or at FOREVER.
 pub fn is_version(row: &Row, clock: i64, tables: u32) -> bool
-    ensures { IsTrue result ↔ IsVersionRow clock tables row.now }
+    ensures { IsTrue result ↔ SaysVersion clock tables row.now }
 {
     if row.column_count() != 6 {
         return false;

@@ -60,8 +60,8 @@ unfoldable pub lists_ambiguous : TableDef → InsertRows → Bool
 lists_ambiguous t i = passes (some_def_match t Several) i.columns
 
 -- 26: the list repeats a name
-unfoldable pub repeats_column : InsertRows → Bool
-repeats_column i = passes repeats i.columns
+unfoldable pub lists_twice : InsertRows → Bool
+lists_twice i = passes repeats i.columns
 
 -- 27: a system column in the list
 unfoldable pub is_system_name : TableDef → Name → Bool
@@ -75,17 +75,17 @@ unfoldable pub lists_system : TableDef → InsertRows → Bool
 lists_system t i = passes (some_system_name t) i.columns
 
 -- 29: the list lacks a column; a row has another number of values than there are names
-unfoldable pub omits_a_column : TableDef → List Name → Bool
-omits_a_column t names =
+unfoldable pub lacks_some : TableDef → List Name → Bool
+lacks_some t names =
     list_any (λ (x : Column). not (is_system x.kind) && match_count names x.name == 0) t.columns
 
-unfoldable pub has_row_of_other_length : ℕ → List (List Value) → Bool
-has_row_of_other_length count rows = list_any (λ (row : List Value). not (length row == count)) rows
+unfoldable pub some_other_length : ℕ → List (List Value) → Bool
+some_other_length count rows = list_any (λ (row : List Value). not (length row == count)) rows
 
 unfoldable pub has_other_count : TableDef → InsertRows → Bool
 has_other_count t i =
-    passes (omits_a_column t) i.columns
-    || has_row_of_other_length (length (given_names t i.columns)) i.rows
+    passes (lacks_some t) i.columns
+    || some_other_length (length (given_names t i.columns)) i.rows
 
 -- 30: a value of another kind than its column
 unfoldable pub is_of_other_kind : TableDef → Name × Value → Bool
@@ -141,7 +141,7 @@ abbrev pub shape_conditions : TableDef → InsertRows → List Judged
 shape_conditions t i =
     (UnknownColumn, lists_unknown t i)
     ∷ (AmbiguousColumn, lists_ambiguous t i)
-    ∷ (DuplicateName, repeats_column i)
+    ∷ (DuplicateName, lists_twice i)
     ∷ (PeriodColumn, lists_system t i)
     ∷ (ColumnCount, has_other_count t i)
     ∷ []
@@ -159,7 +159,7 @@ insert_conditions catalog i =
     (UnknownTable, lacks_table catalog i)
     ∷ (UnknownColumn, of_table (λ t. lists_unknown t i) catalog i)
     ∷ (AmbiguousColumn, of_table (λ t. lists_ambiguous t i) catalog i)
-    ∷ (DuplicateName, repeats_column i)
+    ∷ (DuplicateName, lists_twice i)
     ∷ (PeriodColumn, of_table (λ t. lists_system t i) catalog i)
     ∷ (ColumnCount, of_table (λ t. has_other_count t i) catalog i)
     ∷ (TypeMismatch, of_table (λ t. has_wrong wrong.Kind t i) catalog i)

@@ -22,7 +22,7 @@ use Rattle.catalog_core.specs.declared.change.Assignment.{Assignment}
 use Rattle.catalog_core.specs.declared.change.Change.{Change}
 use Rattle.catalog_core.specs.declared.condition.CompareValues.{CompareValues}
 use Rattle.catalog_core.specs.declared.flaw.Flaw.{Flaw}
-use Rattle.catalog_core.specs.declared.flaw.Flaw.TheVariants.{Unknown, Ambiguous, NotValueColumn}
+use Rattle.catalog_core.specs.declared.flaw.Flaw.TheVariants.{Unknown, Ambiguous, NoValue}
 use Rattle.catalog_core.specs.declared.flaw.Flaw.TheVariants.{OtherKind, TooLong, Empty}
 use Rattle.catalog_core.specs.declared.table.TableDef.{TableDef}
 
@@ -52,7 +52,7 @@ update_faults t u =
     (UnknownColumn, is_flawed_update Unknown u t)
     ∷ (AmbiguousColumn, is_flawed_update Ambiguous u t)
     ∷ (DuplicateName, sets_twice u.assignments)
-    ∷ (PeriodColumn, is_flawed_update NotValueColumn u t)
+    ∷ (PeriodColumn, is_flawed_update NoValue u t)
     ∷ (TypeMismatch, is_flawed_update OtherKind u t)
     ∷ (TextTooLong, is_flawed_update TooLong u t)
     ∷ (EmptyPeriod, is_flawed_update Empty u t)
@@ -62,7 +62,7 @@ abbrev pub delete_faults : TableDef → Delete → List Judged
 delete_faults t d =
     (UnknownColumn, is_flawed_delete Unknown d t)
     ∷ (AmbiguousColumn, is_flawed_delete Ambiguous d t)
-    ∷ (PeriodColumn, is_flawed_delete NotValueColumn d t)
+    ∷ (PeriodColumn, is_flawed_delete NoValue d t)
     ∷ (TypeMismatch, is_flawed_delete OtherKind d t)
     ∷ (EmptyPeriod, is_flawed_delete Empty d t)
     ∷ []
@@ -74,7 +74,7 @@ update_conditions catalog u =
     ∷ (UnknownColumn, of_named (is_flawed_update Unknown u) catalog u.table)
     ∷ (AmbiguousColumn, of_named (is_flawed_update Ambiguous u) catalog u.table)
     ∷ (DuplicateName, sets_twice u.assignments)
-    ∷ (PeriodColumn, of_named (is_flawed_update NotValueColumn u) catalog u.table)
+    ∷ (PeriodColumn, of_named (is_flawed_update NoValue u) catalog u.table)
     ∷ (TypeMismatch, of_named (is_flawed_update OtherKind u) catalog u.table)
     ∷ (TextTooLong, of_named (is_flawed_update TooLong u) catalog u.table)
     ∷ (EmptyPeriod, of_named (is_flawed_update Empty u) catalog u.table)
@@ -86,7 +86,7 @@ delete_conditions catalog d =
     (UnknownTable, lacks_named catalog d.table)
     ∷ (UnknownColumn, of_named (is_flawed_delete Unknown d) catalog d.table)
     ∷ (AmbiguousColumn, of_named (is_flawed_delete Ambiguous d) catalog d.table)
-    ∷ (PeriodColumn, of_named (is_flawed_delete NotValueColumn d) catalog d.table)
+    ∷ (PeriodColumn, of_named (is_flawed_delete NoValue d) catalog d.table)
     ∷ (TypeMismatch, of_named (is_flawed_delete OtherKind d) catalog d.table)
     ∷ (EmptyPeriod, of_named (is_flawed_delete Empty d) catalog d.table)
     ∷ []

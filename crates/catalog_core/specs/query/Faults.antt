@@ -128,8 +128,8 @@ abbrev pub lacks_one : List TableDef → TableReference → Bool
 lacks_one catalog reference = is_none (table_of_name catalog reference.table)
 
 -- one of the tables is not there
-abbrev pub omits_a_column : List TableDef → List TableReference → Bool
-omits_a_column catalog tables = list_any (λ (r : TableReference). lacks_one catalog r) tables
+abbrev pub lacks_some : List TableDef → List TableReference → Bool
+lacks_some catalog tables = list_any (λ (r : TableReference). lacks_one catalog r) tables
 
 -- two of them are known by one name
 abbrev pub known_twice : List TableReference → Bool
@@ -138,7 +138,7 @@ known_twice tables = repeats (map known_name tables)
 -- of the tables of a select
 abbrev pub reference_faults : List TableDef → List TableReference → Faults
 reference_faults catalog tables = record no_faults {
-  table = omits_a_column catalog tables;
+  table = lacks_some catalog tables;
   twice = known_twice tables;
 }
 

@@ -21,7 +21,7 @@ use Rattle.catalog_core.specs.change.PortionChanges.{lacks_named, of_named}
 use Rattle.catalog_core.specs.table.TableWords.{number_of, table_of}
 use Rattle.catalog_core.specs.declared.condition.CompareValues.{CompareValues}
 use Rattle.catalog_core.specs.declared.flaw.Flaw.{Flaw}
-use Rattle.catalog_core.specs.declared.flaw.Flaw.TheVariants.{Unknown, Ambiguous, NotValueColumn}
+use Rattle.catalog_core.specs.declared.flaw.Flaw.TheVariants.{Unknown, Ambiguous, NoValue}
 use Rattle.catalog_core.specs.declared.flaw.Flaw.TheVariants.{OtherKind, Empty}
 use Rattle.catalog_core.specs.declared.stored.PeriodSide.{PeriodSide}
 use Rattle.catalog_core.specs.declared.stored.PeriodSide.TheVariants.{Row, Days}
@@ -46,7 +46,7 @@ abbrev pub stored_faults : TableDef → written.Stored → List Judged
 stored_faults t s =
     (UnknownColumn, is_flawed_stored Unknown s t)
     ∷ (AmbiguousColumn, is_flawed_stored Ambiguous s t)
-    ∷ (PeriodColumn, is_flawed_stored NotValueColumn s t)
+    ∷ (PeriodColumn, is_flawed_stored NoValue s t)
     ∷ (TypeMismatch, is_flawed_stored OtherKind s t)
     ∷ (EmptyPeriod, is_flawed_stored Empty s t)
     ∷ []
@@ -58,7 +58,7 @@ stored_query_conditions catalog s =
     (UnknownTable, lacks_named catalog s.table)
     ∷ (UnknownColumn, of_named (is_flawed_stored Unknown s) catalog s.table)
     ∷ (AmbiguousColumn, of_named (is_flawed_stored Ambiguous s) catalog s.table)
-    ∷ (PeriodColumn, of_named (is_flawed_stored NotValueColumn s) catalog s.table)
+    ∷ (PeriodColumn, of_named (is_flawed_stored NoValue s) catalog s.table)
     ∷ (TypeMismatch, of_named (is_flawed_stored OtherKind s) catalog s.table)
     ∷ (EmptyPeriod, of_named (is_flawed_stored Empty s) catalog s.table)
     ∷ []

@@ -7,7 +7,7 @@ ghost use Rattle.catalog_core.specs.Judged.{first_holding};
 ghost use Rattle.catalog_core.specs.table.TableWords.{has_distinct_names};
 
 use crate::change::insert_names::{
-    has_other_count, lists_ambiguous, lists_system, lists_unknown, repeats_column,
+    has_other_count, lists_ambiguous, lists_system, lists_twice, lists_unknown,
 };
 use crate::change::insert_values::{Wrong, has_wrong};
 use crate::table::TableDef;
@@ -25,7 +25,7 @@ pub fn shape_fault(table: &TableDef, insert: &InsertRows) -> Option<Refusal>
     if lists_ambiguous(table, insert) {
         return Some(Refusal::AmbiguousColumn);
     }
-    if repeats_column(insert) {
+    if lists_twice(insert) {
         return Some(Refusal::DuplicateName);
     }
     if lists_system(table, insert) {

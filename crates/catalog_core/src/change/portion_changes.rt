@@ -11,7 +11,7 @@ ghost use Rattle.catalog_core.specs.Judged.{Holds, first_holding};
 
 use crate::change::{Action, Change};
 use crate::flaw::{Flaw, sets_twice};
-use crate::numbering::{number_where, portion_period, resolve_sets};
+use crate::numbering::{number_sets, number_where, portion_period};
 use crate::table::TableDef;
 use crate::table::catalog::Catalog;
 use period_core::Refusal;
@@ -56,7 +56,7 @@ fn update_fault(table: &TableDef, update: &UpdateRows) -> Option<Refusal>
     if sets_twice(update.assignments.as_slice()) {
         return Some(Refusal::DuplicateName);
     }
-    if is_in_update(Flaw::NotValueColumn, update, table) {
+    if is_in_update(Flaw::NoValue, update, table) {
         return Some(Refusal::PeriodColumn);
     }
     if is_in_update(Flaw::OtherKind, update, table) {
@@ -81,7 +81,7 @@ fn delete_fault(table: &TableDef, delete: &DeleteRows) -> Option<Refusal>
     if is_in_delete(Flaw::Ambiguous, delete, table) {
         return Some(Refusal::AmbiguousColumn);
     }
-    if is_in_delete(Flaw::NotValueColumn, delete, table) {
+    if is_in_delete(Flaw::NoValue, delete, table) {
         return Some(Refusal::PeriodColumn);
     }
     if is_in_delete(Flaw::OtherKind, delete, table) {
@@ -114,7 +114,7 @@ pub fn resolve_update(
         return Err(fault);
     }
     let portion = portion_period(table, &update.portion);
-    let assignments = resolve_sets(alloc, table, update.assignments.as_slice())?;
+    let assignments = number_sets(alloc, table, update.assignments.as_slice())?;
     let condition = number_where(alloc, table, &update.condition)?;
     Ok(Change {
         table: number,

@@ -3,7 +3,7 @@
 ghost use Rattle.std.specs.Prelude.{◌≡◌, ◌++◌, ◌+◌, ◌<◌, ◌∷◌, IfOk, false, length};
 ghost use Rattle.std.specs.Prelude.{map, true};
 ghost use Rattle.sql_statements.specs.Plain.{plain_condition};
-ghost use Rattle.catalog_core.specs.query.Faults.{lacks_one, omits_a_column};
+ghost use Rattle.catalog_core.specs.query.Faults.{lacks_one, lacks_some};
 ghost use Rattle.catalog_core.specs.query.Fitting.{are_in_place};
 ghost use Rattle.catalog_core.specs.query.Places.{placed_item, placed_members};
 ghost use Rattle.catalog_core.specs.query.Resolving as words;
@@ -12,7 +12,7 @@ ghost use Rattle.catalog_core.specs.query.Resolving.{written_reference};
 ghost use Rattle.catalog_core.specs.query.Selection.{item_parts};
 
 use crate::condition::Cond;
-use crate::numbering::{Positions, resolve_condition};
+use crate::numbering::{Positions, number_condition};
 use crate::query::AnswerColumn;
 use crate::query::resolved::QueryReference;
 use crate::query::seen::name_or;
@@ -57,9 +57,9 @@ pub fn push_members<P: Positions>(
         ++ placed_members (P.place positions.now) (plain_condition condition.now)) }
 {
     let (first, others) = outer_and(condition);
-    conjuncts.push(resolve_condition(alloc, positions, first)?)?;
+    conjuncts.push(number_condition(alloc, positions, first)?)?;
     for part in others {
-        conjuncts.push(resolve_condition(alloc, positions, part)?)?;
+        conjuncts.push(number_condition(alloc, positions, part)?)?;
     }
     Ok(())
 }
@@ -128,7 +128,7 @@ pub fn number_references(
     references: &[&TableReference],
     place: usize,
 ) -> Result<Vec<QueryReference>, Memory>
-    requires there { omits_a_column catalog.now.tables (map (λ r. r.now) references.now) ≡ false }
+    requires there { lacks_some catalog.now.tables (map (λ r. r.now) references.now) ≡ false }
     requires room { place + length references.now < 1_000 }
     ensures parts { IfOk result (λ numbered.
         map (written_reference catalog.now.tables) (map (λ r. r.now) references.now)

@@ -55,7 +55,7 @@ fn all_fit(query: &Query, tables: &Tables) -> bool
 
 /// The place behind the references, where their places count up from this one and all are below the
 /// bound.
-fn next_place(references: &[QueryReference], place: usize, bound: usize) -> Option<usize>
+fn place_behind(references: &[QueryReference], place: usize, bound: usize) -> Option<usize>
     requires { place ≤ bound }
     ensures some { IfSome result (λ next. (are_in_place place references.now ≡ true)
         × (place + length references.now ≡ next) × (next ≤ bound)) }
@@ -68,11 +68,11 @@ fn next_place(references: &[QueryReference], place: usize, bound: usize) -> Opti
     if reference.place != place || place == bound {
         return None;
     }
-    next_place(more, place + 1, bound)
+    place_behind(more, place + 1, bound)
 }
 
 /// The same of all references of the query.
-fn next_place_of_all(query: &Query, place: usize, bound: usize) -> Option<usize>
+fn place_behind_all(query: &Query, place: usize, bound: usize) -> Option<usize>
     requires { place ≤ bound }
     ensures some { IfSome result (λ next.
         (are_in_place place (references_of (plain_query query.now)) ≡ true)
@@ -82,12 +82,12 @@ fn next_place_of_all(query: &Query, place: usize, bound: usize) -> Option<usize>
         → bound < place + length (references_of (plain_query query.now))) }
 {
     match query {
-        Query::Select(select) => next_place(select.references.as_slice(), place, bound),
+        Query::Select(select) => place_behind(select.references.as_slice(), place, bound),
         Query::Combined(_, left, right) => {
-            let Some(next) = next_place_of_all(left, place, bound) else {
+            let Some(next) = place_behind_all(left, place, bound) else {
                 return None;
             };
-            next_place_of_all(right, next, bound)
+            place_behind_all(right, next, bound)
         }
     }
 }
@@ -99,7 +99,7 @@ pub fn fits(query: &Query, tables: &Tables) -> bool
     ensures { result ≡ fits (plain_query query.now) tables.now }
 {
     let lists = tables.as_slice().len();
-    let Some(next) = next_place_of_all(query, 0, lists) else {
+    let Some(next) = place_behind_all(query, 0, lists) else {
         return false;
     };
     next == lists && all_fit(query, tables)

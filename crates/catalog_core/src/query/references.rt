@@ -2,7 +2,7 @@
 
 ghost use Rattle.std.specs.Prelude.{◌≡◌, ◌<◌, ◌++◌, IfOk, is_none, length, map};
 ghost use Rattle.sql_statements.specs.Plain.{plain_chain, plain_select};
-ghost use Rattle.catalog_core.specs.query.Faults.{known_twice, omits_a_column};
+ghost use Rattle.catalog_core.specs.query.Faults.{known_twice, lacks_some};
 ghost use Rattle.catalog_core.specs.query.Scopes.{chain_tables, tables_of};
 ghost use Rattle.catalog_core.specs.table.TableWords.{table_of_name};
 
@@ -64,7 +64,7 @@ fn is_missing(catalog: &Catalog, reference: &TableReference) -> bool
 
 /// Whether one of their tables is not there.
 pub fn lacks_table(catalog: &Catalog, references: &[&TableReference]) -> bool
-    ensures { result ≡ omits_a_column catalog.now.tables (map (λ r. r.now) references.now) }
+    ensures { result ≡ lacks_some catalog.now.tables (map (λ r. r.now) references.now) }
 {
     for reference in references {
         if is_missing(catalog, reference) {

@@ -40,7 +40,7 @@ fn stored_fault(table: &TableDef, query: &StoredQuery) -> Option<Refusal>
     if is_in_stored(Flaw::Ambiguous, query, table) {
         return Some(Refusal::AmbiguousColumn);
     }
-    if is_in_stored(Flaw::NotValueColumn, query, table) {
+    if is_in_stored(Flaw::NoValue, query, table) {
         return Some(Refusal::PeriodColumn);
     }
     if is_in_stored(Flaw::OtherKind, query, table) {

@@ -8,7 +8,7 @@ ghost use Rattle.catalog_core.specs.Numbering.{map_condition};
 ghost use Rattle.catalog_core.specs.stored.StoredPlacing.{placed_days, placed_test};
 ghost use Rattle.catalog_core.specs.stored.StoredQueries.{ResolvesStoredWhere, side_parts};
 ghost use Rattle.catalog_core.specs.stored.StoredQueries.{test_parts};
-ghost use Rattle.catalog_core.specs.declared.flaw.Flaw.TheVariants.{Empty, NotValueColumn, Unknown};
+ghost use Rattle.catalog_core.specs.declared.flaw.Flaw.TheVariants.{Empty, NoValue, Unknown};
 
 use crate::numbering::number_compare;
 use crate::stored::{PeriodSide, VersionTest};
@@ -52,7 +52,7 @@ fn number_test(alloc: Global, table: &TableDef, test: &StoredTest) -> Result<Ver
 }
 
 /// A condition.
-fn resolve_tests(
+fn number_tests(
     alloc: Global,
     table: &TableDef,
     condition: &Tree<StoredTest>,
@@ -65,21 +65,21 @@ fn resolve_tests(
         Tree::Or(first, others) => {
             let mut numbered = Vec::new(alloc);
             for part in others {
-                numbered.push(resolve_tests(alloc, table, part)?)?;
+                numbered.push(number_tests(alloc, table, part)?)?;
             }
-            let first = resolve_tests(alloc, table, first)?;
+            let first = number_tests(alloc, table, first)?;
             Ok(Tree::Or(Box::new(alloc, first)?, numbered))
         }
         Tree::And(first, others) => {
             let mut numbered = Vec::new(alloc);
             for part in others {
-                numbered.push(resolve_tests(alloc, table, part)?)?;
+                numbered.push(number_tests(alloc, table, part)?)?;
             }
-            let first = resolve_tests(alloc, table, first)?;
+            let first = number_tests(alloc, table, first)?;
             Ok(Tree::And(Box::new(alloc, first)?, numbered))
         }
         Tree::Not(part) => {
-            let part = resolve_tests(alloc, table, part)?;
+            let part = number_tests(alloc, table, part)?;
             Ok(Tree::Not(Box::new(alloc, part)?))
         }
         Tree::Test(test) => Ok(Tree::Test(number_test(alloc, table, test)?)),
@@ -94,7 +94,7 @@ pub fn number_stored_where(
 ) -> Result<Option<Tree<VersionTest>>, Memory>
     requires there { has_test (is_flawed_test Unknown table.now)
         (option_map plain_condition condition.now) ≡ false }
-    requires value { has_test (is_flawed_test NotValueColumn table.now)
+    requires value { has_test (is_flawed_test NoValue table.now)
         (option_map plain_condition condition.now) ≡ false }
     requires days { has_test (is_flawed_test Empty table.now)
         (option_map plain_condition condition.now) ≡ false }
@@ -102,7 +102,7 @@ pub fn number_stored_where(
         (option_map plain_condition condition.now) numbered) }
 {
     match condition {
-        Some(condition) => Ok(Some(resolve_tests(alloc, table, condition)?)),
+        Some(condition) => Ok(Some(number_tests(alloc, table, condition)?)),
         None => Ok(None),
     }
 }

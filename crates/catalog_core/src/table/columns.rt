@@ -4,7 +4,7 @@
 ghost use Rattle.std.specs.Prelude.{◌≡◌, ◌&&◌, ◌<◌, IfOk, IfSome, Some, bytes_eq, false};
 ghost use Rattle.std.specs.Prelude.{map, not, true};
 ghost use Rattle.catalog_core.specs.Limits.{number_limit};
-ghost use Rattle.catalog_core.specs.query.Selection.{names_non_value_column, value_position};
+ghost use Rattle.catalog_core.specs.query.Selection.{names_no_value, value_position};
 ghost use Rattle.catalog_core.specs.table.IsDefinition.{are_places};
 ghost use Rattle.catalog_core.specs.table.TableWords.{def_place, has_date_period};
 ghost use Rattle.catalog_core.specs.table.TableWords.{has_distinct_names};
@@ -97,9 +97,9 @@ fn is_other_column(table: &TableDef, place: usize, column: &Column, name: &Name)
 }
 
 /// Whether a column of this name is no value column.
-#[tactic(auto, unfolding(crate::specs::query::Selection::names_non_value_column))]
-pub fn names_non_value_column(table: &TableDef, name: &Name) -> bool
-    ensures { result ≡ names_non_value_column table.now name.now }
+#[tactic(auto, unfolding(crate::specs::query::Selection::names_no_value))]
+pub fn names_no_value(table: &TableDef, name: &Name) -> bool
+    ensures { result ≡ names_no_value table.now name.now }
 {
     let columns = table.columns.as_slice();
     for i in 0..columns.len() {

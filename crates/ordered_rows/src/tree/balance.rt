@@ -34,16 +34,16 @@ impl Tree {
         ensures height { IsSettled fork.value.left.height fork.value.right.height result.height }
     {
         if fork.left.is_higher(&fork.right, 2) {
-            Tree::rotated_right(fork)
+            Tree::turned_right(fork)
         } else if fork.right.is_higher(&fork.left, 2) {
-            Tree::rotated_left(fork)
+            Tree::turned_left(fork)
         } else {
             Tree::joined(fork)
         }
     }
 
     /// The same where the left side is higher by two.
-    fn rotated_right(mut lower: Box<Fork>) -> Tree
+    fn turned_right(mut lower: Box<Fork>) -> Tree
         requires { lower.value.left.height ≡ lower.value.right.height + 2 }
         ensures rows { result.rows ≡ (fork_tree lower.value).rows }
         ensures height { GrowsByAtMostOne lower.value.left.height result.height }
@@ -59,7 +59,7 @@ impl Tree {
     }
 
     /// The same where the right side is higher by two.
-    fn rotated_left(mut lower: Box<Fork>) -> Tree
+    fn turned_left(mut lower: Box<Fork>) -> Tree
         requires { lower.value.right.height ≡ lower.value.left.height + 2 }
         ensures rows { result.rows ≡ (fork_tree lower.value).rows }
         ensures height { GrowsByAtMostOne lower.value.right.height result.height }

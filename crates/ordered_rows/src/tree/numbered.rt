@@ -7,13 +7,13 @@ ghost use Rattle.ordered_rows.specs.Forks.{most};
 ghost use Rattle.ordered_rows.specs.Heights.{DifferByAtMost, GrowsByAtMostOne};
 
 use super::{Fork, Link, Tree};
-use crate::kept::CachedRow;
+use crate::kept::KeptRow;
 use std::cmp::Ordering;
 use std::mem;
 
 impl Tree {
     /// The row with this number, if there is one.
-    pub(crate) fn nth(&self, at: u32) -> Option<&CachedRow>
+    pub(crate) fn nth(&self, at: u32) -> Option<&KeptRow>
         requires { at < most }
         ensures { MatchOption result (length self.now.rows ≤ at)
             (λ row. drop at self.now.rows ≡ row.now ∷ drop (at + 1) self.now.rows) }
@@ -115,7 +115,7 @@ impl Tree {
     }
 
     /// The tree with a new row over the one with this number, and the old one, if there is one.
-    pub(crate) fn replaced(self, at: u32, new: CachedRow) -> (Tree, Option<CachedRow>)
+    pub(crate) fn replaced(self, at: u32, new: KeptRow) -> (Tree, Option<KeptRow>)
         requires { at < most }
         ensures after { result.0.rows ≡ slice_set self.rows at new }
         ensures height { result.0.height ≡ self.height }

@@ -8,7 +8,7 @@ ghost use Rattle.ordered_rows.specs.Places.{side};
 ghost use Rattle.ordered_rows.specs.Seeks.{IsSeekable};
 
 use super::{Fork, Link, Tree};
-use crate::place::{Place, Probe};
+use crate::place::{Place, Sought};
 use sqlite_value::row::Row;
 use std::alloc::AllocError;
 use std::cmp::Ordering;
@@ -54,7 +54,7 @@ impl Tree {
     }
 
     /// The number of the rows below the key, where a cursor forward begins.
-    pub(crate) fn rank_from(&self, sought: &Probe<'_>) -> u32
+    pub(crate) fn rank_from(&self, sought: &Sought<'_>) -> u32
         requires { IsSeekable sought.now.order sought.now.row.now self.now.rows }
         ensures within { result ≤ length self.now.rows }
         ensures is { result < most
@@ -74,7 +74,7 @@ impl Tree {
     }
 
     /// The number of the rows that are not above the key, where a cursor backward begins.
-    pub(crate) fn rank_up_to(&self, sought: &Probe<'_>) -> u32
+    pub(crate) fn rank_up_to(&self, sought: &Sought<'_>) -> u32
         requires { IsSeekable sought.now.order sought.now.row.now self.now.rows }
         ensures within { result ≤ length self.now.rows }
         ensures is { result < most

@@ -14,7 +14,7 @@ use period_core::{Items, Memory, Refusal, VersionRow};
 use period_keys::{CurrentRows, positions_of};
 use sqlite_trees::store::Alter;
 use std::alloc::Global;
-use version_store::{CollectRows, OpenedStore};
+use version_store::{KeptRows, OpenedStore};
 
 /// No rows of a table, by its key.
 fn no_rows(alloc: Global, table: &TableDef) -> Result<CurrentRows, Memory>
@@ -37,7 +37,7 @@ fn current_versions<S: Alter>(
     ensures read { IsOnlyRead S.Store store.old store.new }
     ensures named { IfErr result IsStoreRefusal }
 {
-    let mut kept = CollectRows::new(alloc);
+    let mut kept = KeptRows::new(alloc);
     match store.scan_current(alloc, number, &mut kept) {
         Ok(()) => Ok(kept.rows),
         Err(refusal) => Err(refusal),

@@ -16,7 +16,7 @@ use Rattle.sql_front.specs.Language.{keyword, symbol, or_test}
 use Rattle.sql_front.specs.Builders.{dates_of}
 use Rattle.sql_front.specs.Grammar.{comma, name}
 use Rattle.sql_front.specs.reading.Reading.{Reader, begins, third_is, sequence_read, built_read}
-use Rattle.sql_front.specs.reading.Reading.{choice_read, preceded_read, enclosed_read, yields_read}
+use Rattle.sql_front.specs.reading.Reading.{choice_read, preceded_read, enclosed_read, stands_read}
 use Rattle.sql_front.specs.reading.Leaves.{date_read}
 use Rattle.sql_front.specs.reading.ConditionReaders.{column_read, compare_read}
 
@@ -33,18 +33,18 @@ period_operand_read =
 unfoldable pub relation_read : Reader PeriodPredicate
 relation_read =
     choice_read (begins (keyword (codes "OVERLAPS")))
-    (yields_read Overlaps (keyword (codes "OVERLAPS")))
-    (choice_read (begins (keyword (codes "EQUALS"))) (yields_read Equals (keyword (codes "EQUALS")))
+    (stands_read Overlaps (keyword (codes "OVERLAPS")))
+    (choice_read (begins (keyword (codes "EQUALS"))) (stands_read Equals (keyword (codes "EQUALS")))
     (choice_read (begins (keyword (codes "CONTAINS")))
-    (yields_read Contains (keyword (codes "CONTAINS")))
+    (stands_read Contains (keyword (codes "CONTAINS")))
     (choice_read (begins (keyword (codes "IMMEDIATELY")))
     (preceded_read (keyword (codes "IMMEDIATELY"))
     (choice_read (begins (keyword (codes "PRECEDES")))
-    (yields_read ImmediatelyPrecedes (keyword (codes "PRECEDES")))
-    (yields_read ImmediatelySucceeds (keyword (codes "SUCCEEDS")))))
+    (stands_read ImmediatelyPrecedes (keyword (codes "PRECEDES")))
+    (stands_read ImmediatelySucceeds (keyword (codes "SUCCEEDS")))))
     (choice_read (begins (keyword (codes "PRECEDES")))
-    (yields_read Precedes (keyword (codes "PRECEDES")))
-    (yields_read Succeeds (keyword (codes "SUCCEEDS")))))))
+    (stands_read Precedes (keyword (codes "PRECEDES")))
+    (stands_read Succeeds (keyword (codes "SUCCEEDS")))))))
 
 -- ---- a predicate: a period, and what is said of it
 

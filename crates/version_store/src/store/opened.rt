@@ -4,7 +4,7 @@ ghost use Rattle.std.specs.Prelude.{◌≡◌, ◌≢◌, ◌⊎◌, [], false, 
 ghost use Rattle.period_core.specs.declared.refusal.Refusal.TheVariants.{BadStore};
 ghost use Rattle.period_core.specs.declared.window.Window.TheVariants.{Now};
 ghost use Rattle.sqlite.specs.Held.{state};
-ghost use Rattle.version_tables.specs.Presence.{NoneExist};
+ghost use Rattle.version_tables.specs.Presence.{IsNoneThere};
 ghost use Rattle.version_tables.specs.Steps.{IsAsBefore};
 ghost use Rattle.version_tables.specs.Tables.{no_schema};
 ghost use Rattle.version_store.specs.Contents.{Contents, empty_contents};
@@ -109,7 +109,7 @@ impl<S: Alter> VersionStore<S> {
             → StoreRepresents S.Store store empty_contents) }
         ensures good { IfOk result (λ store. IsUsable S.Store store.connection
             → IsOurs (state S.Store connection).now.schema
-            → NoneExist (state S.Store connection).now.schema
+            → IsNoneThere (state S.Store connection).now.schema
             ⊎ ((good : IsGoodStore NothingMore (state S.Store connection).now)
             × StoreRepresents S.Store store good.contents)) }
         ensures same { IfOk result (λ store. IsUsable S.Store store.connection
@@ -120,11 +120,11 @@ impl<S: Alter> VersionStore<S> {
         ensures unchanged { IfOk result (λ store. IsUsable S.Store store.connection
             → (store.catalog.tables ≡ [])
             ⊎ IsAsBefore (state S.Store connection) (state S.Store store.connection)) }
-        ensures empty { IfOk result (λ store. NoneExist (state S.Store connection).now.schema
+        ensures empty { IfOk result (λ store. IsNoneThere (state S.Store connection).now.schema
             → store.catalog.tables ≡ []) }
         ensures lawful { IfOk result (λ store. AreLawful [] store.catalog.tables) }
         ensures bad { IfErr result (λ failed. IsUsable S.Store failed.1 → failed.0 ≡ BadStore
-            → (¬ NoneExist (state S.Store connection).now.schema)
+            → (¬ IsNoneThere (state S.Store connection).now.schema)
             × ¬ IsGoodStore NothingMore (state S.Store connection).now) }
         ensures none { IfErr result (λ failed. IsUsable S.Store failed.1
             → IsAsBefore (state S.Store connection) (state S.Store failed.1)) }

@@ -14,7 +14,7 @@ use Rattle.catalog_core.proofs.lemmas.lists.AnyTests.{any_same}
 use Rattle.catalog_core.proofs.lemmas.create.Built.{place_within}
 use Rattle.catalog_core.proofs.lemmas.table.Distinct.{few_named, its_place, only_one, own_name}
 use Rattle.catalog_core.proofs.lemmas.change.GivenValues.{date_column, date_given, date_parts, found_first, given_there, value_plain}
-use Rattle.catalog_core.specs.change.Insertion.{given_names, given_value, gives_wrong, has_wrong, is_longer, is_of_other_kind, is_too_long, is_wrong, omits_a_column, value_for}
+use Rattle.catalog_core.specs.change.Insertion.{given_names, given_value, gives_wrong, has_wrong, is_longer, is_of_other_kind, is_too_long, is_wrong, lacks_some, value_for}
 use Rattle.catalog_core.specs.change.InsertPlaces.{ArePlaces, HasDate, HasValue, HasValues, gives_wrong_at, has_wrong_at, is_wrong_at, is_wrong_for, row_at, value_at}
 use Rattle.catalog_core.specs.table.Kinds.{differ, kind_of_column, kind_of_value}
 use Rattle.catalog_core.specs.table.Naming.{Name, passes}
@@ -225,7 +225,7 @@ period_there t dated =
 -- ==== a row that no condition refuses gives each column a value ====
 
 pub has_values : (t : TableDef) (list : Option (List Name)) (places : List ℕ) (row : List Value) → has_distinct_names t ≡ true → ArePlaces t list places
-    → passes (omits_a_column t) list ≡ false → length row ≡ length (given_names t list) → HasValues t places row
+    → passes (lacks_some t) list ≡ false → length row ≡ length (given_names t list) → HasValues t places row
 has_values t list places row distinct placed names long i x there value =
     let here : i < length t.columns = slice_get_within t.columns i x there in
     let item : x ≡ get_or t.columns i x = sym (get_or_from_slice_get t.columns i x x there) in
@@ -235,7 +235,7 @@ has_values t list places row distinct placed names long i x there value =
     ]) refl
 
 pub has_date : (t : TableDef) (list : Option (List Name)) (places : List ℕ) (row : List Value) (place : ℕ) → has_distinct_names t ≡ true → ArePlaces t list places
-    → passes (omits_a_column t) list ≡ false → length row ≡ length (given_names t list) → gives_wrong wrong.Kind t list row ≡ false → is_date_column t place ≡ true → HasDate places row place
+    → passes (lacks_some t) list ≡ false → length row ≡ length (given_names t list) → gives_wrong wrong.Kind t list row ≡ false → is_date_column t place ≡ true → HasDate places row place
 has_date t list places row place distinct placed names long right dated =
     let given = date_given t list row place names long right dated in
     let at = date_column t place dated in

@@ -20,7 +20,7 @@ use Rattle.catalog_core.specs.table.Kinds.{kind_of_column, same_kind, differ}
 use Rattle.catalog_core.specs.table.Matches.{is_matching}
 use Rattle.catalog_core.specs.table.Naming.{Name, find_among, matches_among}
 use Rattle.catalog_core.specs.change.PortionChanges.{is_flawed_update, lacks_named, update_conditions}
-use Rattle.catalog_core.specs.query.Selection.{names_non_value_column}
+use Rattle.catalog_core.specs.query.Selection.{names_no_value}
 use Rattle.catalog_core.specs.table.TableWords.{def_kind, is_value_column, number_of, table_of_name}
 
 abbrev set : Name → Value → Assignment
@@ -54,7 +54,7 @@ record Updates : Type 0 where
   long_set : refusal (of_dep (set (codes "NAME") (Text (codes "ABC")) ∷ []) None) ≡ Some TextTooLong
 
 updates : Updates
-unfolding is_flawed_column is_flawed_compare is_flawed_portion is_flawed_set is_set_again sets_twice is_longer is_of_other_kind is_too_long kind_of_column same_kind differ is_matching is_flawed_update lacks_named names_non_value_column def_kind find_among matches_among is_value_column number_of table_of_name chars
+unfolding is_flawed_column is_flawed_compare is_flawed_portion is_flawed_set is_set_again sets_twice is_longer is_of_other_kind is_too_long kind_of_column same_kind differ is_matching is_flawed_update lacks_named names_no_value def_kind find_among matches_among is_value_column number_of table_of_name chars
 updates = record {
   accepted = refl;
   other_qualifier = refl;

@@ -9,8 +9,8 @@ use Rattle.catalog_core.specs.table.Matches.{is_matching}
 use Rattle.catalog_core.specs.declared.table.matching.Matching.TheVariants.{Nothing}
 
 -- what is left to be searched, behind so many
-abbrev pub next_place : {X : Type 0} → (X → Bool) → (X → Bool) → ℕ → List X → Option ℕ
-next_place p q n xs = option_map (λ k. n + k) (position p (filter q xs))
+abbrev pub place_behind : {X : Type 0} → (X → Bool) → (X → Bool) → ℕ → List X → Option ℕ
+place_behind p q n xs = option_map (λ k. n + k) (position p (filter q xs))
 
 pub position_first : {X : Type 0} (p : X → Bool) (x : X) (xs : List X) → p x ≡ true → position p (x ∷ xs) ≡ Some 0
 position_first p x xs passing =
@@ -40,31 +40,31 @@ drop_at xs i x here item =
 
 -- the column in hand is named
 pub place_found : {X : Type 0} (p q : X → Bool) (xs : List X) (i : ℕ) (x : X) (n : ℕ) (whole : Option ℕ) → i < length xs → x ≡ get_or xs i x → q x ≡ true → p x ≡ true
-    → whole ≡ next_place p q n (drop i xs) → Some n ≡ whole
+    → whole ≡ place_behind p q n (drop i xs) → Some n ≡ whole
 place_found {X} p q xs i x n whole here item value named so_far =
     let sum : n + 0 ≡ n = omega arith in
-    sym (so_far ∙ ap (next_place p q n) (drop_at xs i x here item)
+    sym (so_far ∙ ap (place_behind p q n) (drop_at xs i x here item)
     ∙ ap (λ b. option_map (λ k. n + k) (position p (cond b (x ∷ filter q (drop (i + 1) xs)) (filter q (drop (i + 1) xs))))) value
     ∙ ap (option_map (λ k. n + k)) (position_first p x (filter q (drop (i + 1) xs)) named)
     ∙ ap (λ (k : ℕ). Some k) sum)
 
 -- it is another
 pub place_more : {X : Type 0} (p q : X → Bool) (xs : List X) (i : ℕ) (x : X) (n : ℕ) (whole : Option ℕ) → i < length xs → x ≡ get_or xs i x → q x ≡ true → p x ≡ false
-    → whole ≡ next_place p q n (drop i xs) → whole ≡ next_place p q (n + 1) (drop (i + 1) xs)
+    → whole ≡ place_behind p q n (drop i xs) → whole ≡ place_behind p q (n + 1) (drop (i + 1) xs)
 place_more p q xs i x n whole here item value other so_far =
-    so_far ∙ ap (next_place p q n) (drop_at xs i x here item)
+    so_far ∙ ap (place_behind p q n) (drop_at xs i x here item)
     ∙ ap (λ b. option_map (λ k. n + k) (position p (cond b (x ∷ filter q (drop (i + 1) xs)) (filter q (drop (i + 1) xs))))) value
     ∙ position_next n p x (filter q (drop (i + 1) xs)) other
 
 -- it has no value
 pub place_passed : {X : Type 0} (p q : X → Bool) (xs : List X) (i : ℕ) (x : X) (n : ℕ) (whole : Option ℕ) → i < length xs → x ≡ get_or xs i x → q x ≡ false
-    → whole ≡ next_place p q n (drop i xs) → whole ≡ next_place p q n (drop (i + 1) xs)
+    → whole ≡ place_behind p q n (drop i xs) → whole ≡ place_behind p q n (drop (i + 1) xs)
 place_passed p q xs i x n whole here item none so_far =
-    so_far ∙ ap (next_place p q n) (drop_at xs i x here item)
+    so_far ∙ ap (place_behind p q n) (drop_at xs i x here item)
     ∙ ap (λ b. option_map (λ k. n + k) (position p (cond b (x ∷ filter q (drop (i + 1) xs)) (filter q (drop (i + 1) xs))))) none
 
 -- at the beginning and at the end
-pub place_begun : {X : Type 0} (p q : X → Bool) (xs : List X) → position p (filter q xs) ≡ next_place p q 0 xs
+pub place_begun : {X : Type 0} (p q : X → Bool) (xs : List X) → position p (filter q xs) ≡ place_behind p q 0 xs
 place_begun p q xs =
     by (position p (filter q xs))
   where
@@ -78,8 +78,8 @@ drop_past [] (suc i) done = refl
 drop_past (x ∷ xs) zero done = absurd (omega (arith, done))
 drop_past (x ∷ xs) (suc i) done = drop_past xs i (omega (arith, done))
 
-pub place_none : {X : Type 0} (p q : X → Bool) (xs : List X) (i n : ℕ) (whole : Option ℕ) → length xs ≤ i → whole ≡ next_place p q n (drop i xs) → None ≡ whole
-place_none p q xs i n whole done so_far = sym (so_far ∙ ap (next_place p q n) (drop_past xs i done))
+pub place_none : {X : Type 0} (p q : X → Bool) (xs : List X) (i n : ℕ) (whole : Option ℕ) → length xs ≤ i → whole ≡ place_behind p q n (drop i xs) → None ≡ whole
+place_none p q xs i n whole done so_far = sym (so_far ∙ ap (place_behind p q n) (drop_past xs i done))
 
 -- ---- what is named among columns with values has a place
 

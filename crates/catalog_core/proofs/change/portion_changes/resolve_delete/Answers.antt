@@ -5,7 +5,7 @@ use Rattle.catalog_core.proofs.lemmas.change.RowFacts.{table_named}
 use Rattle.catalog_core.proofs.lemmas.conditions.Numbers.{flawless_delete}
 use Rattle.catalog_core.proofs.lemmas.judged.Sound.{all_false}
 use Rattle.catalog_core.specs.change.PortionChanges.{delete_faults}
-use Rattle.catalog_core.specs.declared.flaw.Flaw.TheVariants.{Empty, NotValueColumn, Unknown}
+use Rattle.catalog_core.specs.declared.flaw.Flaw.TheVariants.{Empty, NoValue, Unknown}
 use Rattle.catalog_core.proofs.change.portion_changes.resolve_delete.Goals as goal
 
 pub returns-in_default-clause-refused : goal.returns-in_default-clause-refused
@@ -38,7 +38,7 @@ number_where-requires-clause-value c =
     let statement = plain_delete c.args.delete.now in
     let t = c.in-Some.table.now in
     let tests = all_false (delete_faults t statement) (sym c.delete_fault.ensures ∙ c.in_default-delete_fault.is) in
-    (flawless_delete NotValueColumn statement t tests.1.1.0).1
+    (flawless_delete NoValue statement t tests.1.1.0).1
 
 pub returns : goal.returns
 returns c =

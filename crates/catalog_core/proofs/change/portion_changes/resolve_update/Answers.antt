@@ -6,7 +6,7 @@ use Rattle.catalog_core.proofs.lemmas.conditions.Numbers.{flawless_update}
 use Rattle.catalog_core.proofs.lemmas.judged.Sound.{all_false}
 use Rattle.catalog_core.specs.change.PortionChanges.{update_faults}
 use Rattle.catalog_core.specs.Numbering.{numbered_set}
-use Rattle.catalog_core.specs.declared.flaw.Flaw.TheVariants.{Empty, NotValueColumn, Unknown}
+use Rattle.catalog_core.specs.declared.flaw.Flaw.TheVariants.{Empty, NoValue, Unknown}
 use Rattle.catalog_core.proofs.change.portion_changes.resolve_update.Goals as goal
 
 pub returns-in_default-clause-refused : goal.returns-in_default-clause-refused
@@ -27,19 +27,19 @@ portion_period-portion-requires c =
     let tests = all_false (update_faults t statement) (sym c.update_fault.ensures ∙ c.in_default-update_fault.is) in
     (flawless_update Empty statement t tests.1.1.1.1.1.1.0).0
 
-pub resolve_sets-requires-clause-there : goal.resolve_sets-requires-clause-there
-resolve_sets-requires-clause-there c =
+pub number_sets-requires-clause-there : goal.number_sets-requires-clause-there
+number_sets-requires-clause-there c =
     let statement = plain_update c.args.update.now in
     let t = c.in-Some.table.now in
     let tests = all_false (update_faults t statement) (sym c.update_fault.ensures ∙ c.in_default-update_fault.is) in
     rw c.as_slice.ensures.value ((flawless_update Unknown statement t tests.0).1)
 
-pub resolve_sets-requires-clause-value : goal.resolve_sets-requires-clause-value
-resolve_sets-requires-clause-value c =
+pub number_sets-requires-clause-value : goal.number_sets-requires-clause-value
+number_sets-requires-clause-value c =
     let statement = plain_update c.args.update.now in
     let t = c.in-Some.table.now in
     let tests = all_false (update_faults t statement) (sym c.update_fault.ensures ∙ c.in_default-update_fault.is) in
-    rw c.as_slice.ensures.value ((flawless_update NotValueColumn statement t tests.1.1.1.0).1)
+    rw c.as_slice.ensures.value ((flawless_update NoValue statement t tests.1.1.1.0).1)
 
 pub number_where-requires-clause-there : goal.number_where-requires-clause-there
 number_where-requires-clause-there c =
@@ -53,7 +53,7 @@ number_where-requires-clause-value c =
     let statement = plain_update c.args.update.now in
     let t = c.in-Some.table.now in
     let tests = all_false (update_faults t statement) (sym c.update_fault.ensures ∙ c.in_default-update_fault.is) in
-    (flawless_update NotValueColumn statement t tests.1.1.1.0).2
+    (flawless_update NoValue statement t tests.1.1.1.0).2
 
 pub returns : goal.returns
 returns c =

@@ -1,6 +1,6 @@
 use Rattle.std.proofs.Common.{◌+◌, ◌∙◌, ap, arith, drop, sym}
 use Rattle.std.specs.List.{position}
-use Rattle.catalog_core.proofs.lemmas.query.ValuePlaces.{next_place, place_begun, place_found, place_more, place_none, place_passed}
+use Rattle.catalog_core.proofs.lemmas.query.ValuePlaces.{place_behind, place_begun, place_found, place_more, place_none, place_passed}
 use Rattle.catalog_core.specs.query.Places.{values_among}
 use Rattle.catalog_core.specs.query.Scopes.{has_value, names_column}
 use Rattle.catalog_core.proofs.query.scope.value_place.Goals as goal
@@ -30,13 +30,13 @@ loop-seen-preserved c =
       | then-has_value+else-is_named w ↦ record {
         left = place_more p has_value xs i c.seen-item.result c.loop-seen.place (position p (values_among xs)) c.loop-seen-test.true c.seen-item.is
             (sym c.has_value.ensures ∙ w.if-has_value.true) (sym w.is_named.ensures ∙ w.if-is_named.false) c.loop-seen.invariant.left
-            ∙ ap (λ n. next_place p has_value n (drop (i + 1) xs)) (sym w.place-is);
+            ∙ ap (λ n. place_behind p has_value n (drop (i + 1) xs)) (sym w.place-is);
         within = omega (arith, w.place-is, c.loop-seen.invariant.within);
       }
       | else-has_value w ↦ record {
         left = place_passed p has_value xs i c.seen-item.result c.loop-seen.place (position p (values_among xs)) c.loop-seen-test.true c.seen-item.is
             (sym c.has_value.ensures ∙ w.if-has_value.false) c.loop-seen.invariant.left
-            ∙ ap (λ n. next_place p has_value n (drop (i + 1) xs)) (sym w.place-is);
+            ∙ ap (λ n. place_behind p has_value n (drop (i + 1) xs)) (sym w.place-is);
         within = omega (arith, w.place-is, c.loop-seen.invariant.within);
       }
     ]

@@ -3,7 +3,7 @@ use Rattle.std.proofs.lemmas.List.{length-map}
 use Rattle.sql_statements.specs.Plain.{plain_select}
 use Rattle.catalog_core.proofs.lemmas.query.Converted.{accepted_conjuncts, accepted_items}
 use Rattle.catalog_core.proofs.lemmas.query.ReferenceLists.{Borrowed}
-use Rattle.catalog_core.specs.query.Faults.{omits_a_column}
+use Rattle.catalog_core.specs.query.Faults.{lacks_some}
 use Rattle.catalog_core.specs.query.Fitting.{are_in_place}
 use Rattle.catalog_core.specs.query.Places.{place_among, placed_item}
 use Rattle.catalog_core.specs.query.Refusals.{lacks_table}
@@ -15,8 +15,8 @@ use Rattle.catalog_core.proofs.query.select_conversion.number_select.Goals as go
 pub number_references-requires-clause-there : goal.number_references-requires-clause-there
 unfolding lacks_table
 number_references-requires-clause-there c =
-    ap (λ rs. omits_a_column c.args.catalog.now.tables (map (λ (r : Borrowed). r.now) rs)) c.as_slice.ensures.value
-    ∙ ap (omits_a_column c.args.catalog.now.tables) c.in_ok-references.ensures.value ∙ c.requires.there
+    ap (λ rs. lacks_some c.args.catalog.now.tables (map (λ (r : Borrowed). r.now) rs)) c.as_slice.ensures.value
+    ∙ ap (lacks_some c.args.catalog.now.tables) c.in_ok-references.ensures.value ∙ c.requires.there
 
 pub from_vec-requires : goal.from_vec-requires
 from_vec-requires c =

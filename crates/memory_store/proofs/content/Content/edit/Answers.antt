@@ -3,7 +3,7 @@ use Rattle.std.proofs.lemmas.Result.{IfOk-weaker, on_err_weaker}
 use Rattle.memory_store.specs.Edit.{edited}
 use Rattle.memory_store.proofs.Seen.{place_of, seen_edit, within_by_shape}
 use Rattle.memory_store.proofs.Shaped.{fits_present}
-use Rattle.memory_store.proofs.TreeStates.{rows_back, stand_kept}
+use Rattle.memory_store.proofs.Stands.{rows_back, stand_kept}
 use Rattle.memory_store.proofs.content.Content.edit.Goals as goal
 
 pub returns-clause-ok : goal.returns-clause-ok

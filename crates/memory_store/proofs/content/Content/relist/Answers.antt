@@ -1,6 +1,6 @@
 use Rattle.std.proofs.Common.{◌≡◌, ◌∙◌, ap, arith, refl, sym}
 use Rattle.memory_store.proofs.Seen.{place_of, seen_relisted, shape_at}
-use Rattle.memory_store.proofs.TreeStates.{listed_back, stand_listed}
+use Rattle.memory_store.proofs.Stands.{listed_back, stand_listed}
 use Rattle.memory_store.proofs.content.Content.relist.Goals as goal
 
 pub returns-clause-stand : goal.returns-clause-stand

@@ -1,7 +1,7 @@
 use Rattle.std.proofs.Common.{◌∙◌, [], ◌∷◌, ◌++◌, ap, refl}
 use Rattle.memory_store.specs.declared.undo.Undo.TheVariants.{Mark}
 use Rattle.memory_store.specs.Laws.{rows_are_ordered}
-use Rattle.memory_store.specs.TreeStates.{before_all, marked, stand}
+use Rattle.memory_store.specs.Stands.{before_all, marked, stand}
 use Rattle.memory_store.proofs.Logs.{base_stays, logged_past, marked_append}
 use Rattle.memory_store.proofs.history.History.mark.Goals as goal
 

@@ -1,5 +1,5 @@
 use Rattle.std.proofs.Common.{◌≤◌, drop, length}
-use Rattle.memory_store.specs.TreeStates.{AreUnmarked}
+use Rattle.memory_store.specs.Stands.{AreUnmarked}
 use Rattle.memory_store.proofs.history.History.newest_mark.Given as goal
 
 abbrev pub invariant-loop-at : goal.invariant-loop-at

@@ -1,6 +1,6 @@
 use Rattle.std.proofs.Common.{◌∙◌, ap, sym}
 use Rattle.std.proofs.Math.Logic.{∥∥₁_map}
-use Rattle.memory_store.specs.TreeStates.{shorter, stand}
+use Rattle.memory_store.specs.Stands.{shorter, stand}
 use Rattle.memory_store.proofs.Logs.{released_base, released_marks, released_past, unmarked}
 use Rattle.memory_store.proofs.history.History.release.Goals as goal
 

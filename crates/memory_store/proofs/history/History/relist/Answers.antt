@@ -7,11 +7,11 @@ use Rattle.memory_store.proofs.history.History.relist.Goals as goal
 pub invariant_of-self-2 : goal.invariant_of-self-2
 invariant_of-self-2 c =
     let s = c.args.self.now in
-    let u = undo.Relisted c.args.tree c.relist-described.result.0 c.relist-described.result.1 in
+    let u = undo.Listed c.args.tree c.relist-described.result.0 c.relist-described.result.1 in
     record { past = logged_past s.log.items _ u _ _ (c.push_reserved.ensures.items ∙ ap (λ l. l ++ u ∷ []) c.reserve.ensures.items) (c.relist-described.ensures.undo) (rows_are_ordered s.content.trees.items) s.past }
 
 pub returns-clause-kept : goal.returns-clause-kept
 returns-clause-kept c =
     let s = c.args.self.now in
-    let u = undo.Relisted c.args.tree c.relist-described.result.0 c.relist-described.result.1 in
+    let u = undo.Listed c.args.tree c.relist-described.result.0 c.relist-described.result.1 in
     logged_keeps s _ u (c.push_reserved.ensures.items ∙ ap (λ l. l ++ u ∷ []) c.reserve.ensures.items) (c.relist-described.ensures.undo) refl

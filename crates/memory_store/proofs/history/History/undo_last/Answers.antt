@@ -1,6 +1,6 @@
 use Rattle.std.proofs.Common.{[], ◌∷◌}
 use Rattle.std.proofs.Math.Logic.{∥∥₁_map}
-use Rattle.memory_store.specs.TreeStates.{stand}
+use Rattle.memory_store.specs.Stands.{stand}
 use Rattle.memory_store.proofs.Logs.{past_split}
 use Rattle.memory_store.proofs.history.History.undo_last.Goals as goal
 

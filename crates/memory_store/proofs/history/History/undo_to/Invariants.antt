@@ -1,5 +1,5 @@
 use Rattle.std.proofs.Common.{◌≤◌, length}
-use Rattle.memory_store.specs.TreeStates.{stand}
+use Rattle.memory_store.specs.Stands.{stand}
 use Rattle.memory_store.proofs.Logs.{IsUndone}
 use Rattle.memory_store.proofs.history.History.undo_to.Given as goal
 

@@ -1,5 +1,5 @@
 use Rattle.std.proofs.Common.{ap, sym}
-use Rattle.memory_store.specs.TreeStates.{before_all, shows, stand}
+use Rattle.memory_store.specs.Stands.{before_all, shows, stand}
 use Rattle.memory_store.proofs.store.MemoryStore.new.Goals as goal
 
 pub returns-clause-committed : goal.returns-clause-committed

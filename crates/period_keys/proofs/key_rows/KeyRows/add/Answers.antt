@@ -26,11 +26,11 @@ still_aligned rows more periods long place row aligned row_put put =
 pub invariant_of-self-in-Err : goal.invariant_of-self-in-Err
 invariant_of-self-in-Err c =
     let own = c.args.self.now in
-    let place : ℕ = c.insertion_point-place.result.0 in
+    let place : ℕ = c.place_for-place.result.0 in
     let x : Period = c.args.row.period in
-    let comes : ComesIn x.start own.settled own.periods.items place c.insertion_point-place.result.1 =
-    subst (λ (ps : List Period). ComesIn x.start own.settled ps place c.insertion_point-place.result.1) c.as_slice.ensures.value (c.insertion_point-place.ensures.settles, c.insertion_point-place.ensures.late) in
-    let bound : place ≤ length own.periods.items = comes_inside x.start own.settled own.periods.items place c.insertion_point-place.result.1 own.within comes in
+    let comes : ComesIn x.start own.settled own.periods.items place c.place_for-place.result.1 =
+    subst (λ (ps : List Period). ComesIn x.start own.settled ps place c.place_for-place.result.1) c.as_slice.ensures.value (c.place_for-place.ensures.settles, c.place_for-place.ensures.late) in
+    let bound : place ≤ length own.periods.items = comes_inside x.start own.settled own.periods.items place c.place_for-place.result.1 own.within comes in
     let back : c.remove-taken.new.self.items ≡ own.rows.items = undone own.rows.items c.insert.new.self.items c.remove-taken.new.self.items own.periods.items place c.args.row own.aligned bound c.in_ok-insert.ensures.items c.remove-taken.ensures.items in
     let same : c.insert-2.new.self.items ≡ own.periods.items = c.in-Err.ensures.items in
     let runs : AreRuns own.settled own.periods.items = record { within = own.within; ordered = own.ordered; late = own.late } in
@@ -45,22 +45,22 @@ invariant_of-self-in-Err c =
 pub returns-in-Err-clause-err : goal.returns-in-Err-clause-err
 returns-in-Err-clause-err c =
     let own = c.args.self.now in
-    let place : ℕ = c.insertion_point-place.result.0 in
+    let place : ℕ = c.place_for-place.result.0 in
     let x : Period = c.args.row.period in
-    let comes : ComesIn x.start own.settled own.periods.items place c.insertion_point-place.result.1 =
-    subst (λ (ps : List Period). ComesIn x.start own.settled ps place c.insertion_point-place.result.1) c.as_slice.ensures.value (c.insertion_point-place.ensures.settles, c.insertion_point-place.ensures.late) in
-    let bound : place ≤ length own.periods.items = comes_inside x.start own.settled own.periods.items place c.insertion_point-place.result.1 own.within comes in
+    let comes : ComesIn x.start own.settled own.periods.items place c.place_for-place.result.1 =
+    subst (λ (ps : List Period). ComesIn x.start own.settled ps place c.place_for-place.result.1) c.as_slice.ensures.value (c.place_for-place.ensures.settles, c.place_for-place.ensures.late) in
+    let bound : place ≤ length own.periods.items = comes_inside x.start own.settled own.periods.items place c.place_for-place.result.1 own.within comes in
     undone own.rows.items c.insert.new.self.items c.remove-taken.new.self.items own.periods.items place c.args.row own.aligned bound c.in_ok-insert.ensures.items c.remove-taken.ensures.items
 
 pub invariant_of-self-then-settles : goal.invariant_of-self-then-settles
 invariant_of-self-then-settles c =
     let own = c.args.self.now in
     let x : Period = c.args.row.period in
-    let place : ℕ = c.insertion_point-place.result.0 in
+    let place : ℕ = c.place_for-place.result.0 in
     let put : c.insert-2.new.self.items ≡ insert own.periods.items place x = c.in_default.ensures.items in
     let runs : AreRuns own.settled own.periods.items = record { within = own.within; ordered = own.ordered; late = own.late } in
-    let comes : ComesIn x.start own.settled own.periods.items place c.insertion_point-place.result.1 =
-    subst (λ (ps : List Period). ComesIn x.start own.settled ps place c.insertion_point-place.result.1) c.as_slice.ensures.value (c.insertion_point-place.ensures.settles, c.insertion_point-place.ensures.late) in
+    let comes : ComesIn x.start own.settled own.periods.items place c.place_for-place.result.1 =
+    subst (λ (ps : List Period). ComesIn x.start own.settled ps place c.place_for-place.result.1) c.as_slice.ensures.value (c.place_for-place.ensures.settles, c.place_for-place.ensures.late) in
     let fits = comes.0 c.if-settles.true in
     let left : AreRuns (own.settled + 1) c.insert-2.new.self.items = subst (AreRuns (own.settled + 1)) (sym put) (settles own.settled place own.periods.items x runs fits.0 fits.1) in
     record {
@@ -74,11 +74,11 @@ pub invariant_of-self-else-settles : goal.invariant_of-self-else-settles
 invariant_of-self-else-settles c =
     let own = c.args.self.now in
     let x : Period = c.args.row.period in
-    let place : ℕ = c.insertion_point-place.result.0 in
+    let place : ℕ = c.place_for-place.result.0 in
     let put : c.insert-2.new.self.items ≡ insert own.periods.items place x = c.in_default.ensures.items in
     let runs : AreRuns own.settled own.periods.items = record { within = own.within; ordered = own.ordered; late = own.late } in
-    let comes : ComesIn x.start own.settled own.periods.items place c.insertion_point-place.result.1 =
-    subst (λ (ps : List Period). ComesIn x.start own.settled ps place c.insertion_point-place.result.1) c.as_slice.ensures.value (c.insertion_point-place.ensures.settles, c.insertion_point-place.ensures.late) in
+    let comes : ComesIn x.start own.settled own.periods.items place c.place_for-place.result.1 =
+    subst (λ (ps : List Period). ComesIn x.start own.settled ps place c.place_for-place.result.1) c.as_slice.ensures.value (c.place_for-place.ensures.settles, c.place_for-place.ensures.late) in
     let (p, is, fits) = comes.1 c.if-settles.false in
     let left : AreRuns own.settled c.insert-2.new.self.items = subst (AreRuns own.settled) (sym put) (comes_late own.settled place p own.periods.items x runs is fits) in
     record {
@@ -93,13 +93,13 @@ more_rows : (old new : List VersionRow) (place : ℕ) (row : VersionRow) → new
 more_rows old new place row put = subst (λ (xs : List VersionRow). IsPermutation xs (old ++ row ∷ [])) (sym put) (inserted old place row)
 
 pub returns-then-settles-clause-ok : goal.returns-then-settles-clause-ok
-returns-then-settles-clause-ok c = more_rows c.args.self.now.rows.items c.insert.new.self.items c.insertion_point-place.result.0 c.args.row c.in_ok-insert.ensures.items
+returns-then-settles-clause-ok c = more_rows c.args.self.now.rows.items c.insert.new.self.items c.place_for-place.result.0 c.args.row c.in_ok-insert.ensures.items
 
-pub returns-then-should_merge-clause-ok : goal.returns-then-should_merge-clause-ok
-returns-then-should_merge-clause-ok c =
+pub returns-then-are_many-clause-ok : goal.returns-then-are_many-clause-ok
+returns-then-are_many-clause-ok c =
     IsPermutation-trans c.settle.new.self.rows.items c.insert.new.self.items (c.args.self.now.rows.items ++ c.args.row ∷ [])
     (IsPermutation-sym c.insert.new.self.items c.settle.new.self.rows.items c.settle.ensures)
-    (more_rows c.args.self.now.rows.items c.insert.new.self.items c.insertion_point-place.result.0 c.args.row c.in_ok-insert.ensures.items)
+    (more_rows c.args.self.now.rows.items c.insert.new.self.items c.place_for-place.result.0 c.args.row c.in_ok-insert.ensures.items)
 
-pub returns-else-should_merge-clause-ok : goal.returns-else-should_merge-clause-ok
-returns-else-should_merge-clause-ok c = more_rows c.args.self.now.rows.items c.insert.new.self.items c.insertion_point-place.result.0 c.args.row c.in_ok-insert.ensures.items
+pub returns-else-are_many-clause-ok : goal.returns-else-are_many-clause-ok
+returns-else-are_many-clause-ok c = more_rows c.args.self.now.rows.items c.insert.new.self.items c.place_for-place.result.0 c.args.row c.in_ok-insert.ensures.items

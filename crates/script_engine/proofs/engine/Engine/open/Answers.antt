@@ -4,7 +4,7 @@ use Rattle.sqlite.specs.Held.{state}
 use Rattle.history_model.specs.Histories.{History}
 use Rattle.period_keys.specs.Current.{rows_by_key}
 use Rattle.period_keys.specs.Rows.{RowsByKey}
-use Rattle.version_tables.specs.Presence.{NoneExist}
+use Rattle.version_tables.specs.Presence.{IsNoneThere}
 use Rattle.version_store.specs.GoodStore.{IsGoodStore}
 use Rattle.version_store.specs.StoreState.{IsOurs, IsUsable, StoreState}
 use Rattle.version_store.specs.Written.{Has}
@@ -46,7 +46,7 @@ pub returns-in-Ok-load_lawful-clause-good : goal.returns-in-Ok-load_lawful-claus
 returns-in-Ok-load_lawful-clause-good g c =
     let rows : List RowsByKey = map rows_by_key c.in-Ok-load_lawful.tables.items in
     let old : Database = (state g.S.Store c.args.connection).now in
-    subst (λ (store : StoreState g.row.S.Denot). IsUsable g.S.Store store.connection → IsOurs old.schema → NoneExist old.schema ⊎ (IsGoodStore AreConstrained old × ((history : History) × EngineRepresents g.S.Store history (engine_of store rows)))) (sym c.accept.ensures) (λ usable ours.
+    subst (λ (store : StoreState g.row.S.Denot). IsUsable g.S.Store store.connection → IsOurs old.schema → IsNoneThere old.schema ⊎ (IsGoodStore AreConstrained old × ((history : History) × EngineRepresents g.S.Store history (engine_of store rows)))) (sym c.accept.ensures) (λ usable ours.
     let read = c.in-Ok-load_lawful.ensures.read in
     let before = read.usable usable in
     let new : EngineState g.row.S.Denot = engine_of c.load_lawful.new.store rows in

@@ -4,7 +4,7 @@ use Rattle.history_model.specs.Versions.{row_of}
 use Rattle.period_core.specs.declared.version.VersionRow.{VersionRow}
 use Rattle.period_keys.specs.Current.{rows_by_key}
 use Rattle.sequenced_ops.specs.Planning.{IsPruned}
-use Rattle.sequenced_ops.proofs.CollectRows.{IsKept, kept_none}
+use Rattle.sequenced_ops.proofs.KeptRows.{IsKept, kept_none}
 use Rattle.temporal_model.specs.Snapshot.{InSnapshot}
 use Rattle.script_engine.proofs.InMemory.{no_rows, some_rows}
 use Rattle.script_engine.proofs.engine.needed.needed_current.Goals as goal

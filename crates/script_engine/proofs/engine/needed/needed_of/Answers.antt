@@ -5,7 +5,7 @@ use Rattle.period_core.specs.declared.version.VersionRow.{VersionRow}
 use Rattle.period_keys.specs.FixedKeys.{FixesKeyWithin}
 use Rattle.period_keys.proofs.PlanParts.{if_ok}
 use Rattle.sequenced_ops.specs.Planning.{IsPruned}
-use Rattle.sequenced_ops.proofs.CollectRows.{IsKept, kept_none}
+use Rattle.sequenced_ops.proofs.KeptRows.{IsKept, kept_none}
 use Rattle.temporal_model.specs.Snapshot.{InSnapshot}
 use Rattle.script_engine.proofs.Needed.{key_needed}
 use Rattle.script_engine.proofs.engine.needed.needed_of.Goals as goal

@@ -4,7 +4,7 @@ use Rattle.history_model.specs.Versions.{row_of}
 use Rattle.period_core.specs.declared.row.PeriodRow.{PeriodRow}
 use Rattle.period_core.specs.declared.version.VersionRow.{VersionRow}
 use Rattle.period_keys.specs.Rows.{rows_of_lists}
-use Rattle.sequenced_ops.proofs.CollectRows.{IsKept, kept_none}
+use Rattle.sequenced_ops.proofs.KeptRows.{IsKept, kept_none}
 use Rattle.script_engine.proofs.engine.needed.needed_of_all.Goals as goal
 
 pub loop-group-init : goal.loop-group-init

@@ -6,7 +6,7 @@ use Rattle.period_core.specs.declared.row.PeriodRow.{PeriodRow}
 use Rattle.period_core.specs.declared.value.Value.{Value}
 use Rattle.period_core.specs.declared.version.VersionRow.{VersionRow}
 use Rattle.sequenced_ops.specs.Planning.{RulesOut}
-use Rattle.sequenced_ops.proofs.CollectRows.{IsKept, kept_more, kept_same}
+use Rattle.sequenced_ops.proofs.KeptRows.{IsKept, kept_more, kept_same}
 use Rattle.script_engine.proofs.engine.needed.push_needed.Goals as goal
 use Rattle.script_engine.proofs.engine.needed.push_needed.Goals.{then-not-is_ruled_out+in_ok-copy+in_ok-push, else-not-is_ruled_out}
 

@@ -1,7 +1,7 @@
 use Rattle.std.proofs.Common.{◌++◌, List, map, take}
 use Rattle.history_model.specs.Versions.{row_of}
 use Rattle.period_core.specs.declared.row.PeriodRow.{PeriodRow}
-use Rattle.sequenced_ops.proofs.CollectRows.{IsKept}
+use Rattle.sequenced_ops.proofs.KeptRows.{IsKept}
 use Rattle.script_engine.proofs.engine.needed.push_needed.Given as goal
 
 abbrev pub invariant-loop-version : goal.invariant-loop-version

@@ -1,5 +1,0 @@
-use Rattle.std.proofs.Common.{length}
-use Rattle.catalog_core.proofs.query.fitting.+next_place.Given as goal
-
-abbrev pub decreases-next_place : goal.decreases-next_place
-decreases-next_place l = length l.references.now
