@@ -11,7 +11,7 @@ use period_core::{Moment, Refusal, VersionRow, Window};
 use sqlite::Connection;
 use std::alloc::Global;
 use std::test::Fail;
-use version_store::{CollectRows, RowVisitor, VersionStore};
+use version_store::{KeptRows, RowVisitor, VersionStore};
 
 type Store = VersionStore<MemoryStore>;
 
@@ -147,7 +147,7 @@ fn opened_and_refused(rt: HostRuntime) -> Result<(), Fail> {
         Err((refusal, _connection)) => return Err(refusal)?,
     };
     assert_eq!(rt; opened_store.catalog().len(), 1);
-    let mut kept = CollectRows::new(alloc);
+    let mut kept = KeptRows::new(alloc);
     opened_store.scan_current(alloc, 1, &mut kept)?;
     assert!(rt; are_versions(alloc, kept.rows.as_slice(), &MOVES[1..])?);
     let mut store = opened(alloc, opened_store.refuse())?;
@@ -157,7 +157,7 @@ fn opened_and_refused(rt: HostRuntime) -> Result<(), Fail> {
 
 // The versions of EMP that a window sees.
 fn seen(alloc: Global, store: &mut Store, window: Window) -> Result<Vec<VersionRow>, Fail> {
-    let mut kept = CollectRows::new(alloc);
+    let mut kept = KeptRows::new(alloc);
     store.scan(alloc, 1, window, &mut kept)?;
     Ok(kept.rows)
 }
