@@ -57,12 +57,16 @@ REFUSALS = {
     27: 'PeriodColumn', 28: 'BadDefinition', 29: 'ColumnCount', 30: 'TypeMismatch',
     31: 'TextTooLong', 40: 'MomentBack', 41: 'EmptyPeriod', 42: 'KeyOverlap',
     43: 'PeriodReference', 62: 'Store'}
-FOREVER = '9999-12-31 23:59:59'
+# A moment is kept as reports print it: nineteen characters, and where its fraction of a second is
+# not zero, a point and six digits. So moments compare as their texts do.
+FOREVER = '9999-12-31 23:59:59.999999'
 # Moments in order, and texts of none. FOREVER is none of a clock, nor of AS OF.
-MOMENTS = ['0001-01-01 00:00:00', '2023-12-31 23:59:59', '2024-01-01 00:00:00',
-           '2024-01-01 00:00:01', '2024-02-29 12:30:00', '9999-12-31 23:59:58']
+MOMENTS = ['0001-01-01 00:00:00', '2023-12-31 23:59:59.999999', '2024-01-01 00:00:00',
+           '2024-01-01 00:00:00.000001', '2024-01-01 00:00:00.250000', '2024-01-01 00:00:01',
+           '2024-02-29 12:30:00.123400', '9999-12-31 23:59:59', '9999-12-31 23:59:59.999998']
 BAD_MOMENTS = ['', '2024-01-01', '2024-1-1 00:00:00', '2024-02-30 00:00:00',
-               '2024-01-01 24:00:00', '2024-01-01 00:00:00.5']
+               '2024-01-01 24:00:00', '2024-01-01 00:00:00.', '2024-01-01 00:00:00.1234567',
+               '2024-01-01 00:00:00,5', '2024-01-01 00:00:00.5 ', '2024-01-01 00:00:00. 5']
 MOST_TABLES, MOST_COLUMNS, MOST_REFERENCES, MOST_ITEMS, MOST_TOKENS = 64, 32, 8, 32, 10_000
 MOST_TABLES_OF_A_SELECT, MOST_SET_OPERATORS = 4, 16
 LEAST_NUMBER, GREATEST_NUMBER = -2 ** 63, 2 ** 63 - 1

@@ -6,6 +6,7 @@ from random_runs_model import (And, AsOf, At, Between, Column, Comparison, Conta
                                Update)
 
 TOKEN = re.compile(r"'(?:[^']|'')*'|\w+|<>|<=|>=|\S")
+FRACTION = re.compile(r'(.*:[0-9]{2})(?:\.([0-9]{6}))?')
 OR, AND, TEST = range(3)  # how strong a condition has to be where it stands
 
 
@@ -73,6 +74,12 @@ class Writer:
         return self.maybe(' AS') + f' {new_name}' if new_name else ''
 
     def moment(self, moment):
+        """A moment, sometimes with fewer or more zeros at the end of its fraction."""
+        found = FRACTION.fullmatch(moment)
+        if found and found[2]:
+            moment = self.maybe(found[1] + '.' + found[2].rstrip('0'), moment)
+        elif found:
+            moment += self.maybe(f'.{"0" * self.chance.randint(1, 6)}' if self.chance else '')
         return f"TIMESTAMP '{moment}'"
 
     def window(self, window):

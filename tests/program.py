@@ -14,6 +14,14 @@ def build():
         subprocess.run([ROOT / 'bitemporal', '--prove'], check=True)
 
 
+def either_build():
+    """The proved program, or else the quick build, which is made where it is not there."""
+    if 'BITEMPORAL' in os.environ or pathlib.Path(PROGRAM).exists():
+        return pathlib.Path(PROGRAM)
+    subprocess.run([ROOT / 'tools/build', 'quick'], check=True)
+    return ROOT / 'crates/bitemporal_cli/out/bitemporal_unproved'
+
+
 def scripts(folder=ROOT / 'tests/scripts'):
     """The scripts in a folder and in the folders below it, by folder and name. No two have one name."""
     found = sorted(folder.rglob('*.sql'))

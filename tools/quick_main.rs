@@ -5,6 +5,7 @@
 //! otherwise since no crate of the repository has it.
 #![tactic(auto)]
 
+use bitemporal_file::{is_called, run_file_program};
 use command_tool::{Tracked, run_program, words_of};
 use std::env;
 use std::fs;
@@ -30,13 +31,12 @@ fn main(rt: HostRuntime) -> ExitCode {
     }
     let mut input = Tracked::new(rt.stdin());
     let mut err = Tracked::new(rt.stderr());
-    let status = run_program(
-        rt.alloc(),
-        words,
-        &rt,
-        &mut input,
-        &mut rt.stdout(),
-        &mut err,
-    );
+    let mut out = rt.stdout();
+    let status = match words {
+        Ok(words) if is_called(words.as_slice()) => {
+            run_file_program(&rt, words.as_slice(), &mut input, &mut out, &mut err)
+        }
+        words => run_program(rt.alloc(), words, &rt, &mut input, &mut out, &mut err),
+    };
     ExitCode::from(status)
 }

@@ -1,4 +1,4 @@
-//! `bitemporal_file STORE < SCRIPT`: runs a script over a store in a file, which stays, and prints
+//! `run_over_file STORE < SCRIPT`: runs a script over a store in a file, which stays, and prints
 //! the report. The status is 0, 1 where a statement was refused, and 2 where the script or the store
 //! was, or a file, the report or memory failed.
 #![tactic(auto)]
@@ -18,7 +18,7 @@ type Ran = Result<(Vec<Result<Outcome, Refusal>>, Engine<InFile>), (Refusal, Con
 /// Runs a script over the store in a file, and writes its report. Gives the exit status.
 fn run_over(rt: &HostRuntime, store: &str, script: &[u8]) -> u8 {
     let Ok(connection) = Connection::open(rt, store) else {
-        let _ = write!(rt.stderr(), "bitemporal_file: cannot open the store\n");
+        let _ = write!(rt.stderr(), "run_over_file: cannot open the store\n");
         return 2;
     };
     let ran: Ran = run(rt.alloc(), connection, script);
@@ -26,7 +26,7 @@ fn run_over(rt: &HostRuntime, store: &str, script: &[u8]) -> u8 {
         Ok(ran) => ran,
         Err((refusal, _connection)) => {
             let code = refusal.code();
-            let _ = write!(rt.stderr(), "bitemporal_file: refused, {code}\n");
+            let _ = write!(rt.stderr(), "run_over_file: refused, {code}\n");
             return 2;
         }
     };

@@ -10,15 +10,16 @@ use sqlite_disk::{Crash, Disk, Fuse, Memory};
 use std::alloc::Global;
 use std::test::Fail;
 
-type Fused = Fuse<Memory>;
+pub type Fused = Fuse<Memory>;
 
 type InFiles = Engine<FileStore<Fused>>;
 
-const ALL: u64 = u64::MAX;
+/// All calls are passed on.
+pub const ALL: u64 = u64::MAX;
 
-// Small enough that the log is copied into the database within the script, and pages are written
-// before they are committed.
-fn options() -> Options {
+/// Small enough that the log is copied into the database within the script, and pages are written
+/// before they are committed.
+pub fn options() -> Options {
     let mut options = Options::new(1);
     options.cache_pages = 24;
     options.spill_pages = 4;
@@ -26,8 +27,8 @@ fn options() -> Options {
     options
 }
 
-// A file of these bytes, which passes so many calls on.
-fn file_of(alloc: Global, bytes: &[u8], calls: u64) -> Result<Fused, Fail> {
+/// A file of these bytes, which passes so many calls on.
+pub fn file_of(alloc: Global, bytes: &[u8], calls: u64) -> Result<Fused, Fail> {
     let mut memory = Memory::new(alloc);
     if !bytes.is_empty() {
         memory.write_at(0, bytes)?;

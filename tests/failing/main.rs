@@ -1,7 +1,7 @@
 //! Memory, disks and writers that fail, one call after the other: tests/failures lays these files
-//! in the place of the src/main.rt of bitemporal_cli, with tests/library/fixtures.rs beside them,
-//! and builds them without a proof. They are Rattle's, and have another ending since no crate of
-//! the repository has them.
+//! in the place of the src/main.rt of bitemporal_cli, with fixtures.rs and old_stores.rs of
+//! tests/library beside them, and builds them without a proof. They are Rattle's, and have another
+//! ending since no crate of the repository has them.
 //!
 //! The words are a part and, for `store` and `closed`, the file of a store; standard input has a
 //! script. Each test of the other parts prints a line `ok WHAT`; where one fails, the part ends
@@ -12,6 +12,8 @@
 mod disks;
 mod fixtures;
 mod memory;
+mod moves;
+mod old_stores;
 mod opened;
 mod stores;
 mod writers;
@@ -31,6 +33,7 @@ fn run(rt: &HostRuntime, part: &str, file: &str, script: &str) -> Result<(), Fai
         "audits" => memory::audits(rt, script),
         "queries" => memory::queries(rt),
         "reports" => memory::reports(rt, script),
+        "moves" => moves::failing(rt),
         "log" => disks::log(rt, script),
         "database" => disks::database(rt, script),
         "writers" => writers::failing(rt, script),

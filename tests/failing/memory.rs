@@ -25,10 +25,10 @@ use version_store::VersionStore;
 unsafe extern "C" {
     // Refuses the allocation `first`, counted from 1, and each `step`-th one after it, but no more
     // than `most`.
-    safe fn refusals_begin(first: u64, step: u64, most: u64);
+    pub safe fn refusals_begin(first: u64, step: u64, most: u64);
 
     // Refuses none any more. How many were refused.
-    safe fn refusals_end() -> u64;
+    pub safe fn refusals_end() -> u64;
 
     // How many allocations there were in between.
     safe fn allocations_made() -> u64;
@@ -36,8 +36,8 @@ unsafe extern "C" {
 
 const MANY: u64 = 1_000_000;
 
-// A call that makes no allocation at all would show nothing.
-fn must_be_refused(times: u64) -> Result<(), Fail> {
+/// A call that makes no allocation at all would show nothing.
+pub fn must_be_refused(times: u64) -> Result<(), Fail> {
     if times == 0 {
         return Err("nothing was refused")?;
     }
@@ -273,8 +273,12 @@ fn reopen_refused(
     wanted: &Shown,
     first: u64,
 ) -> Result<bool, Fail> {
-    let store = match VersionStore::open(alloc, connection) {
-        Ok(store) => store.accept(),
+    let opened_store = match VersionStore::open(alloc, connection) {
+        Ok(opened_store) => opened_store,
+        Err((refusal, _connection)) => return Err(refusal)?,
+    };
+    let store = match opened_store.accept() {
+        Ok(store) => store,
         Err((refusal, _connection)) => return Err(refusal)?,
     };
     refusals_begin(first, 1, 1);

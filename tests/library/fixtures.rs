@@ -33,8 +33,8 @@ pub const WRK: &str = "\
     PRIMARY KEY (WNO, WP WITHOUT OVERLAPS), \
     FOREIGN KEY (DNO, PERIOD WP) REFERENCES DEP (DNO, PERIOD DP)) WITH SYSTEM VERSIONING";
 
-/// The moment at which no version ends.
-pub const FOREVER: &str = "9999-12-31 23:59:59";
+/// The open end, at which current versions end.
+pub const FOREVER: &str = "9999-12-31 23:59:59.999999";
 
 /// Integers, the day from which they hold, and the day on which they end.
 pub type Held<'a> = (&'a [i64], &'a str, &'a str);
@@ -86,7 +86,7 @@ pub fn day(date: &str) -> Result<Day, Fail> {
     Ok(Day::from_text(date.as_bytes()).ok_or("no such day")?)
 }
 
-/// The moment of a text, written YYYY-MM-DD HH:MM:SS.
+/// The moment of a text, written YYYY-MM-DD HH:MM:SS, with digits behind a point or without.
 pub fn moment(text: &str) -> Result<Moment, Fail> {
     Ok(Moment::from_text(text.as_bytes()).ok_or("no such moment")?)
 }

@@ -11,7 +11,7 @@
 //! - `new`, `from_date`, `from_text`, `number`, `prev`, `next`, `write_text` of `Day`:
 //!   `periods::days`
 //! - `new`, `from_parts`, `from_text`, `number`, `prev`, `next`, `first`, `forever`, `write_text`
-//!   of `Moment`: `periods::moments`
+//!   of `Moment`: `periods::moments`, `periods::fractions_of_a_second`
 //! - `overlaps`, `equals`, `contains` of `Period`: `periods::shared_days`; `precedes`, `succeeds`,
 //!   `immediately_precedes`, `immediately_succeeds`: `periods::one_after_the_other`
 //! - `new`, `start`, `end`, `contains_day`, `intersect`, `minus` of `Period`:
@@ -66,14 +66,18 @@
 //!   `audits::intersect_audited`
 //!
 //! version_store
-//! - `open`, `catalog`, `clock`, `rows` of `VersionStore`, `accept`: `stores::new_stores`
-//! - `catalog`, `scan_current`, `refuse` of `OpenedStore`: `stores::opened_and_refused`
+//! - `open`, `catalog`, `clock`, `rows` of `VersionStore`, `accept`: `stores::new_stores`,
+//!   `moves::moved_as_accepted`
+//! - `catalog`, `clock`, `rows`, `scan_current`, `refuse` of `OpenedStore`:
+//!   `stores::opened_and_refused`
 //! - `add_table`, `advance`, `apply`, `reopen`, `close`: `stores::opened_again`
 //! - `scan`: `stores::windows`, `stores::a_visitor_that_refuses_the_third_row`
 //!
 //! script_engine
 //! - `open`, `close`, `clock`, `catalog`, `rows` of `Engine`: `engines::reopened_store`,
-//!   `engines::store_of_another_form`, `engines::insert_with_column_list`; `at`: `engines::clocks`
+//!   `engines::store_of_another_form`, `engines::insert_with_column_list`,
+//!   `moves::starts_that_meet`, `moves::refused_as_it_is`, `moves::clocks_at_both_ends`; `at`:
+//!   `engines::clocks`
 //! - `execute`: `engines::portions`, `engines::stored_versions`; `execute_audited`:
 //!   `engines::audited_statements`
 //! - `run`: `engines::runs_of_scripts`
@@ -92,6 +96,10 @@ mod definitions;
 mod engines;
 #[cfg(test)]
 mod fixtures;
+#[cfg(test)]
+mod moves;
+#[cfg(test)]
+mod old_stores;
 #[cfg(test)]
 mod operators;
 #[cfg(test)]

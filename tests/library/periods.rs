@@ -38,22 +38,52 @@ fn days(rt: HostRuntime) -> Result<(), Fail> {
     Ok(())
 }
 
+// The text of a moment, as it is written.
+fn is_written(moment: Moment, wanted: &str) -> bool {
+    let mut text = [0; 26];
+    let length = moment.write_text(&mut text);
+    &text[..length] == wanted.as_bytes()
+}
+
 #[test]
 fn moments(rt: HostRuntime) -> Result<(), Fail> {
     let second = moment("2024-01-02 00:00:00")?;
-    assert_eq!(rt; second.number(), 1_704_153_600);
-    assert_eq!(rt; Moment::new(1_704_153_600), Some(second));
-    assert_eq!(rt; Moment::from_parts(2024, 1, 2, 0, 0, 0), Some(second));
-    assert_eq!(rt; Moment::from_parts(2024, 1, 1, 24, 0, 0), None);
-    assert_eq!(rt; second.prev(), Some(moment("2024-01-01 23:59:59")?));
-    assert_eq!(rt; second.next(), Some(moment("2024-01-02 00:00:01")?));
+    assert_eq!(rt; second.number(), 1_704_153_600_000_000);
+    assert_eq!(rt; Moment::new(1_704_153_600_000_000), Some(second));
+    assert_eq!(rt; Moment::from_parts(2024, 1, 2, 0, 0, 0, 0), Some(second));
+    assert_eq!(rt; Moment::from_parts(2024, 1, 1, 24, 0, 0, 0), None);
+    assert_eq!(rt; Moment::from_parts(2024, 1, 1, 0, 0, 0, 1_000_000), None);
+    assert_eq!(rt; second.prev(), Some(moment("2024-01-01 23:59:59.999999")?));
+    assert_eq!(rt; second.next(), Some(moment("2024-01-02 00:00:00.000001")?));
     assert_eq!(rt; Moment::first(), moment("0001-01-01 00:00:00")?);
     assert_eq!(rt; Moment::first().prev(), None);
     assert_eq!(rt; Moment::forever(), moment(FOREVER)?);
     assert_eq!(rt; Moment::forever().next(), None);
-    let mut text = [0; 19];
-    second.write_text(&mut text);
-    assert!(rt; text == *b"2024-01-02 00:00:00");
+    assert!(rt; is_written(second, "2024-01-02 00:00:00"));
+    Ok(())
+}
+
+#[test]
+fn fractions_of_a_second(rt: HostRuntime) -> Result<(), Fail> {
+    // of how many microseconds each fraction is, and how it is written
+    let fractions = [
+        (".5", 500_000, ".500000"),
+        (".25", 250_000, ".250000"),
+        (".000", 0, ""),
+        (".000001", 1, ".000001"),
+        (".999999", 999_999, ".999999"),
+    ];
+    for (fraction, number, written) in fractions {
+        let alloc = rt.alloc();
+        let text = format!(in alloc; "2024-01-02 00:00:00{fraction}")?;
+        let found = moment(text.as_str())?;
+        assert_eq!(rt; found.number(), 1_704_153_600_000_000 + number, "of {fraction}");
+        let wanted = format!(in alloc; "2024-01-02 00:00:00{written}")?;
+        assert!(rt; is_written(found, wanted.as_str()), "of {fraction}");
+    }
+    for text in ["2024-01-02 00:00:00.", "2024-01-02 00:00:00.1234567", "2024-01-02 00:00:00,5"] {
+        assert_eq!(rt; Moment::from_text(text.as_bytes()), None, "of {text}");
+    }
     Ok(())
 }
 

@@ -11,7 +11,7 @@ use period_core::{Moment, Refusal, VersionRow, Window};
 use sqlite::Connection;
 use std::alloc::Global;
 use std::test::Fail;
-use version_store::{KeptRows, RowVisitor, VersionStore};
+use version_store::{KeptRows, OpenedStore, RowVisitor, VersionStore};
 
 type Store = VersionStore<MemoryStore>;
 
@@ -19,7 +19,15 @@ type Store = VersionStore<MemoryStore>;
 // kept.
 fn opened(alloc: Global, connection: Connection<MemoryStore>) -> Result<Store, Fail> {
     match VersionStore::open(alloc, connection) {
-        Ok(opened) => Ok(opened.accept()),
+        Ok(opened) => accepted(opened),
+        Err((refusal, _connection)) => Err(refusal)?,
+    }
+}
+
+// An opened store, for use.
+fn accepted(opened: OpenedStore<MemoryStore>) -> Result<Store, Fail> {
+    match opened.accept() {
+        Ok(store) => Ok(store),
         Err((refusal, _connection)) => Err(refusal)?,
     }
 }
@@ -128,7 +136,7 @@ fn opened_again(rt: HostRuntime) -> Result<(), Fail> {
     let mut store = store_of_moves(alloc)?;
     assert!(rt; has_moves(alloc, &mut store)?);
     let mut store = match store.reopen(alloc) {
-        Ok(opened) => opened.accept(),
+        Ok(opened) => accepted(opened)?,
         Err((refusal, _connection)) => return Err(refusal)?,
     };
     assert!(rt; has_moves(alloc, &mut store)?);
@@ -147,6 +155,9 @@ fn opened_and_refused(rt: HostRuntime) -> Result<(), Fail> {
         Err((refusal, _connection)) => return Err(refusal)?,
     };
     assert_eq!(rt; opened_store.catalog().len(), 1);
+    assert_eq!(rt; opened_store.clock(), moment("2024-01-02 00:00:00")?);
+    let rows = opened_store.rows(alloc, 1)?;
+    assert!(rt; are_versions(alloc, rows.as_slice(), &MOVES)?);
     let mut kept = KeptRows::new(alloc);
     opened_store.scan_current(alloc, 1, &mut kept)?;
     assert!(rt; are_versions(alloc, kept.rows.as_slice(), &MOVES[1..])?);

@@ -6,9 +6,9 @@ CAUSES = {
     11: "More than 32 parentheses are open at one place.",
     12: "The text of a DATE literal isn't YYYY-MM-DD, or isn't a date from 0001-01-01 to"
         " 9999-12-31.",
-    13: "The text of a TIMESTAMP literal isn't YYYY-MM-DD HH:MM:SS, or isn't a moment from"
-        f" 0001-01-01 00:00:00 to {FOREVER}; or AT or AS OF names that last moment, which means"
-        " the open end.",
+    13: "The text of a TIMESTAMP literal isn't YYYY-MM-DD HH:MM:SS, with or without a point and one"
+        f" to six digits behind it, or isn't a moment from 0001-01-01 00:00:00 to {FOREVER}; or AT or"
+        " AS OF names that last moment, which means the open end.",
     14: "A number, with its sign, is outside -9223372036854775808 to 9223372036854775807.",
     61: "The system refused memory that the statement needed. Nothing is wrong with the"
         " statement.",
@@ -22,9 +22,9 @@ WHAT_TO_DO = {
     11: "Close parentheses earlier, or leave out those that change nothing.",
     12: "Write four digits for the year, two for the month and two for the day, and a day that the"
         " month has: DATE '2024-02-29'.",
-    13: "Write nineteen characters, with one space and without a fraction of a second or a time"
-        " zone: TIMESTAMP '2024-01-01 00:00:00'. After AT and AS OF name an earlier moment than"
-        f" {FOREVER}.",
+    13: "Write nineteen characters with one space, or these, a point and one to six digits, and no"
+        " time zone: TIMESTAMP '2024-01-01 00:00:00', TIMESTAMP '2024-01-01 00:00:00.25'. After AT"
+        f" and AS OF name an earlier moment than {FOREVER}.",
     14: "Write a number within these bounds, or keep its digits as a text in a VARCHAR column.",
     21: "Split the statement: a long INSERT into several of fewer rows (999 rows of one number and"
         " two dates are the most), a wide table into two.",

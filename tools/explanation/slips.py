@@ -11,6 +11,8 @@ that could be there.
 import collections
 import re
 
+from profile_sql.literals import FIRST_MOMENT, FOREVER
+
 from . import rewriting
 
 Slip = collections.namedtuple('Slip', 'pattern put what expects')
@@ -210,7 +212,7 @@ QUERIES = [
     (rf"(?:{SET_OPERATOR}) @ (?P<out>ALL )", "", "Leave out ALL: an answer has no duplicates."),
     (r"(?P<out>AS @ OF |@ AS OF )", "FOR SYSTEM_TIME AS OF", "Write FOR SYSTEM_TIME before AS OF."),
     (r"FOR SYSTEM_TIME @ (?P<out>ALL )",
-     "FROM TIMESTAMP '0001-01-01 00:00:00' TO TIMESTAMP '9999-12-31 23:59:59'",
+     f"FROM TIMESTAMP '{FIRST_MOMENT}' TO TIMESTAMP '{FOREVER}'",
      "Write {put} for ALL."),
     (r"FOR SYSTEM_TIME @ (?P<out>)(?P<text>' |TIMESTAMP ' )", "AS OF",
      "Write AS OF, FROM .. TO or BETWEEN .. AND after FOR SYSTEM_TIME."),

@@ -1,6 +1,5 @@
 """Pictures to a web page: one file, without any script, and nothing from elsewhere."""
 from profile_data.report import Answer, Versions
-from profile_sql.literals import FOREVER
 from profile_sql.tree import Sequenced, selects
 
 from . import answer_picture, version_picture
@@ -49,7 +48,8 @@ def picture(statements, most, by=None):
                       for moment in moments_of(statement)]
         else:
             periods += version_picture.periods_of(outcome)
-            labels.append(FOREVER)  # as broad as a moment
+            labels += map(version_picture.label_of, version_picture.moments_of(
+                version_picture.versions_of(outcome)))
     has_room = bool(marks) and any(isinstance(statement.outcome, Versions)
                                    for statement in statements)
     canvas = Canvas(left_of(labels, size=SMALL + 1), WIDTH - (100 if has_room else 50))

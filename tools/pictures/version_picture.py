@@ -33,6 +33,16 @@ def periods_of(outcome):
     return [(version.start, version.end) for version in versions_of(outcome)]
 
 
+def moments_of(versions):
+    """The moments from which and to which they were recorded, without the open end."""
+    return sorted({moment for version in versions for moment in (version.since, version.until)}
+                  - {FOREVER})
+
+
+def label_of(moment):
+    return 'the start' if moment == FIRST_MOMENT else moment
+
+
 def column_of(table, by):
     """The place of the column that has a plane for each value: the one that is named, or the
     first of the key."""
@@ -65,8 +75,7 @@ class Plane:
 
     def __init__(self, canvas, axis, versions, place, most):
         self.canvas, self.axis, self.versions, self.place = canvas, axis, versions, place
-        moments = sorted({version.since for version in versions} |
-                         {version.until for version in versions} - {FOREVER})
+        moments = moments_of(versions)
         self.left_out, self.moments = moments[:-most], moments[-most:]
         self.band = BAND if len(self.moments) <= MANY else LOW_BAND
         self.top, self.height = canvas.y, self.band * len(self.moments)
@@ -87,8 +96,7 @@ class Plane:
         for moment in self.moments:
             y = self.level(moment)
             canvas.line(canvas.left - 4, y, canvas.right, y, 'level')
-            words = 'the start' if moment == FIRST_MOMENT else moment
-            canvas.text(canvas.left - 14, y + 4, words, 'mark', 'end')
+            canvas.text(canvas.left - 14, y + 4, label_of(moment), 'mark', 'end')
         for words, moment in marks:
             self.mark(words, moment)
         for text in self.texts:

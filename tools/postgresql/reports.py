@@ -6,7 +6,7 @@ from profile_sql.scope import Scope
 
 from .conditions import Conditions, period_sql, system_sql, window_sql
 from .queries import answer_names, columns_of, query_sql
-from .words import day_sql, field_sql, indented, name_sql, text_sql
+from .words import day_sql, field_sql, indented, moment_field_sql, name_sql, text_sql
 
 FIRST_DAY = FIRST_MOMENT[:10]
 
@@ -70,7 +70,7 @@ def versions_sql(number, stored, catalog):
     for column in table.columns:
         if column.generated:
             moment = since if column.generated == 'START' else until
-            fields.append(f"to_char({moment}, 'YYYY-MM-DD HH24:MI:SS')")
+            fields.append(moment_field_sql(moment))
         elif column.name in (table.period.start, table.period.end):
             which = 'lower' if column.name == table.period.start else 'upper'
             fields.append(day_sql(f'{which}({period})'))

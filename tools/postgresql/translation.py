@@ -1,8 +1,8 @@
 """A script as a script of psql that prints the same report.
 
 A table becomes one of versions: its value columns; its period, a daterange of the period's name;
-the two system columns, timestamps, of which the second is 9999-12-31 23:59:59 in current rows.
-What the script alone decides (refusals 10 to 41, the clock) is decided here; 42 and 43, which
+the two system columns, timestamps, of which the second is 9999-12-31 23:59:59.999999 in current
+rows. What the script alone decides (refusals 10 to 41, the clock) is decided here; 42 and 43, which
 rows decide, by PostgreSQL.
 """
 import collections

@@ -72,6 +72,11 @@ def day_sql(day):
     return f"to_char({day}, 'YYYY-MM-DD')"
 
 
+def moment_field_sql(moment):
+    """A moment as a field of a report: with six digits of a second where they are not zero."""
+    return f"replace(to_char({moment}, 'YYYY-MM-DD HH24:MI:SS.US'), '.000000', '')"
+
+
 def field_sql(column, kind):
     """A value as a field of a report."""
     if kind == 'VARCHAR':

@@ -18,6 +18,12 @@ def file_name(words):
     return name
 
 
+def name_of(comment):
+    """The name that a line of a comment gives, or an empty text."""
+    named = next(filter(None, map(NAME.match, comment)), None)
+    return file_name(named[1]) if named else ''
+
+
 def title_and_name(statement):
     """What a statement is called by the comment above it; without one its name is its number."""
     named = next(filter(None, map(NAME.match, statement.comment)), None)

@@ -5,11 +5,11 @@ A value is an int, a str or a datetime.date. A cell that has none is a ValueErro
 import datetime
 import re
 
-from profile_sql.literals import FOREVER, GREATEST_NUMBER, LEAST_NUMBER, is_moment
+from profile_sql.literals import FOREVER, GREATEST_NUMBER, LEAST_NUMBER, moment_of
 
 LAST_DAY = datetime.date.max
 MIDNIGHT = re.compile('[ T]00:00(:00([.]0+)?)?')
-TIME = re.compile('[ T]([0-9]{2}:[0-9]{2})(:[0-9]{2})?([.][0-9]+)?')
+TIME = re.compile('[ T]([0-9]{2}:[0-9]{2})(?:(:[0-9]{2})([.][0-9]+)?)?')
 ISO = 'YYYY-MM-DD'
 
 
@@ -70,22 +70,21 @@ def date(cell, pattern, form=ISO):
 
 
 def moment(cell, pattern, form=ISO, is_whole=False):
-    """The moment of a cell as the language writes it. A date alone is its first second; with
-    `is_whole` a fraction of a second is cut off."""
+    """The moment of a cell, as reports print it. A date alone is its first moment; with `is_whole`
+    a fraction of a second is cut off."""
     day, rest = date_at(cell.strip(), pattern, form)
     found = TIME.fullmatch(rest)
     if rest and not found:
         raise ValueError(f'{shown(cell)} is no moment {form} HH:MM:SS')
     clock = found[1] + (found[2] or ':00') if found else '00:00:00'
     fraction = ((found and found[3]) or '').rstrip('0').rstrip('.')
-    text = f'{day.isoformat()} {clock}'
-    if is_moment(text) and fraction and not is_whole:
-        if not is_moment(text + fraction):
-            raise ValueError(f'{shown(cell)} has a fraction of a second: --whole-seconds cuts it')
-        text += fraction
-    if not is_moment(text) or text >= FOREVER:
+    if len(fraction.lstrip('.')) > 6 and not is_whole:
+        raise ValueError(f'{shown(cell)} has more than six digits of a second: --whole-seconds cuts'
+                         ' them')
+    named = moment_of(f'{day.isoformat()} {clock}{"" if is_whole else fraction}')
+    if named is None or named == FOREVER:
         raise ValueError(f'{shown(cell)} is no moment')
-    return text
+    return named
 
 
 def text(cell, most):

@@ -59,8 +59,8 @@ class Column:
     def day(self, text):
         return cells.date(text, self.pattern, self.form)
 
-    def moment(self, text):
-        return cells.moment(text, self.pattern, self.form, is_whole=True)
+    def moment(self, text, is_whole=True):
+        return cells.moment(text, self.pattern, self.form, is_whole)
 
     @property
     def has_empty(self):
@@ -134,17 +134,24 @@ class Guess:
         return []
 
     def ends_are_inclusive(self):
-        """Whether more rows end on their first day, or on the day before one on which a row or a
-        month begins, than on such a day itself."""
-        periods = [period for period in self.periods() if period[1] < datetime.date.max]
-        starts = {start for start, _ in periods}
+        """Whether more rows end on their first day, or on the day before one on which a row of
+        their key or a month begins, than on such a day itself. Rows of other keys say nothing: in
+        a long file some begin on every day."""
+        keys = list(zip(*(column.texts for column in self.key))) or [()] * len(self.file.records)
+        rows = [(key, *period) for key, period in zip(keys, self.periods())]
+        starts = {(key, start) for key, start, _ in rows}
         inclusive = exclusive = 0
-        for start, end in periods:
+        for key, start, end in rows:
+            if end == datetime.date.max:
+                continue
             after = end + datetime.timedelta(1)
-            if start == end or after in starts or after.day == 1:
+            if start == end or (key, after) in starts:
                 inclusive += 1
-            elif end in starts or end.day == 1:
+            elif (key, end) in starts:
                 exclusive += 1
+            else:
+                inclusive += after.day == 1
+                exclusive += end.day == 1
         return inclusive > exclusive
 
     # The text.
@@ -158,7 +165,8 @@ class Guess:
     def command(self):
         """The options that load the file into the table."""
         words = [f'--recorded {self.quoted(self.recorded.header)}'] if self.recorded else []
-        if self.recorded and any('.' in text for text in self.recorded.texts):
+        if self.recorded and not all_are(lambda text: self.recorded.moment(text, is_whole=False),
+                                         self.recorded.filled):
             words.append('--whole-seconds')
         for option in ('delimiter', 'dates', 'decimal', 'encoding'):
             value = getattr(self.wanted, option)

@@ -141,10 +141,12 @@ class Reader:
         if isinstance(tree, Stored) and kind == 'versions':
             return self.versions(number, catalog.tables.get(tree.table))
         what, rows = self.take('done', number, 2)
-        if what != DONE.get(type(tree)) or not is_count(rows):
+        # `over_days` gives no number of rows that an UPDATE or a DELETE touched.
+        is_cut = rows == '' and isinstance(tree, (Delete, Update))
+        if what != DONE.get(type(tree)) or not (is_count(rows) or is_cut):
             self.at -= 1
             self.fail_at(number)
-        return Done(what, int(rows))
+        return Done(what, None if is_cut else int(rows))
 
     def size(self, kind, number):
         """How many columns and rows the next record promises."""

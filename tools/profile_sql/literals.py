@@ -3,10 +3,14 @@ import calendar
 import datetime
 import re
 
-FIRST_MOMENT, FOREVER = '0001-01-01 00:00:00', '9999-12-31 23:59:59'
+# As reports print them.
+FIRST_MOMENT, FOREVER = '0001-01-01 00:00:00', '9999-12-31 23:59:59.999999'
 LEAST_NUMBER, GREATEST_NUMBER = -2 ** 63, 2 ** 63 - 1
 DATE = re.compile('([0-9]{4})-([0-9]{2})-([0-9]{2})')
-CLOCK = re.compile(' ([01][0-9]|2[0-3]):[0-5][0-9]:[0-5][0-9]')
+CLOCK = re.compile(r'( (?:[01][0-9]|2[0-3]):[0-5][0-9]:[0-5][0-9])(?:\.([0-9]{1,6}))?')
+# What is nearly a moment: without the seconds, with another sign between its parts, with more
+# digits or a time zone behind it.
+NEARLY = re.compile('([0-9-]{10}).([0-9]{2}:[0-9]{2})(?:(:[0-9]{2})(?:[.,]([0-9]{1,6}))?)?')
 
 
 def date_of(text):
@@ -35,14 +39,22 @@ def why_no_moment(text):
     date = date_of(text[:10])
     if date and not text[10:]:
         return f"'{text}' is no moment: write TIMESTAMP '{text} 00:00:00'."
-    moment = f'{text[:10]} {text[11:19]}' + ':00' * (len(text) == 16)
-    if date and is_moment(moment):
-        return f"'{text}' is no moment: write TIMESTAMP '{moment}'."
+    found = NEARLY.match(text)
+    if found:
+        moment = f'{found[1]} {found[2]}{found[3] or ":00"}' + (f'.{found[4]}' if found[4] else '')
+        if moment_of(moment):
+            return f"'{text}' is no moment: write TIMESTAMP '{moment}'."
     return f"'{text}' is no moment."
 
 
-def is_moment(text):
-    return date_of(text[:10]) is not None and CLOCK.fullmatch(text[10:]) is not None
+def moment_of(text):
+    """The moment that a text names, as reports print it, or None. It has nineteen characters, or
+    these, a point and six digits, so two moments compare as their texts do."""
+    found = CLOCK.fullmatch(text[10:])
+    if date_of(text[:10]) is None or not found:
+        return None
+    fraction = (found[2] or '').ljust(6, '0')
+    return text[:10] + found[1] + (f'.{fraction}' if int(fraction) else '')
 
 
 def number_of(digits, sign):

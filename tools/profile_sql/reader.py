@@ -5,7 +5,7 @@ what was tested there. Every token before it fits, since a reader only gets past
 has. So where a piece is no statement, its token at `furthest` is the first that no statement can
 have there, and each statement that begins alike goes on with one of `expected`.
 """
-from .literals import (FOREVER, date_of, is_moment, number_of, text_of, why_no_date,
+from .literals import (FOREVER, date_of, moment_of, number_of, text_of, why_no_date,
                        why_no_moment)
 from .refusals import Fault
 from .tree import Literal, Name
@@ -112,15 +112,14 @@ class Reader:
     def moment(self, is_below_forever=False):
         self.needs('TIMESTAMP')
         token = self.needs_kind('text')
-        text = text_of(token)
-        if not is_moment(text):
-            self.faults.append(Fault(13, token.offset, why_no_moment(text)))
-            text = None
-        elif is_below_forever and text == FOREVER:
+        moment = moment_of(text_of(token))
+        if moment is None:
+            self.faults.append(Fault(13, token.offset, why_no_moment(text_of(token))))
+        elif is_below_forever and moment == FOREVER:
             self.faults.append(Fault(13, token.offset, f'{token.text} is the open end, which AT and'
                                                        ' AS OF do not take.'))
-            text = None
-        return Literal('TIMESTAMP', text, token.offset)
+            moment = None
+        return Literal('TIMESTAMP', moment, token.offset)
 
     def number(self, sign=1):
         token = self.needs_kind('number')

@@ -92,6 +92,10 @@ class Scope:
             names = [self.tables[place][0] for place, _ in found]
             ways = ' or '.join(f'{name}.{column.name}' for name in names)
             mend = 'give each a name of its own' if repeated(names) else f'write {ways}'
+            joins = [self.tables[place] for place, _ in found if self.tables[place][0] in NO_JOINS]
+            if joins:
+                mend = f'{joins[0][0]} is read as a new name of {joins[0][1].name}, since there are' \
+                       f' no such joins. Leave it out'
             yield Fault(25, column.name.offset,
                         f'{column.name} is a column of several tables: {mend}.')
         for _, table in found:
@@ -106,13 +110,14 @@ class Scope:
         if column.qualifier is not None and column.qualifier not in known:
             why = f'{column.qualifier} is no table here: {listed(known)}' \
                   f' {"is" if len(known) == 1 else "are"}.'
-            for name, table in self.tables:
-                if table.name == column.qualifier:
-                    why = f'{table.name} goes by its new name {name} here: write' \
-                          f' {name}.{column.name}.'
-                if table.name == column.qualifier and name in NO_JOINS:
-                    why = f'{name} is read as a new name of {table.name}: there are no such' \
-                          f' joins. Leave out {name}.'
+            new_names = [name for name, table in self.tables if table.name == column.qualifier]
+            joins = [name for name in new_names if name in NO_JOINS]
+            if joins:
+                why = f'{joins[0]} is read as a new name of {column.qualifier}: there are no such' \
+                      f' joins. Leave out {joins[0]}.'
+            elif new_names:
+                why = f'{column.qualifier} goes by its new name {new_names[-1]} here: write' \
+                      f' {new_names[-1]}.{column.name}.'
             return Fault(24, column.qualifier.offset, why)
         tables = [(name, table) for name, table in self.tables
                   if column.qualifier in (None, name)]

@@ -15,8 +15,8 @@ class Name(str):
         return name
 
 
-# Its kind is INTEGER, VARCHAR, DATE or TIMESTAMP; its value an int, a str, a datetime.date, and the
-# nineteen characters of a moment; or None where refusal 12, 13 or 14 is about it.
+# Its kind is INTEGER, VARCHAR, DATE or TIMESTAMP; its value an int, a str, a datetime.date, and a
+# moment's text as reports print it; or None where refusal 12, 13 or 14 is about it.
 Literal = collections.namedtuple('Literal', 'kind value offset')
 
 At = collections.namedtuple('At', 'moment')

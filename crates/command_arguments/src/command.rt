@@ -44,6 +44,18 @@ pub enum CommandFault {
     Memory,
 }
 
+impl CommandFault {
+    /// The fault of clap; its out of memory is out of memory here.
+    pub fn of_clap(fault: clap::Error) -> CommandFault
+        ensures { kind_of fault ≡ ErrorKind.OutOfMemory → result ≡ CommandFault.Memory }
+    {
+        if fault.kind() == ErrorKind::OutOfMemory {
+            return CommandFault::Memory;
+        }
+        CommandFault::Clap(fault)
+    }
+}
+
 fn file_argument<'a>(alloc: Global) -> Arg<'a>
     ensures rule { rule_of result ≡ file_word }
     ensures local { result.global ≡ false }
@@ -173,7 +185,7 @@ pub fn command_line<S: AsStr>(
     };
     let matches = match command.try_get_matches_from_mut(words) {
         Ok(matches) => matches,
-        Err(fault) => return Err(of_clap(fault)),
+        Err(fault) => return Err(CommandFault::of_clap(fault)),
     };
     let Some((name, inner)) = matches.subcommand() else {
         return Err(usage_fault(&mut command));
@@ -185,16 +197,6 @@ pub fn command_line<S: AsStr>(
         Ok(file) => Ok((mode, file)),
         Err(_) => Err(CommandFault::Memory),
     }
-}
-
-// Out of memory in clap is out of memory here.
-fn of_clap(fault: clap::Error) -> CommandFault
-    ensures { kind_of fault ≡ ErrorKind.OutOfMemory → result ≡ CommandFault.Memory }
-{
-    if fault.kind() == ErrorKind::OutOfMemory {
-        return CommandFault::Memory;
-    }
-    CommandFault::Clap(fault)
 }
 
 fn usage_fault(command: &mut Command<'_>) -> CommandFault {

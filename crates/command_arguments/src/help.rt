@@ -55,7 +55,7 @@ Refusals (this version does not give the one marked *):
   10 Syntax           no statement of the grammar is spelled so
   11 TooDeep          more than 32 parentheses are open
   12 BadDate          a DATE names no day from 0001-01-01 to 9999-12-31
-  13 BadMoment        a TIMESTAMP names no second of these days, or the last one in AT or AS OF
+  13 BadMoment        a TIMESTAMP names no moment of these days, or the last one in AT or AS OF
   14 NumberRange      a number is outside 64 bits with a sign
   21 LimitReached     the statement or the tables are too large
   22 TableExists      CREATE TABLE names a table that is there

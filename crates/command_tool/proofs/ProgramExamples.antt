@@ -7,7 +7,7 @@ use Rattle.clap.specs.Words.{Row}
 use Rattle.clap.specs.declared.builder.value_parser.Reading.{Reading}
 use Rattle.clap.specs.declared.parser.matches.ValueSource.{ValueSource}
 use Rattle.period_core.specs.declared.refusal.Refusal.{Refusal}
-use Rattle.period_core.specs.declared.refusal.Refusal.TheVariants.{BadToken, Memory as NoMemory, Syntax}
+use Rattle.period_core.specs.declared.refusal.Refusal.TheVariants.{BadStore, BadToken, Memory as NoMemory, Syntax}
 use Rattle.snapshot_audit.specs.declared.verdict.Verdict.{Verdict}
 use Rattle.snapshot_audit.specs.declared.verdict.Verdict.TheVariants.{Agrees, BadWitness, Differs}
 use Rattle.script_engine.specs.declared.entry.Entry.{Entry}
@@ -18,22 +18,27 @@ use Rattle.command_tool.specs.Lines.{IsTold, fault_line}
 use Rattle.command_tool.specs.Program.{MayEndSilently, audited_status, status_of}
 use Rattle.command_arguments.specs.declared.command.Mode.TheVariants.{Run, RunAudited}
 use Rattle.command_tool.specs.declared.fault.RunFault.TheVariants.{Script, Read, Write}
+use Rattle.command_tool.specs.declared.fault.ProgramName.TheVariants.{Bitemporal, BitemporalFile}
 
 -- ---- lines
 
 -- a bad token's line has its byte
-bad_token-line : fault_line (Script (BadToken 7)) ≡ codes "bitemporal: 3 BadToken 7\n"
+bad_token-line : fault_line Bitemporal (Script (BadToken 7)) ≡ codes "bitemporal: 3 BadToken 7\n"
 unfolding digits
 bad_token-line = refl
 
-writer-line : fault_line Write ≡ codes "bitemporal: cannot write the report\n"
+bad_store-line : fault_line BitemporalFile (Script BadStore) ≡ codes "bitemporal_file: 60 BadStore\n"
+unfolding digits
+bad_store-line = refl
+
+writer-line : fault_line Bitemporal Write ≡ codes "bitemporal: cannot write the report\n"
 writer-line = refl
 
 -- a line is told whole, or in part by a writer that failed
-part_of_line : IsTold true (Some (codes "a")) (Some (codes "abitem")) (fault_line Read)
+part_of_line : IsTold true (Some (codes "a")) (Some (codes "abitem")) (fault_line Bitemporal Read)
 part_of_line = inr (refl, (5, refl))
 
-no_part_of_line : IsTold false (Some []) (Some []) (fault_line Read) → ⊥
+no_part_of_line : IsTold false (Some []) (Some []) (fault_line Bitemporal Read) → ⊥
 no_part_of_line (inl told) = cc
 no_part_of_line (inr told) = cc
 

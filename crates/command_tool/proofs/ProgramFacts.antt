@@ -7,7 +7,8 @@ use Rattle.clap.specs.declared.error.Error.{Error}
 use Rattle.command_arguments.specs.declared.command.CommandFault.TheVariants.{Clap, Memory as OutOfMemory}
 use Rattle.command_arguments.specs.declared.command.Mode.{Mode}
 use Rattle.command_tool.specs.declared.fault.RunFault.{RunFault}
-use Rattle.command_tool.specs.declared.fault.RunFault.TheVariants.{Script, Memory, Words, Read, Write}
+use Rattle.command_tool.specs.declared.fault.RunFault.TheVariants.{Script, Memory, Words, Read, Write, NoStore, Locked}
+use Rattle.command_tool.specs.declared.fault.ProgramName.TheVariants.{Bitemporal}
 
 pub keeps_itself : (known : Option (List ℕ)) → Keeps known known
 keeps_itself None = tt
@@ -21,8 +22,8 @@ memory_instead mode script read_failed old new fault (inr failed) = inr (failed.
 
 -- the line that is told is that of a fault in which the run may end
 pub line_told : (mode : Mode) (script : Option (List ℕ)) (read_failed : Bool) (old new before after : Option (List ℕ)) (err_failed : Bool) (fault : RunFault)
-    → MayEndIn mode script read_failed old new fault → (told : RunFault) × MayBeToldAs fault told × IsTold err_failed before after (fault_line told)
-    → (told : RunFault) × MayEndIn mode script read_failed old new told × IsTold err_failed before after (fault_line told)
+    → MayEndIn mode script read_failed old new fault → (told : RunFault) × MayBeToldAs fault told × IsTold err_failed before after (fault_line Bitemporal told)
+    → (told : RunFault) × MayEndIn mode script read_failed old new told × IsTold err_failed before after (fault_line Bitemporal told)
 line_told mode script read_failed old new before after err_failed fault ended (told, inl same, line) =
     (told, subst (MayEndIn mode script read_failed old new) (sym same) ended, line)
 line_told mode script read_failed old new before after err_failed fault ended (told, inr memory, line) =
@@ -30,7 +31,7 @@ line_told mode script read_failed old new before after err_failed fault ended (t
 
 -- a run that ends in a fault before its script gave anything
 pub ends_silently : (r : ProgramRun) (fault : RunFault) → r.status ≡ 2 → MayEndSilently r.mode r.script r.read_failed fault → Keeps r.out_before r.out_after
-    → (told : RunFault) × MayBeToldAs fault told × IsTold r.err_failed r.err_before r.err_after (fault_line told) → EndsWell r
+    → (told : RunFault) × MayBeToldAs fault told × IsTold r.err_failed r.err_before r.err_after (fault_line Bitemporal told) → EndsWell r
 ends_silently r fault status silent kept told =
     let bound : r.status ≤ 3 = omega (arith, status) in
     (bound, (λ other. absurd (other status)), (λ _. line_told r.mode r.script r.read_failed r.out_before r.out_after r.err_before r.err_after r.err_failed fault (inl (silent, kept)) told), (λ _. (status, kept)))
@@ -41,13 +42,15 @@ silent_if_failed mode script read_failed Memory may = may
 silent_if_failed mode script read_failed Words may = may
 silent_if_failed mode script read_failed Read may = refl
 silent_if_failed mode script read_failed Write may = may
+silent_if_failed mode script read_failed NoStore may = may
+silent_if_failed mode script read_failed Locked may = may
 
 -- a run ends well whatever is known of its reader
 pub ends_if_failed : (r : ProgramRun) → EndsWell r → EndsWell (record r { read_failed = true })
 ends_if_failed r (bound, reported, faulty, refused) = (bound, reported, (λ status. go (faulty status)), refused)
   where
-    go : (fault : RunFault) × MayEndIn r.mode r.script r.read_failed r.out_before r.out_after fault × IsTold r.err_failed r.err_before r.err_after (fault_line fault)
-        → (fault : RunFault) × MayEndIn r.mode r.script true r.out_before r.out_after fault × IsTold r.err_failed r.err_before r.err_after (fault_line fault)
+    go : (fault : RunFault) × MayEndIn r.mode r.script r.read_failed r.out_before r.out_after fault × IsTold r.err_failed r.err_before r.err_after (fault_line Bitemporal fault)
+        → (fault : RunFault) × MayEndIn r.mode r.script true r.out_before r.out_after fault × IsTold r.err_failed r.err_before r.err_after (fault_line Bitemporal fault)
     go (fault, inl silent, line) = (fault, inl (silent_if_failed r.mode r.script r.read_failed fault silent.0, silent.1), line)
     go (fault, inr failed, line) = (fault, inr failed, line)
 

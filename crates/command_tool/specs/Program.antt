@@ -20,7 +20,8 @@ use Rattle.command_arguments.specs.declared.command.Mode.{Mode}
 use Rattle.command_arguments.specs.declared.command.Mode.TheVariants.{Run, RunAudited, Check}
 use Rattle.command_tool.specs.declared.fault.RunFault.{RunFault}
 use Rattle.command_tool.specs.declared.fault.RunFault.TheVariants.{Script, Memory, Words, Read}
-use Rattle.command_tool.specs.declared.fault.RunFault.TheVariants.{Write}
+use Rattle.command_tool.specs.declared.fault.RunFault.TheVariants.{Write, NoStore, Locked}
+use Rattle.command_tool.specs.declared.fault.ProgramName.TheVariants.{Bitemporal}
 
 -- the most bytes that are read: one more than a script may have
 abbrev pub read_limit : ℕ
@@ -89,6 +90,8 @@ MayEndSilently mode input read_failed Memory = ⊤
 MayEndSilently mode input read_failed Words = ⊥
 MayEndSilently mode input read_failed Read = read_failed ≡ true
 MayEndSilently mode input read_failed Write = ⊥
+MayEndSilently mode input read_failed NoStore = ⊥
+MayEndSilently mode input read_failed Locked = ⊥
 
 -- the script that the reader has gives results of this kind
 abbrev pub GivesResults : {R : Type 0} → (List ℕ → List R → Type 0) → Option (List ℕ) → Type 0
@@ -135,7 +138,7 @@ EndsInReport r = r.status ≢ 2
 abbrev pub EndsInFault : ProgramRun → Type 0
 EndsInFault r = r.status ≡ 2 → (fault : RunFault)
     × MayEndIn r.mode r.script r.read_failed r.out_before r.out_after fault
-    × IsTold r.err_failed r.err_before r.err_after (fault_line fault)
+    × IsTold r.err_failed r.err_before r.err_after (fault_line Bitemporal fault)
 
 -- a script that is refused as a whole ends with status 2, and the output got nothing
 abbrev pub EndsRefused : ProgramRun → Type 0

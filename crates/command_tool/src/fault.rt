@@ -1,10 +1,11 @@
-//! Why the program ends with status 2, and the line that it then writes to standard error.
+//! Why a program ends with status 2, and the line that it then writes to standard error.
 
 ghost use Rattle.std.specs.Prelude.{◌≡◌, ◌⊎◌, [], IfOk, Some};
 ghost use Rattle.std.specs.String.{string_bytes};
 ghost use Rattle.std.specs.IoError.{error_kind};
 ghost use Rattle.command_tool.specs.Lines.{IsTold, MayBeToldAs, detail_of, fault_line, line_of};
-ghost use Rattle.command_tool.specs.Lines.{offset_of, refusal_line, words_fault};
+ghost use Rattle.command_tool.specs.Lines.{offset_of, program_text, refusal_line, told_without};
+ghost use Rattle.command_tool.specs.Lines.{words_fault};
 
 use crate::tracked::Tracked;
 use period_core::Refusal;
@@ -13,10 +14,30 @@ use std::alloc::{AllocError, Global};
 use std::io;
 use std::io::{ErrorKind, Write};
 
-/// Why the program gave no whole report, where its words ask for one.
+/// The programs, which begin their lines with their names.
+#[derive(Clone, Copy, Debug, PartialEq, Eq)]
+pub enum ProgramName {
+    /// `bitemporal`, over a store in memory.
+    Bitemporal,
+    /// `bitemporal_file`, over a store in a file.
+    BitemporalFile,
+}
+
+impl ProgramName {
+    fn text(self) -> &'static str
+        ensures { result.now ≡ program_text self }
+    {
+        match self {
+            ProgramName::Bitemporal => "bitemporal",
+            ProgramName::BitemporalFile => "bitemporal_file",
+        }
+    }
+}
+
+/// Why a program gave no whole report, where its words ask for one.
 #[derive(Clone, Copy, Debug, PartialEq, Eq)]
 pub enum RunFault {
-    /// The whole script was refused.
+    /// The whole script was refused, or the store.
     Script(Refusal),
     /// Out of memory outside the script's statements.
     Memory,
@@ -26,6 +47,10 @@ pub enum RunFault {
     Read,
     /// The writer of the report failed.
     Write,
+    /// The store's file does not open.
+    NoStore,
+    /// Another program has the store open.
+    Locked,
 }
 
 impl RunFault {
@@ -55,14 +80,6 @@ impl From<ReportFault> for RunFault {
     }
 }
 
-const MEMORY_LINE: &[u8] = b"bitemporal: 61 Memory\n";
-
-const WORDS_LINE: &[u8] = b"bitemporal: a word of the command line is not UTF-8\n";
-
-const READ_LINE: &[u8] = b"bitemporal: cannot read the script\n";
-
-const WRITE_LINE: &[u8] = b"bitemporal: cannot write the report\n";
-
 // The byte that a refusal names.
 fn bad_offset(refusal: &Refusal) -> Option<usize>
     ensures { result ≡ offset_of refusal.now }
@@ -74,57 +91,97 @@ fn bad_offset(refusal: &Refusal) -> Option<usize>
 }
 
 /// The line of a refusal: its number, its name, and the byte that it names, if it does.
-pub fn line_of_refusal(alloc: Global, refusal: &Refusal) -> Result<String, AllocError>
-    ensures { IfOk result (λ line. string_bytes line ≡ refusal_line refusal.now) }
+fn line_of_refusal(
+    alloc: Global,
+    program: ProgramName,
+    refusal: &Refusal,
+) -> Result<String, AllocError>
+    ensures { IfOk result (λ line. string_bytes line ≡ refusal_line program refusal.now) }
 {
     let code = refusal.code();
     let name = refusal.name();
     match bad_offset(refusal) {
-        Some(offset) => offset_line(alloc, code, name, offset),
-        None => plain_line(alloc, code, name),
+        Some(offset) => offset_line(alloc, program.text(), code, name, offset),
+        None => plain_line(alloc, program.text(), code, name),
     }
 }
 
-fn plain_line(alloc: Global, code: u8, name: &str) -> Result<String, AllocError>
-    ensures { IfOk result (λ line. string_bytes line ≡ line_of code name.now []) }
+fn plain_line(alloc: Global, program: &str, code: u8, name: &str) -> Result<String, AllocError>
+    ensures { IfOk result (λ line. string_bytes line ≡ line_of program.now code name.now []) }
 {
-    format!(in alloc; "bitemporal: {code} {name}\n")
+    format!(in alloc; "{program}: {code} {name}\n")
 }
 
-fn offset_line(alloc: Global, code: u8, name: &str, offset: usize) -> Result<String, AllocError>
+fn offset_line(
+    alloc: Global,
+    program: &str,
+    code: u8,
+    name: &str,
+    offset: usize,
+) -> Result<String, AllocError>
     ensures { IfOk result
-        (λ line. string_bytes line ≡ line_of code name.now (detail_of (Some offset))) }
+        (λ line. string_bytes line
+        ≡ line_of program.now code name.now (detail_of (Some offset))) }
 {
-    format!(in alloc; "bitemporal: {code} {name} {offset}\n")
+    format!(in alloc; "{program}: {code} {name} {offset}\n")
+}
+
+// The line of a fault, which takes no memory: in the place of a refusal's line that of out of
+// memory.
+fn ready_line(program: ProgramName, fault: RunFault) -> &'static [u8]
+    ensures { result.now ≡ fault_line program (told_without fault) }
+{
+    match program {
+        ProgramName::Bitemporal => match fault {
+            RunFault::Script(_) => b"bitemporal: 61 Memory\n",
+            RunFault::Memory => b"bitemporal: 61 Memory\n",
+            RunFault::Words => b"bitemporal: a word of the command line is not UTF-8\n",
+            RunFault::Read => b"bitemporal: cannot read the script\n",
+            RunFault::Write => b"bitemporal: cannot write the report\n",
+            RunFault::NoStore => b"bitemporal: cannot open the store\n",
+            RunFault::Locked => b"bitemporal: another program has the store open\n",
+        },
+        ProgramName::BitemporalFile => match fault {
+            RunFault::Script(_) => b"bitemporal_file: 61 Memory\n",
+            RunFault::Memory => b"bitemporal_file: 61 Memory\n",
+            RunFault::Words => b"bitemporal_file: a word of the command line is not UTF-8\n",
+            RunFault::Read => b"bitemporal_file: cannot read the script\n",
+            RunFault::Write => b"bitemporal_file: cannot write the report\n",
+            RunFault::NoStore => b"bitemporal_file: cannot open the store\n",
+            RunFault::Locked => b"bitemporal_file: another program has the store open\n",
+        },
+    }
 }
 
 // Writes the line of a fault: the whole line, unless a write failed. Where there is no memory for
 // the line of a refusal, it is the line of out of memory.
-fn tell<W: Write>(alloc: Global, err: &mut Tracked<W>, fault: RunFault)
+fn tell<W: Write>(alloc: Global, program: ProgramName, err: &mut Tracked<W>, fault: RunFault)
     ensures { (told : RunFault) × MayBeToldAs fault told
         × IsTold err.new.has_failed (W.contents err.old.inner) (W.contents err.new.inner)
-        (fault_line told) }
+        (fault_line program told) }
 {
     match fault {
-        RunFault::Script(refusal) => match line_of_refusal(alloc, &refusal) {
+        RunFault::Script(refusal) => match line_of_refusal(alloc, program, &refusal) {
             Ok(line) => write_line(err, line.as_bytes()),
-            Err(_) => write_line(err, MEMORY_LINE),
+            Err(_) => write_line(err, ready_line(program, RunFault::Memory)),
         },
-        RunFault::Memory => write_line(err, MEMORY_LINE),
-        RunFault::Words => write_line(err, WORDS_LINE),
-        RunFault::Read => write_line(err, READ_LINE),
-        RunFault::Write => write_line(err, WRITE_LINE),
+        other => write_line(err, ready_line(program, other)),
     }
 }
 
-/// Ends the program in a fault: writes its line, and gives the exit status.
-pub fn end_in<W: Write>(alloc: Global, err: &mut Tracked<W>, fault: RunFault) -> u8
+/// Ends a program in a fault: writes its line, and gives the exit status.
+pub fn end_in<W: Write>(
+    alloc: Global,
+    program: ProgramName,
+    err: &mut Tracked<W>,
+    fault: RunFault,
+) -> u8
     ensures status { result ≡ 2 }
     ensures told { (told : RunFault) × MayBeToldAs fault told
         × IsTold err.new.has_failed (W.contents err.old.inner) (W.contents err.new.inner)
-        (fault_line told) }
+        (fault_line program told) }
 {
-    tell(alloc, err, fault);
+    tell(alloc, program, err, fault);
     2
 }
 

@@ -10,8 +10,9 @@ mod scripts;
 mod tool;
 mod tracked;
 
-pub use fault::RunFault;
-pub use program::{run_program, words_of};
+pub use fault::{ProgramName, RunFault, end_in};
+pub use program::{run_program, show, words_of};
+pub use reading::read_script;
 pub use scripts::Scripts;
-pub use tool::run_tool;
+pub use tool::{has_failed, run_tool};
 pub use tracked::Tracked;

@@ -8,7 +8,7 @@ ghost use Rattle.command_arguments.specs.CommandLine.{AsksFor};
 ghost use Rattle.command_tool.specs.Lines.{IsTold, fault_line, words_fault};
 ghost use Rattle.command_tool.specs.Program.{EndsWell, may_fail, script_of};
 
-use crate::fault::{RunFault, end_in};
+use crate::fault::{ProgramName, RunFault, end_in};
 use crate::scripts::Scripts;
 use crate::tool::run_tool;
 use crate::tracked::Tracked;
@@ -64,22 +64,24 @@ pub fn run_program<S: Scripts, R: Read, W: Write, E: Write>(
 {
     let asked = match words {
         Ok(words) => command_line(alloc, words.as_slice()),
-        Err(fault) => return end_in(alloc, err, fault),
+        Err(fault) => return end_in(alloc, ProgramName::Bitemporal, err, fault),
     };
     match asked {
         Ok((mode, None)) => run_tool(alloc, mode, input, out, err),
         Ok((mode, Some(name))) => match scripts.open_script(name.as_str()) {
             Ok(script) => run_tool(alloc, mode, &mut Tracked::new(script), out, err),
-            Err(_) => end_in(alloc, err, RunFault::Read),
+            Err(_) => end_in(alloc, ProgramName::Bitemporal, err, RunFault::Read),
         },
-        Err(CommandFault::Clap(fault)) => show(alloc, &fault, out, err),
-        Err(CommandFault::Memory) => end_in(alloc, err, RunFault::Memory),
+        Err(CommandFault::Clap(fault)) => show(alloc, ProgramName::Bitemporal, &fault, out, err),
+        Err(CommandFault::Memory) => end_in(alloc, ProgramName::Bitemporal, err, RunFault::Memory),
     }
 }
 
-// Shows clap's text, a mistake on standard error, and else help or the version on the output.
-fn show<W: Write, E: Write>(
+/// Shows clap's text, a mistake on standard error, and else help or the version on the output.
+/// Gives the exit status.
+pub fn show<W: Write, E: Write>(
     alloc: Global,
+    program: ProgramName,
     fault: &clap::Error,
     out: &mut W,
     err: &mut Tracked<E>,
@@ -92,6 +94,6 @@ fn show<W: Write, E: Write>(
     }
     match write!(out, "{fault}") {
         Ok(()) => 0,
-        Err(_) => end_in(alloc, err, RunFault::Write),
+        Err(_) => end_in(alloc, program, err, RunFault::Write),
     }
 }

@@ -11,7 +11,7 @@ ghost use Rattle.command_tool.specs.Program.{AreOfReader, EndsWell, IsOfReport, 
 ghost use Rattle.command_tool.specs.Program.{MayEndSilently, Reports, TakesAtMost};
 ghost use Rattle.command_tool.specs.Program.{audited_status, fails_audit, read_limit, status_of};
 
-use crate::fault::{RunFault, end_in};
+use crate::fault::{ProgramName, RunFault, end_in};
 use crate::reading::read_script;
 use crate::tracked::Tracked;
 use command_arguments::Mode;
@@ -57,7 +57,7 @@ pub fn run_tool<R: Read, W: Write, E: Write>(
     };
     match ended {
         Ok(status) => status,
-        Err(fault) => end_in(alloc, err, fault),
+        Err(fault) => end_in(alloc, ProgramName::Bitemporal, err, fault),
     }
 }
 
@@ -182,8 +182,8 @@ fn exit_status<T>(results: &[Result<T, Refusal>]) -> u8
     0
 }
 
-// Whether an audit was made, and did not agree or was refused.
-fn has_failed(audit: &Option<Result<Verdict, Refusal>>) -> bool
+/// Whether an audit was made, and did not agree or was refused.
+pub fn has_failed(audit: &Option<Result<Verdict, Refusal>>) -> bool
     ensures { result ≡ fails_audit audit.now }
 {
     match audit {

@@ -6,6 +6,7 @@ pub mod Moments
 pub mod LeftFacts
 pub mod Changes
 pub mod Shown
+pub mod MovedFacts
 pub mod ModelExamples
 pub mod ChangeExamples
 pub mod Sights

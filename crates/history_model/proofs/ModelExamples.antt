@@ -5,12 +5,14 @@ use Rattle.std.specs.List.{Contains}
 use Rattle.std.proofs.lemmas.Int.{ints}
 use Rattle.period_core.proofs.Periods.{period_over}
 use Rattle.period_core.specs.Moments.{forever}
+use Rattle.period_core.specs.Seconds.{last_second}
 use Rattle.period_core.specs.declared.value.Value.{Value}
 use Rattle.period_core.specs.declared.value.Value.TheVariants.{Int}
 use Rattle.period_core.specs.declared.version.VersionRow.{VersionRow}
 use Rattle.period_core.specs.declared.window.Window.TheVariants.{Now}
 use Rattle.history_model.specs.Versions.{current, last_moment, values_at}
 use Rattle.history_model.specs.Effects.{effect}
+use Rattle.history_model.specs.Moved.{moved_version}
 use Rattle.history_model.specs.Histories.{Advanced, Asked, Changed, History, clock_of, last_state, new_database, opened, state_at, with_event}
 use Rattle.catalog_core.specs.declared.change.Action.TheVariants.{Insert}
 use Rattle.catalog_core.specs.declared.change.Change.{Change}
@@ -61,6 +63,13 @@ as_it_ends = refl
 -- and it is not current
 not_current : current (ended ∷ record ended { to = forever } ∷ []) ≡ record ended { to = forever } ∷ []
 not_current = refl
+
+-- moved from seconds it begins and ends where its seconds begin, and an open version stays open
+in_moments : moved_version ended ≡ record ended { from = pos 2_000_000; to = pos 4_000_000 }
+in_moments = refl
+
+still_open : (moved_version (record ended { to = last_second })).to ≡ forever
+still_open = refl
 
 -- the department and then the employee
 abbrev query : Select

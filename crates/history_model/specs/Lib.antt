@@ -7,4 +7,5 @@ pub mod OrdinaryQuery
 pub mod Slices
 pub mod Left
 pub mod Represents
+pub mod Moved
 pub mod Laws

@@ -11,6 +11,8 @@ ghost use Rattle.history_model.specs.Laws.{CurrentVersionsHold, EarlierStatesSta
 ghost use Rattle.history_model.specs.Laws.{HistoriesLeaveOneList, OpeningsAreRepresented};
 ghost use Rattle.history_model.specs.Laws.{QueriesChangeNothing, VersionsHoldTheStates};
 ghost use Rattle.history_model.specs.Laws.{WindowsSeeStates};
+ghost use Rattle.history_model.specs.Moved.{MovedOpeningsAreInOrder, MovedStatesStay};
+ghost use Rattle.history_model.specs.Moved.{MovedWindowsStay};
 ghost use Rattle.history_model.specs.Slices.{SlicesMakeTheWhole};
 
 /// Whatever a store keeps, it represents the history that opens with it. So what is said of each
@@ -79,4 +81,16 @@ pub fn queries_change_nothing()
 /// whatever the borders.
 pub fn slices_make_the_whole()
     ensures { SlicesMakeTheWhole }
+{}
+
+/// What a store kept that counted in whole seconds holds the same once its moments are moved to
+/// microseconds, and its open end to FOREVER: at each whole second before that open end on each
+/// day, in each table, and through each system-time window that begins before it, whose seconds
+/// are the moments at which they begin. A window may end with the old open end, which as a whole
+/// second is after each closed version's end and before FOREVER. Histories go on from there in
+/// order.
+pub fn moves_keep_the_states()
+    ensures states { MovedStatesStay }
+    ensures windows { MovedWindowsStay }
+    ensures order { MovedOpeningsAreInOrder }
 {}

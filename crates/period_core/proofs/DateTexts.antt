@@ -2,7 +2,7 @@
 use Rattle.std.proofs.Common.{◌≡◌, ℕ, zero, suc, ◌+◌, ◌-◌, ◌*◌, ◌/◌, ◌%◌, ◌<◌, ◌≤◌, true, false, cond, nat_lt, List, [], ◌∷◌, ◌++◌, length, take, drop, get_or, Some, None, refl, sym, ap, subst, ◌∙◌, inl, inr, arith}
 use Rattle.std.specs.Prelude.{◌==◌}
 use Rattle.std.proofs.lemmas.Bool.Decides.{nat_tests}
-use Rattle.std.proofs.lemmas.List.{at_drop_more}
+use Rattle.std.proofs.lemmas.List.{at_drop_more, take-append-drop}
 use Rattle.std.proofs.Math.Seq.{take-length}
 use Rattle.period_core.specs.Calendar.{date_text}
 use Rattle.period_core.specs.Moments.{time_text}
@@ -31,12 +31,12 @@ digit_back byte n e = elim (if_some (nat_lt byte 48) None (cond (nat_lt 57 byte)
   ]
 ]
 
-two_at : (n : ℕ) → n < 100 → two_of (48 + n / 10) (48 + n % 10) ≡ Some n
+pub two_at : (n : ℕ) → n < 100 → two_of (48 + n / 10) (48 + n % 10) ≡ Some n
 two_at n h =
     let same : n / 10 * 10 + n % 10 ≡ n = omega arith in
     rw (digit_at (n / 10) (omega (arith, h)), digit_at (n % 10) (omega arith)) (ap (λ (k : ℕ). Some k) same)
 
-two_back : (a b n : ℕ) → two_of a b ≡ Some n → (a ≡ 48 + n / 10) × (b ≡ 48 + n % 10) × (n < 100)
+pub two_back : (a b n : ℕ) → two_of a b ≡ Some n → (a ≡ 48 + n / 10) × (b ≡ 48 + n % 10) × (n < 100)
 two_back a b n e =
     let s = bind_some (digit_of a) (λ t. digit_of b >>= λ o. Some (t * 10 + o)) n e in
     let t = bind_some (digit_of b) (λ o. Some (s.0 * 10 + o)) n s.2 in
@@ -52,7 +52,7 @@ abbrev pub bytes_from : ℕ → ℕ → List ℕ → List ℕ
 bytes_from zero i t = []
 bytes_from (suc n) i t = get_or t i 0 ∷ bytes_from n (i + 1) t
 
-taken : (n i : ℕ) (t : List ℕ) → i + n ≤ length t → take n (drop i t) ≡ bytes_from n i t
+pub taken : (n i : ℕ) (t : List ℕ) → i + n ≤ length t → take n (drop i t) ≡ bytes_from n i t
 taken zero i t h = refl
 taken (suc n) i t h =
     at_drop_more (take (suc n)) t i 0 (omega (arith, h))
@@ -184,7 +184,7 @@ time_found t h m s hh hm hs whole =
     )
     refl
 
--- ---- moments: a date, a space and a time of day
+-- ---- moments: a date, a space, a time of day and what is behind them
 
-pub moment_bytes : (t : List ℕ) → length t ≡ 19 → t ≡ bytes_from 10 0 t ++ get_or t 10 0 ∷ bytes_from 8 11 t
-moment_bytes t e = bytes_are 19 t e
+pub moment_bytes : (t : List ℕ) → 19 ≤ length t → t ≡ bytes_from 10 0 t ++ get_or t 10 0 ∷ bytes_from 8 11 t ++ drop 19 t
+moment_bytes t h = sym (take-append-drop 19 t) ∙ ap (λ (front : List ℕ). front ++ drop 19 t) (taken 19 0 t (omega (arith, h)))

@@ -1,12 +1,13 @@
 -- What is read of a text is the one value whose text it is.
-use Rattle.std.proofs.Common.{◌≡◌, ℕ, zero, suc, ◌-◌, ◌<◌, ◌≤◌, ℤ, Bool, true, false, cond, List, [], ◌∷◌, ◌++◌, length, take, drop, get_or, Option, Some, None, refl, sym, ap, ◌∙◌, ◌&&◌, ◌↔◌, inl, inr, arith, lit<, rules}
+use Rattle.std.proofs.Common.{◌≡◌, ℕ, zero, suc, ◌+◌, ◌-◌, ◌<◌, ◌≤◌, ℤ, Bool, true, false, cond, nat_lt, List, [], ◌∷◌, ◌++◌, length, take, drop, get_or, Option, Some, None, refl, sym, ap, ◌∙◌, ◌&&◌, ◌↔◌, inl, inr, arith, lit<, rules}
 use Rattle.std.specs.Prelude.{◌==◌, IsSome, IfSome, nat_le, slice_index}
 use Rattle.std.proofs.lemmas.Bool.{and_parts}
 use Rattle.std.proofs.lemmas.Bool.Decides.{nat_tests}
 use Rattle.period_core.specs.Calendar.{IsDate, IsDayText, date_text, day_number, is_leap_year, month_length}
-use Rattle.period_core.specs.Moments.{IsMoment, IsMomentText, date_time_text, moment_number, time_text}
-use Rattle.period_core.specs.TextReading.{◌>>=◌, date_at, day_of_text, is_date, is_time, moment_of_text, number_of_date, number_of_moment, time_at}
-use Rattle.period_core.proofs.DateTexts.{bytes_are, bytes_from, date_found, date_shown, equal_is, moment_bytes, time_found, time_shown}
+use Rattle.period_core.specs.Moments.{IsMoment, IsMomentText, date_time_text, fraction_text, moment_number, time_text}
+use Rattle.period_core.specs.TextReading.{◌>>=◌, date_at, day_of_text, fraction_at, is_date, is_time, moment_of_text, number_of_date, number_of_moment, time_at}
+use Rattle.period_core.proofs.DateTexts.{bytes_are, bytes_from, date_found, date_shown, equal_is, moment_bytes, taken, time_found, time_shown}
+use Rattle.period_core.proofs.FractionTexts.{fraction_found, fraction_shown}
 use Rattle.period_core.proofs.OptionFacts.{bind_some, if_some, none_some, some_is}
 
 -- ---- there is such a date
@@ -44,16 +45,19 @@ is_date_if y m d h =
     (both _ _ (is_nat_le m 12 h.month.1)
     (both _ _ (is_nat_le 1 d h.day.0) (is_nat_le d (month_length y m) h.day.1)))))
 
-pub time_is : (h mi s : ℕ) → is_time h mi s ≡ true → (h ≤ 23) × (mi ≤ 59) × (s ≤ 59)
+pub time_is : (h mi s us : ℕ) → is_time h mi s us ≡ true → (h ≤ 23) × (mi ≤ 59) × (s ≤ 59) × (us ≤ 999_999)
 unfolding is_time
-time_is h mi s e =
-    let p = and_parts (nat_le h 23) (nat_le mi 59 && nat_le s 59) e in
-    let q = and_parts (nat_le mi 59) (nat_le s 59) p.1 in
-    (nat_le_is h 23 p.0, nat_le_is mi 59 q.0, nat_le_is s 59 q.1)
+time_is h mi s us e =
+    let p = and_parts (nat_le h 23) (nat_le mi 59 && (nat_le s 59 && nat_le us 999_999)) e in
+    let q = and_parts (nat_le mi 59) (nat_le s 59 && nat_le us 999_999) p.1 in
+    let r = and_parts (nat_le s 59) (nat_le us 999_999) q.1 in
+    (nat_le_is h 23 p.0, nat_le_is mi 59 q.0, nat_le_is s 59 r.0, nat_le_is us 999_999 r.1)
 
-pub is_time_if : (h mi s : ℕ) → h ≤ 23 → mi ≤ 59 → s ≤ 59 → is_time h mi s ≡ true
+pub is_time_if : (h mi s us : ℕ) → h ≤ 23 → mi ≤ 59 → s ≤ 59 → us ≤ 999_999 → is_time h mi s us ≡ true
 unfolding is_time
-is_time_if h mi s a b c = both _ _ (is_nat_le h 23 a) (both _ _ (is_nat_le mi 59 b) (is_nat_le s 59 c))
+is_time_if h mi s us a b c d =
+    both _ _ (is_nat_le h 23 a)
+    (both _ _ (is_nat_le mi 59 b) (both _ _ (is_nat_le s 59 c) (is_nat_le us 999_999 d)))
 
 feb : (b : Bool) → cond b 29 28 < 100
 feb true = lit< tt
@@ -109,54 +113,74 @@ day_text_is_read t n h =
 
 -- ---- moments
 
-moment_text_parts : (a b c e : List ℕ) (s : ℕ) → a ≡ b → s ≡ 32 → c ≡ e → a ++ s ∷ c ≡ b ++ 32 ∷ e
-moment_text_parts a b c e s p q r = rw (p, q, r) refl
+moment_text_parts : (a b c e f g : List ℕ) (s : ℕ) → a ≡ b → s ≡ 32 → c ≡ e → f ≡ g → a ++ s ∷ c ++ f ≡ b ++ 32 ∷ e ++ g
+moment_text_parts a b c e f g s p q r w = rw (p, q, r, w) refl
+
+-- the numbers of a date, of a time of day and of a fraction that are read, where they are a moment's
+moment_of_parts : (t : List ℕ) (n : ℤ) (date time : ℕ × ℕ × ℕ) (us : ℕ) → 18 < length t → get_or t 10 0 ≡ 32
+    → date_at t ≡ Some date → time_at t ≡ Some time → fraction_at t ≡ Some us → number_of_moment date time us ≡ Some n → IsMomentText n t
+moment_of_parts t n date time us long space date_read time_read read e =
+    let shown = date_shown t date date_read in
+    let timed = time_shown t time time_read in
+    let fraction = fraction_shown t us read in
+    elim (if_some (is_date date.0 date.1 date.2 && is_time time.0 time.1 time.2 us) (Some (moment_number date.0 date.1 date.2 time.0 time.1 time.2 us)) None n e) [
+      | inr l ↦ absurd (none_some n l.1)
+      | inl l ↦
+          let p = and_parts (is_date date.0 date.1 date.2) (is_time time.0 time.1 time.2 us) l.0 in
+          let times = time_is time.0 time.1 time.2 us p.1 in (
+            date.0,
+            date.1,
+            date.2,
+            time.0,
+            time.1,
+            time.2,
+            us,
+            fraction.digits,
+            record { date = date_is date.0 date.1 date.2 p.0; hour = times.0; minute = times.1; second = times.2; microsecond = times.3 },
+            some_is (moment_number date.0 date.1 date.2 time.0 time.1 time.2 us) n l.1,
+            fraction.shows,
+            moment_bytes t (omega (arith, long))
+                ∙ moment_text_parts (bytes_from 10 0 t) (date_text date.0 date.1 date.2) (bytes_from 8 11 t) (time_text time.0 time.1 time.2) (drop 19 t) (fraction_text fraction.digits) (get_or t 10 0) shown.0 space timed.0 fraction.behind,
+          )
+    ]
+
+nat_lt_is : (a b : ℕ) → nat_lt a b ≡ true → a < b
+nat_lt_is a b e = grind (arith, nat_tests, e)
 
 pub moment_read_is_text : (t : List ℕ) (n : ℤ) → moment_of_text t ≡ Some n → IsMomentText n t
 unfolding moment_of_text
-moment_read_is_text t n e = elim (if_some (length t == 19) (cond (get_or t 10 0 == 32) (date_at t >>= λ date. time_at t >>= λ time. number_of_moment date time) None) None n e) [
-  | inr h ↦ absurd (none_some n h.1)
-  | inl h ↦ elim (if_some (get_or t 10 0 == 32) (date_at t >>= λ date. time_at t >>= λ time. number_of_moment date time) None n h.1) [
-    | inr k ↦ absurd (none_some n k.1)
-    | inl k ↦
-        let v = bind_some (date_at t) (λ date. time_at t >>= λ time. number_of_moment date time) n k.1 in
-        let w = bind_some (time_at t) (λ time. number_of_moment v.0 time) n v.2 in
-        let shown = date_shown t v.0 v.1 in
-        let timed = time_shown t w.0 w.1 in
-        elim (if_some (is_date v.0.0 v.0.1 v.0.2 && is_time w.0.0 w.0.1 w.0.2) (Some (moment_number v.0.0 v.0.1 v.0.2 w.0.0 w.0.1 w.0.2)) None n w.2) [
-          | inr l ↦ absurd (none_some n l.1)
-          | inl l ↦
-              let p = and_parts (is_date v.0.0 v.0.1 v.0.2) (is_time w.0.0 w.0.1 w.0.2) l.0 in
-              let times = time_is w.0.0 w.0.1 w.0.2 p.1 in (
-                v.0.0,
-                v.0.1,
-                v.0.2,
-                w.0.0,
-                w.0.1,
-                w.0.2,
-                record { date = date_is v.0.0 v.0.1 v.0.2 p.0; hour = times.0; minute = times.1; second = times.2 },
-                some_is (moment_number v.0.0 v.0.1 v.0.2 w.0.0 w.0.1 w.0.2) n l.1,
-                moment_bytes t (equal_is (length t) 19 h.0)
-                    ∙ moment_text_parts (bytes_from 10 0 t) (date_text v.0.0 v.0.1 v.0.2) (bytes_from 8 11 t) (time_text w.0.0 w.0.1 w.0.2) (get_or t 10 0) shown.0 (equal_is (get_or t 10 0) 32 k.0) timed.0,
-              )
-        ]
-  ]
-]
+moment_read_is_text t n e =
+    let parts = date_at t >>= λ date. time_at t >>= λ time. fraction_at t >>= λ us. number_of_moment date time us in
+    elim (if_some (nat_lt 18 (length t)) (cond (get_or t 10 0 == 32) parts None) None n e) [
+      | inr h ↦ absurd (none_some n h.1)
+      | inl h ↦ elim (if_some (get_or t 10 0 == 32) parts None n h.1) [
+        | inr k ↦ absurd (none_some n k.1)
+        | inl k ↦
+            let date = bind_some (date_at t) (λ date. time_at t >>= λ time. fraction_at t >>= λ us. number_of_moment date time us) n k.1 in
+            let time = bind_some (time_at t) (λ time. fraction_at t >>= λ us. number_of_moment date.0 time us) n date.2 in
+            let fraction = bind_some (fraction_at t) (λ us. number_of_moment date.0 time.0 us) n time.2 in
+            moment_of_parts t n date.0 time.0 fraction.0 (nat_lt_is 18 (length t) h.0) (equal_is (get_or t 10 0) 32 k.0) date.1 time.1 fraction.1 fraction.2
+      ]
+    ]
 
 pub moment_text_is_read : (t : List ℕ) (n : ℤ) → IsMomentText n t → moment_of_text t ≡ Some n
 unfolding moment_of_text
-moment_text_is_read t n h =
-    let (y, m, d, h2, mi, s, moment, number, text) = h in
+moment_text_is_read t n is =
+    let (y, m, d, h, mi, s, us, digits, moment, number, shows, text) = is in
     let low = date_low y m d moment.date in
     let hour = moment.hour in
     let minute = moment.minute in
     let second = moment.second in
-    let long : length t ≡ 19 = ap length text in
-    let whole : bytes_from 19 0 t ≡ date_time_text y m d h2 mi s = sym (bytes_are 19 t long) ∙ text in
-    let date : date_at t ≡ Some (y, m, d) = date_found t y m d low.0 low.1 low.2 (ap (take 10) whole) in
+    let microsecond = moment.microsecond in
+    let long : length t ≡ 19 + length (fraction_text digits) = ap length text ∙ omega arith in
+    let enough : nat_lt 18 (length t) ≡ true = grind (arith, nat_tests, long) in
+    let whole : bytes_from 19 0 t ≡ date_time_text y m d h mi s = sym (taken 19 0 t (omega (arith, long))) ∙ ap (λ (z : List ℕ). take 19 z) text in
+    let date : date_at t ≡ Some (y, m, d) = date_found t y m d low.0 low.1 low.2 (ap (λ (z : List ℕ). take 10 z) whole) in
     let space : get_or t 10 0 ≡ 32 = ap (λ (z : List ℕ). get_or z 10 0) whole in
-    let time : time_at t ≡ Some (h2, mi, s) = time_found t h2 mi s (omega (arith, hour)) (omega (arith, minute)) (omega (arith, second)) (ap (drop 11) whole) in
-    rw (long, space, date, time, is_date_if y m d moment.date, is_time_if h2 mi s hour minute second) (ap (λ (k : ℤ). Some k) number)
+    let time : time_at t ≡ Some (h, mi, s) = time_found t h mi s (omega (arith, hour)) (omega (arith, minute)) (omega (arith, second)) (ap (λ (z : List ℕ). drop 11 z) whole) in
+    let fraction : fraction_at t ≡ Some us = fraction_found t digits us shows microsecond long (ap (λ (z : List ℕ). drop 19 z) text) in
+    rw (enough, space, date, time, fraction, is_date_if y m d moment.date, is_time_if h mi s us hour minute second microsecond)
+    (ap (λ (k : ℤ). Some k) number)
 
 -- ---- which texts are those of days and moments
 
@@ -203,20 +227,21 @@ chosen None false n P if_true if_P i e = refl
 pub date_number : (r : Option ℤ) (y m d : ℕ) → IsSome r ↔ IsDate y m d → IfSome r (λ x. x ≡ day_number y m d) → r ≡ number_of_date (y, m, d)
 date_number r y m d i e = chosen r (is_date y m d) (day_number y m d) (IsDate y m d) (date_is y m d) (is_date_if y m d) i e
 
-pub moment_has_number : (r : Option ℤ) (y m d h mi s : ℕ) → IsSome r ↔ IsMoment y m d h mi s → IfSome r (λ x. x ≡ moment_number y m d h mi s) → r ≡ number_of_moment (y, m, d) (h, mi, s)
-moment_has_number r y m d h mi s i e =
-    chosen r (is_date y m d && is_time h mi s) (moment_number y m d h mi s) (IsMoment y m d h mi s)
+pub moment_has_number : (r : Option ℤ) (y m d h mi s us : ℕ) → IsSome r ↔ IsMoment y m d h mi s us → IfSome r (λ x. x ≡ moment_number y m d h mi s us) → r ≡ number_of_moment (y, m, d) (h, mi, s) us
+moment_has_number r y m d h mi s us i e =
+    chosen r (is_date y m d && is_time h mi s us) (moment_number y m d h mi s us) (IsMoment y m d h mi s us)
     (λ t.
-    let p = and_parts (is_date y m d) (is_time h mi s) t in
-    let q = time_is h mi s p.1 in
-    record { date = date_is y m d p.0; hour = q.0; minute = q.1; second = q.2 })
-    (λ q. both _ _ (is_date_if y m d q.date) (is_time_if h mi s q.hour q.minute q.second))
+    let p = and_parts (is_date y m d) (is_time h mi s us) t in
+    let q = time_is h mi s us p.1 in
+    record { date = date_is y m d p.0; hour = q.0; minute = q.1; second = q.2; microsecond = q.3 })
+    (λ q. both _ _ (is_date_if y m d q.date) (is_time_if h mi s us q.hour q.minute q.second q.microsecond))
     i e
 
 pub day_by_steps : (t : List ℕ) (y m d : ℕ) (r : Option ℤ) → (length t == 10) ≡ true → date_at t ≡ Some (y, m, d) → r ≡ number_of_date (y, m, d) → r ≡ day_of_text t
 unfolding day_of_text
 day_by_steps t y m d r long at e = rw (long, at) e
 
-pub moment_by_steps : (t : List ℕ) (v w : ℕ × ℕ × ℕ) (r : Option ℤ) → (length t == 19) ≡ true → (slice_index t 10 == 32) ≡ true → date_at t ≡ Some v → time_at t ≡ Some w → r ≡ number_of_moment v w → r ≡ moment_of_text t
+pub moment_by_steps : (t : List ℕ) (v w : ℕ × ℕ × ℕ) (us : ℕ) (r : Option ℤ) → nat_lt 18 (length t) ≡ true → (slice_index t 10 == 32) ≡ true
+    → date_at t ≡ Some v → time_at t ≡ Some w → fraction_at t ≡ Some us → r ≡ number_of_moment v w us → r ≡ moment_of_text t
 unfolding moment_of_text
-moment_by_steps t v w r long space date time e = rw (long, space, date, time) e
+moment_by_steps t v w us r long space date time fraction e = rw (long, space, date, time, fraction) e

@@ -1,5 +1,6 @@
 pub mod Calendar
 pub mod Moments
+pub mod Seconds
 pub mod TextReading
 pub mod PeriodPredicates
 pub mod DaySets

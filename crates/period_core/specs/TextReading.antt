@@ -1,6 +1,7 @@
 -- The day and the moment that a text shows, as they are read from it, place by place.
 use Rattle.std.specs.Prelude.{ℕ, ℤ, ◌+◌, ◌-◌, ◌*◌, ◌==◌, ◌&&◌, Bool, cond, nat_lt, nat_le, List}
-use Rattle.std.specs.Prelude.{length, slice_index, Option, Some, None, option_and_then}
+use Rattle.std.specs.Prelude.{length, slice_index, slice_index_or, Option, Some, None}
+use Rattle.std.specs.Prelude.{option_and_then}
 use Rattle.period_core.specs.Calendar.{day_number, month_length}
 use Rattle.period_core.specs.Moments.{moment_number}
 
@@ -46,13 +47,35 @@ time_parts_of a b c d e f = do
   second ← two_of e f
   Some (hour, minute, second)
 
--- the hour, the minute and the second of a text that is HH:MM:SS from its twelfth byte on
+-- the hour, the minute and the second of a text that has HH:MM:SS from its twelfth byte on
 unfoldable pub time_at : List ℕ → Option (ℕ × ℕ × ℕ)
 time_at text =
     cond (slice_index text 13 == 58) (cond (slice_index text 16 == 58)
     (time_parts_of (slice_index text 11) (slice_index text 12) (slice_index text 14)
     (slice_index text 15) (slice_index text 17) (slice_index text 18))
     None) None
+
+-- the number of six digits
+unfoldable pub six_of : ℕ → ℕ → ℕ → ℕ → ℕ → ℕ → Option ℕ
+six_of a b c d e f = do
+  high ← two_of a b
+  middle ← two_of c d
+  low ← two_of e f
+  Some (high * 10_000 + middle * 100 + low)
+
+-- the byte of a text at a place, and behind its end the digit 0
+abbrev pub digit_at : List ℕ → ℕ → ℕ
+digit_at text place = slice_index_or text place 48
+
+-- the microseconds of a text that ends with its nineteenth byte, or has a point and one to six
+-- digits behind it
+unfoldable pub fraction_at : List ℕ → Option ℕ
+fraction_at text =
+    cond (length text == 19) (Some 0)
+    (cond (slice_index text 19 == 46) (cond (nat_lt 20 (length text) && nat_le (length text) 26)
+    (six_of (digit_at text 20) (digit_at text 21) (digit_at text 22)
+    (digit_at text 23) (digit_at text 24) (digit_at text 25))
+    None) None)
 
 -- there is such a date from the year 1 to 9999
 unfoldable pub is_date : ℕ → ℕ → ℕ → Bool
@@ -61,8 +84,9 @@ is_date year month day =
     (nat_le 1 day && nat_le day (month_length year month)))))
 
 -- there is such a time of day
-unfoldable pub is_time : ℕ → ℕ → ℕ → Bool
-is_time hour minute second = nat_le hour 23 && (nat_le minute 59 && nat_le second 59)
+unfoldable pub is_time : ℕ → ℕ → ℕ → ℕ → Bool
+is_time hour minute second microsecond =
+    nat_le hour 23 && (nat_le minute 59 && (nat_le second 59 && nat_le microsecond 999_999))
 
 -- the number of a date, if there is one
 abbrev pub number_of_date : ℕ × ℕ × ℕ → Option ℤ
@@ -74,14 +98,15 @@ unfoldable pub day_of_text : List ℕ → Option ℤ
 day_of_text text = cond (length text == 10) (date_at text >>= number_of_date) None
 
 -- the number of a moment, if there is one
-abbrev pub number_of_moment : ℕ × ℕ × ℕ → ℕ × ℕ × ℕ → Option ℤ
-number_of_moment (year, month, day) (hour, minute, second) =
-    cond (is_date year month day && is_time hour minute second)
-    (Some (moment_number year month day hour minute second)) None
+abbrev pub number_of_moment : ℕ × ℕ × ℕ → ℕ × ℕ × ℕ → ℕ → Option ℤ
+number_of_moment (year, month, day) (hour, minute, second) microsecond =
+    cond (is_date year month day && is_time hour minute second microsecond)
+    (Some (moment_number year month day hour minute second microsecond)) None
 
--- the moment that a text of nineteen bytes shows
+-- the moment that a text of nineteen bytes or more shows
 unfoldable pub moment_of_text : List ℕ → Option ℤ
 moment_of_text text =
-    cond (length text == 19) (cond (slice_index text 10 == 32)
-    (date_at text >>= λ date. time_at text >>= λ time. number_of_moment date time)
+    cond (nat_lt 18 (length text)) (cond (slice_index text 10 == 32)
+    (date_at text >>= λ date. time_at text >>= λ time. fraction_at text >>= λ fraction.
+    number_of_moment date time fraction)
     None) None

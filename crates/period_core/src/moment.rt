@@ -1,18 +1,21 @@
 //! Moments of system time, of the proleptic Gregorian calendar, by their numbers.
 
-ghost use Rattle.std.specs.Prelude.{◌≡◌, ◌↔◌, IsSome, IfSome, ℤ, pos, neg_ℤ, ◌+ℤ◌, ◌-ℤ◌, ◌*ℤ◌};
-ghost use Rattle.std.specs.Prelude.{◌≤ℤ◌};
-ghost use Rattle.period_core.specs.Moments.{IsMoment, IsMomentNumber, IsMomentText, first_moment};
-ghost use Rattle.period_core.specs.Moments.{forever, moment_after, moment_before, moment_number};
-ghost use Rattle.period_core.specs.Moments.{moment_text};
+ghost use Rattle.std.specs.Prelude.{◌≡◌, ◌↔◌, ◌<◌, IsSome, IfSome, ℤ, pos, neg_ℤ, ◌+ℤ◌, ◌-ℤ◌};
+ghost use Rattle.std.specs.Prelude.{◌*ℤ◌, ◌≤ℤ◌, length, take, drop};
+ghost use Rattle.period_core.specs.Calendar.{IsDayText, day_text};
+ghost use Rattle.period_core.specs.Moments.{IsMoment, IsMomentNumber, IsMomentText, day_of_moment};
+ghost use Rattle.period_core.specs.Moments.{first_moment, forever, full_moment_text, moment_after};
+ghost use Rattle.period_core.specs.Moments.{moment_before, moment_number, moment_text};
+ghost use Rattle.period_core.specs.Moments.{moments_before};
 ghost use Rattle.period_core.specs.TextReading.{moment_of_text};
 
 use crate::day::{Day, FIRST as FIRST_DAY};
 use crate::text_reading::moment_of_bytes;
 use std::marker::Model;
 
-/// A moment: a whole second from 0001-01-01 00:00:00 to 9999-12-31 23:59:59, by its number.
-/// 1970-01-01 00:00:00 is 0, and each moment has the number after that of the moment before.
+/// A moment: a whole microsecond from 0001-01-01 00:00:00 to 9999-12-31 23:59:59.999999, by its
+/// number. 1970-01-01 00:00:00 is 0, and each moment has the number after that of the moment
+/// before.
 #[derive(Clone, Copy, PartialEq, Eq, PartialOrd, Ord, Debug)]
 pub struct Moment {
     number: i64,
@@ -29,13 +32,13 @@ impl Model for Moment {
 }
 
 /// 0001-01-01 00:00:00.
-const FIRST: i64 = -62_135_596_800;
+const FIRST: i64 = -62_135_596_800_000_000;
 
-/// 9999-12-31 23:59:59.
-const FOREVER: i64 = 253_402_300_799;
+/// 9999-12-31 23:59:59.999999.
+const FOREVER: i64 = 253_402_300_799_999_999;
 
-/// The moments of a second: the unit.
-const PER_SECOND: u64 = 1;
+/// The moments of a second: the unit is a microsecond.
+const PER_SECOND: u64 = 1_000_000;
 
 /// The moments of a minute.
 const PER_MINUTE: u64 = 60 * PER_SECOND;
@@ -47,7 +50,8 @@ const PER_HOUR: u64 = 60 * PER_MINUTE;
 const PER_DAY: u64 = 24 * PER_HOUR;
 
 impl Moment {
-    /// The moment with this number: `None` below 0001-01-01 00:00:00 and above 9999-12-31 23:59:59.
+    /// The moment with this number: `None` below 0001-01-01 00:00:00 and above 9999-12-31
+    /// 23:59:59.999999.
     pub fn new(number: i64) -> Option<Moment>
         ensures there { IsSome result ↔ IsMomentNumber number }
         ensures value { IfSome result (λ m. m ≡ number) }
@@ -59,8 +63,8 @@ impl Moment {
     }
 
     /// The moment of this date and time of day: `None` exactly where the years 1 to 9999 have no
-    /// such date, or a day no such time. Months and days count from 1, hours, minutes and seconds
-    /// from 0; no minute has a leap second.
+    /// such date, or a day no such time. Months and days count from 1, hours, minutes, seconds and
+    /// microseconds from 0; no minute has a leap second.
     pub fn from_parts(
         year: u16,
         month: u8,
@@ -68,24 +72,27 @@ impl Moment {
         hour: u8,
         minute: u8,
         second: u8,
+        microsecond: u32,
     ) -> Option<Moment>
-        ensures there { IsSome result ↔ IsMoment year month day hour minute second }
-        ensures value { IfSome result (λ m. m ≡ moment_number year month day hour minute second) }
+        ensures there { IsSome result ↔ IsMoment year month day hour minute second microsecond }
+        ensures value { IfSome result (λ m. m
+            ≡ moment_number year month day hour minute second microsecond) }
     {
-        if hour > 23 || minute > 59 || second > 59 {
+        if hour > 23 || minute > 59 || second > 59 || microsecond > 999_999 {
             return None;
         }
         let date = Day::from_date(year, month, day)?;
         let time = PER_HOUR * u64::from(hour)
             + PER_MINUTE * u64::from(minute)
-            + PER_SECOND * u64::from(second);
+            + PER_SECOND * u64::from(second)
+            + u64::from(microsecond);
         Some(Moment {
             number: PER_DAY as i64 * i64::from(date.number()) + time as i64,
         })
     }
 
-    /// The moment with this text, YYYY-MM-DD HH:MM:SS in ASCII as `write_text` writes it: `None`
-    /// exactly where it is no moment's.
+    /// The moment with this text in ASCII, YYYY-MM-DD HH:MM:SS, or this with a point and one to six
+    /// digits of the second's fraction: `None` exactly where it is no moment's.
     #[tactic(auto, using(crate::proofs::TextReadings::moment_readings))]
     pub fn from_text(text: &[u8]) -> Option<Moment>
         ensures there { IsSome result ↔ ((n : ℤ) × IsMomentText n text.now) }
@@ -102,8 +109,8 @@ impl Moment {
         Moment { number: FIRST }
     }
 
-    /// 9999-12-31 23:59:59, the greatest: FOREVER, at which the system time of a current version
-    /// ends.
+    /// 9999-12-31 23:59:59.999999, the greatest: FOREVER, at which the system time of a current
+    /// version ends.
     pub fn forever() -> Moment
         ensures { result ≡ forever }
     {
@@ -144,12 +151,21 @@ impl Moment {
         }
     }
 
-    /// Writes the date and the time of day as YYYY-MM-DD HH:MM:SS, in ASCII.
-    pub fn write_text(self, text: &mut [u8; 19])
-        ensures moment { IsMomentText self text.new }
-        ensures text { text.new ≡ moment_text self }
+    // How many moments come before it.
+    fn count_before(self) -> u64
+        ensures value { result ≡ moments_before self }
+        ensures few { result < 315_537_897_600_000_000 }
+        ensures in_range { IsMomentNumber self }
     {
-        let before = (self.number - FIRST) as u64;
+        (self.number - FIRST) as u64
+    }
+
+    // YYYY-MM-DD HH:MM:SS, a point and the six digits of the microsecond, in ASCII.
+    fn full_text(self) -> [u8; 26]
+        ensures text { result ≡ full_moment_text self }
+        ensures day { IsDayText (day_of_moment self) (day_text (day_of_moment self)) }
+    {
+        let before = self.count_before();
         let day = Day::new((before / PER_DAY) as i32 + FIRST_DAY).unwrap();
         let mut date = [0; 10];
         day.write_text(&mut date);
@@ -157,7 +173,11 @@ impl Moment {
         let hour = (time / PER_HOUR) as u8;
         let minute = (time % PER_HOUR / PER_MINUTE) as u8;
         let second = (time % PER_MINUTE / PER_SECOND) as u8;
-        *text = [
+        let fraction = before % PER_SECOND;
+        let high = (fraction / 10_000) as u8;
+        let middle = (fraction / 100 % 100) as u8;
+        let low = (fraction % 100) as u8;
+        [
             date[0],
             date[1],
             date[2],
@@ -177,6 +197,32 @@ impl Moment {
             b':',
             b'0' + second / 10,
             b'0' + second % 10,
-        ];
+            b'.',
+            b'0' + high / 10,
+            b'0' + high % 10,
+            b'0' + middle / 10,
+            b'0' + middle % 10,
+            b'0' + low / 10,
+            b'0' + low % 10,
+        ]
+    }
+
+    /// Writes the date and the time of day in ASCII, and says how many bytes that took: 19 as
+    /// YYYY-MM-DD HH:MM:SS where the fraction of the second is zero, else 26, with a point and all
+    /// six digits behind them. The bytes behind those that are written stay as they are.
+    pub fn write_text(self, text: &mut [u8; 26]) -> usize
+        ensures length { result ≡ length (moment_text self) }
+        ensures text { take result text.new ≡ moment_text self }
+        ensures rest { drop result text.new ≡ drop result text.old }
+        ensures moment { IsMomentText self (take result text.new) }
+    {
+        let full = self.full_text();
+        let length = if self.count_before() % PER_SECOND == 0 {
+            19
+        } else {
+            26
+        };
+        text[..length].copy_from_slice(&full[..length]);
+        length
     }
 }

@@ -4,7 +4,7 @@ ghost use Rattle.std.specs.Prelude.{◌≡◌, ◌↔◌, ◌+◌, ◌*◌, ◌-
 ghost use Rattle.std.specs.Prelude.{IfSome, Some, None};
 ghost use Rattle.period_core.specs.TextReading as reading;
 ghost use Rattle.period_core.specs.TextReading.{date_parts_of, day_of_text, digit_of};
-ghost use Rattle.period_core.specs.TextReading.{moment_of_text, time_parts_of, two_of};
+ghost use Rattle.period_core.specs.TextReading.{moment_of_text, six_of, time_parts_of, two_of};
 
 use crate::day::Day;
 use crate::moment::Moment;
@@ -65,7 +65,7 @@ fn time_parts(time: [u8; 6]) -> Option<(u8, u8, u8)>
     Some((hour, minute, second))
 }
 
-/// The hour, the minute and the second of a text that is HH:MM:SS behind a date and one more byte,
+/// The hour, the minute and the second of a text that has HH:MM:SS behind a date and one more byte,
 /// of whatever size.
 #[tactic(auto, unfolding(crate::specs::TextReading::time_at))]
 fn time_at(text: &[u8]) -> Option<(u8, u8, u8)>
@@ -76,6 +76,48 @@ fn time_at(text: &[u8]) -> Option<(u8, u8, u8)>
         return None;
     }
     time_parts([text[11], text[12], text[14], text[15], text[17], text[18]])
+}
+
+#[tactic(auto, unfolding(crate::specs::TextReading::six_of))]
+fn six(digits: [u8; 6]) -> Option<u32>
+    ensures { result ≡ six_of
+        (slice_index digits 0) (slice_index digits 1) (slice_index digits 2)
+        (slice_index digits 3) (slice_index digits 4) (slice_index digits 5) }
+{
+    let high = two(digits[0], digits[1])? as u32;
+    let middle = two(digits[2], digits[3])? as u32;
+    let low = two(digits[4], digits[5])? as u32;
+    Some(high * 10_000 + middle * 100 + low)
+}
+
+/// The byte at a place, and behind the end of the text the digit 0.
+fn digit_at(text: &[u8], place: usize) -> u8
+    ensures { result ≡ reading.digit_at text.now place }
+{
+    text.get(place).copied().unwrap_or(b'0')
+}
+
+/// The microseconds of a text that ends behind a time of day, or has a point and one to six digits
+/// there.
+#[tactic(auto, unfolding(crate::specs::TextReading::fraction_at))]
+fn fraction_at(text: &[u8]) -> Option<u32>
+    requires { 18 < length text.now }
+    ensures { result ≡ reading.fraction_at text.now }
+{
+    if text.len() == 19 {
+        return Some(0);
+    }
+    if text[19] != b'.' || text.len() <= 20 || text.len() > 26 {
+        return None;
+    }
+    six([
+        digit_at(text, 20),
+        digit_at(text, 21),
+        digit_at(text, 22),
+        digit_at(text, 23),
+        digit_at(text, 24),
+        digit_at(text, 25),
+    ])
 }
 
 /// The day of YYYY-MM-DD, if there is such a day.
@@ -90,15 +132,17 @@ pub(crate) fn day_of_bytes(text: &[u8]) -> Option<Day>
     Day::from_date(year, month, day)
 }
 
-/// The moment of YYYY-MM-DD HH:MM:SS, if there is such a moment.
+/// The moment of YYYY-MM-DD HH:MM:SS, with a fraction of the second or without, if there is such a
+/// moment.
 #[tactic(auto, unfolding(crate::specs::TextReading::moment_of_text))]
 pub(crate) fn moment_of_bytes(text: &[u8]) -> Option<Moment>
     ensures { result ≡ moment_of_text text.now }
 {
-    if text.len() != 19 || text[10] != b' ' {
+    if text.len() < 19 || text[10] != b' ' {
         return None;
     }
     let (year, month, day) = date_at(text)?;
     let (hour, minute, second) = time_at(text)?;
-    Moment::from_parts(year, month, day, hour, minute, second)
+    let microsecond = fraction_at(text)?;
+    Moment::from_parts(year, month, day, hour, minute, second, microsecond)
 }

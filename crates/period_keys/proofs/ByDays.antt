@@ -9,7 +9,7 @@ use Rattle.temporal_model.proofs.Members.{Contains-here, Contains-one}
 use Rattle.temporal_model.proofs.Snapshots.{in_snapshot, held}
 use Rattle.period_keys.specs.Keys.{IsKeyClash, IsUncovered, IsWithin, ShareKeyOn, SomePair, values_at}
 use Rattle.period_keys.specs.Days.{LacksParent, ShareKey}
-use Rattle.period_keys.proofs.Apart.{pair_of_filter, pair_of_map}
+use Rattle.period_keys.proofs.MappedPairs.{pair_of_filter, pair_of_map}
 use Rattle.period_keys.proofs.Members.{in_filter}
 use Rattle.period_keys.proofs.Pairs.{SomeCross, SomePair-append, SomePair-cross, SomePair-nil, SomePair-one, SomePair-right}
 

@@ -17,6 +17,7 @@ use Rattle.period_keys.proofs.Indexes.{index_moved}
 use Rattle.period_keys.proofs.Leasts.{IsLeastOf-same}
 use Rattle.period_keys.proofs.Members.{some_member, member_of, Any-append, Any-one, Any-nil, Any-permutation}
 use Rattle.period_keys.proofs.Locality.{in_key, from_key, index_has, period_of}
+use Rattle.temporal_model.proofs.Members.{Contains-nil}
 
 -- a child of the key holds on the day, and no period that is there of it does
 abbrev pub LosesParent : (List Value → List Period) → KeyedPeriods → List Value → ℤ → Type 0
@@ -156,3 +157,24 @@ lost_least there after cs children key found cs_is moved least =
     ) in
     subst (λ (list : List Period). IsLeastOf (λ day. Any (Gap after day) list) found) cs_is
     (IsLeastOf-same (λ day. Any (Gap there day) cs) (λ day. Any (Gap after day) cs) gaps found least)
+
+-- the children that lack a parent, by the keys of their index
+pub lacking_by_key : (own : List ℕ) (rows : List PeriodRow) (by_key parents : KeyedPeriods) (keys : List (List Value)) → IsIndexOf own rows by_key
+    → ((key : List Value) → (Contains keys key ↔ (periods_at by_key key ≡ [] → ⊥)))
+    → (day : ℤ) → (Any (λ key. LosesParent (periods_at parents) by_key key day) keys ↔ LacksKeyOf own rows parents day)
+lacking_by_key own rows by_key parents keys is keys_are day =
+    let Gap : List Value → Period → Type 0 = λ key child. IsGap (periods_at parents key) child day in
+    let Loses : List Value → Type 0 = λ key. LosesParent (periods_at parents) by_key key day in
+    let Lacks : PeriodRow → Type 0 = λ (row : PeriodRow). Gap (key_values own row) row.period in (
+      λ h.
+          let (key, at, lost) = member_of Loses keys h in
+          let (p, at_key, gap) = member_of (Gap key) (periods_at by_key key) lost in
+          let (row, there, same, period_is) = from_key own rows key p ((index_has own rows by_key is key p).0 at_key) in
+          some_member Lacks rows row there (subst (λ (k : List Value). Gap k row.period) same (subst (Gap key) (sym period_is) gap)),
+      λ h.
+          let (row, there, gap) = member_of Lacks rows h in
+          let key : List Value = key_values own row in
+          let at : Contains (periods_at by_key key) row.period = (index_has own rows by_key is key row.period).1 (in_key own rows key row there refl) in
+          some_member Loses keys key ((keys_are key).1 (λ none. Contains-nil row.period (subst (λ (list : List Period). Contains list row.period) none at)))
+          (some_member (Gap key) (periods_at by_key key) row.period at gap),
+    )

@@ -42,26 +42,37 @@ IsLeastOf-either P Q (Some day) (Some next) p q =
       })
     ]
 
--- the least of what some elements give, with that of one more
+-- the least of what some elements give, or one more
+pub least_with_one : {X : Type 0} (P : X → ℤ → Type 0) (xs : List X) (x : X) (new : Option ℤ) → IsLeastOf (λ day. Any (λ y. P y day) xs ⊎ P x day) new → IsLeastOf (λ day. Any (λ y. P y day) (xs ++ x ∷ [])) new
+least_with_one {X} P xs x new least =
+    let joined : (day : ℤ) → ((Any (λ y. P y day) xs ⊎ P x day) ↔ Any (λ y. P y day) (xs ++ x ∷ [])) = λ day. (
+      λ h. (Any-append (λ y. P y day) xs (x ∷ [])).1 (elim h [ inl l ↦ inl l | inr r ↦ inr ((Any-one (λ y. P y day) x).1 r) ]),
+      λ h. elim ((Any-append (λ y. P y day) xs (x ∷ [])).0 h) [ inl l ↦ inl l | inr r ↦ inr ((Any-one (λ y. P y day) x).0 r) ],
+    ) in
+    IsLeastOf-same (λ day. Any (λ y. P y day) xs ⊎ P x day) (λ day. Any (λ y. P y day) (xs ++ x ∷ [])) joined new least
+
+-- in a loop, of what the first elements give, or the next
+pub least_with_next : {X : Type 0} (P : X → ℤ → Type 0) (xs : List X) (i : ℕ) (x : X) (new : Option ℤ) → i < length xs → x ≡ get_or xs i x
+    → IsLeastOf (λ day. Any (λ y. P y day) (take i xs) ⊎ P x day) new → IsLeastOf (λ day. Any (λ y. P y day) (take (i + 1) xs)) new
+least_with_next {X} P xs i x new below is least =
+    let list : take (i + 1) xs ≡ take i xs ++ x ∷ [] = take_more xs i x below ∙ ap (λ y. take i xs ++ y ∷ []) (sym is) in
+    subst (λ (ys : List X). IsLeastOf (λ day. Any (λ y. P y day) ys) new) (sym list) (least_with_one P (take i xs) x new least)
+
+-- with the least of one more
 pub least_one_more : {X : Type 0} (P : X → ℤ → Type 0) (xs : List X) (x : X) (found more new : Option ℤ)
     → IsLeastOf (λ day. Any (λ y. P y day) xs) found → IsLeastOf (P x) more → new ≡ earlier found more
     → IsLeastOf (λ day. Any (λ y. P y day) (xs ++ x ∷ [])) new
 least_one_more {X} P xs x found more new so_far one new_is =
     let Q : ℤ → Type 0 = λ day. Any (λ y. P y day) xs ⊎ P x day in
-    let both : IsLeastOf Q new = subst (IsLeastOf Q) (sym new_is) (IsLeastOf-either (λ day. Any (λ y. P y day) xs) (P x) found more so_far one) in
-    let joined : (day : ℤ) → (Q day ↔ Any (λ y. P y day) (xs ++ x ∷ [])) = λ day. (
-      λ h. (Any-append (λ y. P y day) xs (x ∷ [])).1 (elim h [ inl l ↦ inl l | inr r ↦ inr ((Any-one (λ y. P y day) x).1 r) ]),
-      λ h. elim ((Any-append (λ y. P y day) xs (x ∷ [])).0 h) [ inl l ↦ inl l | inr r ↦ inr ((Any-one (λ y. P y day) x).0 r) ],
-    ) in
-    IsLeastOf-same Q (λ day. Any (λ y. P y day) (xs ++ x ∷ [])) joined new both
+    least_with_one P xs x new (subst (IsLeastOf Q) (sym new_is) (IsLeastOf-either (λ day. Any (λ y. P y day) xs) (P x) found more so_far one))
 
 -- a loop's step: the least of what the first elements give, with that of the next
 pub least_more : {X : Type 0} (P : X → ℤ → Type 0) (xs : List X) (i : ℕ) (x : X) (found more new : Option ℤ) → i < length xs → x ≡ get_or xs i x
     → IsLeastOf (λ day. Any (λ y. P y day) (take i xs)) found → IsLeastOf (P x) more → new ≡ earlier found more
     → IsLeastOf (λ day. Any (λ y. P y day) (take (i + 1) xs)) new
 least_more {X} P xs i x found more new below is so_far one new_is =
-    let list : take (i + 1) xs ≡ take i xs ++ x ∷ [] = take_more xs i x below ∙ ap (λ y. take i xs ++ y ∷ []) (sym is) in
-    subst (λ (ys : List X). IsLeastOf (λ day. Any (λ y. P y day) ys) new) (sym list) (least_one_more P (take i xs) x found more new so_far one new_is)
+    let Q : ℤ → Type 0 = λ day. Any (λ y. P y day) (take i xs) ⊎ P x day in
+    least_with_next P xs i x new below is (subst (IsLeastOf Q) (sym new_is) (IsLeastOf-either (λ day. Any (λ y. P y day) (take i xs)) (P x) found more so_far one))
 
 -- of no elements there is no day
 pub least_none : {X : Type 0} (P : X → ℤ → Type 0) → IsLeastOf (λ day. Any (λ y. P y day) []) None

@@ -1,5 +1,6 @@
 pub mod Places
 pub mod Leasts
+pub mod GapSteps
 pub mod Members
 pub mod Pairs
 pub mod SweepSteps
@@ -7,12 +8,14 @@ pub mod InOrder
 pub mod Edited
 pub mod Loops
 pub mod Runs
+pub mod Blocks
+pub mod PlacedRows
+pub mod NearRows
 pub mod Grouped
-pub mod Neighbours
 pub mod Periods
 pub mod Locality
 pub mod Indexes
-pub mod Apart
+pub mod MappedPairs
 pub mod ByDays
 pub mod Origins
 pub mod LawfulFacts

@@ -15,7 +15,7 @@ use Rattle.history_model.specs.Effects.{Given, Kept, Origin, Traced, acts_on, gi
 use Rattle.period_keys.specs.Days.{ShareKey}
 use Rattle.period_keys.specs.Keys.{SomePair, values_at}
 use Rattle.period_keys.specs.Lawful.{OriginsShareKey}
-use Rattle.period_keys.proofs.Apart.{pair_of_filter, pair_of_map}
+use Rattle.period_keys.proofs.MappedPairs.{pair_of_filter, pair_of_map}
 use Rattle.period_keys.proofs.ByDays.{pair_in_map}
 use Rattle.period_keys.proofs.Members.{from_map}
 use Rattle.period_keys.proofs.Pairs.{SomePair-append, SomePair-nil, SomePair-one, SomePair-permutation}

@@ -1,19 +1,17 @@
 -- A list in two parts, the settled and the late ones, with one element more or less.
-use Rattle.std.proofs.Common.{◌≡◌, ◌≤◌, ◌<◌, ◌≤ℤ◌, ◌+◌, ◌-◌, ◌∷◌, [], ◌∙◌, ℕ, ℤ, zero, suc, Bool, true, false, List, length, get_or, map, take, drop, refl, sym, ap, subst, inl, inr, arith}
+use Rattle.std.proofs.Common.{◌≡◌, ◌≤◌, ◌<◌, ◌≤ℤ◌, ◌+◌, ◌-◌, ◌∷◌, [], ◌∙◌, ℕ, ℤ, zero, suc, Bool, true, false, List, length, get_or, take, drop, refl, sym, ap, subst, inl, inr, arith}
 use Rattle.std.specs.List.{insert, remove}
 use Rattle.std.specs.List.Sorted.{IsSortedByKey}
 use Rattle.std.specs.Ordering.{int_cmp, is_lt}
 use Rattle.std.proofs.lemmas.Bool.{cases_Bool}
 use Rattle.std.proofs.lemmas.Cmp.{int_cmp_total}
 use Rattle.std.proofs.lemmas.Int.{by_lt_z}
-use Rattle.std.proofs.lemmas.List.{get_or-map, length-map, take_all}
+use Rattle.std.proofs.lemmas.List.{take_all}
 use Rattle.std.proofs.lemmas.List.Edits.{length-insert, length-remove}
 use Rattle.std.proofs.lemmas.List.Sorted.{ranks_by, sorted_far}
 use Rattle.temporal_model.proofs.AnswerOrder.{int_cmp-Less}
 use Rattle.period_core.specs.declared.period.Period.{Period}
-use Rattle.period_core.specs.declared.version.VersionRow.{VersionRow}
 use Rattle.period_keys.specs.Ordered.{AreInOrder, FitsAt}
-use Rattle.period_keys.specs.Versions.{period_of}
 use Rattle.period_keys.proofs.Edited.{remove_in_order}
 use Rattle.period_keys.proofs.InOrder.{insert_in_order}
 
@@ -191,19 +189,6 @@ start_upto start xs up i j d lt below =
 -- periods that are sorted by their starts
 pub periods_in_order : (periods : List Period) → IsSortedByKey (λ (p : Period). p.start) int_cmp periods → AreInOrder periods
 periods_in_order periods up = start_upto (λ (p : Period). p.start) periods up
-
--- the periods of rows that are
-pub sorted_in_order : (rows : List VersionRow) → IsSortedByKey (λ (row : VersionRow). row.period.start) int_cmp rows → AreInOrder (map period_of rows)
-sorted_in_order rows up = λ i j d lt below. let size : length (map period_of rows) ≡ length rows = length-map rows period_of in at rows up i j d lt (omega arith)
-  where
-    at : (rows : List VersionRow) → IsSortedByKey (λ (row : VersionRow). row.period.start) int_cmp rows → (i j : ℕ) (d : Period) → i < j → j < length rows
-        → (get_or (map period_of rows) i d).start ≤ℤ (get_or (map period_of rows) j d).start
-    at [] up i j d lt below = absurd (omega (arith, below))
-    at (first ∷ rows) up i j d lt below =
-        let xs : List VersionRow = first ∷ rows in
-        let upto : (get_or xs i first).period.start ≤ℤ (get_or xs j first).period.start = start_upto (λ (row : VersionRow). row.period.start) xs up i j first lt below in
-        subst (λ (p : Period). p.start ≤ℤ (get_or (map period_of xs) j d).start) (sym (get_or-map period_of xs i first d (omega (arith, below))))
-        (subst (λ (p : Period). (get_or xs i first).period.start ≤ℤ p.start) (sym (get_or-map period_of xs j first d below)) upto)
 
 pub all_settled : (periods : List Period) → AreInOrder periods → AreRuns (length periods) periods
 all_settled periods order = record {

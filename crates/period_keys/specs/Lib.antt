@@ -3,9 +3,12 @@ pub mod Leading
 pub mod Keys
 pub mod Days
 pub mod Ordered
+pub mod Between
 pub mod Index
 pub mod Gaps
 pub mod Versions
+pub mod Near
+pub mod Placed
 pub mod Rows
 pub mod Laws
 pub mod Repeats

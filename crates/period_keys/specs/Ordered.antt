@@ -6,10 +6,6 @@ use Rattle.period_core.specs.declared.period.Period.{Period}
 abbrev pub AreInOrder : List Period → Type 0
 AreInOrder = AllPairs (λ first second. first.start ≤ℤ second.start)
 
--- each ends by the start of those after it: none shares a day with another
-abbrev pub AreApart : List Period → Type 0
-AreApart = AllPairs (λ first second. first.end ≤ℤ second.start)
-
 -- those before the place start by the day, and those from there on later
 abbrev pub FitsAt : ℤ → List Period → ℕ → Type 0
 FitsAt day periods place =

@@ -11,7 +11,7 @@ ghost use Rattle.period_keys.specs.Index.{IsIndexOf};
 use crate::current_rows::CurrentRows;
 use crate::keyed_periods::KeyedPeriods;
 use crate::keys::{key_of, values_of};
-use crate::shared_days::{earlier, first_shared_of_both};
+use crate::shared_days::earlier;
 use crate::sweep::rows_clash;
 use period_core::{Day, Memory, PeriodRow, VersionRow};
 use std::alloc::Global;
@@ -97,8 +97,7 @@ pub fn key_clash_after(
     let mut with_kept = None;
     for row in added {
         let key = key_of(alloc, positions, row)?;
-        let (first, second) = current.periods_of_key(&key);
-        let kept = first_shared_of_both(first, second, &gone, &key, &row.period);
+        let kept = current.first_shared(&gone, &key, &row.period);
         with_kept = earlier(with_kept, kept);
     }
     let among = rows_clash(alloc, positions, added)?;

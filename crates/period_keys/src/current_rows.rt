@@ -1,18 +1,20 @@
 //! The current version rows of one table, by key.
 
 ghost use Rattle.std.specs.Prelude.{◌≡◌, ◌≤◌, ◌++◌, ◌∷◌, [], IsPermutation, List, OnErr, OnOk};
-ghost use Rattle.std.specs.Prelude.{length, map, take};
+ghost use Rattle.std.specs.Prelude.{MatchOption, length, map, take};
 ghost use Rattle.period_core.specs.declared.version.VersionRow.{VersionRow as Version};
 ghost use Rattle.period_keys.specs.Keys.{key_values, values_at};
-ghost use Rattle.period_keys.specs.Ordered.{AreInOrder};
+ghost use Rattle.period_keys.specs.Index.{SharesDayOfKept, periods_at};
+ghost use Rattle.period_keys.specs.Keys.{IsLeastOf};
 ghost use Rattle.period_keys.specs.Rows.{HasRows, rows_of_key, rows_of_lists};
 ghost use Rattle.period_keys.specs.Versions.{begun, period_of, recorded, version_key};
 
 use crate::groups::{Groups, add_to, take_from};
 use crate::key::Key;
 use crate::key_rows::KeyRows;
+use crate::keyed_periods::KeyedPeriods;
 use crate::keys::values_of;
-use period_core::{Items, Memory, Moment, Period, PeriodRow, Values, VersionRow};
+use period_core::{Day, Items, Memory, Moment, Period, PeriodRow, Values, VersionRow};
 use std::alloc::Global;
 use std::collections::{BTreeMap, btree_map};
 use std::marker::Model;
@@ -65,16 +67,26 @@ impl CurrentRows {
         }
     }
 
-    /// Their periods, in two lists, each in the order of their starts.
-    pub fn periods_of_key(&self, key: &Key) -> (&[Period], &[Period])
-        ensures periods { result.0.now ++ result.1.now
-            ≡ map period_of (rows_of_key self.now key.now) }
-        ensures first { AreInOrder result.0.now }
-        ensures second { AreInOrder result.1.now }
+    /// The same with their periods, if there are any.
+    pub fn group_of_key(&self, key: &Key) -> Option<&KeyRows>
+        ensures { MatchOption result (rows_of_key self.now key.now ≡ [])
+            (λ group. group.now.rows.items ≡ rows_of_key self.now key.now) }
     {
         match self.groups.get(key) {
-            Some(group) => group.runs(),
-            None => (&[], &[]),
+            Some(group) => Some(group),
+            None => None,
+        }
+    }
+
+    /// The first day that the period shares with some of those of the rows of a key that are not
+    /// among those of the key that go.
+    pub fn first_shared(&self, gone: &KeyedPeriods, key: &Key, period: &Period) -> Option<Day>
+        ensures { IsLeastOf (SharesDayOfKept (map period_of (rows_of_key self.now key.now))
+            (periods_at gone.now key.now) period.now) result }
+    {
+        match self.group_of_key(key) {
+            Some(group) => group.first_shared(gone, key, period),
+            None => None,
         }
     }
 

@@ -1,6 +1,7 @@
-//! The first day of a period that no period of a list holds.
+//! The first day of a period, or of some periods, that no period of two lists holds. It is found
+//! soonest where each list is in the order of the starts, and its periods are apart.
 
-ghost use Rattle.std.specs.Prelude.{◌≡◌, IfSome, MatchOption};
+ghost use Rattle.std.specs.Prelude.{◌≡◌, ◌≤ℤ◌, ◌<ℤ◌, ◌++◌, ◌⊎◌, ℤ, IfSome, MatchOption, Some};
 ghost use Rattle.std.specs.List.{Any};
 ghost use Rattle.period_keys.specs.Keys.{IsLeastOf, IsWithin};
 ghost use Rattle.period_keys.specs.Gaps.{IsGap, IsHeld};
@@ -8,34 +9,104 @@ ghost use Rattle.period_keys.specs.Gaps.{IsGap, IsHeld};
 use period_core::{Day, Period};
 
 /// The first day of the period that none of the periods holds.
-pub fn first_gap(periods: &[Period], period: &Period) -> Option<Day>
-    ensures { IsLeastOf (IsGap periods.now period.now) result }
+pub fn first_gap(first: &[Period], second: &[Period], period: &Period) -> Option<Day>
+    ensures { IsLeastOf (IsGap (first.now ++ second.now) period.now) result }
 {
-    let mut day = period.start;
-    while day < period.end {
-        match end_of_holder(periods, day) {
-            Some(end) => day = end,
-            None => return Some(day),
+    let day = held_until(first, second, period.start, period.end);
+    found_at(None, day, period.end)
+}
+
+/// The first day of one of the children that none of the periods holds. Each period is looked at
+/// once where the children are in the order of their starts: what one child found to be held is not
+/// looked at for the next, and no day from the first gap on is looked at.
+pub fn first_gap_of_some(first: &[Period], second: &[Period], children: &[Period]) -> Option<Day>
+    ensures { IsLeastOf (λ day. Any (λ child. IsGap (first.now ++ second.now) child day)
+        children.now) result }
+{
+    let mut found = None;
+    let mut held = None;
+    for child in children {
+        let from = day_past(&held, child.start);
+        let until = earlier_end(&found, child.end);
+        let day = held_until(first, second, from, until);
+        found = found_at(found, day, until);
+        held = Period::new(child.start, day);
+    }
+    found
+}
+
+// The first day from this one on that is not in the period, if there is one.
+fn day_past(held: &Option<Period>, day: Day) -> Day
+    ensures from { day ≤ℤ result }
+    ensures held { (other : ℤ) → day ≤ℤ other → other <ℤ result
+        → MatchOption held.now ⊥ (λ period. IsWithin period other) }
+{
+    match held {
+        Some(period) => {
+            if period.contains_day(day) {
+                period.end
+            } else {
+                day
+            }
+        }
+        None => day,
+    }
+}
+
+// The end, or the day that was found where that is earlier.
+fn earlier_end(found: &Option<Day>, end: Day) -> Day
+    ensures upto { result ≤ℤ end }
+    ensures found { IfSome found.now (λ day. result ≤ℤ day) }
+    ensures one { (result ≡ end) ⊎ (found.now ≡ Some result) }
+{
+    match found {
+        Some(day) => { if *day < end { *day } else { end } }
+        None => end,
+    }
+}
+
+// The day, where it is before the end, else what was found before.
+fn found_at(found: Option<Day>, day: Day, end: Day) -> Option<Day>
+    ensures day { day <ℤ end → result ≡ Some day }
+    ensures before { end ≤ℤ day → result ≡ found }
+{
+    if day < end { Some(day) } else { found }
+}
+
+// The first day from this one on that none of the periods holds, or one from the end on: all before
+// it are held.
+fn held_until(first: &[Period], second: &[Period], start: Day, end: Day) -> Day
+    ensures from { start ≤ℤ result }
+    ensures held { (day : ℤ) → start ≤ℤ day → day <ℤ result
+        → IsHeld (first.now ++ second.now) day }
+    ensures gap { result <ℤ end → IsHeld (first.now ++ second.now) result → ⊥ }
+{
+    let mut day = start;
+    while day < end {
+        match end_of_holder(first, second, day) {
+            Some(later) => day = later,
+            None => return day,
         }
     }
-    None
+    day
 }
 
 // The end of one of the periods that hold the day.
-fn end_of_holder(periods: &[Period], day: Day) -> Option<Day>
-    ensures { MatchOption result (IsHeld periods.now day → ⊥)
-        (λ end. Any (λ period. IsWithin period day × (period.end ≡ end)) periods.now) }
+fn end_of_holder(first: &[Period], second: &[Period], day: Day) -> Option<Day>
+    ensures { MatchOption result (IsHeld (first.now ++ second.now) day → ⊥)
+        (λ end. Any (λ period. IsWithin period day × (period.end ≡ end))
+        (first.now ++ second.now)) }
 {
-    let near = end_near(periods, day);
-    if near.is_some() {
-        return near;
+    if let Some(end) = end_near(first, day) {
+        return Some(end);
     }
-    for other in periods {
-        if other.contains_day(day) {
-            return Some(other.end);
-        }
+    if let Some(end) = end_near(second, day) {
+        return Some(end);
     }
-    None
+    if let Some(end) = end_of_any(first, day) {
+        return Some(end);
+    }
+    end_of_any(second, day)
 }
 
 // The end of the last period that starts by the day, if it holds the day and the periods are in the
@@ -51,6 +122,19 @@ fn end_near(periods: &[Period], day: Day) -> Option<Day>
     let near = &periods[place - 1];
     if near.contains_day(day) {
         return Some(near.end);
+    }
+    None
+}
+
+// The end of one of the periods that hold the day, in whatever order they are.
+fn end_of_any(periods: &[Period], day: Day) -> Option<Day>
+    ensures { MatchOption result (IsHeld periods.now day → ⊥)
+        (λ end. Any (λ period. IsWithin period day × (period.end ≡ end)) periods.now) }
+{
+    for other in periods {
+        if other.contains_day(day) {
+            return Some(other.end);
+        }
     }
     None
 }

@@ -25,7 +25,7 @@ pub fn add_to(alloc: Global, groups: &mut Groups, key: &Key, row: VersionRow) ->
         → AreGrouped positions groups.old → AreGrouped positions groups.new }
 {
     if let Some(group) = groups.get_mut(key) {
-        group.add(row)?;
+        group.add(alloc, row)?;
         return Ok(());
     }
     let group = KeyRows::one(alloc, row)?;

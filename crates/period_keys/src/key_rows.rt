@@ -1,29 +1,41 @@
-//! The version rows of one key, nearly in the order of their periods' starts.
+//! The version rows of one key, found by their periods.
 
-ghost use Rattle.std.specs.Prelude.{◌≡◌, ◌↔◌, ◌<◌, ◌≤◌, ◌++◌, ◌∷◌, [], Contains, IfOk};
-ghost use Rattle.std.specs.Prelude.{IsPermutation, IsTrue, MatchOption, OnErr, OnOk, drop, length};
-ghost use Rattle.std.specs.Prelude.{map, slice_index_or, take};
+ghost use Rattle.std.specs.Prelude.{◌≡◌, ◌↔◌, ◌<◌, ◌≤◌, ◌+◌, ◌++◌, ◌∷◌, [], ℕ, Contains, IfOk};
+ghost use Rattle.std.specs.Prelude.{IfSome, IsPermutation, IsTrue, List, MatchOption, OnErr, OnOk};
+ghost use Rattle.std.specs.Prelude.{length, map, slice_index_or};
+ghost use Rattle.std.proofs.Props.{props};
 ghost use Rattle.std.specs.Bool.{OnFalse, OnTrue};
+ghost use Rattle.std.specs.List.{swap_remove};
+ghost use Rattle.std.specs.List.Sorted.{IsSorted};
+ghost use Rattle.std.specs.Ordering.{nat_cmp};
 ghost use Rattle.period_core.specs.declared.version.VersionRow.{VersionRow as Version};
-ghost use Rattle.period_keys.specs.Ordered.{AreInOrder};
+ghost use Rattle.period_keys.specs.Between.{Meets};
+ghost use Rattle.period_keys.specs.Index.{SharesDayOfKept, periods_at};
+ghost use Rattle.period_keys.specs.Keys.{IsLeastOf};
+ghost use Rattle.period_keys.specs.Near.{IsAt};
+ghost use Rattle.period_keys.specs.Placed.{ArePlaced};
 ghost use Rattle.period_keys.specs.Versions.{period_of, recorded};
 
-use crate::ordered_periods::{are_many, place_after, place_for};
-use period_core::{Memory, Moment, Period, Values, VersionRow};
+use crate::block::Block;
+use crate::key::Key;
+use crate::keyed_periods::KeyedPeriods;
+use crate::near_rows::{first_shared_near, is_recorded, place_near, places_near};
+use crate::period_blocks::PeriodBlocks;
+use crate::placed_period::PlacedPeriod;
+use crate::shared_days::{earlier, first_of_kept};
+use period_core::{Day, Memory, Moment, Period, Values, VersionRow};
 use std::alloc::Global;
 
-/// The rows of one key, and beside them their periods. First come the settled rows, in the order of
-/// their periods' starts, and behind them, in that order too, the late ones: they came in since,
-/// and belong far before the last. So a row moves few others, in whatever order rows come in.
+// Up to so many rows are looked at one by one.
+const FEW: usize = 32;
+
+/// The rows of one key. Where they are many, their periods are kept beside them with their places,
+/// so that a look at a few days, or one row more or less, costs little however many they are.
 #[derive(Drop)]
 pub struct KeyRows {
     rows: Vec<VersionRow>,
-    periods: Vec<Period>,
-    settled: usize,
-    pub ghost aligned: { periods.items ≡ map period_of rows.items },
-    pub ghost within: { settled ≤ length periods.items },
-    pub ghost ordered: { AreInOrder (take settled periods.items) },
-    pub ghost late: { AreInOrder (drop settled periods.items) },
+    placed: Option<PeriodBlocks>,
+    pub ghost complete: { IfSome placed (ArePlaced rows.items) } by { Prim.hlevel props },
 }
 
 impl KeyRows {
@@ -32,14 +44,8 @@ impl KeyRows {
         ensures { IfOk result (λ group. group.rows.items ≡ row ∷ []) }
     {
         let mut rows = Vec::with_capacity(alloc, 1)?;
-        let mut periods = Vec::with_capacity(alloc, 1)?;
-        periods.push(row.period)?;
         rows.push(row)?;
-        Ok(KeyRows {
-            rows,
-            periods,
-            settled: 1,
-        })
+        Ok(KeyRows { rows, placed: None })
     }
 
     /// The rows.
@@ -47,15 +53,6 @@ impl KeyRows {
         ensures { result.now ≡ self.now.rows.items }
     {
         self.rows.as_slice()
-    }
-
-    /// The periods of the settled rows, and those of the late ones.
-    pub fn runs(&self) -> (&[Period], &[Period])
-        ensures value { result.0.now ++ result.1.now ≡ map period_of self.now.rows.items }
-        ensures settled { AreInOrder result.0.now }
-        ensures late { AreInOrder result.1.now }
-    {
-        self.periods.as_slice().split_at(self.settled)
     }
 
     /// Whether there are none.
@@ -66,34 +63,16 @@ impl KeyRows {
     }
 
     /// Adds a row. An error changes nothing.
-    pub fn add(&mut self, row: VersionRow) -> Result<(), Memory>
+    pub fn add(&mut self, alloc: Global, row: VersionRow) -> Result<(), Memory>
         ensures ok { OnOk result
             (IsPermutation self.new.rows.items (self.old.rows.items ++ row ∷ [])) }
         ensures err { OnErr result (self.new.rows.items ≡ self.old.rows.items) }
     {
-        let period = row.period;
-        let (place, settles) = place_for(self.periods.as_slice(), self.settled, period.start);
-        self.rows.insert(place, row)?;
-        if let Err(refused) = self.periods.insert(place, period) {
-            let _taken = self.rows.remove(place);
-            return Err(refused.into());
-        }
-        if settles {
-            self.settled += 1;
-        } else if are_many(self.rows.len() - self.settled, self.settled) {
-            self.settle();
-        }
+        let place = self.rows.len();
+        self.rows.push(row)?;
+        let placed = self.placed.take();
+        self.placed = placed_with(alloc, placed, self.rows.as_slice(), place);
         Ok(())
-    }
-
-    // Puts all rows in order, if there is memory for it.
-    fn settle(&mut self)
-        ensures { IsPermutation self.old.rows.items self.new.rows.items }
-    {
-        if let Ok(()) = self.rows.sort_by_key(|row| row.period.start) {
-            copy_periods(self.rows.as_slice(), self.periods.as_mut_slice());
-            self.settled = self.rows.len();
-        }
     }
 
     /// Takes out one row of these values, period and system time, and says whether it was there.
@@ -107,11 +86,12 @@ impl KeyRows {
         let Some(place) = self.place_of(values, period, from, to) else {
             return false;
         };
-        let _row = self.rows.remove(place);
-        let _period = self.periods.remove(place);
-        if place < self.settled {
-            self.settled -= 1;
-        }
+        let last = self.rows.len() - 1;
+        let gone = placed_at(self.rows.as_slice(), place);
+        let moved = placed_at(self.rows.as_slice(), last);
+        let _row = self.rows.swap_remove(place);
+        let placed = self.placed.take();
+        self.placed = placed_without(placed, &gone, &moved);
         true
     }
 
@@ -123,62 +103,171 @@ impl KeyRows {
             × ((d : Version)
             → slice_index_or self.now.rows.items place d ≡ recorded values.now period from to)) }
     {
-        let (rows, late_rows) = self.rows.as_slice().split_at(self.settled);
-        let (periods, late_periods) = self.periods.as_slice().split_at(self.settled);
-        let place = place_of_row(rows, periods, values, &period, from, to);
-        if place.is_some() {
-            return place;
+        let rows = self.rows.as_slice();
+        if let Some(placed) = &self.placed {
+            let place = place_near(rows, placed.as_slice(), values, &period, from, to);
+            if place.is_some() {
+                return place;
+            }
         }
-        let place = place_of_row(late_rows, late_periods, values, &period, from, to)?;
-        Some(self.settled + place)
+        place_among(rows, values, &period, from, to)
+    }
+
+    /// The first day that the period shares with some of those of the rows that are not among those
+    /// of the key that go.
+    pub fn first_shared(&self, gone: &KeyedPeriods, key: &Key, period: &Period) -> Option<Day>
+        ensures { IsLeastOf (SharesDayOfKept (map period_of self.now.rows.items)
+            (periods_at gone.now key.now) period.now) result }
+    {
+        let rows = self.rows.as_slice();
+        match &self.placed {
+            Some(placed) => first_shared_near(rows, placed.as_slice(), gone, key, period),
+            None => first_shared_among(rows, gone, key, period),
+        }
+    }
+
+    /// The places of the rows that share a day with the period, in ascending order, where that
+    /// takes no look at most of the rows.
+    pub fn places_near(&self, alloc: Global, period: &Period) -> Result<Option<Vec<usize>>, Memory>
+        ensures ascending { IfOk result (λ found. IfSome found (λ places.
+            IsSorted nat_cmp places.items)) }
+        ensures all { IfOk result (λ found. IfSome found (λ places.
+            (place : ℕ) (d : Version) → place < length self.now.rows.items
+            → Meets (slice_index_or self.now.rows.items place d).period period.now
+            → (Contains places.items place → ⊥) → ⊥)) }
+    {
+        let Some(placed) = &self.placed else {
+            return Ok(None);
+        };
+        let blocks = placed.as_slice();
+        if !are_few_near(blocks, period) {
+            return Ok(None);
+        }
+        let places = places_near(alloc, blocks, period)?;
+        Ok(Some(places))
     }
 }
 
-// Writes the rows' periods over as many others.
-fn copy_periods(rows: &[VersionRow], periods: &mut [Period])
-    requires { length periods.old ≡ length rows.now }
-    ensures { periods.new ≡ map period_of rows.now }
+// The period of the row at a place.
+fn placed_at(rows: &[VersionRow], place: usize) -> PlacedPeriod
+    requires { place < length rows.now }
+    ensures place { result.place ≡ place }
+    ensures row { IsAt rows.now result }
 {
-    for place in 0..rows.len() {
-        periods[place] = rows[place].period;
+    PlacedPeriod {
+        period: rows[place].period,
+        place,
     }
 }
 
-// Whether the row is of these values, this period and this system time.
-fn is_recorded(row: &VersionRow, values: &Values, period: Period, from: Moment, to: Moment) -> bool
-    ensures { IsTrue result ↔ ((row.now.period ≡ period) × (row.now.from ≡ from)
-        × (row.now.to ≡ to) × (row.now.values ≡ values.now)) }
-{
-    row.period == period && row.from == from && row.to == to && row.values == *values
-}
-
-// The place of the row of these values, this period and this system time, if it is there. Rows
-// that start on another day are passed over.
-fn place_of_row(
+// The placed periods of rows of which the one at a place came in, behind the others. Where there is
+// no memory for it there are none.
+fn placed_with(
+    alloc: Global,
+    placed: Option<PeriodBlocks>,
     rows: &[VersionRow],
-    periods: &[Period],
+    last: usize,
+) -> Option<PeriodBlocks>
+    requires { last < length rows.now }
+    ensures { (before : List Version) (row : Version) → rows.now ≡ before ++ row ∷ []
+        → last ≡ length before
+        → IfSome placed (ArePlaced before) → IfSome result (ArePlaced rows.now) }
+{
+    let Some(blocks) = placed else {
+        return placed_if_many(alloc, rows);
+    };
+    let mut more = blocks;
+    let item = placed_at(rows, last);
+    match more.add(alloc, &item) {
+        Ok(()) => Some(more),
+        Err(_) => None,
+    }
+}
+
+// The placed periods of the rows, where they are many.
+fn placed_if_many(alloc: Global, rows: &[VersionRow]) -> Option<PeriodBlocks>
+    ensures { IfSome result (ArePlaced rows.now) }
+{
+    if rows.len() <= FEW {
+        return None;
+    }
+    match PeriodBlocks::of(alloc, rows) {
+        Ok(blocks) => Some(blocks),
+        Err(_) => None,
+    }
+}
+
+// The placed periods without one whose row is gone, and with the last one in its place. It takes no
+// memory.
+fn placed_without(
+    placed: Option<PeriodBlocks>,
+    gone: &PlacedPeriod,
+    last: &PlacedPeriod,
+) -> Option<PeriodBlocks>
+    ensures { (before : List Version) (x : Version) → IsAt before gone.now → IsAt before last.now
+        → last.now.place + 1 ≡ length before
+        → IfSome placed (ArePlaced before)
+        → IfSome result (ArePlaced (swap_remove before gone.now.place x)) }
+{
+    let Some(blocks) = placed else {
+        return None;
+    };
+    let mut less = blocks;
+    less.take_out(gone);
+    if gone.place == last.place || less.replace(last, gone.place) {
+        Some(less)
+    } else {
+        None
+    }
+}
+
+// Whether at most half of the blocks may have a row of these days.
+fn are_few_near(blocks: &[Block], period: &Period) -> bool {
+    let mut near = 0;
+    for block in blocks {
+        if block.may_meet(period) {
+            near += 1;
+        }
+    }
+    near <= blocks.len() / 2
+}
+
+// The place of the row of these values, this period and this system time, if it is there.
+fn place_among(
+    rows: &[VersionRow],
     values: &Values,
     period: &Period,
     from: Moment,
     to: Moment,
 ) -> Option<usize>
-    requires aligned { periods.now ≡ map period_of rows.now }
-    requires ordered { AreInOrder periods.now }
     ensures { MatchOption result
         (Contains rows.now (recorded values.now period.now from to) → ⊥)
         (λ place. (place < length rows.now)
         × ((d : Version)
         → slice_index_or rows.now place d ≡ recorded values.now period.now from to)) }
 {
-    let mut place = place_after(periods, period.start);
-    while place > 0 {
-        place -= 1;
-        if periods[place].start < period.start {
-            return None;
-        }
+    for place in 0..rows.len() {
         if is_recorded(&rows[place], values, *period, from, to) {
             return Some(place);
         }
     }
     None
+}
+
+// The first day that the period shares with some of those of the rows that are not among those of
+// the key that go.
+fn first_shared_among(
+    rows: &[VersionRow],
+    gone: &KeyedPeriods,
+    key: &Key,
+    period: &Period,
+) -> Option<Day>
+    ensures { IsLeastOf (SharesDayOfKept (map period_of rows.now)
+        (periods_at gone.now key.now) period.now) result }
+{
+    let mut found = None;
+    for row in rows {
+        found = earlier(found, first_of_kept(gone, key, period, &row.period));
+    }
+    found
 }

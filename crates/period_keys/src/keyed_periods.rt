@@ -42,6 +42,16 @@ impl KeyedPeriods {
         }
     }
 
+    /// The same, in two lists, each in the order of their starts.
+    pub fn runs_of_key(&self, key: &Key) -> (&[Period], &[Period])
+        ensures { result.0.now ++ result.1.now ≡ periods_at self.now key.now }
+    {
+        match self.entries.get(key) {
+            Some(periods) => periods.runs(),
+            None => (&[], &[]),
+        }
+    }
+
     /// Whether such a period is among those of a key.
     pub fn has(&self, key: &Key, period: &Period) -> bool
         ensures { IsTrue result ↔ Contains (periods_at self.now key.now) period.now }

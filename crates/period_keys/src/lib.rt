@@ -3,9 +3,13 @@
 //!
 //! - Whole lists are judged by a table's definition (`tables`, `sweep`).
 //! - A table's current rows are kept by `key` in memory (`current_rows`, of `groups` of
-//!   `key_rows`), and beside them their periods by the columns of references (`period_indexes`,
-//!   `keyed_periods`). `TableIndex` has both, and follows a change all or none. `planning` makes a
-//!   change's plan of the rows of the key that its condition fixes (`fixed_keys`), or of all.
+//!   `key_rows`). Those of one key are found by days, where they are many: their periods are kept
+//!   beside them with their places (`placed_period`) in blocks (`block`, `period_blocks`), and
+//!   `near_rows` looks at the blocks near a period alone.
+//! - Beside them their periods are kept by the columns of references (`period_indexes`,
+//!   `keyed_periods`, `ordered_periods`). `TableIndex` has both, and follows a change all or none.
+//! - `planning` makes a change's plan of the rows of the key that its condition fixes
+//!   (`fixed_keys`), or of all, and of many rows of a key of those near its portion.
 //! - A plan is judged by the rows that it touches (`faults`, by `clashes` and `references`), and by
 //!   all references of the catalog (`reference_faults`).
 //! - `table_list` keeps the rows of all tables with the indexes that references need, and
@@ -14,6 +18,7 @@
 //!   make the judgement right are in `key_laws` and `lawful_laws`.
 #![tactic(auto)]
 
+mod block;
 mod changes;
 mod clashes;
 mod current_rows;
@@ -28,8 +33,11 @@ mod keyed_periods;
 mod keys;
 mod lawful_laws;
 mod lawful_states;
+mod near_rows;
 mod ordered_periods;
+mod period_blocks;
 mod period_indexes;
+mod placed_period;
 mod planning;
 mod positions;
 mod reference_faults;

@@ -55,6 +55,13 @@ impl OrderedPeriods {
         self.items.as_slice()
     }
 
+    /// The settled ones, and the late ones.
+    pub fn runs(&self) -> (&[Period], &[Period])
+        ensures { result.0.now ++ result.1.now ≡ self.now.items.items }
+    {
+        self.items.as_slice().split_at(self.settled)
+    }
+
     /// Adds a period. An error changes nothing.
     pub fn add(&mut self, period: Period) -> Result<(), Memory>
         ensures ok { OnOk result
@@ -120,9 +127,9 @@ impl OrderedPeriods {
     }
 }
 
-/// The place among periods in two runs of one that starts on the day, and whether it is settled
-/// there: else it is late.
-pub fn place_for(periods: &[Period], settled: usize, day: Day) -> (usize, bool)
+// The place among periods in two runs of one that starts on the day, and whether it is settled
+// there: else it is late.
+fn place_for(periods: &[Period], settled: usize, day: Day) -> (usize, bool)
     requires within { settled ≤ length periods.now }
     requires ordered { AreInOrder (take settled periods.now) }
     requires late { AreInOrder (drop settled periods.now) }
@@ -139,14 +146,14 @@ pub fn place_for(periods: &[Period], settled: usize, day: Day) -> (usize, bool)
     (settled + place_after(second, day), false)
 }
 
-/// Whether so many late periods are enough to be settled. Each settled one moves then, so they are
-/// as many as the square root of these at least.
-pub fn are_many(late: usize, settled: usize) -> bool {
+// Whether so many late periods are enough to be settled. Each settled one moves then, so they are
+// as many as the square root of these at least.
+fn are_many(late: usize, settled: usize) -> bool {
     late >= MOST_MOVED && late >= settled / late
 }
 
-/// How many of the periods start by the day: those of periods in order come first.
-pub fn place_after(periods: &[Period], day: Day) -> usize
+// How many of the periods start by the day: those of periods in order come first.
+fn place_after(periods: &[Period], day: Day) -> usize
     requires { AreInOrder periods.now }
     ensures bound { result ≤ length periods.now }
     ensures before { (k : ℕ) (d : PeriodModel) → k < result

@@ -10,13 +10,16 @@ ghost use Rattle.period_keys.specs.Index.{IsIndexOf};
 ghost use Rattle.period_keys.specs.Gaps.{IsGap, LacksKeyOf};
 
 use crate::clashes::index_of;
-use crate::gaps::first_gap;
+use crate::gaps::{first_gap, first_gap_of_some};
 use crate::keyed_periods::KeyedPeriods;
 use crate::keys::key_of;
 use crate::ordered_periods::OrderedPeriods;
 use crate::shared_days::earlier;
 use period_core::{Day, Memory, Period, PeriodRow};
 use std::alloc::Global;
+
+// So many children are judged one by one, more by their keys.
+const FEW: usize = 8;
 
 /// The least day on which a child has no parent once added children are there, for an index of the
 /// parents by their keys. Children that went make no difference.
@@ -36,10 +39,78 @@ pub fn uncovered_by_children(
         → IsPermutation before (ended ++ stay)
         → IsLeastOf (IsUncovered own.now (stay ++ added.now) keys above) found) }
 {
+    let found = least_lack(alloc, own, added, parents)?;
+    Ok(found)
+}
+
+// The least day on which one of the children has no parent.
+fn least_lack(
+    alloc: Global,
+    own: &[usize],
+    children: &[PeriodRow],
+    parents: &KeyedPeriods,
+) -> Result<Option<Day>, Memory>
+    ensures { IfOk result
+        (λ found. IsLeastOf (LacksKeyOf own.now children.now parents.now) found) }
+{
+    if children.len() <= FEW {
+        return least_lack_one_by_one(alloc, own, children, parents);
+    }
+    least_lack_key_by_key(alloc, own, children, parents)
+}
+
+// The same, each child judged by itself.
+fn least_lack_one_by_one(
+    alloc: Global,
+    own: &[usize],
+    children: &[PeriodRow],
+    parents: &KeyedPeriods,
+) -> Result<Option<Day>, Memory>
+    ensures { IfOk result
+        (λ found. IsLeastOf (LacksKeyOf own.now children.now parents.now) found) }
+{
     let mut found = None;
-    for child in added {
+    for child in children {
         let key = key_of(alloc, own, child)?;
-        found = earlier(found, first_gap(parents.of_key(&key), &child.period));
+        let (first, second) = parents.runs_of_key(&key);
+        found = earlier(found, first_gap(first, second, &child.period));
+    }
+    Ok(found)
+}
+
+// The same, those of one key judged together.
+fn least_lack_key_by_key(
+    alloc: Global,
+    own: &[usize],
+    children: &[PeriodRow],
+    parents: &KeyedPeriods,
+) -> Result<Option<Day>, Memory>
+    ensures { IfOk result
+        (λ found. IsLeastOf (LacksKeyOf own.now children.now parents.now) found) }
+{
+    let by_key = index_of(alloc, own, children)?;
+    let found = least_lack_of_keys(alloc, &by_key, parents)?;
+    Ok(found)
+}
+
+// The same for an index of the children.
+fn least_lack_of_keys(
+    alloc: Global,
+    children: &KeyedPeriods,
+    parents: &KeyedPeriods,
+) -> Result<Option<Day>, Memory>
+    ensures { IfOk result (λ found. (own : List ℕ) (rows : List Row)
+        → IsIndexOf own rows children.now
+        → IsLeastOf (LacksKeyOf own rows parents.now) found) }
+{
+    let keys = children.keys(alloc)?;
+    let mut found = None;
+    for key in keys.as_slice() {
+        let (first, second) = parents.runs_of_key(key);
+        found = earlier(
+            found,
+            first_gap_of_some(first, second, children.of_key(key)),
+        );
     }
     Ok(found)
 }
@@ -110,9 +181,10 @@ fn uncovered_by_keys(
             gone.of_key(key),
             new.of_key(key),
         )?;
+        let (first, second) = there.runs();
         found = earlier(
             found,
-            first_gap_of_some(there.as_slice(), children.of_key(key)),
+            first_gap_of_some(first, second, children.of_key(key)),
         );
     }
     Ok(found)
@@ -137,15 +209,4 @@ fn there_after(
         there.add(*coming)?;
     }
     Ok(there)
-}
-
-// The first day of one of the children that none of the periods holds.
-fn first_gap_of_some(periods: &[Period], children: &[Period]) -> Option<Day>
-    ensures { IsLeastOf (λ day. Any (λ child. IsGap periods.now child day) children.now) result }
-{
-    let mut found = None;
-    for child in children {
-        found = earlier(found, first_gap(periods, child));
-    }
-    found
 }

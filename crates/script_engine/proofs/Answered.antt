@@ -96,5 +96,5 @@ module _ {S : Type 0} (g : Ghosts S) (history : History) (old : EngineState S) (
         },
       ),
     ),
-    record { contents = kept.contents; stored = has.stored; said = said-asked history kept.contents kept.said; current = has.current },
+    record { contents = kept.contents; stored = has.stored; said = said-asked history kept.contents kept.said; current = has.current; ended = has.ended },
   )

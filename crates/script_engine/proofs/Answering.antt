@@ -20,27 +20,9 @@ use Rattle.history_model.specs.Histories.{History}
 use Rattle.history_model.specs.OrdinaryQuery.{HistorySights, InAnswerOn, InAnswerOver, TableSights}
 use Rattle.history_model.proofs.Sights.{SeeAlike, query_seen}
 use Rattle.sequenced_ops.specs.Operations.{SnapshotsAre}
-use Rattle.sqlite.specs.Store.{Ghosts}
-use Rattle.period_keys.specs.Rows.{RowsByKey}
-use Rattle.version_store.specs.StoreState.{IsOnlyRead, IsUsable, StoreState}
 use Rattle.script_engine.specs.Headline.{IsSequencedAnswer}
 use Rattle.script_engine.specs.engine.Answering.{EachSees, SeesRows}
 use Rattle.script_engine.specs.engine.Audits.{HaveSeenRows}
-use Rattle.script_engine.specs.engine.EngineState.{engine_of}
-use Rattle.script_engine.specs.engine.Stored.{EngineRepresents}
-use Rattle.script_engine.proofs.Loaded.{represents_still}
-
--- ---- the engine
-
--- what an engine represents it goes on representing where its store is only read
-pub engine_still : {S : Type 0} (g : Ghosts S) (history : History) (old new : StoreState S) (tables : List RowsByKey) → IsOnlyRead g old new → IsUsable g new.connection → EngineRepresents g history (engine_of old tables) →
-    EngineRepresents g history (engine_of new tables)
-engine_still g history old new tables read usable kept = record {
-  contents = kept.contents;
-  stored = represents_still g old new kept.contents read usable kept.stored;
-  said = kept.said;
-  current = kept.current;
-}
 
 -- ---- lists
 

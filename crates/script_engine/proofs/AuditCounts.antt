@@ -15,7 +15,8 @@ use Rattle.history_model.proofs.LeftFacts.{one_list}
 use Rattle.history_model.specs.Histories.{History}
 use Rattle.history_model.specs.Versions.{row_of}
 use Rattle.snapshot_audit.specs.ChangeDays.{AreChangeDays, EndsOn, IsChangeDay, seen_lists}
-use Rattle.script_engine.specs.engine.Answering.{SeesRows, seen_through}
+use Rattle.ended_versions.specs.Packed.{seen_through}
+use Rattle.script_engine.specs.engine.Answering.{SeesRows}
 use Rattle.script_engine.specs.engine.Audits.{AuditsCountOnce, HaveSeenRows}
 
 abbrev Before : ℤ → ℤ → Type 0

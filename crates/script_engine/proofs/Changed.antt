@@ -30,6 +30,9 @@ use Rattle.period_keys.specs.Lawful.{IsLawfulChange, IsLawfulState}
 use Rattle.period_keys.specs.Planned.{IsPlanOf}
 use Rattle.period_keys.specs.Rows.{RowsByKey}
 use Rattle.period_keys.specs.Versions.{begun}
+use Rattle.ended_versions.specs.Packed.{PackedVersion, closed_at}
+use Rattle.script_engine.specs.engine.Ended.{HaveClosed, HaveEnded, ended_in}
+use Rattle.script_engine.proofs.EndedAfter.{ended-changed, ended_planned}
 use Rattle.script_engine.specs.engine.EngineState.{EngineState, store_of}
 use Rattle.script_engine.specs.engine.Faults.{IsFault}
 use Rattle.script_engine.specs.engine.InMemory.{HaveCurrentRows, HaveRows, rows_in}
@@ -152,6 +155,15 @@ module _ {S : Type 0} (g : Ghosts S) (history : History) (old : EngineState S) (
           (current_planned history kept.contents change plan kept.said over apart)
           (λ other off. other_tables change.table other kept.contents.clock plan.ended plan.added kept.contents off)
 
+      -- and the versions that have ended
+      ended_after : (lists : List (List PackedVersion)) → HaveDistinctKeys kept.contents.versions → HaveClosed change.table (closed_at old.clock plan.ended) old.ended lists → HaveEnded after lists
+      ended_after lists apart closed =
+          let c = kept.contents in
+          let made : HaveClosed change.table (closed_at c.clock plan.ended) old.ended lists = subst (λ (m : ℤ). HaveClosed change.table (closed_at m plan.ended) old.ended lists) kept.stored.clock closed in
+          ended-changed c after change.table (closed_at c.clock plan.ended) old.ended lists made kept.ended
+          (ended_planned history c change plan kept.said over (ended_in old.ended change.table) apart (kept.ended change.table) made.held)
+          (λ other off. other_tables change.table other c.clock plan.ended plan.added c off)
+
       -- the versions after it are good
       good_after : ResolvesChange old.catalog.tables s change → HaveColumnValues after.versions → AllByRecursion (IsGoodVersion kept.contents.tables kept.contents.clock) after.versions
       good_after resolved held =
@@ -172,8 +184,9 @@ module _ {S : Type 0} (g : Ghosts S) (history : History) (old : EngineState S) (
       pub changed_step : (new : EngineState S) → ResolvesChange old.catalog.tables s change → IsLawfulChange old.catalog.tables (last_state history) change → HaveDistinctKeys kept.contents.versions →
           StoreRepresents g (store_of new) (planned change.table old.clock plan.ended plan.added kept.contents) →
           ((stay : List VersionRow) → IsPermutation (rows_in old.tables change.table) (plan.ended ++ stay) → HaveRows change.table (map (begun old.clock) plan.added ++ stay) old.tables new.tables) →
+          HaveClosed change.table (closed_at old.clock plan.ended) old.ended new.ended →
           StepsTo g history s (Ok (Done (word_of change.action) (planned_count change.action plan))) new
-      changed_step new resolved allowed apart stored made =
+      changed_step new resolved allowed apart stored made closed =
           let its : StoreRepresents g (store_of new) after = subst (λ (m : ℤ). StoreRepresents g (store_of new) (planned change.table m plan.ended plan.added kept.contents)) kept.stored.clock stored in
           let lawful : IsLawfulChange (catalog_of history) (last_state history) change = subst (λ (tables : List TableDef). IsLawfulChange tables (last_state history) change) (tables_of g history old kept) allowed in (
             with_event history (Changed kept.contents.clock change),
@@ -192,6 +205,7 @@ module _ {S : Type 0} (g : Ghosts S) (history : History) (old : EngineState S) (
               stored = its;
               said = said-changed history kept.contents change plan kept.said over apart lawful (good_after resolved its.now.values);
               current = current_after new.tables apart made;
+              ended = ended_after new.ended apart closed;
             },
           )
 

@@ -41,17 +41,19 @@ use Rattle.period_keys.specs.Versions.{begun}
 use Rattle.script_engine.specs.engine.InMemory.{AreCurrentOf}
 use Rattle.script_engine.specs.engine.Planned.{count_of, planned_count}
 use Rattle.script_engine.specs.engine.Stored.{AreOfHistory, HoldsTable}
-use Rattle.script_engine.proofs.Ended.{all_closed, closed_in, closed_plain, closed_row, none_closed, of_left}
+use Rattle.script_engine.proofs.Ended.{all_closed, closed_in, closed_plain, none_closed, of_left}
+use Rattle.ended_versions.specs.Packed.{closed_row}
 use Rattle.script_engine.proofs.KeyFacts.{are_ended, distinct_along, rest_stays}
 use Rattle.script_engine.proofs.LastState.{IsLeft, lawful_changed, lawful_same, lawful_with_table}
 use Rattle.script_engine.proofs.LeftSteps.{left-advanced, left-asked, left-changed_elsewhere, left-changed_there, left-created, order-event}
 use Rattle.script_engine.proofs.PlanFacts.{counted, current_listed, hits_end, is_hit}
 use Rattle.script_engine.proofs.Recorded.{recorded_of}
+use Rattle.version_tables.specs.declared.form.Form.TheVariants.{Microseconds}
 
 -- ---- AT
 
 -- what is recorded up to the clock is recorded up to a later one
-recorded_later : (clock later : ℤ) → clock ≤ℤ later → (v : TableVersion) → AreMoments clock v.from v.to → AreMoments later v.from v.to
+recorded_later : (clock later : ℤ) → clock ≤ℤ later → (v : TableVersion) → AreMoments Microseconds clock v.from v.to → AreMoments Microseconds later v.from v.to
 recorded_later clock later late v was =
     let begun : v.from ≤ℤ clock = was.past.0 in
     record {

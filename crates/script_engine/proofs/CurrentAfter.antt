@@ -26,11 +26,11 @@ use Rattle.version_store.specs.Scans.{seen_of}
 use Rattle.script_engine.specs.engine.InMemory.{AreCurrentOf}
 use Rattle.script_engine.specs.engine.Stored.{AreOfHistory}
 use Rattle.script_engine.proofs.Contents.{IsOver, held_planned, rows_after, stay_in, taken}
-use Rattle.script_engine.proofs.Ended.{closed_row}
+use Rattle.ended_versions.specs.Packed.{closed_row}
 use Rattle.script_engine.proofs.KeyFacts.{int_same}
 use Rattle.script_engine.proofs.PlanFacts.{current_listed}
 
-abbrev is_current : VersionRow → Bool
+abbrev pub is_current : VersionRow → Bool
 is_current v = window_sees Now v.from v.to
 
 all_current : (rows : List VersionRow) → AllByRecursion (λ (v : VersionRow). is_current v ≡ true) (current rows)
@@ -45,7 +45,7 @@ not_forever : (moment : ℤ) → moment <ℤ forever → int_eq moment forever �
 not_forever moment before = grind (arith, ints)
 
 -- a version that is closed before FOREVER is not current
-none_current : (moment : ℤ) → moment <ℤ forever → (rows : List VersionRow) → AllByRecursion (λ (v : VersionRow). is_current v ≡ false) (flat_map (closed_row moment) rows)
+pub none_current : (moment : ℤ) → moment <ℤ forever → (rows : List VersionRow) → AllByRecursion (λ (v : VersionRow). is_current v ≡ false) (flat_map (closed_row moment) rows)
 none_current moment before rows =
     all-flat_map (λ (v : VersionRow). is_current v ≡ false) (closed_row moment) rows
     (all_of (λ (v : VersionRow). AllByRecursion (λ (w : VersionRow). is_current w ≡ false) (closed_row moment v)) (λ v. one v (int_eq v.from moment)) rows)
@@ -55,14 +55,14 @@ none_current moment before rows =
     one v false = (not_forever moment before, tt)
 
 -- one that begins is
-all_begun : (moment : ℤ) (added : List PeriodRow) → AllByRecursion (λ (v : VersionRow). is_current v ≡ true) (map (begun moment) added)
+pub all_begun : (moment : ℤ) (added : List PeriodRow) → AllByRecursion (λ (v : VersionRow). is_current v ≡ true) (map (begun moment) added)
 all_begun moment added = all-map (λ (v : VersionRow). is_current v ≡ true) (begun moment) added (all_of (λ (r : PeriodRow). is_current (begun moment r) ≡ true) (λ r. int_same forever) added)
 
 module _ (history : History) (c : Contents) (change : Change) (plan : Plan) (said : AreOfHistory history c) (over : IsOver (said.versions change.table).rows change.action plan) where
-  abbrev rows : List VersionRow
+  abbrev pub rows : List VersionRow
   rows = (said.versions change.table).rows
 
-  abbrev S : List VersionRow
+  abbrev pub S : List VersionRow
   S = stay_in change.action rows
 
   -- the current versions that stay
@@ -70,7 +70,7 @@ module _ (history : History) (c : Contents) (change : Change) (plan : Plan) (sai
   staying = current S
 
   -- the ended ones were current
-  ended_current : AllByRecursion (λ (v : VersionRow). is_current v ≡ true) plan.ended
+  pub ended_current : AllByRecursion (λ (v : VersionRow). is_current v ≡ true) plan.ended
   ended_current =
       subst (AllByRecursion (λ (v : VersionRow). is_current v ≡ true)) (sym over.plans.ended)
       (all-filter (λ (v : VersionRow). is_current v ≡ true) (λ (v : VersionRow). touches change.action (version_row v)) over.listed

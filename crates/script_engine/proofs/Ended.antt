@@ -19,7 +19,9 @@ use Rattle.history_model.specs.Left.{closed_at as plain_closed}
 use Rattle.history_model.specs.Versions.{PlainVersion, plain_version}
 use Rattle.version_store.specs.GoodStore.{IsGoodVersion}
 use Rattle.version_store.specs.RowValues.{are_row_values}
+use Rattle.ended_versions.specs.Packed.{closed_row}
 use Rattle.script_engine.proofs.KeyFacts.{int_same}
+use Rattle.version_tables.specs.declared.form.Form.TheVariants.{Microseconds}
 
 -- ---- by tables
 
@@ -46,9 +48,6 @@ of_left table other moment ended (v ∷ vs) =
 -- ---- closed rows
 
 -- a version row that is closed at a moment
-abbrev pub closed_row : ℤ → VersionRow → List VersionRow
-closed_row moment v = cond (int_eq v.from moment) [] (record v { to = moment } ∷ [])
-
 pub closed_in : (table : ℕ) (moment : ℤ) (rows : List VersionRow) → flat_map (closed_at moment) (map (version_in table) rows) ≡ map (version_in table) (flat_map (closed_row moment) rows)
 closed_in table moment [] = refl
 closed_in table moment (v ∷ rows) =
@@ -89,7 +88,7 @@ none_closed table moment ended (v ∷ rows) h =
 -- ---- what is recorded
 
 -- a version that is closed at the clock is recorded, unless it began then
-closed_recorded : (clock : ℤ) → IsClock clock → (v : TableVersion) → AreMoments clock v.from v.to → (b : Bool) → int_eq v.from clock ≡ b → AllByRecursion (λ (w : TableVersion). AreMoments clock w.from w.to) (cond b [] (record v { to = clock } ∷ []))
+closed_recorded : (clock : ℤ) → IsClock Microseconds clock → (v : TableVersion) → AreMoments Microseconds clock v.from v.to → (b : Bool) → int_eq v.from clock ≡ b → AllByRecursion (λ (w : TableVersion). AreMoments Microseconds clock w.from w.to) (cond b [] (record v { to = clock } ∷ []))
 closed_recorded clock is v was true e = tt
 closed_recorded clock is v was false e =
     let first : first_moment ≤ℤ clock = is.0 in
@@ -103,15 +102,15 @@ closed_recorded clock is v was false e =
     same_moment : v.from ≡ clock → v.from <ℤ clock
     same_moment same = let there : int_eq v.from clock ≡ true = ap (int_eq v.from) (sym same) ∙ int_same v.from in absurd cc
 
-left_recorded : (table : ℕ) (clock : ℤ) (ended : List VersionRow) → IsClock clock → (v : TableVersion) → AreMoments clock v.from v.to → AllByRecursion (λ (w : TableVersion). AreMoments clock w.from w.to) (left_of table clock ended v)
+left_recorded : (table : ℕ) (clock : ℤ) (ended : List VersionRow) → IsClock Microseconds clock → (v : TableVersion) → AreMoments Microseconds clock v.from v.to → AllByRecursion (λ (w : TableVersion). AreMoments Microseconds clock w.from w.to) (left_of table clock ended v)
 left_recorded table clock ended is v was = go (is_ended table ended v)
   where
-    go : (b : Bool) → AllByRecursion (λ (w : TableVersion). AreMoments clock w.from w.to) (cond b (closed_at clock v) (v ∷ []))
+    go : (b : Bool) → AllByRecursion (λ (w : TableVersion). AreMoments Microseconds clock w.from w.to) (cond b (closed_at clock v) (v ∷ []))
     go true = closed_recorded clock is v was (int_eq v.from clock) refl
     go false = (was, tt)
 
 -- a row that is added at the clock is recorded
-recorded_now : (clock : ℤ) → IsClock clock → AreMoments clock clock forever
+recorded_now : (clock : ℤ) → IsClock Microseconds clock → AreMoments Microseconds clock clock forever
 recorded_now clock is =
     let first : first_moment ≤ℤ clock = is.0 in
     let before : clock <ℤ forever = is.1 in
@@ -125,17 +124,17 @@ recorded_now clock is =
 -- ---- what is good
 
 -- what is left of a good version is good
-left_good : (tables : List TableDef) (table : ℕ) (clock : ℤ) (ended : List VersionRow) → IsClock clock → (v : TableVersion) → IsGoodVersion tables clock v → AllByRecursion (IsGoodVersion tables clock) (left_of table clock ended v)
+left_good : (tables : List TableDef) (table : ℕ) (clock : ℤ) (ended : List VersionRow) → IsClock Microseconds clock → (v : TableVersion) → IsGoodVersion tables clock v → AllByRecursion (IsGoodVersion tables clock) (left_of table clock ended v)
 left_good tables table clock ended is v good = go (is_ended table ended v) (int_eq v.from clock) (left_recorded table clock ended is v good.moments)
   where
-    go : (b e : Bool) → AllByRecursion (λ (w : TableVersion). AreMoments clock w.from w.to) (cond b (cond e [] (record v { to = clock } ∷ [])) (v ∷ [])) → AllByRecursion (IsGoodVersion tables clock) (cond b (cond e [] (record v { to = clock } ∷ [])) (v ∷ []))
+    go : (b e : Bool) → AllByRecursion (λ (w : TableVersion). AreMoments Microseconds clock w.from w.to) (cond b (cond e [] (record v { to = clock } ∷ [])) (v ∷ [])) → AllByRecursion (IsGoodVersion tables clock) (cond b (cond e [] (record v { to = clock } ∷ [])) (v ∷ []))
     go true true moments = tt
     go true false moments =
         (record { definition = good.definition; table = good.table; values = good.values; held = good.held; days = good.days; moments = moments.0 }, tt)
     go false e moments = (good, tt)
 
 -- so after a plan at the clock each version is good, if the rows that it adds are of its table
-pub good_planned : (c : Contents) (table : ℕ) (d : TableDef) (ended : List VersionRow) (added : List PeriodRow) → table_of c.tables table ≡ Some d → IsClock c.clock → AllByRecursion (IsGoodVersion c.tables c.clock) c.versions →
+pub good_planned : (c : Contents) (table : ℕ) (d : TableDef) (ended : List VersionRow) (added : List PeriodRow) → table_of c.tables table ≡ Some d → IsClock Microseconds c.clock → AllByRecursion (IsGoodVersion c.tables c.clock) c.versions →
     AllByRecursion (λ (r : PeriodRow). are_row_values d r.values ≡ true) added → AllByRecursion (λ (r : PeriodRow). All IsColumnValue r.values) added → AllByRecursion (IsGoodVersion c.tables c.clock) (planned table c.clock ended added c).versions
 good_planned c table d ended added there is good fits held =
     let IsGood : TableVersion → Type 0 = IsGoodVersion c.tables c.clock in

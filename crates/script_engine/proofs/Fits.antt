@@ -32,7 +32,8 @@ use Rattle.version_store.specs.RowValues.{are_of_columns, is_of_column}
 use Rattle.history_model.specs.Histories.{History}
 use Rattle.history_model.specs.Left.{versions_of}
 use Rattle.history_model.specs.Versions.{PlainVersion, plain_version, row_of}
-use Rattle.script_engine.specs.engine.Answering.{EachSees, IsKnown, IsOfCatalog, SeesRows, seen_through}
+use Rattle.ended_versions.specs.Packed.{seen_through}
+use Rattle.script_engine.specs.engine.Answering.{EachSees, IsKnown, IsOfCatalog, SeesRows}
 use Rattle.script_engine.specs.engine.Stored.{AreOfHistory}
 use Rattle.script_engine.proofs.Answering.{in_its_place}
 

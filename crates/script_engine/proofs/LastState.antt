@@ -45,15 +45,16 @@ use Rattle.script_engine.specs.engine.Stored.{HoldsTable}
 use Rattle.script_engine.proofs.InMemory.{some_rows}
 use Rattle.script_engine.proofs.PlanFacts.{current_listed}
 use Rattle.script_engine.proofs.Recorded.{AreRecorded}
+use Rattle.version_tables.specs.declared.form.Form.TheVariants.{Microseconds}
 
 -- ---- what is recorded
 
 -- versions of a store are recorded up to its clock, as version rows too
 pub recorded_rows : (c : Contents) (table : ℕ) (rows : List VersionRow) → AreRecorded c → IsPermutation (of_table table c.versions) (map (version_in table) rows) → All (IsRecorded c.clock) rows
 recorded_rows c table rows recorded all =
-    let moments = λ (v : TableVersion). AreMoments c.clock v.from v.to in
+    let moments = λ (v : TableVersion). AreMoments Microseconds c.clock v.from v.to in
     All-from_recursion (IsRecorded c.clock) rows
-    (all_weaker (λ (v : VersionRow). AreMoments c.clock v.from v.to) (IsRecorded c.clock) (λ v is. record { lasts = is.rise; begun = is.past.0; ended = turned is.past.1 }) rows
+    (all_weaker (λ (v : VersionRow). AreMoments Microseconds c.clock v.from v.to) (IsRecorded c.clock) (λ v is. record { lasts = is.rise; begun = is.past.0; ended = turned is.past.1 }) rows
     (all_from_map moments (version_in table) rows
     (all-permutation moments (of_table table c.versions) (map (version_in table) rows) all
     (all-filter moments (λ (v : TableVersion). v.table == table) c.versions recorded))))
@@ -79,7 +80,7 @@ values_along rows others day same =
 pub record IsLeft (history : History) (c : Contents) : Type 0 where
   pub order : IsInOrder history
   pub versions : (table : ℕ) → HoldsTable history c.versions table
-  pub is_clock : IsClock c.clock
+  pub is_clock : IsClock Microseconds c.clock
   pub recorded : AreRecorded c
 
 -- the current rows hold on each day what the last state has

@@ -1,5 +1,5 @@
 -- The rows in memory as they are loaded, table by table.
-use Rattle.std.proofs.Common.{◌≡◌, ◌<◌, ◌≤◌, ◌+◌, ◌==◌, ◌++◌, ◌∷◌, ◌∙◌, ℕ, zero, suc, Bool, true, false, List, [], None, Some, eqb-true, get_or, inl, inr, length, map, nat_lt, refl, sym, ap, ap₂, subst, take, take_all, length-append, arith}
+use Rattle.std.proofs.Common.{◌≡◌, ◌<◌, ◌≤◌, ◌+◌, ◌==◌, ◌++◌, ◌∷◌, ◌∙◌, ℕ, zero, suc, Bool, true, false, List, [], None, Some, eqb-true, get_or, inl, inr, length, map, nat_lt, refl, sym, ap, ap₂, subst, subst₂, take, take_all, length-append, arith}
 use Rattle.std.specs.Prelude.{IsSome}
 use Rattle.std.specs.List.{filter}
 use Rattle.std.specs.List.Sorted.{IsPermutation}
@@ -9,19 +9,23 @@ use Rattle.std.proofs.lemmas.List.{map-append, take_more}
 use Rattle.std.proofs.lemmas.List.Sorted.{IsPermutation-refl}
 use Rattle.std.proofs.lemmas.Option.{none-some, slice_get_past}
 use Rattle.sqlite_trees.proofs.ListLemmas.{all_weaker, filter_none}
+use Rattle.sqlite.specs.Effect.{Database}
 use Rattle.sqlite.specs.Store.{Ghosts}
 use Rattle.period_core.specs.declared.refusal.Refusal.{Refusal}
 use Rattle.period_core.specs.declared.version.VersionRow.{VersionRow}
 use Rattle.period_core.specs.Windows.{window_sees}
 use Rattle.period_core.specs.declared.window.Window.TheVariants.{Now}
 use Rattle.catalog_core.specs.declared.table.TableDef.{TableDef}
+use Rattle.catalog_core.specs.declared.table.catalog.Catalog.{Catalog}
 use Rattle.catalog_core.specs.table.TableWords.{table_of}
 use Rattle.period_keys.specs.Lawful.{key_positions}
 use Rattle.period_keys.specs.Rows.{RowsByKey}
+use Rattle.version_tables.specs.declared.form.Form.{Form}
 use Rattle.version_store.specs.Contents.{Contents, TableVersion, of_table}
 use Rattle.version_store.specs.GoodStore.{HaveTables}
-use Rattle.version_store.specs.StoreState.{IsFailure, IsOnlyRead, IsUsable, StoreRepresents, StoreState}
-use Rattle.version_store.specs.Written.{Has}
+use Rattle.version_store.specs.StoreState.{IsFailure, IsOnlyRead, IsOpenedRead, IsUsable, OpenedRepresents, OpenedState, StoreRepresents, StoreState}
+use Rattle.version_store.specs.Units.{in_microseconds}
+use Rattle.version_store.specs.Written.{Has, HasIn}
 use Rattle.script_engine.specs.engine.InMemory.{AreCurrentOf, HaveCurrentRows, keys_in, rows_in}
 
 -- ---- what is only read
@@ -61,6 +65,27 @@ pub failure_since : {S : Type 0} (g : Ghosts S) (old middle new : StoreState S) 
 failure_since g old middle new refusal read (inl memory) = inl memory
 failure_since g old middle new refusal read (inr (inl more)) = inr (inl (let earlier = read.faults.faults in omega (arith, more, earlier)))
 failure_since g old middle new refusal read (inr (inr limit)) = inr (inr (subst IsSome read.faults.limit limit))
+
+-- an opened store
+
+pub opened_nothing : {S : Type 0} (g : Ghosts S) (opened : OpenedState S) → IsOpenedRead g opened opened
+opened_nothing g opened = (read_nothing g opened.store, refl)
+
+pub opened_more : {S : Type 0} (g : Ghosts S) (old middle new : OpenedState S) → IsOpenedRead g old middle → IsOpenedRead g middle new → IsOpenedRead g old new
+opened_more g old middle new first second = (read_more g old.store middle.store new.store first.0 second.0, second.1 ∙ first.1)
+
+pub opened_still : {S : Type 0} (g : Ghosts S) (old new : OpenedState S) (c : Contents) → IsOpenedRead g old new → IsUsable g new.store.connection → OpenedRepresents g old c → OpenedRepresents g new c
+opened_still g old new c read usable was =
+    let same = read.0.same usable in
+    record {
+      counted = was.counted;
+      same = ap (λ (f : Form). in_microseconds f was.counted) read.1 ∙ was.same;
+      now = subst₂ (λ (f : Form) (db : Database). HasIn f db was.counted) (sym read.1) (sym same.0) was.now;
+      committed = same.1 ∙ was.committed ∙ sym same.0;
+      catalog = ap (λ (k : Catalog). k.tables) read.0.catalog ∙ was.catalog;
+      clock = read.0.clock ∙ was.clock;
+      dated = was.dated;
+    }
 
 -- ---- the first tables
 
@@ -125,7 +150,7 @@ of_none c number v none there = go (v.table == number) refl
         absurd (none-some there.0 (sym none ∙ ap (table_of c.tables) (sym at) ∙ there.1))
     go false off = refl
 
-none_there : (c : Contents) (number : ℕ) → table_of c.tables number ≡ None → HaveTables c → of_table number c.versions ≡ []
+pub none_there : (c : Contents) (number : ℕ) → table_of c.tables number ≡ None → HaveTables c → of_table number c.versions ≡ []
 none_there c number none tabled =
     filter_none (λ (v : TableVersion). v.table == number) c.versions
     (all_weaker (λ (v : TableVersion). (d : TableDef) × (table_of c.tables v.table ≡ Some d)) (λ (v : TableVersion). (v.table == number) ≡ false) (λ v is. of_none c number v none is) c.versions tabled)

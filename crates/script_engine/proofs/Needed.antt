@@ -40,7 +40,8 @@ use Rattle.version_store.specs.Contents.{Contents, TableVersion, of_table, versi
 use Rattle.version_store.specs.GoodStore.{AreGood, IsGoodVersion, NothingMore}
 use Rattle.version_store.specs.RowValues.{are_of_columns, is_of_column}
 use Rattle.version_store.specs.Scans.{seen_of}
-use Rattle.script_engine.specs.engine.Answering.{AreRowsSeen, IsKnown, IsOfCatalog, SeesRows, seen_through}
+use Rattle.ended_versions.specs.Packed.{seen_through}
+use Rattle.script_engine.specs.engine.Answering.{AreRowsSeen, IsKnown, IsOfCatalog, SeesRows}
 use Rattle.script_engine.specs.engine.InMemory.{HaveCurrentRows, rows_in}
 use Rattle.script_engine.specs.engine.Needed.{AddNeeded, IsNeeded, IsNeededBy, SeeNeeded, SeesWidth}
 use Rattle.script_engine.specs.engine.Stored.{AreOfHistory}

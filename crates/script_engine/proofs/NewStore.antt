@@ -36,4 +36,4 @@ said_new = record {
 }
 
 pub new_store : {S : Type 0} (g : Ghosts S) (engine : EngineState S) → HasContents g engine empty_contents → EngineRepresents g (opened new_database) engine
-new_store g engine has = record { contents = empty_contents; stored = has.stored; said = said_new; current = has.current }
+new_store g engine has = record { contents = empty_contents; stored = has.stored; said = said_new; current = has.current; ended = has.ended }

@@ -10,7 +10,9 @@ use Rattle.period_core.specs.declared.version.VersionRow.{VersionRow}
 use Rattle.catalog_core.specs.declared.table.TableDef.{TableDef}
 use Rattle.catalog_core.specs.table.TableWords.{table_of}
 use Rattle.version_store.specs.Contents.{Contents, TableVersion, of_table, version_in}
-use Rattle.version_store.specs.GoodStore.{AreGood, HaveTables, IsGoodStore, IsGoodVersion, NothingMore}
+use Rattle.version_store.specs.GoodStore.{AreGood, HaveTables, IsGoodStore, IsGoodVersion, IsGoodVersionIn, NothingMore}
+use Rattle.version_store.specs.Units.{in_microseconds}
+use Rattle.version_store.proofs.Units.{good_contents, tables_in}
 use Rattle.sqlite.specs.Effect as sqlite
 use Rattle.sqlite.specs.Store.{Ghosts}
 use Rattle.history_model.specs.Histories.{Database, History, last_state, opened, versions_in}
@@ -154,13 +156,20 @@ module _ (c : Contents) (are_good : AreGood NothingMore c) where
         (lawful_along c.tables (current_state c) (last_state (opened opening)) (λ table day. state_said (opened opening) c table day left-opened) lawful);
   }
 
+-- its contents, in microseconds
+abbrev pub its_contents : {Constrained : Contents → Type 0} {db : sqlite.Database} → IsGoodStore Constrained db → Contents
+its_contents good = in_microseconds good.form good.contents
+
 -- its versions are of its tables
-pub good_tables : {db : sqlite.Database} (good : IsGoodStore NothingMore db) → HaveTables good.contents
-good_tables good = all_weaker (IsGoodVersion good.contents.tables good.contents.clock) (λ (v : TableVersion). (d : TableDef) × (table_of good.contents.tables v.table ≡ Some d)) (λ v is. (is.definition, is.table)) good.contents.versions good.versions
+pub good_tables : {db : sqlite.Database} (good : IsGoodStore NothingMore db) → HaveTables (its_contents good)
+good_tables good =
+    let c = good.contents in
+    tables_in good.form c (all_weaker (IsGoodVersionIn good.form c.tables c.clock) (λ (v : TableVersion). (d : TableDef) × (table_of c.tables v.table ≡ Some d)) (λ v is. (is.definition, is.table)) c.versions good.versions)
 
 -- with point 6 judged, all points hold
-pub all_points : {db : sqlite.Database} (good : IsGoodStore NothingMore db) → AreConstrained good.contents → IsGoodStore AreConstrained db
+pub all_points : {db : sqlite.Database} (good : IsGoodStore NothingMore db) → AreConstrained (its_contents good) → IsGoodStore AreConstrained db
 all_points good lawful = record {
+  form = good.form;
   contents = good.contents;
   says = good.says;
   tables_there = good.tables_there;
@@ -176,6 +185,7 @@ all_points good lawful = record {
 -- without it the others do
 abbrev pub other_points : {db : sqlite.Database} → IsGoodStore AreConstrained db → IsGoodStore NothingMore db
 other_points good = record {
+  form = good.form;
   contents = good.contents;
   says = good.says;
   tables_there = good.tables_there;
@@ -188,17 +198,13 @@ other_points good = record {
   constrained = tt;
 }
 
--- its contents are good
-abbrev pub its_good : {db : sqlite.Database} (good : IsGoodStore NothingMore db) → AreGood NothingMore good.contents
-its_good good = record { clock = good.clock; few = good.few; lawful = good.lawful; versions = good.versions; constrained = tt }
-
 -- so a good store is one of the history to which nothing was done since it was opened
-pub good_history : {S : Type 0} (g : Ghosts S) (engine : EngineState S) (db : sqlite.Database) (good : IsGoodStore NothingMore db) → AreConstrained good.contents → HasContents g engine good.contents →
+pub good_history : {S : Type 0} (g : Ghosts S) (engine : EngineState S) (db : sqlite.Database) (good : IsGoodStore NothingMore db) → AreConstrained (its_contents good) → HasContents g engine (its_contents good) →
     (history : History) × EngineRepresents g history engine
-good_history g engine db good lawful has = (
-  opened (opening good.contents (its_good good)),
-  record { contents = good.contents; stored = has.stored; said = said-opened good.contents (its_good good) lawful; current = has.current },
-)
+good_history g engine db good lawful has =
+    let c = its_contents good in
+    let fine = good_contents good in
+    (opened (opening c fine), record { contents = c; stored = has.stored; said = said-opened c fine lawful; current = has.current; ended = has.ended })
 
 -- what a history says is good, with keys and references
 pub constrained_good : (history : History) (c : Contents) → AreOfHistory history c → AreGood AreConstrained c

@@ -30,7 +30,7 @@ use Rattle.script_engine.specs.engine.Planned.{count_of, planned_count}
 abbrev without_table : TableVersion → PlainVersion
 without_table v = record { values = v.values; start = v.start; end = v.end; from = v.from; to = v.to }
 
-one_version : (table : ℕ) (v w : VersionRow) → version_in table v ≡ version_in table w → v ≡ w
+pub one_version : (table : ℕ) (v w : VersionRow) → version_in table v ≡ version_in table w → v ≡ w
 one_version table v w e = version_same v w (ap without_table e)
 
 -- version rows that are, as versions of a table, those that a window sees

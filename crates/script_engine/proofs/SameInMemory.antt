@@ -6,7 +6,6 @@ use Rattle.std.proofs.lemmas.Bool.{false≢true}
 use Rattle.std.proofs.lemmas.Bool.Decides.{nat_tests}
 use Rattle.std.proofs.lemmas.Int.{ints}
 use Rattle.std.proofs.lemmas.List.Sorted.{IsPermutation-refl, IsPermutation-sym}
-use Rattle.sqlite.specs.Store.{Ghosts}
 use Rattle.period_core.specs.Codes.{code_of}
 use Rattle.period_core.specs.Leasts.{NoneApplies}
 use Rattle.period_core.specs.Moments.{forever}
@@ -17,8 +16,8 @@ use Rattle.sql_statements.specs.Trees as statement
 use Rattle.catalog_core.specs.declared.table.TableDef.{TableDef}
 use Rattle.catalog_core.specs.declared.table.catalog.Catalog.{Catalog}
 use Rattle.period_keys.specs.Rows.{RowsByKey}
-use Rattle.version_store.specs.StoreState.{IsOnlyRead, IsStoreRefusal, StoreState}
-use Rattle.script_engine.specs.engine.EngineState.{EngineState, engine_of}
+use Rattle.version_store.specs.StoreState.{IsStoreRefusal}
+use Rattle.script_engine.specs.engine.EngineState.{EngineState}
 use Rattle.script_engine.specs.engine.InMemory.{HaveRows, IsSameInMemory, rows_in}
 use Rattle.script_engine.specs.engine.Runs.{AppliesOver, MayRefuseMoment, MayRefuseOver}
 use Rattle.script_engine.proofs.Steps.{may_refuse-store}
@@ -27,14 +26,6 @@ use Rattle.script_engine.proofs.Steps.{may_refuse-store}
 
 pub same_memory : {S : Type 0} (engine : EngineState S) → IsSameInMemory engine engine
 same_memory engine = record { catalog = refl; clock = refl; rows = λ number. IsPermutation-refl (rows_in engine.tables number) }
-
--- where the store is only read
-pub read_memory : {S : Type 0} (g : Ghosts S) (old new : StoreState S) (tables : List RowsByKey) → IsOnlyRead g old new → IsSameInMemory (engine_of old tables) (engine_of new tables)
-read_memory g old new tables read = record {
-  catalog = ap (λ (k : Catalog). k.tables) read.catalog;
-  clock = read.clock;
-  rows = λ number. IsPermutation-refl (rows_in tables number);
-}
 
 -- where the rows of a table are the same in another order
 pub rows_memory : {S : Type 0} (old new : EngineState S) (table : ℕ) → new.catalog ≡ old.catalog → new.clock ≡ old.clock → HaveRows table (rows_in old.tables table) old.tables new.tables → IsSameInMemory old new

@@ -1,8 +1,10 @@
 -- What one table reference sees, as period rows: those of the versions that its window sees.
-use Rattle.std.proofs.Common.{◌≡◌, ◌↔◌, ◌++◌, ◌∷◌, ◌∙◌, ℕ, ℤ, Bool, List, [], Ok, append-nil, append_assoc, filter, fold, map, sym, ap, subst}
+use Rattle.std.proofs.Common.{◌≡◌, ◌↔◌, ◌++◌, ◌∙◌, ℕ, ℤ, Bool, List, filter, map, refl, reverse, sym, ap, subst}
+use Rattle.std.proofs.lemmas.List.{map-append}
+use Rattle.std.proofs.lemmas.List.Elements.{filter-append}
 use Rattle.std.specs.List.Sorted.{IsPermutation}
-use Rattle.std.proofs.lemmas.List.Sorted.{Contains-permutation, IsPermutation-map, IsPermutation-sym}
-use Rattle.sqlite_trees.proofs.ListLemmas.{filter-map, map-map}
+use Rattle.std.proofs.lemmas.List.Sorted.{Contains-permutation, IsPermutation-append, IsPermutation-append_right, IsPermutation-filter_both, IsPermutation-map, IsPermutation-reverse, IsPermutation-sym, IsPermutation-trans}
+use Rattle.sqlite_trees.proofs.ListLemmas.{IsPermutation-filter, filter-map, map-map}
 use Rattle.period_core.specs.Windows.{window_sees}
 use Rattle.period_core.specs.declared.row.PeriodRow.{PeriodRow}
 use Rattle.period_core.specs.declared.value.Value.{Value}
@@ -11,15 +13,17 @@ use Rattle.period_core.specs.declared.window.Window.{Window}
 use Rattle.period_core.specs.declared.window.Window.TheVariants.{Now}
 use Rattle.temporal_model.specs.Snapshot.{InSnapshot, covers_day, values_on}
 use Rattle.period_keys.specs.Rows.{RowsByKey}
-use Rattle.version_store.specs.Contents.{Contents, version_in}
-use Rattle.version_store.specs.Scans.{AreFirstSeen, Visits, seen_of}
+use Rattle.version_store.specs.Contents.{Contents, TableVersion, of_table, version_in}
+use Rattle.version_store.specs.Scans.{seen_of}
 use Rattle.history_model.specs.Histories.{History, state_at}
 use Rattle.history_model.specs.SystemWindows.{SeesThrough}
 use Rattle.history_model.specs.Versions.{row_of, values_seen}
 use Rattle.history_model.proofs.LeftFacts.{left_hold}
 use Rattle.history_model.proofs.Shown.{seen_at_moments}
 use Rattle.catalog_core.specs.declared.query.resolved.QueryReference.{QueryReference}
-use Rattle.script_engine.specs.engine.Answering.{AreRowsSeen, SeesRows, seen_through}
+use Rattle.ended_versions.specs.Packed.{PackedVersion, seen_through}
+use Rattle.script_engine.specs.engine.Ended.{HasEnded, table_ended}
+use Rattle.script_engine.specs.engine.Answering.{AreRowsSeen, SeesRows}
 use Rattle.script_engine.specs.engine.InMemory.{HaveCurrentRows, rows_in}
 use Rattle.script_engine.specs.engine.Stored.{AreOfHistory}
 use Rattle.script_engine.proofs.LastState.{recorded_rows, values_along}
@@ -32,24 +36,42 @@ use Rattle.script_engine.proofs.Recorded.{recorded_of}
 pub current_seen : (c : Contents) (tables : List RowsByKey) (number : ℕ) (rows : List PeriodRow) → HaveCurrentRows c tables → rows ≡ map row_of (rows_in tables number) → AreRowsSeen c number Now rows
 current_seen c tables number rows current are = record { versions = rows_in tables number; all = current.rows number; made = are }
 
--- what the visitor of a scan makes of one version more
-abbrev pub seen_next : List PeriodRow → VersionRow → List PeriodRow
-seen_next rows version = rows ++ row_of version ∷ []
+-- all versions of a table are in memory: the current ones, and those that have ended
+pub all_in_memory :
+    (c : Contents) (tables : List RowsByKey) (number : ℕ) (list : List PackedVersion) (current : HaveCurrentRows c tables) (ended : HasEnded c number list)
+    → IsPermutation (of_table number c.versions) (map (version_in number) (rows_in tables number ++ ended.versions))
+all_in_memory c tables number list current ended =
+    let versions : List TableVersion = of_table number c.versions in
+    let is_current : TableVersion → Bool = λ v. window_sees Now v.from v.to in
+    let now : List VersionRow = rows_in tables number in
+    subst (IsPermutation versions) (sym (map-append (version_in number) now ended.versions))
+    (IsPermutation-trans versions (filter is_current versions ++ filter table_ended versions) (map (version_in number) now ++ map (version_in number) ended.versions)
+    (IsPermutation-filter_both is_current table_ended (λ v. refl) versions)
+    (IsPermutation-append (filter is_current versions) (map (version_in number) now) (filter table_ended versions) (map (version_in number) ended.versions) (current.rows number) ended.all))
 
-seen_each : (before : List PeriodRow) (versions : List VersionRow) → fold seen_next before versions ≡ before ++ map row_of versions
-seen_each before [] = sym (append-nil before)
-seen_each before (version ∷ versions) = seen_each (before ++ row_of version ∷ []) versions ∙ append_assoc before (row_of version ∷ []) (map row_of versions)
-
--- the versions that a scan hands over
-pub scanned_seen : {X : Type 0} (c : Contents) (table : ℕ) (window : Window) (old new : List PeriodRow) (x : X) → old ≡ [] → Visits seen_next c table window old new (Ok x) → AreRowsSeen c table window new
-scanned_seen c table window old new x none visits =
-    let versions : List VersionRow = visits.0 in
-    let whole : visits.1 ≡ [] = visits.4 in
-    let first : AreFirstSeen c table window versions [] = subst (AreFirstSeen c table window versions) whole visits.2 in
+-- so those of them that a window sees are all that it sees
+pub memory_seen :
+    (c : Contents) (tables : List RowsByKey) (number : ℕ) (list : List PackedVersion) (window : Window) (rows : List PeriodRow) (current : HaveCurrentRows c tables) (ended : HasEnded c number list)
+    → rows ≡ map row_of (seen_through window (rows_in tables number)) ++ map row_of (reverse (seen_through window ended.versions))
+    → AreRowsSeen c number window rows
+memory_seen c tables number list window rows current ended made =
+    let sees : TableVersion → Bool = λ v. window_sees window v.from v.to in
+    let now : List VersionRow = rows_in tables number in
+    let both : List VersionRow = now ++ ended.versions in
+    let first : List VersionRow = seen_through window now in
+    let second : List VersionRow = seen_through window ended.versions in
+    let seen : IsPermutation (seen_of number window c.versions) (map (version_in number) (seen_through window both)) =
+    subst (IsPermutation (seen_of number window c.versions)) (filter-map sees (version_in number) both)
+    (IsPermutation-filter sees (of_table number c.versions) (map (version_in number) both) (all_in_memory c tables number list current ended)) in
+    let split : seen_through window both ≡ first ++ second = filter-append (λ (v : VersionRow). window_sees window v.from v.to) now ended.versions in
+    let turned : IsPermutation (seen_through window both) (first ++ reverse second) =
+    subst (λ (l : List VersionRow). IsPermutation l (first ++ reverse second)) (sym split) (IsPermutation-append_right first second (reverse second) (IsPermutation-reverse second)) in
     record {
-      versions = versions;
-      all = subst (IsPermutation (seen_of table window c.versions)) (append-nil (map (version_in table) versions)) first.all;
-      made = visits.3 ∙ ap (λ (l : List PeriodRow). fold seen_next l versions) none ∙ seen_each [] versions;
+      versions = first ++ reverse second;
+      all =
+          IsPermutation-trans (seen_of number window c.versions) (map (version_in number) (seen_through window both)) (map (version_in number) (first ++ reverse second))
+          seen (IsPermutation-map (version_in number) (seen_through window both) (first ++ reverse second) turned);
+      made = made ∙ sym (map-append row_of first (reverse second));
     }
 
 -- ---- what the window sees is what the reference sees

@@ -1,5 +1,5 @@
 -- A stored query that is answered is a step of the histories that the engine represents.
-use Rattle.std.proofs.Common.{◌≡◌, ◌∙◌, List, [], Some, Ok, Err, refl, ap, subst, fold, inl}
+use Rattle.std.proofs.Common.{◌≡◌, List, Some, Ok, Err, refl, subst, inl}
 use Rattle.period_core.specs.Leasts.{MayAnswer, NoneApplies}
 use Rattle.period_core.specs.declared.refusal.Refusal.{Refusal}
 use Rattle.period_core.specs.declared.version.VersionRow.{VersionRow}
@@ -11,31 +11,17 @@ use Rattle.catalog_core.specs.stored.StoredQueries.{ResolvesStoredQuery, stored_
 use Rattle.catalog_core.specs.table.TableWords.{table_of}
 use Rattle.catalog_core.specs.declared.stored.Stored.{Stored}
 use Rattle.catalog_core.specs.declared.table.TableDef.{TableDef}
-use Rattle.version_store.specs.Contents.{Contents}
-use Rattle.version_store.specs.Scans.{AreFirstSeen, Visits}
 use Rattle.version_store.specs.StoreState.{IsStoreRefusal}
 use Rattle.history_model.specs.Histories.{Asked, History, with_event}
 use Rattle.script_engine.specs.engine.Runs.{StepsTo}
-use Rattle.script_engine.specs.engine.Shown.{AreShownIn, AreShownOf, version_columns}
+use Rattle.script_engine.specs.engine.Shown.{AreShownIn, version_columns}
 use Rattle.script_engine.specs.engine.EngineState.{EngineState}
 use Rattle.script_engine.specs.engine.Stored.{EngineRepresents, HasContents}
 use Rattle.script_engine.specs.declared.engine.outcome.Outcome.TheVariants.{Versions}
 use Rattle.script_engine.specs.declared.engine.outcome.VersionColumn.{VersionColumn}
 use Rattle.script_engine.specs.declared.engine.outcome.VersionList.{VersionList}
 use Rattle.script_engine.proofs.Contents.{said-asked}
-use Rattle.script_engine.proofs.ShownFacts.{kept_next, kept_rows}
 use Rattle.script_engine.proofs.Steps.{failed_step, refused_step, tables_of}
-
--- what a scan leaves in a visitor that had none
-pub scanned : {X : Type 0} (c : Contents) (query : Stored) (old new : Stored × List VersionRow) (x : X) → old ≡ (query, []) → Visits kept_next c query.table query.window old new (Ok x) → AreShownOf c query new.1
-scanned c query old new x none visits =
-    let rows : List VersionRow = visits.0 in
-    let whole : visits.1 ≡ [] = visits.4 in
-    record {
-      seen = rows;
-      all = subst (AreFirstSeen c query.table query.window rows) whole visits.2;
-      shown = ap (λ (k : Stored × List VersionRow). k.1) (visits.3 ∙ ap (λ (k : Stored × List VersionRow). fold kept_next k rows) none ∙ kept_rows query [] rows);
-    }
 
 module _ {S : Type 0} (g : Ghosts S) (history : History) (old : EngineState S) (asked : statement.Stored) (kept : EngineRepresents g history old) where
   abbrev s : Statement
@@ -76,5 +62,5 @@ module _ {S : Type 0} (g : Ghosts S) (history : History) (old : EngineState S) (
             },
           ),
         ),
-        record { contents = kept.contents; stored = has.stored; said = said-asked history kept.contents kept.said; current = has.current },
+        record { contents = kept.contents; stored = has.stored; said = said-asked history kept.contents kept.said; current = has.current; ended = has.ended },
       )

@@ -18,6 +18,7 @@ use Rattle.catalog_core.specs.create.Lawful.{IsLawful}
 use Rattle.version_store.specs.StoreState.{Changes, IsStoreRefusal, IsUsable}
 use Rattle.history_model.specs.Histories.{Advanced, Created, History, catalog_of, last_state, with_event}
 use Rattle.script_engine.specs.engine.Runs.{MayRefuse, MayRefuseStatement, StatementApplies, StepsTo}
+use Rattle.script_engine.specs.engine.Ended.{HaveEnded}
 use Rattle.script_engine.specs.engine.EngineState.{EngineState, store_of}
 use Rattle.script_engine.specs.engine.InMemory.{HaveCurrentRows}
 use Rattle.script_engine.specs.engine.Stored.{EngineRepresents, HasContents}
@@ -52,7 +53,7 @@ refused_step g history engine s refusal kept may = (history, (by_condition histo
 
 -- what is represented after a refused call
 pub still : {S : Type 0} (g : Ghosts S) (history : History) (old new : EngineState S) (kept : EngineRepresents g history old) → HasContents g new kept.contents → EngineRepresents g history new
-still g history old new kept has = record { contents = kept.contents; stored = has.stored; said = kept.said; current = has.current }
+still g history old new kept has = record { contents = kept.contents; stored = has.stored; said = kept.said; current = has.current; ended = has.ended }
 
 -- the database fails where no refusal applies
 pub failed_step : {S : Type 0} (g : Ghosts S) (history : History) (old new : EngineState S) (s : Statement) (refusal : Refusal) (kept : EngineRepresents g history old) → HasContents g new kept.contents →
@@ -63,14 +64,15 @@ failed_step g history old new s refusal kept has failure none =
 -- ---- AT
 
 pub moved : {S : Type 0} (g : Ghosts S) (history : History) (old new : EngineState S) (result : Result (Unit {0}) Refusal) (moment : ℤ) → Changes g (store_of old) (store_of new) result (with_clock moment) → new.tables ≡ old.tables →
-    old.clock ≤ℤ moment → moment <ℤ forever → IsUsable g new.connection → EngineRepresents g history old → OnOk result (EngineRepresents g (with_event history (Advanced moment)) new)
-moved g history old new result moment changes same late before usable kept =
+    new.ended ≡ old.ended → old.clock ≤ℤ moment → moment <ℤ forever → IsUsable g new.connection → EngineRepresents g history old → OnOk result (EngineRepresents g (with_event history (Advanced moment)) new)
+moved g history old new result moment changes same closed late before usable kept =
     on_ok_weaker result
     (λ stored. record {
       contents = with_clock moment kept.contents;
       stored = stored;
       said = said-advanced history kept.contents moment kept.said (subst (λ (k : ℤ). k ≤ℤ moment) kept.stored.clock late) before;
       current = subst (HaveCurrentRows (with_clock moment kept.contents)) (sym same) (record { keys = kept.current.keys; rows = kept.current.rows });
+      ended = subst (HaveEnded (with_clock moment kept.contents)) (sym closed) (λ number. let has = kept.ended number in record { versions = has.versions; held = has.held; all = has.all });
     })
     (changes usable kept.contents kept.stored).0
 
@@ -105,6 +107,7 @@ created_step g history old new create definition kept sound defined has = (
         (nothing_beyond kept.contents old.tables kept.current (last_state history) (λ table day. state_said history kept.contents table day (is_left history kept.contents kept.said)))
         kept.said;
     current = has.current;
+    ended = has.ended;
   },
 )
 

@@ -1,5 +1,6 @@
 pub mod EngineState
 pub mod InMemory
+pub mod Ended
 pub mod Faults
 pub mod Stored
 pub mod Planned

@@ -1,3 +1,5 @@
 pub mod Script
 pub mod AuditedRuns
 pub mod Check
+pub mod Listening
+pub mod Keeping

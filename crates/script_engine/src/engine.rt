@@ -18,6 +18,8 @@ ghost use Rattle.version_store.specs.StoreState.{Changes, IsOpenRefusal, IsOurs,
 ghost use Rattle.version_store.specs.StoreState.{IsUsable, StoreRepresents};
 ghost use Rattle.history_model.specs.Histories.{Advanced, History, state_at, with_event};
 ghost use Rattle.history_model.specs.Versions.{values_at};
+ghost use Rattle.ended_versions.specs.Packed.{closed_at};
+ghost use Rattle.script_engine.specs.engine.Ended.{HaveClosed};
 ghost use Rattle.script_engine.specs.engine.EngineState.{store_of};
 ghost use Rattle.script_engine.specs.engine.Faults.{AreConstrained};
 ghost use Rattle.script_engine.specs.engine.InMemory.{HaveRows, IsSameInMemory, rows_in};
@@ -30,23 +32,26 @@ ghost use Rattle.sql_statements.specs.Trees as statement;
 
 mod answering;
 mod auditing;
-mod current_shown;
+mod closed;
 mod in_memory;
 mod indexed;
 mod lawfulness;
 mod needed;
 pub mod outcome;
 mod shown;
+mod stored;
 
-use crate::engine::current_shown::shown_by;
-use crate::engine::indexed::{add_index, apply_plan, load_lawful, remove_last, rows_of_number};
+use crate::engine::closed::{add_versions, apply_closing, load_ended, remove_versions};
+use crate::engine::indexed::load_lawful;
 use crate::engine::lawfulness::lawful_plan;
 use crate::engine::needed::answer_of;
 use crate::engine::outcome::{Outcome, VersionList, Word, done};
 use crate::engine::shown::version_columns;
+use crate::engine::stored::shown_by;
 use catalog_core::{
     Catalog, Plan, define, resolve_change, resolve_sequenced, resolve_stored_query,
 };
+use ended_versions::EndedVersions;
 use period_core::{Items, Moment, Refusal, VersionRow};
 use period_keys::TableIndex;
 use sql_statements::{
@@ -58,12 +63,14 @@ use std::alloc::Global;
 use std::marker::Model;
 use version_store::VersionStore;
 
-/// The engine: its store, and in memory the current rows of each table, in the order of the
-/// catalog, with the indexes that its references need. So a change reads no row from the database.
+/// The engine: its store, and in memory all versions of each table, in the order of the catalog:
+/// the current ones, with the indexes that its references need, and those that have ended. So
+/// neither a change nor a query reads a row from the database.
 #[derive(Drop)]
 pub struct Engine<S: Alter> {
     store: VersionStore<S>,
     tables: Vec<TableIndex>,
+    ended: Vec<EndedVersions>,
 }
 
 impl<S: Alter> Model for Engine<S> {
@@ -71,15 +78,17 @@ impl<S: Alter> Model for Engine<S> {
     ghost use Rattle.period_keys.specs.Current.{rows_by_key};
     ghost use Rattle.script_engine.specs.engine.EngineState.{EngineState, engine_of};
     ghost use Rattle.script_engine.specs.engine.EngineState.{engine_state_code};
+    ghost use Rattle.script_engine.specs.engine.Ended.{AllEndedBy};
     ghost use Rattle.script_engine.specs.engine.InMemory.{FollowCatalog};
 
     ghost Value = { EngineState S };
 
     ghost coded = { engine_state_code S.code };
 
-    ghost view = { λ e. engine_of e.store (map rows_by_key e.tables.items) };
+    ghost view = { λ e. engine_of e.store (map rows_by_key e.tables.items) e.ended.items };
 
-    ghost invariant = { λ e. FollowCatalog e.store.catalog.tables e.tables.items };
+    ghost invariant = { λ e. FollowCatalog e.store.catalog.tables e.tables.items
+        × AllEndedBy e.store.clock e.ended.items };
 }
 
 // What the clauses say of a store holds where its connection is usable as the call ends: its disk
@@ -89,8 +98,10 @@ impl<S: Alter> Model for Engine<S> {
 // they were.
 impl<S: Alter> Engine<S> {
     /// Opens a store: a new one in a database that has none of its three tables, or else the one
-    /// that is there, if it is a good one. An `Err` hands the connection back: 60 for a store that
-    /// is not good, 61 or 62. It changes nothing, and no transaction is open on the connection.
+    /// that is there, if it is a good one. One of form 1 is moved to form 2, in one transaction,
+    /// once all of it has been judged; one of form 2 is not written. An `Err` hands the connection
+    /// back: 60 for a store that is not good, 61 or 62. It changes nothing, and no transaction is
+    /// open on the connection.
     pub fn open(
         alloc: Global,
         connection: Connection<S>,
@@ -120,12 +131,21 @@ impl<S: Alter> Engine<S> {
             Ok(opened) => opened,
             Err(failed) => return Err(failed),
         };
-        match load_lawful(alloc, &mut opened) {
-            Ok(tables) => Ok(Engine {
-                store: opened.accept(),
+        let tables = match load_lawful(alloc, &mut opened) {
+            Ok(tables) => tables,
+            Err(refusal) => return Err((refusal, opened.refuse())),
+        };
+        let ended = match load_ended(alloc, &mut opened) {
+            Ok(ended) => ended,
+            Err(failure) => return Err((failure, opened.refuse())),
+        };
+        match opened.accept() {
+            Ok(store) => Ok(Engine {
+                store,
                 tables,
+                ended,
             }),
-            Err(refusal) => Err((refusal, opened.refuse())),
+            Err(failed) => Err(failed),
         }
     }
 
@@ -138,7 +158,11 @@ impl<S: Alter> Engine<S> {
             → (history : History) → EngineRepresents S.Store history self
             → IsGoodStore AreConstrained (state S.Store result).now }
     {
-        let Engine { store, tables: _ } = self;
+        let Engine {
+            store,
+            tables: _,
+            ended: _,
+        } = self;
         let connection = store.close();
         // For the proof alone: while a connection is open, no two rows share a key.
         let _live = connection.schema();
@@ -231,13 +255,14 @@ impl<S: Alter> Engine<S> {
             Err(refusal) => return Err(refusal),
         };
         let catalog = self.store.catalog();
-        let Ok(()) = add_index(alloc, catalog, &mut self.tables, &definition) else {
+        let tables = &mut self.tables;
+        let Ok(()) = add_versions(alloc, catalog, tables, &mut self.ended, &definition) else {
             return Err(Refusal::Memory);
         };
         match self.store.add_table(alloc, definition) {
             Ok(()) => Ok(Outcome::Done(Word::Create, 0)),
             Err(refusal) => {
-                remove_last(&mut self.tables);
+                remove_versions(&mut self.tables, &mut self.ended);
                 Err(refusal)
             }
         }
@@ -260,6 +285,9 @@ impl<S: Alter> Engine<S> {
             self.old.tables self.new.tables) }
         ensures none { OnErr result
             (HaveRows table (rows_in self.old.tables table) self.old.tables self.new.tables) }
+        ensures closed { OnOk result (HaveClosed table
+            (closed_at self.old.clock plan.now.ended) self.old.ended self.new.ended) }
+        ensures open { OnErr result (self.new.ended ≡ self.old.ended) }
         ensures catalog { self.new.catalog ≡ self.old.catalog }
         ensures clock { self.new.clock ≡ self.old.clock }
         ensures usable { WasUsable S.Store self.old.connection self.new.connection }
@@ -268,10 +296,14 @@ impl<S: Alter> Engine<S> {
         if table == 0 {
             return Err(Refusal::Store);
         }
-        match self.tables.get_mut(usize::from(table) - 1) {
-            Some(index) => apply_plan(alloc, &mut self.store, index, table, plan),
-            None => Err(Refusal::Store),
-        }
+        let place = usize::from(table) - 1;
+        let Some(index) = self.tables.get_mut(place) else {
+            return Err(Refusal::Store);
+        };
+        let Some(ended) = self.ended.get_mut(place) else {
+            return Err(Refusal::Store);
+        };
+        apply_closing(alloc, &mut self.store, index, ended, table, plan)
     }
 
     /// Runs an INSERT, an UPDATE or a DELETE: where it is lawful, what its plan ends and adds is
@@ -327,7 +359,10 @@ impl<S: Alter> Engine<S> {
             Ok(query) => query,
             Err(refusal) => return Err(refusal),
         };
-        match answer_of(alloc, &mut self.store, self.tables.as_slice(), &query) {
+        let catalog = self.store.catalog();
+        let tables = self.tables.as_slice();
+        let ended = self.ended.as_slice();
+        match answer_of(alloc, catalog, tables, ended, &query) {
             Ok(answer) => Ok(Outcome::Answer(answer)),
             Err(refusal) => Err(refusal),
         }
@@ -360,12 +395,14 @@ impl<S: Alter> Engine<S> {
         let Ok(columns) = version_columns(alloc, table) else {
             return Err(Refusal::Memory);
         };
-        match shown_by(alloc, &mut self.store, self.tables.as_slice(), query) {
+        let tables = self.tables.as_slice();
+        let ended = self.ended.as_slice();
+        match shown_by(alloc, tables, ended, &query) {
             Ok(rows) => Ok(Outcome::Versions(VersionList {
                 columns,
                 rows: Items::from_vec(rows),
             })),
-            Err(refusal) => Err(refusal),
+            Err(_) => Err(Refusal::Memory),
         }
     }
 

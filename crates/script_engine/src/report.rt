@@ -11,6 +11,7 @@ pub mod audited;
 pub(crate) mod buffer;
 pub mod check;
 pub(crate) mod record;
+pub mod statement;
 pub mod writer;
 
 use crate::engine::outcome::{Outcome, VersionColumn, VersionList, Word};

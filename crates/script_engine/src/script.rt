@@ -1,7 +1,6 @@
 //! Scripts: their text, their pieces, and the results of these.
 
-ghost use Rattle.std.specs.Prelude.{◌≡◌, ◌≤◌, [], All, IfErr, IfOk, OnOk, false, length, map};
-ghost use Rattle.std.specs.Prelude.{vec_capacity};
+ghost use Rattle.std.specs.Prelude.{◌≡◌, ◌≤◌, All, IfErr, IfOk, List, OnOk, false, length, map};
 ghost use Rattle.std.specs.Str.{IsUtf8};
 ghost use Rattle.period_core.specs.Leasts.{MayAnswer, NoneApplies};
 ghost use Rattle.period_core.specs.declared.refusal.Refusal.TheVariants.{BadStore, NotUtf8};
@@ -19,17 +18,21 @@ ghost use Rattle.script_engine.specs.engine.Stored.{DatabaseRepresents, EngineRe
 ghost use Rattle.script_engine.specs.engine.Stored.{IsAlwaysUsable, IsBadStore, RepresentsSome};
 ghost use Rattle.script_engine.specs.engine.Stored.{WasUsable};
 ghost use Rattle.script_engine.specs.script.AuditedRuns.{IsAuditedRunFrom, results_of};
+ghost use Rattle.script_engine.specs.script.Listening.{HearsAll, StepFront};
 ghost use Rattle.script_engine.specs.script.Script.{IsCutInto, IsRunBy, IsRunFrom, MayRefuseRun};
-ghost use Rattle.script_engine.specs.script.Script.{MayRefuseScript, StepPieces};
+ghost use Rattle.script_engine.specs.script.Script.{MayRefuseScript};
 ghost use Rattle.script_engine.specs.script.Script.{TextApplies, most_bytes};
 
 pub mod check;
 pub mod kept;
+pub mod listener;
+pub mod over;
 
 use crate::engine::Engine;
 use crate::engine::outcome::Outcome;
 use crate::entry::Entry;
 use crate::script::kept::Kept;
+use crate::script::listener::{AllKept, Listener};
 use period_core::Refusal;
 use sql_front::{LexFault, Span, cut, lex, parse};
 use sql_statements::{Statement, Token};
@@ -138,30 +141,34 @@ fn run_piece<S: Alter, K: Kept<S>>(
     kept
 }
 
-/// What a run keeps of the pieces of a script, one after the other, from any history that the
-/// engine represents. It is kept in a list that has room for all of it.
-fn run_pieces<S: Alter, K: Kept<S> + Drop>(
+/// Runs the pieces of a script, one after the other, from any history that the engine represents,
+/// and hands on what it keeps of each. Says whether it came to the last: it ends before where the
+/// listener asks for no more.
+fn run_pieces<S: Alter, K: Kept<S>, L: Listener<K>>(
     alloc: Global,
     engine: &mut Engine<S>,
     script: &str,
     tokens: &[Token<'_>],
     pieces: &[Span],
-    mut kept: Vec<K>,
-) -> Vec<K>
-    requires within { All (IsWithin (length tokens.now)) pieces.now }
-    requires room { length pieces.now ≤ vec_capacity kept }
-    requires none { kept.items ≡ [] }
-    ensures run { IsUsable S.Store engine.new.connection
+    listener: &mut L,
+) -> bool
+    requires { All (IsWithin (length tokens.now)) pieces.now }
+    ensures run { (results : List K)
+        × HearsAll L.hears 1 listener.old results result listener.new
+        × (length results ≤ length pieces.now)
+        × (IsUsable S.Store engine.new.connection
         → (history : History) → EngineRepresents S.Store history engine.old
-        → RepresentsSome S.Store (StepPieces K.is_step history
-        (map (spanned (lexemes tokens.now)) pieces.now) result.items) engine.new }
+        → RepresentsSome S.Store (StepFront K.is_step history
+        (map (spanned (lexemes tokens.now)) pieces.now) results result) engine.new) }
     ensures usable { WasUsable S.Store engine.old.connection engine.new.connection }
 {
-    for piece in pieces {
-        let result = run_piece(alloc, engine, script, &tokens[piece.start..piece.end]);
-        kept.push_reserved(result);
+    for (i, piece) in pieces.iter().enumerate() {
+        let kept: K = run_piece(alloc, engine, script, &tokens[piece.start..piece.end]);
+        if !listener.hear(i as u64 + 1, kept) {
+            return false;
+        }
     }
-    kept
+    true
 }
 
 /// Runs a script over the store of a connection, a new one where there is none, and keeps of each
@@ -203,7 +210,9 @@ pub fn run<S: Alter, K: Kept<S> + Drop>(
     };
     let tokens = pieces.tokens.as_slice();
     let spans = pieces.spans.as_slice();
-    let kept = run_pieces(alloc, &mut engine, pieces.text, tokens, spans, room);
+    let mut all = AllKept { kept: room };
+    run_pieces::<S, K, AllKept<K>>(alloc, &mut engine, pieces.text, tokens, spans, &mut all);
+    let AllKept { kept } = all;
     Ok((kept, engine))
 }
 

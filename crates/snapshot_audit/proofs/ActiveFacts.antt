@@ -12,8 +12,8 @@ use Rattle.catalog_core.specs.declared.query.resolved.QueryReference.{QueryRefer
 use Rattle.catalog_core.specs.query.Queries.{Query, rows_for}
 use Rattle.history_model.specs.OrdinaryQuery.{InAnswerOver, InQuery, TableSights}
 use Rattle.history_model.proofs.Sights.{query_seen}
-use Rattle.snapshot_audit.specs.declared.sweep.Sweep.{Sweep}
-use Rattle.snapshot_audit.specs.ActiveRows.{RowReferences, ContainsRow, AreActive, InActive, active_lists, active_for, ActiveSights, AllAreActive}
+use Rattle.std.specs.Global.{Vec}
+use Rattle.snapshot_audit.specs.ActiveRows.{RowReferences, ContainsRow, AreActive, InActive, ActiveLists, active_lists, active_for, ActiveSights, AllAreActive}
 use Rattle.snapshot_audit.proofs.Zips.{zip_at, zip_map}
 
 -- ---- rows by reference
@@ -132,24 +132,24 @@ active_snapshot rows active day are values = (
 -- ---- what references see
 
 pub active_at :
-    (seen : List Sweep) (place : ℕ) (sweep : Sweep) → place < length seen → sweep ≡ get_or seen place sweep
-    → sweep.active.items ≡ get_or (active_lists seen) place []
-active_at seen place sweep inside is =
-    ap (λ (s : Sweep). s.active.items) is ∙ sym (get_or-map (λ (s : Sweep). s.active.items) seen place sweep [] inside)
+    (seen : ActiveLists) (place : ℕ) (active : Vec (Bor PeriodRow)) → place < length seen → active ≡ get_or seen place active
+    → active.items ≡ get_or (active_lists seen) place []
+active_at seen place active inside is =
+    ap (λ (v : Vec (Bor PeriodRow)). v.items) is ∙ sym (get_or-map (λ (v : Vec (Bor PeriodRow)). v.items) seen place active [] inside)
 
 -- each reference sees by the active rows of a day what it sees on the day
 pub seen_alike :
-    (tables : List (List PeriodRow)) (seen : List Sweep) (day : ℤ) → AllAreActive tables seen day
+    (tables : List (List PeriodRow)) (seen : ActiveLists) (day : ℤ) → AllAreActive tables seen day
     → (reference : QueryReference) (values : List Value)
     → (ActiveSights seen reference values ↔ TableSights tables day reference values)
 seen_alike tables seen day all reference =
     active_snapshot (rows_for tables reference) (active_for seen reference) day
     (zip_at (λ rows active. AreActive rows active day) [] [] (AreActive-none day) tables (active_lists seen) reference.place
-    (zip_map (λ rows active. AreActive rows active day) (λ (s : Sweep). s.active.items) tables seen all))
+    (zip_map (λ rows active. AreActive rows active day) (λ (v : Vec (Bor PeriodRow)). v.items) tables seen all))
 
 -- so the query's set by them is that of the day
 pub answered_alike :
-    (tables : List (List PeriodRow)) (seen : List Sweep) (day : ℤ) → AllAreActive tables seen day
+    (tables : List (List PeriodRow)) (seen : ActiveLists) (day : ℤ) → AllAreActive tables seen day
     → (query : Query) (row : List Value) → (InQuery (ActiveSights seen) query row ↔ InAnswerOver query tables day row)
 answered_alike tables seen day all query row =
     query_seen (ActiveSights seen) (TableSights tables day) query (λ reference c. seen_alike tables seen day all reference) row

@@ -8,12 +8,12 @@ use Rattle.period_core.specs.declared.value.Value.{Value}
 use Rattle.sql_statements.specs.declared.statement.Comparison.TheVariants.{Equal}
 use Rattle.catalog_core.specs.Conditions.{compared}
 
-slice_get-left : (xs ys : List Value) (p : ℕ) → p < length xs → slice_get (xs ++ ys) p ≡ slice_get xs p
+pub slice_get-left : (xs ys : List Value) (p : ℕ) → p < length xs → slice_get (xs ++ ys) p ≡ slice_get xs p
 slice_get-left [] ys p h = absurd (omega arith)
 slice_get-left (x ∷ xs) ys zero h = refl
 slice_get-left (x ∷ xs) ys (suc p) h = slice_get-left xs ys p (omega arith)
 
-slice_get-right : (xs ys : List Value) (p q : ℕ) → length xs ≤ p → q ≡ p - length xs → slice_get (xs ++ ys) p ≡ slice_get ys q
+pub slice_get-right : (xs ys : List Value) (p q : ℕ) → length xs ≤ p → q ≡ p - length xs → slice_get (xs ++ ys) p ≡ slice_get ys q
 slice_get-right [] ys p q h e = ap (slice_get ys) (omega arith)
 slice_get-right (x ∷ xs) ys zero q h e = absurd (omega arith)
 slice_get-right (x ∷ xs) ys (suc p) q h e = slice_get-right xs ys p q (omega arith) (omega arith)

@@ -1,8 +1,8 @@
 -- The steps of a select: values of its items, a row that is selected, and one reference more.
-use Rattle.std.proofs.Common.{◌≡◌, ◌↔◌, ◌⊎◌, ◌<◌, ◌+◌, ◌++◌, inl, inr, ℕ, zero, suc, true, false, List, [], ◌∷◌, Option, Some, None, Bor, length, get_or, take, map, refl, subst, sym, ◌∙◌, ap, ap₂, arith, append_assoc, append-nil}
+use Rattle.std.proofs.Common.{◌≡◌, ◌↔◌, ◌⊎◌, ◌<◌, ◌≤◌, ◌+◌, ◌-◌, ◌++◌, inl, inr, ℕ, zero, suc, true, false, List, [], ◌∷◌, Option, Some, None, Bor, length, get_or, take, drop, map, refl, subst, sym, ◌∙◌, ap, ap₂, arith, append_assoc, append-nil}
 use Rattle.std.specs.Prelude.{slice_get}
 use Rattle.std.specs.List.{Contains}
-use Rattle.std.proofs.lemmas.List.{map-append, map_more}
+use Rattle.std.proofs.lemmas.List.{map-append, map_more, take_all}
 use Rattle.std.proofs.lemmas.List.Elements.{Contains-append_left, Contains-push, Contains-push_cases}
 use Rattle.period_core.specs.declared.value.Value.{Value}
 use Rattle.period_core.specs.declared.row.PeriodRow.{PeriodRow}
@@ -11,11 +11,17 @@ use Rattle.catalog_core.specs.declared.query.AnswerColumn.{AnswerColumn}
 use Rattle.catalog_core.specs.declared.query.resolved.QueryReference.{QueryReference}
 use Rattle.catalog_core.specs.declared.query.resolved.Select.{Select}
 use Rattle.history_model.specs.OrdinaryQuery.{Sights, InSelect, IsProjection, meets_all, read_items}
-use Rattle.snapshot_audit.specs.declared.sweep.Sweep.{Sweep}
-use Rattle.snapshot_audit.specs.ActiveRows.{RowReferences, active_for, ActiveSights}
+use Rattle.snapshot_audit.specs.ActiveRows.{ActiveLists, RowReferences, active_for, ActiveSights}
 use Rattle.snapshot_audit.specs.Selections.{IsSelected, InRest, InRests}
 
 -- ---- the values of items
+
+-- the first element of a list and the others, as a pattern of a slice reads them
+pub first_of : {X : Type 0} (xs : List X) (x : X) → 1 ≤ length xs → x ≡ get_or xs 0 x → xs ≡ x ∷ take (length xs - 1) (drop 1 xs)
+first_of [] x h e = absurd (omega arith)
+first_of (y ∷ ys) x h e =
+    let all : take (length (y ∷ ys) - 1) ys ≡ ys = take_all (length (y ∷ ys) - 1) ys (omega arith) in
+    ap (λ z. z ∷ ys) (sym e) ∙ ap (λ zs. x ∷ zs) (sym all)
 
 abbrev pub some : Value → Option Value
 some v = Some v
@@ -87,7 +93,7 @@ rest_none Sees select front row = (
 
 -- a combined row goes on with a row of the first reference, and then with those of the others
 pub rest_more :
-    (seen : List Sweep) (select : Select) (reference : QueryReference) (more : List QueryReference) (front row : List Value)
+    (seen : ActiveLists) (select : Select) (reference : QueryReference) (more : List QueryReference) (front row : List Value)
     → (InRests (ActiveSights seen) select more front (active_for seen reference) row
     ↔ InRest (ActiveSights seen) select (reference ∷ more) front row)
 rest_more seen select reference more front row = (
@@ -109,12 +115,12 @@ rest_more seen select reference more front row = (
 )
 
 -- what is added already
-abbrev pub HasRests : List Sweep → Select → List QueryReference → List Value → List (List Value) → RowReferences → List (List Value) → Type 0
+abbrev pub HasRests : ActiveLists → Select → List QueryReference → List Value → List (List Value) → RowReferences → List (List Value) → Type 0
 HasRests seen select more front old active rows =
     (row : List Value) → (Contains rows row ↔ (Contains old row ⊎ InRests (ActiveSights seen) select more front active row))
 
 pub HasRests-none :
-    (seen : List Sweep) (select : Select) (more : List QueryReference) (front : List Value) (old : List (List Value))
+    (seen : ActiveLists) (select : Select) (more : List QueryReference) (front : List Value) (old : List (List Value))
     → HasRests seen select more front old [] old
 HasRests-none seen select more front old row = (
   λ h. inl h,
@@ -122,7 +128,7 @@ HasRests-none seen select more front old row = (
 )
 
 pub HasRests-more :
-    (seen : List Sweep) (select : Select) (more : List QueryReference) (front : List Value) (old rows next : List (List Value))
+    (seen : ActiveLists) (select : Select) (more : List QueryReference) (front : List Value) (old rows next : List (List Value))
     (active : RowReferences) (r : Bor PeriodRow) → HasRests seen select more front old active rows
     → ((row : List Value) → (Contains next row ↔ (Contains rows row ⊎ InRest (ActiveSights seen) select more (front ++ r.now.values) row)))
     → HasRests seen select more front old (active ++ r ∷ []) next
@@ -145,7 +151,7 @@ HasRests-more seen select more front old rows next active r has step row = (
 
 -- a row that no combined row can go on with
 pub HasRests-skip :
-    (seen : List Sweep) (select : Select) (more : List QueryReference) (front : List Value) (old rows : List (List Value))
+    (seen : ActiveLists) (select : Select) (more : List QueryReference) (front : List Value) (old rows : List (List Value))
     (active : RowReferences) (r : Bor PeriodRow) → HasRests seen select more front old active rows
     → ((rest : List Value) → meets_all select.conjuncts ((front ++ r.now.values) ++ rest) ≡ false)
     → HasRests seen select more front old (active ++ r ∷ []) rows
@@ -160,7 +166,7 @@ HasRests-skip seen select more front old rows active r has none =
 
 -- once all rows of the first reference are done
 pub HasRests-all :
-    (seen : List Sweep) (select : Select) (reference : QueryReference) (more : List QueryReference) (front : List Value)
+    (seen : ActiveLists) (select : Select) (reference : QueryReference) (more : List QueryReference) (front : List Value)
     (old rows : List (List Value)) → HasRests seen select more front old (active_for seen reference) rows → (row : List Value)
     → (Contains rows row ↔ (Contains old row ⊎ InRest (ActiveSights seen) select (reference ∷ more) front row))
 HasRests-all seen select reference more front old rows has row =
@@ -182,7 +188,7 @@ rest_done Sees select front old rows step row =
 
 -- of all references, from no values on
 pub selected_all :
-    (seen : List Sweep) (select : Select) (old rows : List (List Value)) → old ≡ []
+    (seen : ActiveLists) (select : Select) (old rows : List (List Value)) → old ≡ []
     → ((row : List Value) → (Contains rows row ↔ (Contains old row ⊎ InRest (ActiveSights seen) select select.references [] row)))
     → (row : List Value) → (Contains rows row ↔ InSelect (ActiveSights seen) select row)
 selected_all seen select old rows none step row = (

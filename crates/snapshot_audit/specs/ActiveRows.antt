@@ -1,12 +1,12 @@
 -- The rows of a day, by reference, and what table references see by them.
 use Rattle.std.specs.Prelude.{◌≡◌, ◌↔◌, ◌≤ℤ◌, ◌<ℤ◌, ℤ, List, [], map, slice_index_or, Contains}
 use Rattle.std.specs.Borrow.{Bor}
+use Rattle.std.specs.Global.{Vec}
 use Rattle.std.specs.List.{AllZip}
 use Rattle.period_core.specs.declared.row.PeriodRow.{PeriodRow}
 use Rattle.period_core.specs.declared.value.Value.{Value}
 use Rattle.catalog_core.specs.declared.query.resolved.QueryReference.{QueryReference}
 use Rattle.history_model.specs.OrdinaryQuery.{Sights}
-use Rattle.snapshot_audit.specs.declared.sweep.Sweep.{Sweep}
 
 -- rows by reference
 abbrev pub RowReferences : Type 0
@@ -30,19 +30,23 @@ InActive active values =
 
 -- ---- of each list
 
--- the active rows of each sweep
-abbrev pub active_lists : List Sweep → List RowReferences
-active_lists seen = map (λ (sweep : Sweep). sweep.active.items) seen
+-- the active rows of each list, as the program has them
+abbrev pub ActiveLists : Type 0
+ActiveLists = List (Vec (Bor PeriodRow))
+
+-- the active rows of each list
+abbrev pub active_lists : ActiveLists → List RowReferences
+active_lists seen = map (λ (active : Vec (Bor PeriodRow)). active.items) seen
 
 -- the active rows of the list in a reference's place
-abbrev pub active_for : List Sweep → QueryReference → RowReferences
+abbrev pub active_for : ActiveLists → QueryReference → RowReferences
 active_for seen reference = slice_index_or (active_lists seen) reference.place []
 
 -- so each reference sees the values of these rows
-abbrev pub ActiveSights : List Sweep → Sights
+abbrev pub ActiveSights : ActiveLists → Sights
 ActiveSights seen reference values = InActive (active_for seen reference) values
 
--- each sweep has those rows of its list that cover the day
-abbrev pub AllAreActive : List (List PeriodRow) → List Sweep → ℤ → Type 0
+-- each has those rows of its list that cover the day
+abbrev pub AllAreActive : List (List PeriodRow) → ActiveLists → ℤ → Type 0
 AllAreActive tables seen day =
-    AllZip (λ rows (sweep : Sweep). AreActive rows sweep.active.items day) tables seen
+    AllZip (λ rows (active : Vec (Bor PeriodRow)). AreActive rows active.items day) tables seen

@@ -1,9 +1,12 @@
 pub mod Sets
 pub mod Faults
 pub mod Gaps
+pub mod Staggered
 pub mod ChangeDays
 pub mod ActiveRows
-pub mod Sweeping
 pub mod Selections
+pub mod Keys
+pub mod Pairs
 pub mod Verdicts
+pub mod Differences
 pub mod Laws

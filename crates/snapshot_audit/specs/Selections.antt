@@ -1,11 +1,14 @@
 -- A select by its combined rows: what the rest of its references adds to the first values of one.
-use Rattle.std.specs.Prelude.{◌++◌, IsTrue, List, Contains}
+use Rattle.std.specs.Prelude.{◌≡◌, ◌++◌, ℤ, IsTrue, List, Contains}
 use Rattle.std.specs.Borrow.{Bor}
 use Rattle.period_core.specs.declared.row.PeriodRow.{PeriodRow}
 use Rattle.period_core.specs.declared.value.Value.{Value}
+use Rattle.temporal_model.specs.Snapshot.{InSnapshot}
 use Rattle.catalog_core.specs.declared.query.resolved.QueryReference.{QueryReference}
 use Rattle.catalog_core.specs.declared.query.resolved.Select.{Select}
 use Rattle.history_model.specs.OrdinaryQuery.{Sights, InProduct, IsProjection, meets_all}
+use Rattle.snapshot_audit.specs.declared.combined_rows.Output.{Output}
+use Rattle.snapshot_audit.specs.declared.combined_rows.Output.TheVariants.{Front, SelectList}
 use Rattle.snapshot_audit.specs.ActiveRows.{RowReferences}
 
 -- the combined row meets every ON and WHERE, and this is the select list's row of it
@@ -24,3 +27,24 @@ abbrev pub InRests : Sights → Select → List QueryReference → List Value �
 InRests Sees select references front active row =
     (next : Bor PeriodRow) × Contains active next
     × InRest Sees select references (front ++ next.now.values) row
+
+-- ---- over periods
+
+-- some combined row that begins with these values meets every ON and WHERE
+abbrev pub CanMeet : Select → List Value → Type 0
+CanMeet select front =
+    (rest : List Value) × IsTrue (meets_all select.conjuncts (front ++ rest))
+
+-- what is kept of a combined row: its values, or the select list's row of it if it meets every ON
+-- and WHERE
+abbrev pub IsKept : Select → Output → List Value → List Value → Type 0
+IsKept select Front values row = values ≡ row
+IsKept select SelectList values row = IsSelected select values row
+
+-- the select list's rows of the combined rows that begin with values that these rows hold on the
+-- day, and go on with rows of these references
+abbrev pub InRestOn : (ℤ → Sights) → Select → List QueryReference → List PeriodRow → ℤ → List Value
+    → Type 0
+InRestOn Sees select references fronts day row =
+    (front : List Value) × InSnapshot fronts day front
+    × InRest (Sees day) select references front row

@@ -1,5 +1,5 @@
 -- What a verdict says of an answer.
-use Rattle.std.specs.Prelude.{◌≡◌, ◌↔◌, ◌<◌, ◌∷◌, ◌<ℤ◌, ℤ, ℕ, List, length, slice_index_or}
+use Rattle.std.specs.Prelude.{◌≡◌, ◌↔◌, ◌∷◌, ◌<ℤ◌, ℤ, ℕ, List, length}
 use Rattle.period_core.specs.declared.value.Value.{Value}
 use Rattle.period_core.specs.declared.row.PeriodRow.{PeriodRow}
 use Rattle.period_core.specs.declared.answer.Witness.{Witness}
@@ -18,26 +18,6 @@ HaveSameMembers InOne InOther = (values : List Value) → (InOne values ↔ InOt
 -- the snapshot of the rows is the set of this day
 abbrev pub AgreesOn : (ℤ → List Value → Type 0) → List PeriodRow → ℤ → Type 0
 AgreesOn InSet rows day = HaveSameMembers (InSnapshot rows day) (InSet day)
-
--- it is so on those of these days before this place that a period can cover
-abbrev pub AgreesBefore : (ℤ → List Value → Type 0) → List PeriodRow → List ℤ → ℕ → Type 0
-AgreesBefore InSet rows days place =
-    (k : ℕ) (d : ℤ) → k < place → IsDay (slice_index_or days k d)
-    → AgreesOn InSet rows (slice_index_or days k d)
-
--- it is so on all of them
-abbrev pub AgreesOnAll : (ℤ → List Value → Type 0) → List PeriodRow → List ℤ → Type 0
-AgreesOnAll InSet rows days = AgreesBefore InSet rows days (length days)
-
--- this is the first of them on which it is not so
-pub record DiffersFirst (InSet : ℤ → List Value → Type 0) (rows : List PeriodRow) (days : List ℤ)
-    (day : ℤ) : Type 0 where
-  pub place : ℕ
-  pub inside : place < length days
-  pub found : day ≡ slice_index_or days place day
-  pub is_day : IsDay day
-  pub differs : AgreesOn InSet rows day → ⊥
-  pub before : AgreesBefore InSet rows days place
 
 -- it is so on every day that a period can cover
 abbrev pub AgreesAlways : (ℤ → List Value → Type 0) → List PeriodRow → Type 0

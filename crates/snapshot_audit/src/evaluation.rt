@@ -6,21 +6,24 @@ ghost use Rattle.history_model.specs.OrdinaryQuery.{InAnswerOver, InQuery};
 ghost use Rattle.snapshot_audit.specs.ActiveRows.{ActiveSights};
 ghost use Rattle.snapshot_audit.specs.Sets.{ListsSet};
 
-use crate::selects::selected;
+use crate::selects::selected_set;
 use crate::set_operations::combined;
-use crate::sweep::Sweep;
-use crate::table_sweeps::sweeps_on;
+use crate::snapshots::all_active_on;
 use catalog_core::resolved::{Query, Tables};
-use period_core::{Day, Memory, Values};
+use period_core::{Day, Memory, PeriodRow, Values};
 use std::alloc::Global;
 
 /// The set of a query by the active rows, in ascending order, each list of values once.
-pub(crate) fn evaluated(alloc: Global, query: &Query, seen: &[Sweep]) -> Result<Vec<Values>, Memory>
+pub(crate) fn evaluated(
+    alloc: Global,
+    query: &Query,
+    seen: &[Vec<&PeriodRow>],
+) -> Result<Vec<Values>, Memory>
     ensures { IfOk result (λ set.
         ListsSet (InQuery (ActiveSights seen.now) (plain_query query.now)) set.items) }
 {
     match query {
-        Query::Select(select) => selected(alloc, select, seen),
+        Query::Select(select) => selected_set(alloc, select, seen),
         Query::Combined(operator, left, right) => {
             let first = evaluated(alloc, left, seen)?;
             let second = evaluated(alloc, right, seen)?;
@@ -40,6 +43,6 @@ pub fn eval_on(
     ensures { IfOk result (λ set.
         ListsSet (InAnswerOver (plain_query query.now) tables.now day) set.items) }
 {
-    let seen = sweeps_on(alloc, tables, day)?;
+    let seen = all_active_on(alloc, tables, day)?;
     evaluated(alloc, query, seen.as_slice())
 }

@@ -1,20 +1,27 @@
-//! The independent checker of a sequenced answer. It goes from change day to change day, compares
-//! the answer's snapshot with the set of the ordinary query on that day, and checks the witnesses.
-//! It depends on neither coalescing nor the operators on period rows, and they do not on it.
+//! The independent checker of a sequenced answer. It asks of each list of values, on each day on
+//! which a row of the answer or of a select begins or ends to hold it, whether the set of the
+//! ordinary query on that day has it, and whether the answer has; then it checks the witnesses. It
+//! depends on neither coalescing nor the operators on period rows, and they do not on it.
 #![tactic(auto)]
 
 mod auditing;
+mod combined_rows;
 mod days;
+mod differences;
 mod evaluation;
 mod gaps;
+mod joins;
+mod keys;
 mod laws;
+mod query_rows;
 mod ruling_out;
+mod select_rows;
 mod selects;
 mod set_operations;
 mod sets;
+mod shared_columns;
 mod snapshots;
-mod sweep;
-mod table_sweeps;
+mod staggered;
 mod verdict;
 mod witness_check;
 

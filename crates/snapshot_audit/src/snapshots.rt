@@ -2,10 +2,11 @@
 
 ghost use Rattle.std.specs.Prelude.{◌↔◌, IsTrue, IfOk};
 ghost use Rattle.temporal_model.specs.Snapshot.{InSnapshot};
-ghost use Rattle.snapshot_audit.specs.ActiveRows.{AreActive, InActive};
+ghost use Rattle.snapshot_audit.specs.ActiveRows.{AllAreActive, AreActive, InActive};
 ghost use Rattle.snapshot_audit.specs.Sets.{ListsSet};
 
 use crate::sets::sorted_once;
+use catalog_core::resolved::Tables;
 use period_core::{Day, Memory, PeriodRow, Values};
 use std::alloc::Global;
 
@@ -39,6 +40,21 @@ pub(crate) fn active_on<'a>(
         }
     }
     Ok(active)
+}
+
+/// For each list the rows that cover the day.
+pub(crate) fn all_active_on<'a>(
+    alloc: Global,
+    tables: &'a Tables,
+    day: Day,
+) -> Result<Vec<Vec<&'a PeriodRow>>, Memory>
+    ensures { IfOk result (λ seen. AllAreActive tables.now seen.items day) }
+{
+    let mut seen = Vec::new(alloc);
+    for table in tables.as_slice() {
+        seen.push(active_on(alloc, table.as_slice(), day)?)?;
+    }
+    Ok(seen)
 }
 
 /// The values of the rows, in ascending order, each list of values once.

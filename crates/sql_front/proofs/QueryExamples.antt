@@ -1,6 +1,6 @@
 -- Worked rows of AT and of sequenced queries: items, new names, joins and chains.
 use Rattle.std.proofs.Common.{◌≡◌, ℕ, pos, List, [], ◌∷◌, Option, Some, None, codes, refl}
-use Rattle.period_core.specs.TextReading.{date_at, date_parts_of, is_date, is_time, moment_of_text, time_at, time_parts_of}
+use Rattle.period_core.specs.TextReading.{date_at, date_parts_of, fraction_at, is_date, is_time, moment_of_text, six_of, time_at, time_parts_of}
 use Rattle.sql_statements.specs.declared.statement.ColumnReference.{ColumnReference}
 use Rattle.sql_statements.specs.declared.statement.Compare.{Compare}
 use Rattle.sql_statements.specs.declared.statement.Comparison.{Comparison}
@@ -26,19 +26,19 @@ use Rattle.sql_front.proofs.StatementExamples.{quoted_text, sign, word}
 
 -- ---- the moment
 
--- AT TIMESTAMP '2011-01-02 03:04:05'
+-- AT TIMESTAMP '2011-01-02 03:04:05.25'
 abbrev clock : List Lexeme
-clock = word (codes "AT") ∷ word (codes "TIMESTAMP") ∷ quoted_text (codes "'2011-01-02 03:04:05'") ∷ []
+clock = word (codes "AT") ∷ word (codes "TIMESTAMP") ∷ quoted_text (codes "'2011-01-02 03:04:05.25'") ∷ []
 
 abbrev clocked : Statement
-clocked = at (pos 1_293_937_445)
+clocked = at (pos 1_293_937_445_250_000)
 
 clock_is_read : whole_read (statement_read 0) clock ≡ Some clocked
-unfolding statement_read later_statement_read query_statement_read at_read clock_moment_read clock_value clock_of_token moment_of_token moment_of_text date_at time_at date_parts_of time_parts_of is_date is_time
+unfolding statement_read later_statement_read query_statement_read at_read clock_moment_read clock_value clock_of_token moment_of_token moment_of_text date_at time_at fraction_at date_parts_of time_parts_of six_of is_date is_time
 clock_is_read = refl
 
 pub clock_spelled : IsStatement clock clocked
-unfolding clock_of_token moment_of_token moment_of_text date_at time_at date_parts_of time_parts_of is_date is_time
+unfolding clock_of_token moment_of_token moment_of_text date_at time_at fraction_at date_parts_of time_parts_of six_of is_date is_time
 clock_spelled = spelled_if_read 0 clock clocked clock_is_read refl refl refl
 
 -- ---- columns and new names

@@ -1,12 +1,12 @@
 -- Worked rows: the values of names, numbers, texts, dates and moments, and what is wrong with literals.
-use Rattle.std.proofs.Common.{◌≡◌, ℕ, ℤ, ◌≤◌, pos, neg_ℤ, true, false, List, [], ◌∷◌, None, codes, refl, sym, ◌∙◌, subst, arith, lit≤}
+use Rattle.std.proofs.Common.{◌≡◌, ℕ, ℤ, ◌≤◌, pos, neg_ℤ, true, false, List, [], ◌∷◌, None, Some, codes, refl, sym, ◌∙◌, subst, arith, lit≤}
 use Rattle.sql_statements.specs.declared.token.TokenKind.TheVariants.{Word, Text}
 use Rattle.sql_statements.specs.Lexemes.{Lexeme}
 use Rattle.sql_statements.specs.Names.{is_name, is_plain_word}
 use Rattle.sql_statements.specs.Words.{is_reserved}
 use Rattle.sql_front.specs.LiteralValues.{IsDateToken, NamesClockMoment, NamesDay, NamesNegative, NamesNumber, text_value}
 use Rattle.period_core.specs.Encoding.{greatest_number}
-use Rattle.period_core.specs.TextReading.{date_at, date_parts_of, day_of_text, is_date, is_time, moment_of_text, time_at, time_parts_of}
+use Rattle.period_core.specs.TextReading.{date_at, date_parts_of, day_of_text, fraction_at, is_date, is_time, moment_of_text, six_of, time_at, time_parts_of}
 use Rattle.sql_front.specs.reading.LeafValues.{clock_of_token, day_of_token, moment_of_token}
 use Rattle.sql_front.specs.LiteralFaults.{HasBadDate, HasBadMoment}
 use Rattle.sql_front.specs.LiteralTests.{is_bad_date, is_bad_moment, somewhere}
@@ -48,12 +48,17 @@ it_is_named = day_shown (codes "'2010-01-01'") (pos 14_610) refl
 
 -- ---- moments
 
-the_open_end_is_no_clock_moment : clock_of_token (codes "'9999-12-31 23:59:59'") ≡ None
-unfolding clock_of_token moment_of_token moment_of_text date_at time_at date_parts_of time_parts_of is_date is_time
+the_open_end_is_no_clock_moment : clock_of_token (codes "'9999-12-31 23:59:59.999999'") ≡ None
+unfolding clock_of_token moment_of_token moment_of_text date_at time_at fraction_at date_parts_of time_parts_of six_of is_date is_time
 the_open_end_is_no_clock_moment = refl
 
-the_open_end_names_none : (m : ℤ) → NamesClockMoment (codes "'9999-12-31 23:59:59'") m → ⊥
-the_open_end_names_none m h = none_some m (sym the_open_end_is_no_clock_moment ∙ clock_found (codes "'9999-12-31 23:59:59'") m h)
+the_open_end_names_none : (m : ℤ) → NamesClockMoment (codes "'9999-12-31 23:59:59.999999'") m → ⊥
+the_open_end_names_none m h = none_some m (sym the_open_end_is_no_clock_moment ∙ clock_found (codes "'9999-12-31 23:59:59.999999'") m h)
+
+-- the last whole second is a moment like any other
+the_last_second_is_named : clock_of_token (codes "'9999-12-31 23:59:59'") ≡ Some (pos 253_402_300_799_000_000)
+unfolding clock_of_token moment_of_token moment_of_text date_at time_at fraction_at date_parts_of time_parts_of is_date is_time
+the_last_second_is_named = refl
 
 -- ---- tokens
 
@@ -76,12 +81,12 @@ a_bad_date_tested = refl
 it_is_bad : HasBadDate a_bad_date
 it_is_bad = (bad_date_somewhere a_bad_date).0 a_bad_date_tested
 
--- AT TIMESTAMP '9999-12-31 23:59:59'
+-- AT TIMESTAMP '9999-12-31 23:59:59.999999'
 abbrev at_open_end : List Lexeme
-at_open_end = word (codes "AT") ∷ word (codes "TIMESTAMP") ∷ quoted (codes "'9999-12-31 23:59:59'") ∷ []
+at_open_end = word (codes "AT") ∷ word (codes "TIMESTAMP") ∷ quoted (codes "'9999-12-31 23:59:59.999999'") ∷ []
 
 at_open_end_tested : somewhere is_bad_moment at_open_end ≡ true
-unfolding clock_of_token moment_of_token moment_of_text date_at time_at date_parts_of time_parts_of is_date is_time
+unfolding clock_of_token moment_of_token moment_of_text date_at time_at fraction_at date_parts_of time_parts_of six_of is_date is_time
 at_open_end_tested = refl
 
 at_open_end_is_bad : HasBadMoment at_open_end

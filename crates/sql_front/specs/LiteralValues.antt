@@ -64,7 +64,8 @@ between_quotes token = take (length token - 2) (drop 1 token)
 abbrev pub NamesDay : List ℕ → ℤ → Type 0
 NamesDay token day = IsDayText day (between_quotes token)
 
--- the token's text is YYYY-MM-DD HH:MM:SS of this moment, from the first to the open end
+-- the token's text is one of this moment, from the first to the open end: YYYY-MM-DD HH:MM:SS, with
+-- a point and one to six digits or without
 abbrev pub NamesMoment : List ℕ → ℤ → Type 0
 NamesMoment token moment = IsMomentText moment (between_quotes token)
 

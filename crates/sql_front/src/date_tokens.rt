@@ -43,7 +43,8 @@ fn moment_between_quotes(token: &str) -> Option<Moment>
     Moment::from_text(between_quotes(token))
 }
 
-/// The moment that a text token of the form YYYY-MM-DD HH:MM:SS names, if it names one.
+/// The moment that a text token of the form YYYY-MM-DD HH:MM:SS names, with a fraction of the
+/// second or without, if it names one.
 #[tactic(auto, using(crate::proofs::TokenFacts::moment_there))]
 pub fn moment_of_token(token: &str) -> Option<Moment>
     ensures value { result ≡ leaves.moment_of_token token.now }

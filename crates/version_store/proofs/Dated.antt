@@ -10,11 +10,14 @@ use Rattle.period_core.specs.declared.version.VersionRow.{VersionRow}
 use Rattle.catalog_core.specs.declared.table.TableDef.{TableDef}
 use Rattle.version_store.specs.Changed.{closed_at, is_ended, left_of, planned}
 use Rattle.version_store.specs.Contents.{AreDated, Contents, IsDated, TableVersion, added_in}
-use Rattle.version_store.specs.GoodStore.{IsGoodVersion}
+use Rattle.version_tables.specs.declared.form.Form.{Form}
+use Rattle.version_store.specs.GoodStore.{IsGoodVersionIn}
+use Rattle.version_store.specs.Units.{version_of}
+use Rattle.version_store.proofs.Units.{end_is, moment_is}
 
 -- a good version is dated
-pub good_is_dated : (tables : List TableDef) (clock : ℤ) (v : TableVersion) → IsGoodVersion tables clock v → IsDated v
-good_is_dated tables clock v good = record { days = good.days; from = good.moments.from_is; to = good.moments.to_is }
+pub good_is_dated : (form : Form) (tables : List TableDef) (clock : ℤ) (v : TableVersion) → IsGoodVersionIn form tables clock v → IsDated (version_of form v)
+good_is_dated form tables clock v good = record { days = good.days; from = moment_is form v.from good.moments.from_is; to = end_is form v.to good.moments.to_is }
 
 module _ (table : ℕ) (moment : ℤ) (at : IsMomentNumber moment) where
   closed_dated : (v : TableVersion) → IsDated v → AreDated (closed_at moment v)

@@ -9,9 +9,12 @@ use Rattle.sqlite_trees.proofs.ListLemmas.{all-get_or}
 use Rattle.period_core.specs.Encoding.{IsColumnValue, encoded}
 use Rattle.period_core.proofs.EncodingOrder.{keeps_order, reads_back}
 use Rattle.period_core.specs.declared.version.VersionRow.{VersionRow}
+use Rattle.version_tables.specs.Forms.{end_in, moment_in}
 use Rattle.version_tables.specs.Represents.{shown}
 use Rattle.version_tables.specs.Represents as raw
 use Rattle.version_store.specs.Contents.{HaveColumnValues, TableVersion, version_cmp, version_in}
+use Rattle.version_tables.specs.declared.form.Form.{Form}
+use Rattle.version_store.specs.Units.{version_of}
 use Rattle.version_store.specs.Written.{written_version}
 
 pub passes : {A : Type 0} (p : A → Bool) (xs : List A) → AllByRecursion (λ x. p x ≡ true) (filter p xs)
@@ -23,15 +26,20 @@ passes p (x ∷ xs) = go (p x) refl (passes p xs)
     go false e more = more
 
 -- a row shows one version of a table
-pub same_row : (v : TableVersion) (read : VersionRow) → All IsColumnValue v.values → All IsColumnValue read.values → shown (written_version v) ≡ shown (written_version (version_in 0 read)) → version_in v.table read ≡ v
-same_row v read hv hr e =
-    let bytes : encoded read.values ≡ encoded v.values = cc in
-    let values = reads_back read.values v.values hr hv bytes in
-    let s : read.period.start ≡ v.start = cc in
-    let d : read.period.end ≡ v.end = cc in
-    let f : read.from ≡ v.from = cc in
-    let z : read.to ≡ v.to = cc in
-    rw (values, s, d, f, z) refl
+pub same_row : (form : Form) (v w : TableVersion) (read : VersionRow) → All IsColumnValue v.values → All IsColumnValue read.values → shown (written_version v) ≡ shown (written_version w) → version_in w.table read ≡ version_of form w
+    → version_in v.table read ≡ version_of form v
+same_row form v w read hv hr e is =
+    let bytes : encoded w.values ≡ encoded v.values = cc in
+    let values : read.values ≡ v.values = reads_back read.values v.values hr hv (ap (λ (t : TableVersion). encoded t.values) is ∙ bytes) in
+    let s : w.start ≡ v.start = cc in
+    let d : w.end ≡ v.end = cc in
+    let f : w.from ≡ v.from = cc in
+    let z : w.to ≡ v.to = cc in
+    let start : read.period.start ≡ v.start = ap (λ (t : TableVersion). t.start) is ∙ s in
+    let end : read.period.end ≡ v.end = ap (λ (t : TableVersion). t.end) is ∙ d in
+    let from : read.from ≡ moment_in form v.from = ap (λ (t : TableVersion). t.from) is ∙ ap (moment_in form) f in
+    let to : read.to ≡ end_in form v.to = ap (λ (t : TableVersion). t.to) is ∙ ap (end_in form) z in
+    rw (values, start, end, from, to) refl
 
 cmp_same : (a b : TableVersion) → All IsColumnValue a.values → All IsColumnValue b.values → raw.version_cmp (written_version a) (written_version b) ≡ version_cmp a b
 cmp_same a b ha hb = ap (λ o. ordering_then o (ordering_then (int_cmp a.start b.start) (int_cmp a.from b.from))) (keeps_order a.values b.values ha hb)

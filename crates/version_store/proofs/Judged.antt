@@ -1,5 +1,5 @@
 -- What rows say of definitions and versions, in one way.
-use Rattle.std.proofs.Common.{◌≡◌, ◌+◌, ◌<◌, ◌≤◌, ◌∙◌, ◌∷◌, ◌++◌, ℕ, zero, suc, ℤ, pos, List, [], Some, append_assoc, arith, get_or, length, refl, subst, sym, ap, take, true}
+use Rattle.std.proofs.Common.{◌≡◌, ◌+◌, ◌<◌, ◌≤◌, ◌∙◌, ◌∷◌, ◌++◌, ℕ, zero, suc, ℤ, pos, List, [], Some, append_assoc, arith, get_or, length, refl, subst, subst₂, sym, ap, take, true}
 use Rattle.std.specs.Prelude.{slice_get}
 use Rattle.std.specs.List.{All, AllByRecursion}
 use Rattle.std.proofs.lemmas.Int.{ints}
@@ -14,6 +14,9 @@ use Rattle.catalog_core.specs.declared.table.TableDef.{TableDef}
 use Rattle.sqlite.specs.Order.{Row}
 use Rattle.sqlite.specs.declared.types.Value.TheVariants.{Int, Blob}
 use Rattle.sqlite_value.specs.Order.{column}
+use Rattle.version_tables.specs.Forms.{form_number}
+use Rattle.version_tables.specs.declared.form.Form.{Form}
+use Rattle.version_tables.specs.declared.form.Form.TheVariants.{Seconds, Microseconds}
 use Rattle.version_tables.specs.Good.{SayClock}
 use Rattle.version_tables.specs.Rows.{AreBytesAt, IsNumberAt}
 use Rattle.version_tables.specs.Good as raw
@@ -100,16 +103,16 @@ table_known tables (suc n) d there = (omega arith, within tables n d there)
     within (t ∷ tables) zero d there = omega arith
     within (t ∷ tables) (suc n) d there = let more = within tables n d there in omega (arith, more)
 
-pub raw_version : (tables : List TableDef) (clock : ℤ) (row : Row) → SaysVersion tables clock row → raw.SaysVersion clock (length tables) row
-raw_version tables clock row (v, is, good) =
+pub raw_version : (form : Form) (tables : List TableDef) (clock : ℤ) (row : Row) → SaysVersion form tables clock row → raw.SaysVersion form clock (length tables) row
+raw_version form tables clock row (v, is, good) =
     let known = table_known tables v.table good.definition good.table in
     (written_version v, is, record { known = record { low = omega (arith, ints, known.0); high = omega (arith, ints, known.1) }; days = good.days; moments = good.moments })
 
-pub number_there : (clock : ℤ) (tables : ℕ) (row : Row) → raw.SaysVersion clock tables row → (n : ℤ) × IsNumberAt row 0 n
-number_there clock tables row (v, is, good) = (pos v.table, rw is (omega arith, refl))
+pub number_there : (form : Form) (clock : ℤ) (tables : ℕ) (row : Row) → raw.SaysVersion form clock tables row → (n : ℤ) × IsNumberAt row 0 n
+number_there form clock tables row (v, is, good) = (pos v.table, rw is (omega arith, refl))
 
-pub values_there : (clock : ℤ) (tables : ℕ) (row : Row) → raw.SaysVersion clock tables row → (b : List ℕ) × AreBytesAt row 1 b
-values_there clock tables row (v, is, good) = (v.values, rw is (omega arith, refl))
+pub values_there : (form : Form) (clock : ℤ) (tables : ℕ) (row : Row) → raw.SaysVersion form clock tables row → (b : List ℕ) × AreBytesAt row 1 b
+values_there form clock tables row (v, is, good) = (v.values, rw is (omega arith, refl))
 
 same_number : (row : Row) (n m : ℤ) → column row 0 ≡ Int n → column row 0 ≡ Int m → n ≡ m
 same_number row n m p q = cc
@@ -120,14 +123,14 @@ same_bytes row a b p q = cc
 same_pos : (n m : ℕ) → pos n ≡ pos m → n ≡ m
 same_pos n m e = cc
 
-pub number_is : (clock : ℤ) (tables : ℕ) (row : Row) (n : ℤ) (says : raw.SaysVersion clock tables row) → IsNumberAt row 0 n → n ≡ pos says.0.table
-number_is clock tables row n (v, is, good) at = same_number row n (pos v.table) at.1 (ap (λ (r : Row). column r 0) is)
+pub number_is : (form : Form) (clock : ℤ) (tables : ℕ) (row : Row) (n : ℤ) (says : raw.SaysVersion form clock tables row) → IsNumberAt row 0 n → n ≡ pos says.0.table
+number_is form clock tables row n (v, is, good) at = same_number row n (pos v.table) at.1 (ap (λ (r : Row). column r 0) is)
 
-pub says_by : (tables : List TableDef) (clock : ℤ) (row : Row) (n : ℕ) (b : List ℕ) (definition : TableDef) (values : List Value) → raw.SaysVersion clock (length tables) row → IsNumberAt row 0 (pos n) → AreBytesAt row 1 b
-    → table_of tables n ≡ Some definition → encoded values ≡ b → All IsColumnValue values → are_row_values definition values ≡ true → SaysVersion tables clock row
-says_by tables clock row n b definition values (v, is, good) number bytes table same held fits =
+pub says_by : (form : Form) (tables : List TableDef) (clock : ℤ) (row : Row) (n : ℕ) (b : List ℕ) (definition : TableDef) (values : List Value) → raw.SaysVersion form clock (length tables) row → IsNumberAt row 0 (pos n) → AreBytesAt row 1 b
+    → table_of tables n ≡ Some definition → encoded values ≡ b → All IsColumnValue values → are_row_values definition values ≡ true → SaysVersion form tables clock row
+says_by form tables clock row n b definition values (v, is, good) number bytes table same held fits =
     let w : TableVersion = record { table = v.table; values = values; start = v.start; end = v.end; from = v.from; to = v.to } in
-    let number_same : n ≡ v.table = same_pos n v.table (number_is clock (length tables) row (pos n) (v, is, good) number) in
+    let number_same : n ≡ v.table = same_pos n v.table (number_is form clock (length tables) row (pos n) (v, is, good) number) in
     let bytes_same : v.values ≡ encoded values = same_bytes row v.values b (ap (λ (r : Row). column r 1) is) bytes.1 ∙ sym same in
     let make : List ℕ → Version = λ values. record { table = v.table; values = values; start = v.start; end = v.end; from = v.from; to = v.to } in (
       w,
@@ -143,21 +146,21 @@ says_by tables clock row n b definition values (v, is, good) number bytes table 
     )
 
 -- what a version's row says of its number, and of its bytes
-pub row_number : (tables : List TableDef) (clock : ℤ) (row : Row) (n : ℕ) (says : SaysVersion tables clock row) → IsNumberAt row 0 (pos n) → n ≡ says.0.table
-row_number tables clock row n (v, is, good) at = same_pos n v.table (same_number row (pos n) (pos v.table) at.1 (ap (λ (r : Row). column r 0) is))
+pub row_number : (form : Form) (tables : List TableDef) (clock : ℤ) (row : Row) (n : ℕ) (says : SaysVersion form tables clock row) → IsNumberAt row 0 (pos n) → n ≡ says.0.table
+row_number form tables clock row n (v, is, good) at = same_pos n v.table (same_number row (pos n) (pos v.table) at.1 (ap (λ (r : Row). column r 0) is))
 
-pub row_table : (tables : List TableDef) (clock : ℤ) (row : Row) (n : ℕ) (says : SaysVersion tables clock row) → IsNumberAt row 0 (pos n) → table_of tables n ≡ Some says.2.definition
-row_table tables clock row n (v, is, good) at = ap (table_of tables) (row_number tables clock row n (v, is, good) at) ∙ good.table
+pub row_table : (form : Form) (tables : List TableDef) (clock : ℤ) (row : Row) (n : ℕ) (says : SaysVersion form tables clock row) → IsNumberAt row 0 (pos n) → table_of tables n ≡ Some says.2.definition
+row_table form tables clock row n (v, is, good) at = ap (table_of tables) (row_number form tables clock row n (v, is, good) at) ∙ good.table
 
-pub row_bytes : (tables : List TableDef) (clock : ℤ) (row : Row) (b : List ℕ) (says : SaysVersion tables clock row) → AreBytesAt row 1 b → encoded says.0.values ≡ b
-row_bytes tables clock row b (v, is, good) at = same_bytes row (encoded v.values) b (ap (λ (r : Row). column r 1) is) at.1
+pub row_bytes : (form : Form) (tables : List TableDef) (clock : ℤ) (row : Row) (b : List ℕ) (says : SaysVersion form tables clock row) → AreBytesAt row 1 b → encoded says.0.values ≡ b
+row_bytes form tables clock row b (v, is, good) at = same_bytes row (encoded v.values) b (ap (λ (r : Row). column r 1) is) at.1
 
-pub row_fits : (tables : List TableDef) (clock : ℤ) (row : Row) (n : ℕ) (b : List ℕ) (definition : TableDef) (values : List Value) → SaysVersion tables clock row → IsNumberAt row 0 (pos n) → AreBytesAt row 1 b
+pub row_fits : (form : Form) (tables : List TableDef) (clock : ℤ) (row : Row) (n : ℕ) (b : List ℕ) (definition : TableDef) (values : List Value) → SaysVersion form tables clock row → IsNumberAt row 0 (pos n) → AreBytesAt row 1 b
     → table_of tables n ≡ Some definition → encoded values ≡ b → All IsColumnValue values → are_row_values definition values ≡ true
-row_fits tables clock row n b definition values (v, is, good) number bytes table same held =
-    let d : Some good.definition ≡ Some definition = sym (row_table tables clock row n (v, is, good) number) ∙ table in
+row_fits form tables clock row n b definition values (v, is, good) number bytes table same held =
+    let d : Some good.definition ≡ Some definition = sym (row_table form tables clock row n (v, is, good) number) ∙ table in
     let e : good.definition ≡ definition = cc in
-    let f : v.values ≡ values = reads_back v.values values good.held held (row_bytes tables clock row b (v, is, good) bytes ∙ sym same) in
+    let f : v.values ≡ values = reads_back v.values values good.held held (row_bytes form tables clock row b (v, is, good) bytes ∙ sym same) in
     subst (λ (t : TableDef). are_row_values t values ≡ true) e (subst (λ (vs : List Value). are_row_values good.definition vs ≡ true) f good.values)
 
 -- ---- the whole
@@ -173,13 +176,21 @@ same_tables before (row ∷ rows) (t ∷ ts) (u ∷ us) p q =
     let more : ts ≡ us = same_tables (before ++ u ∷ []) rows ts us (subst (λ (d : TableDef). AreTableRows (before ++ d ∷ []) rows ts) one p.1) q.1 in
     cc
 
-pub same_clock : (rows : List Row) (a b : ℤ) → SayClock rows a → SayClock rows b → a ≡ b
-same_clock rows a b p q =
-    let e : meta_row (pos 1) a ∷ [] ≡ meta_row (pos 1) b ∷ [] = sym p.0 ∙ q.0 in
-    cc
+-- the row has one form and one clock
+same_meta : (a b x y : ℤ) → meta_row a x ∷ [] ≡ meta_row b y ∷ [] → (a ≡ b) × (x ≡ y)
+same_meta a b x y e = (cc, cc)
 
-pub other_versions : (metas tables versions : List Row) (ts us : List TableDef) (a b : ℤ) → AreTableRows [] tables ts → SayClock metas a → ¬ AllByRecursion (SaysVersion ts a) versions → ¬ SayRows metas tables versions us b
-other_versions metas tables versions ts us a b read clock none says =
+same_number_form : (a b : Form) → form_number a ≡ form_number b → a ≡ b
+same_number_form Seconds Seconds e = refl
+same_number_form Seconds Microseconds e = absurd cc
+same_number_form Microseconds Seconds e = absurd cc
+same_number_form Microseconds Microseconds e = refl
+
+pub same_form : (a b : Form) (x y : ℤ) → meta_row (form_number a) x ∷ [] ≡ meta_row (form_number b) y ∷ [] → (a ≡ b) × (x ≡ y)
+same_form a b x y e = let parts = same_meta (form_number a) (form_number b) x y e in (same_number_form a b parts.0, parts.1)
+
+pub other_versions : (metas tables versions : List Row) (ts us : List TableDef) (f h : Form) (a b : ℤ) → AreTableRows [] tables ts → SayClock metas f a → ¬ AllByRecursion (SaysVersion f ts a) versions → ¬ SayRows metas tables versions us h b
+other_versions metas tables versions ts us f h a b read clock none says =
     let same = same_tables [] tables us ts says.defined.each read in
-    let at = same_clock metas b a says.meta clock in
-    none (subst (λ (n : ℤ). AllByRecursion (SaysVersion ts n) versions) at (subst (λ (known : List TableDef). AllByRecursion (SaysVersion known b) versions) same says.each))
+    let at = same_form h f b a (sym says.meta.0 ∙ clock.0) in
+    none (subst₂ (λ (form : Form) (n : ℤ). AllByRecursion (SaysVersion form ts n) versions) at.0 at.1 (subst (λ (known : List TableDef). AllByRecursion (SaysVersion h known b) versions) same says.each))

@@ -22,13 +22,18 @@ use Rattle.version_tables.proofs.Ordered.{defined_table, definitions_in_order, l
 use Rattle.period_core.specs.Moments.{IsMomentNumber}
 use Rattle.version_tables.specs.Good.{AreDays, SayClock}
 use Rattle.version_tables.specs.Rows.{InOrder, by_rowid}
-use Rattle.version_tables.specs.Represents.{AreUntied, defined, meta_row, meta_shown, stored, table_shown, version_shown}
+use Rattle.version_tables.specs.Represents.{AreUntied, defined, meta_shown, stored, table_shown, version_shown}
 use Rattle.version_tables.specs.Tables.{store_schema}
 use Rattle.version_store.proofs.Dated.{good_is_dated}
-use Rattle.version_store.proofs.Judged.{same_written}
+use Rattle.version_tables.specs.Forms.{end_in, moment_in}
+use Rattle.version_tables.specs.declared.form.Form.{Form}
+use Rattle.version_tables.specs.declared.form.Form.TheVariants.{Microseconds}
+use Rattle.version_store.specs.Units.{in_microseconds, version_of}
+use Rattle.version_store.proofs.Judged.{same_form, same_written}
+use Rattle.version_store.proofs.Units.{same_units}
 use Rattle.version_store.specs.Contents.{AreDated, Contents, HaveColumnValues, IsDated, TableVersion, same_version}
-use Rattle.version_store.specs.GoodStore.{AreLawful, AreTableRows, HaveTables, IsGoodStore, IsGoodVersion, NothingMore, SayRows, SaysVersion, AreGood}
-use Rattle.version_store.specs.Written.{Has, IsReadable, written_table, written_version}
+use Rattle.version_store.specs.GoodStore.{AreLawful, AreTableRows, HaveTables, IsGoodStore, IsGoodVersionIn, NothingMore, SayRows, SaysVersion, AreGood}
+use Rattle.version_store.specs.Written.{Has, HasIn, IsReadable, written_table, written_version}
 
 -- ---- definitions
 
@@ -70,10 +75,10 @@ pub twice : (vs : List TableVersion) → map stored (map written_version vs) ≡
 twice [] = refl
 twice (v ∷ vs) = ap (λ l. stored_version v ∷ l) (twice vs)
 
-says_all : (tables : List TableDef) (clock : ℤ) (rows : List Row) → AllByRecursion (SaysVersion tables clock) rows → (vs : List TableVersion) × (rows ≡ map stored_version vs) × AllByRecursion (IsGoodVersion tables clock) vs
-says_all tables clock [] all = ([], refl, tt)
-says_all tables clock (row ∷ rows) all =
-    let more = says_all tables clock rows all.1 in
+says_all : (form : Form) (tables : List TableDef) (clock : ℤ) (rows : List Row) → AllByRecursion (SaysVersion form tables clock) rows → (vs : List TableVersion) × (rows ≡ map stored_version vs) × AllByRecursion (IsGoodVersionIn form tables clock) vs
+says_all form tables clock [] all = ([], refl, tt)
+says_all form tables clock (row ∷ rows) all =
+    let more = says_all form tables clock rows all.1 in
     let head = all.0.1 in
     let tail = more.1 in
     (all.0.0 ∷ more.0, cc, (all.0.2, more.2))
@@ -85,15 +90,16 @@ abbrev pub KeepsKeys : Database → Type 0
 KeepsKeys db = (vs : List TableVersion) → HaveColumnValues vs → IsPermutation (map stored_version vs) (map version_shown (db.trees 2)) → IsAscending (λ (a b : TableVersion). same_version a b ≡ false) vs
 
 module _ (db : Database) (metas tables versions : List Row) (pm : IsPermutation (map meta_shown (db.trees 0)) metas) (pt : InOrder table_shown by_rowid (db.trees 1) tables) (pv : IsPermutation (map version_shown (db.trees 2)) versions) where
-  pub points_hold : db.schema ≡ store_schema → KeepsKeys db → (known : List TableDef) (clock : ℤ) → SayRows metas tables versions known clock
-      → (good : IsGoodStore NothingMore db) × (good.contents.tables ≡ known) × (good.contents.clock ≡ clock)
-  points_hold there keys known clock says =
-      let all = all-permutation (SaysVersion known clock) _ _ (IsPermutation-sym _ _ pv) says.each in
-      let vs = says_all known clock (map version_shown (db.trees 2)) all in
-      let held : HaveColumnValues vs.0 = all_weaker (IsGoodVersion known clock) (λ (v : TableVersion). All IsColumnValue v.values) (λ v good. good.held) vs.0 vs.2 in
+  pub points_hold : db.schema ≡ store_schema → KeepsKeys db → (known : List TableDef) (form : Form) (clock : ℤ) → SayRows metas tables versions known form clock
+      → (good : IsGoodStore NothingMore db) × (good.contents.tables ≡ known) × (good.form ≡ form) × (good.contents.clock ≡ clock)
+  points_hold there keys known form clock says =
+      let all = all-permutation (SaysVersion form known clock) _ _ (IsPermutation-sym _ _ pv) says.each in
+      let vs = says_all form known clock (map version_shown (db.trees 2)) all in
+      let held : HaveColumnValues vs.0 = all_weaker (IsGoodVersionIn form known clock) (λ (v : TableVersion). All IsColumnValue v.values) (λ v good. good.held) vs.0 vs.2 in
       let is = spelled_all [] tables known says.defined.each in
       let long : length known ≡ length tables = sym (length-map known written_table) ∙ sym (length-defined 1 (map written_table known)) ∙ ap length (sym is) in (
         record {
+          form = form;
           contents = record { tables = known; clock = clock; versions = vs.0 };
           says = record {
             meta = one_permutation _ _ (IsPermutation-sym _ _ (subst (IsPermutation (map meta_shown (db.trees 0))) says.meta.0 pm));
@@ -111,50 +117,49 @@ module _ (db : Database) (metas tables versions : List Row) (pm : IsPermutation 
         },
         refl,
         refl,
+        refl,
       )
 
-  pub points_fail : IsGoodStore NothingMore db → ((known : List TableDef) (clock : ℤ) → ¬ SayRows metas tables versions known clock) → ⊥
+  pub points_fail : IsGoodStore NothingMore db → ((known : List TableDef) (form : Form) (clock : ℤ) → ¬ SayRows metas tables versions known form clock) → ⊥
   points_fail good none =
       let c = good.contents in
       let is : tables ≡ defined 1 (map written_table c.tables) = definitions_in_order (db.trees 1) tables (map written_table c.tables) pt good.says.tables in
       let long : length tables ≡ length c.tables = ap length is ∙ length-defined 1 (map written_table c.tables) ∙ length-map c.tables written_table in
-      let meta : SayClock metas c.clock = (one_permutation _ _ (subst (λ l. IsPermutation l metas) good.says.meta pm), good.clock) in
-      let each : AllByRecursion (SaysVersion c.tables c.clock) (map stored_version c.versions) = all-map (SaysVersion c.tables c.clock) stored_version c.versions (all_weaker (IsGoodVersion c.tables c.clock) (λ v. SaysVersion c.tables c.clock (stored_version v)) (λ v good. (v, refl, good)) c.versions good.versions) in
-      let shown = all-permutation (SaysVersion c.tables c.clock) _ _ (subst (λ l. IsPermutation l (map version_shown (db.trees 2))) (twice c.versions) good.says.versions) each in
-      none c.tables c.clock (record {
+      let meta : SayClock metas good.form c.clock = (one_permutation _ _ (subst (λ l. IsPermutation l metas) good.says.meta pm), good.clock) in
+      let says = SaysVersion good.form c.tables c.clock in
+      let each : AllByRecursion says (map stored_version c.versions) = all-map says stored_version c.versions (all_weaker (IsGoodVersionIn good.form c.tables c.clock) (λ v. says (stored_version v)) (λ v good. (v, refl, good)) c.versions good.versions) in
+      let shown = all-permutation says _ _ (subst (λ l. IsPermutation l (map version_shown (db.trees 2))) (twice c.versions) good.says.versions) each in
+      none c.tables good.form c.clock (record {
         meta = meta;
         defined = record { few = subst (λ n. n ≤ 64) (sym long) good.few; each = subst (λ rows. AreTableRows [] rows c.tables) (sym is) (rows_of_tables [] c.tables good.readable good.lawful) };
-        each = all-permutation (SaysVersion c.tables c.clock) _ _ pv shown;
+        each = all-permutation says _ _ pv shown;
       })
 
-  pub judged_good : db.schema ≡ store_schema → KeepsKeys db → (r : Result (Catalog × ℤ) Refusal) → IfOk r (λ found. SayRows metas tables versions found.0.tables found.1)
-      → IfOk r (λ found. (good : IsGoodStore NothingMore db) × (good.contents.tables ≡ found.0.tables) × (good.contents.clock ≡ found.1))
+  pub judged_good : db.schema ≡ store_schema → KeepsKeys db → (r : Result (Catalog × Form × ℤ) Refusal) → IfOk r (λ found. SayRows metas tables versions found.0.tables found.1 found.2)
+      → IfOk r (λ found. (good : IsGoodStore NothingMore db) × (good.contents.tables ≡ found.0.tables) × (good.form ≡ found.1) × (good.contents.clock ≡ found.2))
   judged_good there keys (Err e) says = tt
-  judged_good there keys (Ok found) says = points_hold there keys found.0.tables found.1 says
+  judged_good there keys (Ok found) says = points_hold there keys found.0.tables found.1 found.2 says
 
-  pub judged_bad : (r : Result (Catalog × ℤ) Refusal) → IfErr r (λ refusal. refusal ≡ BadStore → (known : List TableDef) (clock : ℤ) → ¬ SayRows metas tables versions known clock)
+  pub judged_bad : (r : Result (Catalog × Form × ℤ) Refusal) → IfErr r (λ refusal. refusal ≡ BadStore → (known : List TableDef) (form : Form) (clock : ℤ) → ¬ SayRows metas tables versions known form clock)
       → IfErr r (λ refusal. refusal ≡ BadStore → ¬ IsGoodStore NothingMore db)
   judged_bad (Ok found) none = tt
   judged_bad (Err e) none = λ bad good. points_fail good (none bad)
 
 -- a good store has its contents
-pub has_contents : (db : Database) (good : IsGoodStore NothingMore db) → AreUntied (db.trees 2) → AllByRecursion (λ r. is_int (rowid r) ≡ true) (db.trees 2) → Has db good.contents
+pub has_contents : (db : Database) (good : IsGoodStore NothingMore db) → AreUntied (db.trees 2) → AllByRecursion (λ r. is_int (rowid r) ≡ true) (db.trees 2) → HasIn good.form db good.contents
 has_contents db good untied keyed = record {
   rows = record { schema = good.tables_there; says = good.says; untied = untied; keyed = keyed };
   definitions = good.readable;
-  values = all_weaker (IsGoodVersion good.contents.tables good.contents.clock) (λ (v : TableVersion). All IsColumnValue v.values) (λ v fine. fine.held) good.contents.versions good.versions;
+  values = all_weaker (IsGoodVersionIn good.form good.contents.tables good.contents.clock) (λ (v : TableVersion). All IsColumnValue v.values) (λ v fine. fine.held) good.contents.versions good.versions;
 }
 
-pub found_contents : (db : Database) → AreUntied (db.trees 2) → AllByRecursion (λ r. is_int (rowid r) ≡ true) (db.trees 2) → (r : Result (Catalog × ℤ) Refusal)
-    → IfOk r (λ found. (good : IsGoodStore NothingMore db) × (good.contents.tables ≡ found.0.tables) × (good.contents.clock ≡ found.1))
-    → IfOk r (λ found. (good : IsGoodStore NothingMore db) × Has db good.contents × (good.contents.tables ≡ found.0.tables) × (good.contents.clock ≡ found.1))
+pub found_contents : (db : Database) → AreUntied (db.trees 2) → AllByRecursion (λ r. is_int (rowid r) ≡ true) (db.trees 2) → (r : Result (Catalog × Form × ℤ) Refusal)
+    → IfOk r (λ found. (good : IsGoodStore NothingMore db) × (good.contents.tables ≡ found.0.tables) × (good.form ≡ found.1) × (good.contents.clock ≡ found.2))
+    → IfOk r (λ found. (good : IsGoodStore NothingMore db) × HasIn good.form db good.contents × (good.contents.tables ≡ found.0.tables) × (good.form ≡ found.1) × (good.contents.clock ≡ found.2))
 found_contents db untied keyed (Err e) says = tt
-found_contents db untied keyed (Ok found) says = (says.0, has_contents db says.0 untied keyed, says.1, says.2)
+found_contents db untied keyed (Ok found) says = (says.0, has_contents db says.0 untied keyed, says.1, says.2, says.3)
 
--- ---- what a database says, it says of one catalog and one clock
-
-one_clock : (a b : ℤ) → meta_row (pos 1) a ∷ [] ≡ meta_row (pos 1) b ∷ [] → a ≡ b
-one_clock a b e = cc
+-- ---- what a database says, it says of one catalog, one form and one clock
 
 same_written_tables : (ts us : List TableDef) → AllByRecursion IsReadable ts → AllByRecursion IsReadable us → map written_table ts ≡ map written_table us → ts ≡ us
 same_written_tables [] [] rt ru same = refl
@@ -185,20 +190,20 @@ defined_once n (a ∷ ps) (b ∷ qs) same =
     same_blobs : (a b : List ℕ) → Int (pos n) ∷ Blob a ∷ [] ≡ Int (pos n) ∷ Blob b ∷ [] → a ≡ b
     same_blobs a b e = cc
 
-pub same_contents : (db : Database) (c d : Contents) → Has db c → Has db d → (c.tables ≡ d.tables) × (c.clock ≡ d.clock)
-same_contents db c d hc hd =
+pub same_contents : (db : Database) (f h : Form) (c d : Contents) → HasIn f db c → HasIn h db d → (c.tables ≡ d.tables) × (f ≡ h) × (c.clock ≡ d.clock)
+same_contents db f h c d hc hd =
     let same : IsPermutation (defined 1 (map written_table c.tables)) (defined 1 (map written_table d.tables)) = IsPermutation-trans _ _ _ hc.rows.says.tables (IsPermutation-sym _ _ hd.rows.says.tables) in
-    let rows = same_table_rows 1 (map written_table c.tables) (map written_table d.tables) same in (
-      same_written_tables c.tables d.tables hc.definitions hd.definitions (defined_once 1 (map written_table c.tables) (map written_table d.tables) rows),
-      one_clock c.clock d.clock (sym hc.rows.says.meta ∙ hd.rows.says.meta),
-    )
+    let rows = same_table_rows 1 (map written_table c.tables) (map written_table d.tables) same in
+    let meta = same_form f h c.clock d.clock (sym hc.rows.says.meta ∙ hd.rows.says.meta) in
+    (same_written_tables c.tables d.tables hc.definitions hd.definitions (defined_once 1 (map written_table c.tables) (map written_table d.tables) rows), meta.0, meta.1)
   where
     same_table_rows : (n : ℕ) (ps qs : List (List ℕ)) → IsPermutation (defined n ps) (defined n qs) → defined n ps ≡ defined n qs
     same_table_rows n ps qs same = same_tables (defined n ps) (defined n qs) (defined_table n ps) (defined_table n qs) same
 
 -- a database with good contents is a good store
 pub good_store : {Constrained : Contents → Type 0} (db : Database) (c : Contents) → Has db c → KeepsKeys db → AreGood Constrained c → IsGoodStore Constrained db
-good_store db c has keys good = record {
+good_store {Constrained} db c has keys good = record {
+  form = Microseconds;
   contents = c;
   says = has.rows.says;
   tables_there = has.rows.schema;
@@ -208,7 +213,7 @@ good_store db c has keys good = record {
   lawful = good.lawful;
   versions = good.versions;
   distinct = keys c.versions has.values (subst (λ (l : List Row). IsPermutation l (map version_shown (db.trees 2))) (twice c.versions) has.rows.says.versions);
-  constrained = good.constrained;
+  constrained = subst Constrained (sym (same_units c)) good.constrained;
 }
 
 -- ---- the versions of a database with good contents are of its tables
@@ -222,38 +227,47 @@ IsTabledRow tables row = (v : TableVersion) × (row ≡ stored_version v) × IsT
 tabled_alike : (tables : List TableDef) (v : TableVersion) → IsTabledRow tables (stored_version v) → IsTabled tables v
 tabled_alike tables v (w, same, there) = let one : w.table ≡ v.table = cc in subst (λ (n : ℕ). (d : TableDef) × (table_of tables n ≡ Some d)) one there
 
-pub have_tables : (db : Database) (c : Contents) (good : IsGoodStore NothingMore db) → Has db good.contents → Has db c → HaveTables c
-have_tables db c good its has =
+pub have_tables : (db : Database) (form : Form) (c : Contents) (good : IsGoodStore NothingMore db) → HasIn good.form db good.contents → HasIn form db c → HaveTables c
+have_tables db form c good its has =
     let g = good.contents in
     let rows : AllByRecursion (IsTabledRow g.tables) (map stored_version g.versions) =
-    all-map (IsTabledRow g.tables) stored_version g.versions (all_weaker (IsGoodVersion g.tables g.clock) (λ v. IsTabledRow g.tables (stored_version v)) (λ v is. (v, refl, (is.definition, is.table))) g.versions good.versions) in
+    all-map (IsTabledRow g.tables) stored_version g.versions (all_weaker (IsGoodVersionIn good.form g.tables g.clock) (λ v. IsTabledRow g.tables (stored_version v)) (λ v is. (v, refl, (is.definition, is.table))) g.versions good.versions) in
     let shown = all-permutation (IsTabledRow g.tables) _ _ (subst (λ (l : List Row). IsPermutation l (map version_shown (db.trees 2))) (twice g.versions) good.says.versions) rows in
     let ours : AllByRecursion (IsTabledRow g.tables) (map stored_version c.versions) =
     all-permutation (IsTabledRow g.tables) _ _ (IsPermutation-sym _ _ (subst (λ (l : List Row). IsPermutation l (map version_shown (db.trees 2))) (twice c.versions) has.rows.says.versions)) shown in
-    let same : g.tables ≡ c.tables = (same_contents db g c its has).0 in
+    let same : g.tables ≡ c.tables = (same_contents db good.form form g c its has).0 in
     subst (λ (ts : List TableDef). AllByRecursion (IsTabled ts) c.versions) same
     (all_weaker (λ (v : TableVersion). IsTabledRow g.tables (stored_version v)) (IsTabled g.tables) (tabled_alike g.tables) c.versions
     (all_from_map (IsTabledRow g.tables) stored_version c.versions ours))
 
 -- ---- and have days and moments
 
-abbrev IsDatedRow : Row → Type 0
-IsDatedRow row = (v : TableVersion) × (row ≡ stored_version v) × IsDated v
+module _ (form : Form) where
+  abbrev IsDatedRow : Row → Type 0
+  IsDatedRow row = (v : TableVersion) × (row ≡ stored_version v) × IsDated (version_of form v)
 
-dated_alike : (v : TableVersion) → IsDatedRow (stored_version v) → IsDated v
-dated_alike v (w, same, is) =
-    let s : w.start ≡ v.start = cc in
-    let e : w.end ≡ v.end = cc in
-    let f : w.from ≡ v.from = cc in
-    let t : w.to ≡ v.to = cc in
-    record { days = subst₂ AreDays s e is.days; from = subst IsMomentNumber f is.from; to = subst IsMomentNumber t is.to }
+  dated_alike : (v : TableVersion) → IsDatedRow (stored_version v) → IsDated (version_of form v)
+  dated_alike v (w, same, is) =
+      let s : w.start ≡ v.start = cc in
+      let e : w.end ≡ v.end = cc in
+      let f : w.from ≡ v.from = cc in
+      let t : w.to ≡ v.to = cc in
+      record { days = subst₂ AreDays s e is.days; from = subst (λ n. IsMomentNumber (moment_in form n)) f is.from; to = subst (λ n. IsMomentNumber (end_in form n)) t is.to }
 
-pub are_dated : (db : Database) (c : Contents) (good : IsGoodStore NothingMore db) → Has db c → AreDated c.versions
-are_dated db c good has =
+-- a good store's versions
+pub good_dated : {db : Database} (good : IsGoodStore NothingMore db) → AreDated (in_microseconds good.form good.contents).versions
+good_dated good =
+    let c = good.contents in
+    all-map IsDated (version_of good.form) c.versions
+    (all_weaker (IsGoodVersionIn good.form c.tables c.clock) (λ v. IsDated (version_of good.form v)) (λ v is. good_is_dated good.form c.tables c.clock v is) c.versions good.versions)
+
+pub are_dated : (db : Database) (form : Form) (c : Contents) (good : IsGoodStore NothingMore db) → good.form ≡ form → HasIn form db c → AreDated (in_microseconds form c).versions
+are_dated db form c good same has =
     let g = good.contents in
-    let rows : AllByRecursion IsDatedRow (map stored_version g.versions) =
-    all-map IsDatedRow stored_version g.versions (all_weaker (IsGoodVersion g.tables g.clock) (λ v. IsDatedRow (stored_version v)) (λ v is. (v, refl, good_is_dated g.tables g.clock v is)) g.versions good.versions) in
-    let shown = all-permutation IsDatedRow _ _ (subst (λ (l : List Row). IsPermutation l (map version_shown (db.trees 2))) (twice g.versions) good.says.versions) rows in
-    let ours : AllByRecursion IsDatedRow (map stored_version c.versions) =
-    all-permutation IsDatedRow _ _ (IsPermutation-sym _ _ (subst (λ (l : List Row). IsPermutation l (map version_shown (db.trees 2))) (twice c.versions) has.rows.says.versions)) shown in
-    all_weaker (λ (v : TableVersion). IsDatedRow (stored_version v)) IsDated dated_alike c.versions (all_from_map IsDatedRow stored_version c.versions ours)
+    let row = IsDatedRow form in
+    let its : AllByRecursion (λ (v : TableVersion). IsDated (version_of form v)) g.versions = all_from_map IsDated (version_of form) g.versions (subst (λ (f : Form). AreDated (in_microseconds f g).versions) same (good_dated good)) in
+    let rows : AllByRecursion row (map stored_version g.versions) = all-map row stored_version g.versions (all_weaker (λ v. IsDated (version_of form v)) (λ v. row (stored_version v)) (λ v is. (v, refl, is)) g.versions its) in
+    let shown = all-permutation row _ _ (subst (λ (l : List Row). IsPermutation l (map version_shown (db.trees 2))) (twice g.versions) good.says.versions) rows in
+    let ours : AllByRecursion row (map stored_version c.versions) =
+    all-permutation row _ _ (IsPermutation-sym _ _ (subst (λ (l : List Row). IsPermutation l (map version_shown (db.trees 2))) (twice c.versions) has.rows.says.versions)) shown in
+    all-map IsDated (version_of form) c.versions (all_weaker (λ (v : TableVersion). row (stored_version v)) (λ v. IsDated (version_of form v)) (dated_alike form) c.versions (all_from_map row stored_version c.versions ours))

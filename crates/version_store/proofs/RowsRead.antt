@@ -1,15 +1,18 @@
 -- The row of a version that can be read, column by column.
 use Rattle.std.proofs.Common.{◌≡◌, ◌∷◌, [], List, arith, length, refl, subst, ℕ, ℤ}
-use Rattle.period_core.specs.Moments.{IsMomentNumber}
 use Rattle.sqlite_value.specs.Order.{column}
 use Rattle.sqlite.specs.Order.{Row}
 use Rattle.sqlite.specs.declared.types.Value.TheVariants.{Blob, Int}
 use Rattle.version_tables.proofs.ColumnFacts.{same_int}
+use Rattle.version_tables.specs.Forms.{IsNumberIn}
 use Rattle.version_tables.specs.Good.{AreDays}
 use Rattle.version_tables.specs.Represents.{shown}
 use Rattle.version_tables.specs.Rows.{AreBytesAt, IsNumberAt}
 use Rattle.version_store.specs.Contents.{IsDated, TableVersion}
+use Rattle.version_tables.specs.declared.form.Form.{Form}
+use Rattle.version_store.specs.Units.{version_of}
 use Rattle.version_store.specs.Written.{written_version}
+use Rattle.version_store.proofs.Units.{number_of_end, number_of_moment}
 
 -- the one integer that a row has at a place is the one that was read
 pub not_there : (P : ℤ → Type 0) (row : Row) (at : ℕ) (n : ℤ) → IsNumberAt row at n → ¬ P n → ¬ ((m : ℤ) × IsNumberAt row at m × P m)
@@ -46,12 +49,12 @@ module _ (row : Row) (v : TableVersion) (is : row ≡ shown (written_version v))
   pub bytes_in : AreBytesAt row 0 (written_version v).values
   bytes_in = rw is (omega arith, refl)
 
-  module _ (dated : IsDated v) where
+  module _ (form : Form) (dated : IsDated (version_of form v)) where
     pub days_in : (s e : ℤ) × IsNumberAt row 1 s × IsNumberAt row 2 e × AreDays s e
     days_in = (v.start, v.end, number_in 1 v.start (omega arith, refl), number_in 2 v.end (omega arith, refl), dated.days)
 
-    pub from_in : (n : ℤ) × IsNumberAt row 3 n × IsMomentNumber n
-    from_in = (v.from, number_in 3 v.from (omega arith, refl), dated.from)
+    pub from_in : (n : ℤ) × IsNumberAt row 3 n × IsNumberIn form n
+    from_in = (v.from, number_in 3 v.from (omega arith, refl), number_of_moment form v.from dated.from)
 
-    pub to_in : (n : ℤ) × IsNumberAt row 4 n × IsMomentNumber n
-    to_in = (v.to, number_in 4 v.to (omega arith, refl), dated.to)
+    pub to_in : (n : ℤ) × IsNumberAt row 4 n × IsNumberIn form n
+    to_in = (v.to, number_in 4 v.to (omega arith, refl), number_of_end form v.to dated.to)

@@ -11,9 +11,9 @@ use Rattle.std.proofs.lemmas.Int.{ints}
 use Rattle.std.proofs.lemmas.Cmp.{then_total, on_total, int_cmp_total}
 use Rattle.std.proofs.lemmas.List.{take-append-drop, get_or_append_left, get_or-append-add, get_or_default, length-append, length-map, drop_all, map-append, take-map}
 use Rattle.std.proofs.lemmas.List.MinMax.{ranks_by}
-use Rattle.std.proofs.lemmas.List.Sorted.{IsPermutation-refl, sorted_far}
+use Rattle.std.proofs.lemmas.List.Sorted.{IsPermutation-map, IsPermutation-refl, sorted_far}
 use Rattle.std.proofs.lemmas.List.Sums.{fold-append}
-use Rattle.sqlite_trees.proofs.ListLemmas.{all-filter, all-permutation, all_weaker, filter-map, filter_none, pull_back}
+use Rattle.sqlite_trees.proofs.ListLemmas.{all-filter, all-permutation, all_from_map, all_weaker, filter-map, filter_none, pull_back}
 use Rattle.std.proofs.Math.Seq.{take-append_seam}
 use Rattle.sqlite.specs.Store.{Ghosts}
 use Rattle.sqlite.specs.Order.{Row}
@@ -34,8 +34,11 @@ use Rattle.version_tables.specs.Selections.{selected, selects}
 use Rattle.version_tables.specs.declared.selection.Selection.{Selection}
 use Rattle.version_tables.specs.declared.selection.Selection.TheVariants.{Whole}
 use Rattle.version_store.specs.Contents.{AreDated, AreRowsOf, Contents, HaveColumnValues, IsDated, TableVersion, of_table, version_cmp, version_in}
-use Rattle.version_store.specs.Scans.{AreFirst, Sees, Visits, VisitsChosen, chosen_of, is_empty, seen_of}
-use Rattle.version_store.specs.Written.{Has, written, written_version}
+use Rattle.version_store.specs.Scans.{AreFirst, Selects, Visits, VisitsChosen, chosen_of, is_empty, seen_of}
+use Rattle.version_tables.specs.declared.form.Form.{Form}
+use Rattle.version_store.specs.Units.{in_microseconds, version_of}
+use Rattle.version_store.specs.Written.{HasIn, written_in, written_version}
+use Rattle.version_store.proofs.Units.{sorted_in}
 use Rattle.version_store.proofs.Found.{passes, sorted_values}
 use Rattle.version_store.proofs.Standing.{on_ok}
 
@@ -86,33 +89,43 @@ not_up_to a b h = grind (arith, nat_tests, ints)
 abbrev pub as_given : List TableVersion → List Row
 as_given = map (λ (v : TableVersion). shown (written_version v))
 
--- a visitor took the version rows which these are
-abbrev pub Took : {M : Type 0} → (M → VersionRow → M) → ℕ → M → M → List TableVersion → Type 0
-Took next table old new versions = (rows : List VersionRow) × (map (version_in table) rows ≡ versions) × (new ≡ fold next old rows)
+-- a visitor took the version rows which these are in microseconds
+abbrev pub Took : {M : Type 0} → Form → (M → VersionRow → M) → ℕ → M → M → List TableVersion → Type 0
+Took form next table old new versions = (rows : List VersionRow) × (map (version_in table) rows ≡ map (version_of form) versions) × (new ≡ fold next old rows)
 
 -- rows were given: whatever versions of the table they show, it took those
-abbrev pub TookShown : {M : Type 0} → (M → VersionRow → M) → ℕ → M → M → List Row → Type 0
-TookShown next table old new given =
+abbrev pub TookShown : {M : Type 0} → Form → (M → VersionRow → M) → ℕ → M → M → List Row → Type 0
+TookShown form next table old new given =
     (done : List TableVersion) → AllByRecursion (λ (v : TableVersion). (v.table == table) ≡ true) done → HaveColumnValues done → given ≡ as_given done
-    → Took next table old new done
+    → Took form next table old new done
 
 -- one row is taken
-abbrev pub TookOne : {M : Type 0} → (M → VersionRow → M) → M → M → Row → Type 0
-TookOne next old new row =
-    (v : TableVersion) → row ≡ shown (written_version v) → All IsColumnValue v.values → (read : VersionRow) × (version_in v.table read ≡ v) × (new ≡ next old read)
+abbrev pub TookOne : {M : Type 0} → Form → (M → VersionRow → M) → M → M → Row → Type 0
+TookOne form next old new row =
+    (v : TableVersion) → row ≡ shown (written_version v) → All IsColumnValue v.values → (read : VersionRow) × (version_in v.table read ≡ version_of form v) × (new ≡ next old read)
 
 given_are : (ys : List TableVersion) → map shown (map written_version ys) ≡ as_given ys
 given_are [] = refl
 given_are (y ∷ ys) = ap (λ rows. shown (written_version y) ∷ rows) (given_are ys)
 
+-- what is chosen by moments is what the query selects
+chosen_in : (form : Form) (table : ℕ) (selection : Selection) (chooses : ℤ → ℤ → Bool) (vs : List TableVersion) → Selects form selection chooses
+    → map (version_of form) (chosen_of table (selects selection) vs) ≡ chosen_of table chooses (map (version_of form) vs)
+chosen_in form table selection chooses vs sure =
+    let is_chosen = λ (v : TableVersion). chooses v.from v.to in
+    let same : (λ (v : TableVersion). selects selection v.from v.to) ≡ (λ v. is_chosen (version_of form v)) = fun_ext (λ v. sym (sure v.from v.to)) in
+    ap (λ p. map (version_of form) (filter p (of_table table vs))) same
+    ∙ sym (ap (filter is_chosen) (filter-map (λ (v : TableVersion). v.table == table) (version_of form) vs) ∙ filter-map is_chosen (version_of form) (of_table table vs))
+
 -- the first of the versions in order, and the others
-first_are : (c : Contents) (table : ℕ) (chooses : ℤ → ℤ → Bool) (ys : List TableVersion) (n : ℕ) (rows : List VersionRow) → IsPermutation (chosen_of table chooses c.versions) ys → IsSorted version_cmp ys
-    → map (version_in table) rows ≡ take n ys → AreFirst c table chooses rows (drop n ys)
-first_are c table chooses ys n rows same up is =
-    let parts : ys ≡ map (version_in table) rows ++ drop n ys = sym (take-append-drop n ys) ∙ ap (λ l. l ++ drop n ys) (sym is) in
-    let sorted = subst (IsSorted version_cmp) parts up in
+first_are : (form : Form) (c : Contents) (table : ℕ) (selection : Selection) (chooses : ℤ → ℤ → Bool) (ys : List TableVersion) (n : ℕ) (rows : List VersionRow) → Selects form selection chooses → IsPermutation (chosen_of table (selects selection) c.versions) ys
+    → IsSorted version_cmp ys → map (version_in table) rows ≡ map (version_of form) (take n ys) → AreFirst (in_microseconds form c) table chooses rows (map (version_of form) (drop n ys))
+first_are form c table selection chooses ys n rows sure same up is =
+    let f = version_of form in
+    let parts : map f ys ≡ map (version_in table) rows ++ map f (drop n ys) = ap (map f) (sym (take-append-drop n ys)) ∙ map-append f (take n ys) (drop n ys) ∙ ap (λ l. l ++ map f (drop n ys)) (sym is) in
+    let sorted = subst (IsSorted version_cmp) parts (sorted_in form ys up) in
     record {
-      all = subst (IsPermutation (chosen_of table chooses c.versions)) parts same;
+      all = subst₂ IsPermutation (chosen_in form table selection chooses c.versions sure) parts (IsPermutation-map f _ _ same);
       sorted = front_sorted _ _ sorted;
       behind = rest_behind _ _ sorted;
     }
@@ -134,14 +147,14 @@ last_shown table (r ∷ given) row (v ∷ done) e of held =
     let rest = last_shown table given row done parts.1 of.1 held.1 in
     (v ∷ rest.0, rest.1, ap (λ l. v ∷ l) rest.2, ap₂ (λ r rows. r ∷ rows) parts.0 rest.3, (of.0, rest.4), (held.0, rest.5), rest.6, rest.7, rest.8)
 
-pub one_more : {M : Type 0} (next : M → VersionRow → M) (table : ℕ) (old mid new : M) (given : List Row) (row : Row) → TookShown next table old mid given → TookOne next mid new row → TookShown next table old new (given ++ row ∷ [])
-one_more next table old mid new given row was taken done of held shows =
+pub one_more : {M : Type 0} (form : Form) (next : M → VersionRow → M) (table : ℕ) (old mid new : M) (given : List Row) (row : Row) → TookShown form next table old mid given → TookOne form next mid new row → TookShown form next table old new (given ++ row ∷ [])
+one_more form next table old mid new given row was taken done of held shows =
     let parts = last_shown table given row done shows of held in
     let before = was parts.0 parts.4 parts.5 parts.3 in
     let step = taken parts.1 parts.6 parts.8 in
-    let one : version_in table step.0 ≡ parts.1 = subst (λ t. version_in t step.0 ≡ parts.1) (eqb-true _ _ parts.7) step.1 in (
+    let one : version_in table step.0 ≡ version_of form parts.1 = subst (λ t. version_in t step.0 ≡ version_of form parts.1) (eqb-true _ _ parts.7) step.1 in (
       before.0 ++ step.0 ∷ [],
-      map-append (version_in table) before.0 (step.0 ∷ []) ∙ ap₂ (λ a b. a ++ b ∷ []) before.1 one ∙ sym parts.2,
+      map-append (version_in table) before.0 (step.0 ∷ []) ∙ ap₂ (λ a b. a ++ b ∷ []) before.1 one ∙ sym (map-append (version_of form) parts.0 (parts.1 ∷ [])) ∙ ap (map (version_of form)) (sym parts.2),
       step.2 ∙ ap (λ m. next m step.0) before.2 ∙ sym (fold-append next old before.0 (step.0 ∷ [])),
     )
 
@@ -166,19 +179,19 @@ pub record FoundChosen (c : Contents) (table : ℕ) (selection : Selection) (fou
   pub all : IsPermutation (chosen_of table (selects selection) c.versions) versions
   pub are : found ≡ map written_version versions
 
-pub found_chosen : (c : Contents) (table : ℕ) (selection : Selection) (found : List Version) → AreSelected (written c) table selection found → FoundChosen c table selection found
-found_chosen c table selection found of =
+pub found_chosen : (form : Form) (c : Contents) (table : ℕ) (selection : Selection) (found : List Version) → AreSelected (written_in form c) table selection found → FoundChosen c table selection found
+found_chosen form c table selection found of =
     let ours = chosen_of table (selects selection) c.versions in
     let back = pull_back written_version (map written_version ours) found (subst (λ l. IsPermutation l found) (chosen_written table selection c.versions) of.all) ours refl in
     record { versions = back.0; all = back.1; are = back.2 }
 
-pub visits : {M X : Type 0} (next : M → VersionRow → M) (c : Contents) (table : ℕ) (selection : Selection) (old new : M) (result : Result X Refusal) (found : List Version) (given more : List Row) → HaveColumnValues c.versions
-    → given ++ more ≡ map shown found → AreSelected (written c) table selection found → TookShown next table old new given → OnOk result (more ≡ []) → VisitsChosen next c table (selects selection) old new result
-visits next c table selection old new result found given more held shows of took all =
+pub visits : {M X : Type 0} (form : Form) (next : M → VersionRow → M) (c : Contents) (table : ℕ) (selection : Selection) (chooses : ℤ → ℤ → Bool) (old new : M) (result : Result X Refusal) (found : List Version) (given more : List Row) → Selects form selection chooses
+    → HaveColumnValues c.versions → given ++ more ≡ map shown found → AreSelected (written_in form c) table selection found → TookShown form next table old new given → OnOk result (more ≡ []) → VisitsChosen next (in_microseconds form c) table chooses old new result
+visits form next c table selection chooses old new result found given more sure held shows of took all =
     let theirs = of_table table c.versions in
     let ours = chosen_of table (selects selection) c.versions in
     let is_chosen = λ (v : TableVersion). selects selection v.from v.to in
-    let back = found_chosen c table selection found of in
+    let back = found_chosen form c table selection found of in
     let ys = back.versions in
     let values = λ (v : TableVersion). All IsColumnValue v.values in
     let hx : HaveColumnValues ours = all-filter values is_chosen theirs (all-filter values (λ v. v.table == table) c.versions held) in
@@ -193,18 +206,15 @@ visits next c table selection old new result found given more held shows of took
     let long = length-append given more in
     let wide : length (given ++ more) ≡ length ys = ap length whole ∙ length-map ys (λ (v : TableVersion). shown (written_version v)) in (
       taken.0,
-      drop n ys,
-      first_are c table (selects selection) ys n taken.0 back.all sorted taken.1,
+      map (version_of form) (drop n ys),
+      first_are form c table selection chooses ys n taken.0 sure back.all sorted taken.1,
       taken.2,
-      on_ok result (λ none. drop_all n ys (omega (arith, long, wide, ap length none))) all,
+      on_ok result (λ none. ap (map (version_of form)) (drop_all n ys (omega (arith, long, wide, ap length none)))) all,
     )
 
--- where the query selects what a window sees
-pub through_window : {M X : Type 0} (next : M → VersionRow → M) (c : Contents) (table : ℕ) (window : Window) (selection : Selection) (old new : M) (result : Result X Refusal) → Sees window selection
-    → VisitsChosen next c table (selects selection) old new result → Visits next c table window old new result
-through_window next c table window selection old new result sees visited =
-    let same : selects selection ≡ window_sees window = fun_ext (λ from. fun_ext (λ to. sym (sees from to))) in
-    subst (λ chooses. VisitsChosen next c table chooses old new result) same visited
+-- the same contents are visited in one way
+pub visits_same : {M X : Type 0} (next : M → VersionRow → M) (c d : Contents) (table : ℕ) (chooses : ℤ → ℤ → Bool) (old new : M) (result : Result X Refusal) → c ≡ d → VisitsChosen next c table chooses old new result → VisitsChosen next d table chooses old new result
+visits_same next c d table chooses old new result same visited = subst (λ (e : Contents). VisitsChosen next e table chooses old new result) same visited
 
 -- what keeps each row of a scan keeps them all
 kept_all : (before rows : List VersionRow) → fold (λ (kept : List VersionRow) (row : VersionRow). kept ++ row ∷ []) before rows ≡ before ++ rows
@@ -229,19 +239,19 @@ all_rows c table old new x none visited =
     })
 
 -- a row that the query gives shows a version that can be read
-abbrev pub ShowsReadable : Row → Type 0
-ShowsReadable row = (v : TableVersion) × (row ≡ shown (written_version v)) × IsDated v × All IsColumnValue v.values
+abbrev pub ShowsReadable : Form → Row → Type 0
+ShowsReadable form row = (v : TableVersion) × (row ≡ shown (written_version v)) × IsDated (version_of form v) × All IsColumnValue v.values
 
-pub given_readable : (c : Contents) (table : ℕ) (selection : Selection) (found : List Version) (given : List Row) (row : Row) (more : List Row) → HaveColumnValues c.versions → AreDated c.versions
-    → (given ++ row ∷ []) ++ more ≡ map shown found → AreSelected (written c) table selection found → ShowsReadable row
-given_readable c table selection found given row more held dated shows of =
-    let back = found_chosen c table selection found of in
+pub given_readable : (form : Form) (c : Contents) (table : ℕ) (selection : Selection) (found : List Version) (given : List Row) (row : Row) (more : List Row) → HaveColumnValues c.versions → AreDated (in_microseconds form c).versions
+    → (given ++ row ∷ []) ++ more ≡ map shown found → AreSelected (written_in form c) table selection found → ShowsReadable form row
+given_readable form c table selection found given row more held dated shows of =
+    let back = found_chosen form c table selection found of in
     let is_chosen = λ (v : TableVersion). selects selection v.from v.to in
     let kept = λ (P : TableVersion → Type 0) (all : AllByRecursion P c.versions). all-permutation P _ back.versions back.all (all-filter P is_chosen (of_table table c.versions) (all-filter P (λ v. v.table == table) c.versions all)) in
     let rows : (given ++ row ∷ []) ++ more ≡ as_given back.versions = shows ∙ ap (map shown) back.are ∙ given_are back.versions in
-    among given row more back.versions (sym (append_assoc given (row ∷ []) more) ∙ rows) (kept IsDated dated) (kept (λ v. All IsColumnValue v.values) held)
+    among given row more back.versions (sym (append_assoc given (row ∷ []) more) ∙ rows) (kept (λ v. IsDated (version_of form v)) (all_from_map IsDated (version_of form) c.versions dated)) (kept (λ v. All IsColumnValue v.values) held)
   where
-    among : (given : List Row) (row : Row) (more : List Row) (vs : List TableVersion) → given ++ row ∷ more ≡ as_given vs → AreDated vs → HaveColumnValues vs → ShowsReadable row
+    among : (given : List Row) (row : Row) (more : List Row) (vs : List TableVersion) → given ++ row ∷ more ≡ as_given vs → AllByRecursion (λ v. IsDated (version_of form v)) vs → HaveColumnValues vs → ShowsReadable form row
     among [] row more [] e dated held = absurd cc
     among [] row more (v ∷ vs) e dated held = (v, (heads _ _ _ _ e).0, dated.0, held.0)
     among (r ∷ given) row more [] e dated held = absurd cc
@@ -262,42 +272,43 @@ none_visits next c table window old empty dated =
     ([], [], subst (AreFirst c table (window_sees window) []) none (none_yet c table (window_sees window)), refl, refl)
 
 -- the query of the table has given rows, and the visitor took what they show
-abbrev pub HasVisited : {S M : Type 0} → Ghosts S → (M → VersionRow → M) → ℕ → Selection → Held S → Held S → M → M → Type 0
-HasVisited g next table selection first now old new = (given : List Row) × HasGivenRows g table selection first now given × TookShown next table old new given
+abbrev pub HasVisited : {S M : Type 0} → Ghosts S → Form → (M → VersionRow → M) → ℕ → Selection → Held S → Held S → M → M → Type 0
+HasVisited g form next table selection first now old new = (given : List Row) × HasGivenRows g table selection first now given × TookShown form next table old new given
 
-module _ {S M : Type 0} (g : Ghosts S) (next : M → VersionRow → M) (table : ℕ) (selection : Selection) (first : Held S) where
+module _ {S M : Type 0} (g : Ghosts S) (form : Form) (next : M → VersionRow → M) (table : ℕ) (selection : Selection) (first : Held S) where
   -- no row was given
-  pub none_visited : (now : Held S) (n : ℕ) (old : M) → n ≡ table → HasGivenRows g n selection first now [] → HasVisited g next table selection first now old old
+  pub none_visited : (now : Held S) (n : ℕ) (old : M) → n ≡ table → HasGivenRows g n selection first now [] → HasVisited g form next table selection first now old old
   none_visited now n old same begun = ([], subst (λ t. HasGivenRows g t selection first now []) same begun, none)
     where
-      none : TookShown next table old old []
+      none : TookShown form next table old old []
       none [] of held shows = ([], refl, refl)
       none (v ∷ done) of held shows = absurd cc
 
   -- one row more was given and taken
-  pub one_visited : (before now : Held S) (old mid new : M) (was : HasVisited g next table selection first before old mid) (row : Row) (after : Option Row) → GivesNext g table selection first now was.0 after → after ≡ Some row
-      → TookOne next mid new row → HasVisited g next table selection first now old new
-  one_visited before now old mid new was row after gives is taken = (was.0 ++ row ∷ [], rw is at gives, one_more next table old mid new was.0 row was.2 taken)
+  pub one_visited : (before now : Held S) (old mid new : M) (was : HasVisited g form next table selection first before old mid) (row : Row) (after : Option Row) → GivesNext g table selection first now was.0 after → after ≡ Some row
+      → TookOne form next mid new row → HasVisited g form next table selection first now old new
+  one_visited before now old mid new was row after gives is taken = (was.0 ++ row ∷ [], rw is at gives, one_more form next table old mid new was.0 row was.2 taken)
 
   -- a refusal, where the query has given the rows so far
-  pub some_visits : (now : Held S) (old mid new : M) (refusal : Refusal) → HasVisited g next table selection first now old mid → new ≡ mid → HasCleanDisk (state g now) → (c : Contents) → Has (state g first).now c
-      → VisitsChosen next c table (selects selection) old new (let r : Result (Unit {0}) Refusal = Err refusal in r)
-  some_visits now old mid new refusal was same clean c has =
-      let shows = was.1.rows clean (written c) has.rows in
-      visits {X = Unit {0}} next c table selection old new (Err refusal) shows.1.0 was.0 shows.0 has.values shows.1.1 shows.1.2 (subst (λ m. TookShown next table old m was.0) (sym same) was.2) tt
+  pub some_visits : (now : Held S) (old mid new : M) (refusal : Refusal) → HasVisited g form next table selection first now old mid → new ≡ mid → HasCleanDisk (state g now) → (c : Contents) → HasIn form (state g first).now c
+      → (chooses : ℤ → ℤ → Bool) → Selects form selection chooses → VisitsChosen next (in_microseconds form c) table chooses old new (let r : Result (Unit {0}) Refusal = Err refusal in r)
+  some_visits now old mid new refusal was same clean c has chooses sure =
+      let shows = was.1.rows clean (written_in form c) has.rows in
+      visits {X = Unit {0}} form next c table selection chooses old new (Err refusal) shows.1.0 was.0 shows.0 sure has.values shows.1.1 shows.1.2 (subst (λ m. TookShown form next table old m was.0) (sym same) was.2) tt
 
   -- the end of the query
-  pub all_visits : (before now : Held S) (old new : M) (was : HasVisited g next table selection first before old new) (after : Option Row) → GivesNext g table selection first now was.0 after → after ≡ None
-      → HasCleanDisk (state g now) → (c : Contents) → Has (state g first).now c → VisitsChosen next c table (selects selection) old new (let r : Result (Unit {0}) Refusal = Ok (tt {0}) in r)
-  all_visits before now old new was after gives is clean c has =
+  pub all_visits : (before now : Held S) (old new : M) (was : HasVisited g form next table selection first before old new) (after : Option Row) → GivesNext g table selection first now was.0 after → after ≡ None
+      → HasCleanDisk (state g now) → (c : Contents) → HasIn form (state g first).now c → (chooses : ℤ → ℤ → Bool) → Selects form selection chooses
+      → VisitsChosen next (in_microseconds form c) table chooses old new (let r : Result (Unit {0}) Refusal = Ok (tt {0}) in r)
+  all_visits before now old new was after gives is clean c has chooses sure =
       let all : HasGivenAll g table selection first now was.0 = rw is at gives in
-      let shows = all.rows clean (written c) has.rows in
-      visits {X = Unit {0}} next c table selection old new (Ok (tt {0})) shows.0 was.0 [] has.values (append-nil was.0 ∙ shows.1) shows.2 was.2 refl
+      let shows = all.rows clean (written_in form c) has.rows in
+      visits {X = Unit {0}} form next c table selection chooses old new (Ok (tt {0})) shows.0 was.0 [] sure has.values (append-nil was.0 ∙ shows.1) shows.2 was.2 refl
 
   -- a row that was given last
-  pub last_readable : (before now : Held S) (old mid : M) (was : HasVisited g next table selection first before old mid) (row : Row) (after : Option Row) → GivesNext g table selection first now was.0 after → after ≡ Some row
-      → HasCleanDisk (state g now) → (c : Contents) → Has (state g first).now c → AreDated c.versions → ShowsReadable row
+  pub last_readable : (before now : Held S) (old mid : M) (was : HasVisited g form next table selection first before old mid) (row : Row) (after : Option Row) → GivesNext g table selection first now was.0 after → after ≡ Some row
+      → HasCleanDisk (state g now) → (c : Contents) → HasIn form (state g first).now c → AreDated (in_microseconds form c).versions → ShowsReadable form row
   last_readable before now old mid was row after gives is clean c has dated =
       let on : HasGivenRows g table selection first now (was.0 ++ row ∷ []) = rw is at gives in
-      let shows = on.rows clean (written c) has.rows in
-      given_readable c table selection shows.1.0 was.0 row shows.0 has.values dated shows.1.1 shows.1.2
+      let shows = on.rows clean (written_in form c) has.rows in
+      given_readable form c table selection shows.1.0 was.0 row shows.0 has.values dated shows.1.1 shows.1.2

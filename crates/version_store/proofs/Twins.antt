@@ -19,7 +19,7 @@ use Rattle.version_tables.specs.Rows.{HaveOneKey, RepeatKey, ShareBytes, ShareNu
 use Rattle.version_store.proofs.Opens.{stored_version, twice}
 use Rattle.version_store.proofs.Sweeps.{same_bytes}
 use Rattle.version_store.specs.Contents.{HaveColumnValues, TableVersion, same_version}
-use Rattle.version_store.specs.GoodStore.{IsGoodStore, IsGoodVersion, NothingMore}
+use Rattle.version_store.specs.GoodStore.{IsGoodStore, IsGoodVersionIn, NothingMore}
 use Rattle.version_store.specs.Written.{written_version}
 
 -- ---- two rows
@@ -99,7 +99,7 @@ none_repeats (x ∷ y ∷ rows) up (suc k) low key =
 pub good_keys : (db : Database) (versions : List Row) → IsPermutation (map version_shown (db.trees 2)) versions → RepeatKey versions → ¬ IsGoodStore NothingMore db
 good_keys db versions shown repeats good =
     let c = good.contents in
-    let held : HaveColumnValues c.versions = all_weaker (IsGoodVersion c.tables c.clock) (λ (v : TableVersion). All IsColumnValue v.values) (λ v good. good.held) c.versions good.versions in
+    let held : HaveColumnValues c.versions = all_weaker (IsGoodVersionIn good.form c.tables c.clock) (λ (v : TableVersion). All IsColumnValue v.values) (λ v good. good.held) c.versions good.versions in
     let made = subst (λ l. IsPermutation l (map version_shown (db.trees 2))) (twice c.versions) good.says.versions in
     let up = ascending-map (λ (a b : Row). ¬ HaveOneKey a b) stored_version c.versions (versions_apart c.versions held good.distinct) in
     none_repeats versions (apart_along (map stored_version c.versions) versions (IsPermutation-trans (map stored_version c.versions) (map version_shown (db.trees 2)) versions made shown) up) repeats.0 repeats.1 repeats.2

@@ -13,20 +13,28 @@ use Rattle.sqlite.specs.declared.types.Value.TheVariants.{Int, Blob}
 use Rattle.version_tables.specs.Good.{AreDays, AreMoments, IsClock, SayClock}
 use Rattle.version_tables.specs.Represents.{Says, stored}
 use Rattle.version_tables.specs.Tables.{store_schema}
+use Rattle.version_tables.specs.declared.form.Form.{Form}
+use Rattle.version_tables.specs.declared.form.Form.TheVariants.{Microseconds}
 use Rattle.version_store.specs.Contents.{Contents, TableVersion, same_version}
 use Rattle.catalog_core.specs.create.Lawful.{IsLawful}
 use Rattle.version_store.specs.RowValues.{are_row_values}
-use Rattle.version_store.specs.Written.{IsReadable, written, written_table, written_version}
+use Rattle.version_store.specs.Units.{in_microseconds}
+use Rattle.version_store.specs.Written.{IsReadable, written_in, written_table, written_version}
 
 -- the version's table is there, its values are those of a row of it, its period is one of days, its
--- system time one of moments up to the clock
-pub record IsGoodVersion (tables : List TableDef) (clock : ℤ) (v : TableVersion) : Type 0 where
+-- system time one of moments up to the clock, in the unit of the form
+pub record IsGoodVersionIn (form : Form) (tables : List TableDef) (clock : ℤ) (v : TableVersion)
+    : Type 0 where
   pub definition : TableDef
   pub table : table_of tables v.table ≡ Some definition
   pub values : are_row_values definition v.values ≡ true
   pub held : All IsColumnValue v.values
   pub days : AreDays v.start v.end
-  pub moments : AreMoments clock v.from v.to
+  pub moments : AreMoments form clock v.from v.to
+
+-- the same in microseconds
+abbrev pub IsGoodVersion : List TableDef → ℤ → TableVersion → Type 0
+IsGoodVersion = IsGoodVersionIn Microseconds
 
 -- each version is of a table that is there
 abbrev pub HaveTables : Contents → Type 0
@@ -40,28 +48,31 @@ AreLawful before (d ∷ more) = IsLawful before d × AreLawful (before ++ d ∷ 
 
 -- the points that are judged; what keys and references ask of the contents is handed in
 pub record IsGoodStore (Constrained : Contents → Type 0) (db : Database) : Type 0 where
-  -- what it stands for: the rows of the three tables are those of these contents
+  -- what it stands for: the rows of the three tables are those of these contents, in the unit of
+  -- this form
+  pub form : Form
   pub contents : Contents
-  pub says : Says db (written contents)
+  pub says : Says db (written_in form contents)
   -- 1: the three tables are there, as the store makes them and with no other beside them
   pub tables_there : db.schema ≡ store_schema
-  -- 2: the one row of bt_meta has form 1, as `written` says, and a clock
-  pub clock : IsClock contents.clock
-  -- 3: the definitions are numbered from 1, as `written` says; they are at most 64, can be read,
+  -- 2: the one row of bt_meta has form 1 or 2, as `written_in` says, and a clock
+  pub clock : IsClock form contents.clock
+  -- 3: the definitions are numbered from 1, as `written_in` says; they are at most 64, can be read,
   -- and are lawful
   pub few : length contents.tables ≤ most_tables
   pub readable : AllByRecursion IsReadable contents.tables
   pub lawful : AreLawful [] contents.tables
   -- 4: each version
-  pub versions : AllByRecursion (IsGoodVersion contents.tables contents.clock) contents.versions
+  pub versions : AllByRecursion (IsGoodVersionIn form contents.tables contents.clock)
+      contents.versions
   -- 5: no two versions have one key: table, values, period start, system start
   pub distinct : IsAscending (λ (a b : TableVersion). same_version a b ≡ false) contents.versions
   -- 6: keys and references
-  pub constrained : Constrained contents
+  pub constrained : Constrained (in_microseconds form contents)
 
--- contents of which the points 2 to 4 and 6 hold: 5 holds of what a database has
+-- contents, in microseconds, of which the points 2 to 4 and 6 hold: 5 holds of what a database has
 pub record AreGood (Constrained : Contents → Type 0) (c : Contents) : Type 0 where
-  pub clock : IsClock c.clock
+  pub clock : IsClock Microseconds c.clock
   pub few : length c.tables ≤ most_tables
   pub lawful : AreLawful [] c.tables
   pub versions : AllByRecursion (IsGoodVersion c.tables c.clock) c.versions
@@ -93,13 +104,13 @@ pub record AreTables (rows : List Row) (tables : List TableDef) : Type 0 where
   pub each : AreTableRows [] rows tables
 
 -- a row of bt_version: that of a good version
-abbrev pub SaysVersion : List TableDef → ℤ → Row → Type 0
-SaysVersion tables clock row =
-    (v : TableVersion) × (row ≡ stored (written_version v)) × IsGoodVersion tables clock v
+abbrev pub SaysVersion : Form → List TableDef → ℤ → Row → Type 0
+SaysVersion form tables clock row =
+    (v : TableVersion) × (row ≡ stored (written_version v)) × IsGoodVersionIn form tables clock v
 
 -- the rows of all three
-pub record SayRows (metas tables versions : List Row) (known : List TableDef) (clock : ℤ)
-    : Type 0 where
-  pub meta : SayClock metas clock
+pub record SayRows (metas tables versions : List Row) (known : List TableDef) (form : Form)
+    (clock : ℤ) : Type 0 where
+  pub meta : SayClock metas form clock
   pub defined : AreTables tables known
-  pub each : AllByRecursion (SaysVersion known clock) versions
+  pub each : AllByRecursion (SaysVersion form known clock) versions

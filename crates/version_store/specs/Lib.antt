@@ -1,6 +1,7 @@
 pub mod Contents
 pub mod DistinctKeys
 pub mod Changed
+pub mod Units
 pub mod Written
 pub mod StoreState
 pub mod Steps

@@ -10,7 +10,9 @@ use Rattle.period_core.specs.declared.refusal.Refusal.{Refusal}
 use Rattle.period_core.specs.declared.version.VersionRow.{VersionRow}
 use Rattle.period_core.specs.declared.window.Window.{Window}
 use Rattle.period_core.specs.declared.window.Window.TheVariants.{Now, AsOf, FromTo, Between}
+use Rattle.version_tables.specs.Forms.{end_in, moment_in}
 use Rattle.version_tables.specs.Selections.{selects}
+use Rattle.version_tables.specs.declared.form.Form.{Form}
 use Rattle.version_tables.specs.declared.selection.Selection.{Selection}
 use Rattle.version_store.specs.Contents.{Contents, TableVersion, of_table, version_cmp, version_in}
 use Rattle.version_store.specs.StoreState.{IsStoreRefusal}
@@ -46,10 +48,10 @@ is_empty (AsOf m) = int_le forever m
 is_empty (FromTo a b) = int_le b a
 is_empty (Between a b) = int_lt b a
 
--- a query selects what the window sees
-abbrev pub Sees : Window → Selection → Type 0
-Sees window selection =
-    (from to : ℤ) → window_sees window from to ≡ selects selection from to
+-- a query over a store of the form selects the versions that are chosen by their moments
+abbrev pub Selects : Form → Selection → (ℤ → ℤ → Bool) → Type 0
+Selects form selection chooses =
+    (from to : ℤ) → chooses (moment_in form from) (end_in form to) ≡ selects selection from to
 
 -- the visitor took such rows in turn, from one meaning to another; on Ok there is no other
 abbrev pub VisitsChosen : {M X : Type 0} → (M → VersionRow → M) → Contents → ℕ → (ℤ → ℤ → Bool)

@@ -14,8 +14,11 @@ use Rattle.sqlite.specs.Schema.{Schema}
 use Rattle.version_tables.specs.Presence.{AreAllThere}
 use Rattle.version_tables.specs.Steps.{HasFault, IsAsBefore, KeepsFaults}
 use Rattle.version_tables.specs.Tables.{store_schema}
+use Rattle.version_tables.specs.contracts.form.Form.{the_row as a_form}
+use Rattle.version_tables.specs.declared.form.Form.{Form}
 use Rattle.version_store.specs.Contents.{AreDated, Contents}
-use Rattle.version_store.specs.Written.{Has}
+use Rattle.version_store.specs.Units.{in_microseconds}
+use Rattle.version_store.specs.Written.{Has, HasIn}
 
 -- the connection, the tables, the clock
 pub record StoreState (S : Type 0) : Type 0 where
@@ -49,6 +52,33 @@ pub record StoreRepresents {S : Type 0} (g : Ghosts S) (store : StoreState S) (c
   pub clock : store.clock ≡ c.clock
   pub dated : AreDated c.versions
 
+-- a store that was opened, and the form of which its database still is; the clock is in
+-- microseconds
+pub record OpenedState (S : Type 0) : Type 0 where
+  pub store : StoreState S
+  pub form : Form
+
+-- its form for the model: the two, one behind the other
+abbrev pub opened_state_code : {S : Type 0} → Coded S → Coded (OpenedState S)
+opened_state_code {S} store =
+    code_by (StoreState S × Form) (coded× (store_state_code store) a_form.coded)
+    (λ o. (o.store, o.form))
+    (λ p. record { store = p.0; form = p.1 })
+    (λ _. refl)
+
+-- the database has contents, as they were last committed, which are in microseconds these; and so
+-- has what is kept in memory
+pub record OpenedRepresents {S : Type 0} (g : Ghosts S) (opened : OpenedState S) (c : Contents)
+    : Type 0 where
+  pub counted : Contents
+  pub same : in_microseconds opened.form counted ≡ c
+  pub now : HasIn opened.form (state g opened.store.connection).now counted
+  pub committed : (state g opened.store.connection).committed
+      ≡ (state g opened.store.connection).now
+  pub catalog : opened.store.catalog.tables ≡ c.tables
+  pub clock : opened.store.clock ≡ c.clock
+  pub dated : AreDated c.versions
+
 -- whatever the store represented, it represents that changed on Ok, and the same on Err
 abbrev pub Changes : {S X : Type 0} → Ghosts S → StoreState S → StoreState S → Result X Refusal
     → (Contents → Contents) → Type 0
@@ -65,6 +95,10 @@ pub record IsOnlyRead {S : Type 0} (g : Ghosts S) (old new : StoreState S) : Typ
   pub same : IsUsable g new.connection
       → IsAsBefore (state g old.connection) (state g new.connection)
   pub faults : KeepsFaults (state g old.connection) (state g new.connection)
+
+-- the same of a store that was opened
+abbrev pub IsOpenedRead : {S : Type 0} → Ghosts S → OpenedState S → OpenedState S → Type 0
+IsOpenedRead g old new = IsOnlyRead g old.store new.store × (new.form ≡ old.form)
 
 -- out of memory, or another failure of the database
 abbrev pub IsStoreRefusal : Refusal → Type 0

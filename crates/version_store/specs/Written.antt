@@ -1,12 +1,15 @@
 -- A store's contents as the rows of its three tables.
-use Rattle.std.specs.Prelude.{ℕ, pos, List, map}
+use Rattle.std.specs.Prelude.{ℕ, List, map}
 use Rattle.std.specs.List.{AllByRecursion}
 use Rattle.period_core.specs.Encoding.{encoded}
 use Rattle.catalog_core.specs.bytes.DefinitionEncoding.{EncodesDefinition}
 use Rattle.catalog_core.specs.bytes.DefinitionValues.{definition_values}
 use Rattle.catalog_core.specs.declared.table.TableDef.{TableDef}
 use Rattle.sqlite.specs.Effect.{Database}
+use Rattle.version_tables.specs.Forms.{form_number}
 use Rattle.version_tables.specs.Represents.{Records, Represents, Version}
+use Rattle.version_tables.specs.declared.form.Form.{Form}
+use Rattle.version_tables.specs.declared.form.Form.TheVariants.{Microseconds}
 use Rattle.version_store.specs.Contents.{Contents, HaveColumnValues, TableVersion}
 
 -- a version with its values as bytes
@@ -28,17 +31,25 @@ written_table definition = encoded (definition_values definition)
 abbrev pub IsReadable : TableDef → Type 0
 IsReadable definition = EncodesDefinition definition (written_table definition)
 
--- what the three tables have: the form is 1
-abbrev pub written : Contents → Records
-written c = record {
-  form = pos 1;
+-- what the three tables have in a store of the form
+abbrev pub written_in : Form → Contents → Records
+written_in form c = record {
+  form = form_number form;
   clock = c.clock;
   tables = map written_table c.tables;
   versions = map written_version c.versions;
 }
 
--- the database has these contents, and they can be read from their bytes
-pub record Has (db : Database) (c : Contents) : Type 0 where
-  pub rows : Represents db (written c)
+-- the database is of the form and has these contents, in its unit, and they can be read from their
+-- bytes
+pub record HasIn (form : Form) (db : Database) (c : Contents) : Type 0 where
+  pub rows : Represents db (written_in form c)
   pub definitions : AllByRecursion IsReadable c.tables
   pub values : HaveColumnValues c.versions
+
+-- the same in microseconds, in which a store in use counts
+abbrev pub written : Contents → Records
+written = written_in Microseconds
+
+abbrev pub Has : Database → Contents → Type 0
+Has = HasIn Microseconds

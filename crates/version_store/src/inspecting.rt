@@ -4,43 +4,47 @@ ghost use Rattle.std.specs.Prelude.{◌≡◌, [], false, IfErr, IfOk, IsTrue};
 ghost use Rattle.period_core.specs.declared.refusal.Refusal.TheVariants.{BadStore};
 ghost use Rattle.sqlite.specs.Held.{state};
 ghost use Rattle.sqlite.specs.State.{HasCleanDisk};
+ghost use Rattle.version_tables.specs.Good.{IsClock};
 ghost use Rattle.version_tables.specs.Steps.{Keeps};
 ghost use Rattle.version_tables.specs.Tables.{store_schema};
 ghost use Rattle.version_store.specs.GoodStore.{AreLawful, IsGoodStore, NothingMore};
 ghost use Rattle.version_store.specs.StoreState.{IsOpenRefusal};
-ghost use Rattle.version_store.specs.Written.{Has};
+ghost use Rattle.version_store.specs.Written.{HasIn};
 
 use crate::judging::judge_rows;
 use crate::refused::refusal_of;
 use catalog_core::Catalog;
-use period_core::{Moment, Refusal};
+use period_core::Refusal;
 use sqlite::Connection;
 use sqlite_trees::store::Alter;
 use std::alloc::Global;
 use version_tables::{
-    are_numbered, are_rising, columns_there, meta_rows, repeat_key, rowids, table_rows,
+    Form, are_numbered, are_rising, columns_there, meta_rows, repeat_key, rowids, table_rows,
     version_rows,
 };
 
-/// Judges a store that is there. On `Ok` it has its tables and its clock.
+/// Judges a store that is there. On `Ok` it has its tables, its form and its clock, a number in the
+/// form's unit.
 pub(crate) fn inspect<S: Alter>(
     alloc: Global,
     connection: &mut Connection<S>,
-) -> Result<(Catalog, Moment), Refusal>
+) -> Result<(Catalog, Form, i64), Refusal>
     requires { connection.old.in_transaction ≡ false }
     ensures good { HasCleanDisk (state S.Store connection.new)
         → IsTrue (state S.Store connection.new).is_open
         → (state S.Store connection.old).now.schema ≡ store_schema
         → IfOk result (λ found.
         (good : IsGoodStore NothingMore (state S.Store connection.old).now)
-        × Has (state S.Store connection.old).now good.contents
-        × (good.contents.tables ≡ found.0.tables) × (good.contents.clock ≡ found.1)) }
+        × HasIn good.form (state S.Store connection.old).now good.contents
+        × (good.contents.tables ≡ found.0.tables) × (good.form ≡ found.1)
+        × (good.contents.clock ≡ found.2)) }
     ensures bad { HasCleanDisk (state S.Store connection.new)
         → IsTrue (state S.Store connection.new).is_open
         → (state S.Store connection.old).now.schema ≡ store_schema
         → IfErr result (λ refusal. refusal ≡ BadStore
         → ¬ IsGoodStore NothingMore (state S.Store connection.old).now) }
     ensures lawful { IfOk result (λ found. AreLawful [] found.0.tables) }
+    ensures clock { IfOk result (λ found. IsClock found.1 found.2) }
     ensures same { HasCleanDisk (state S.Store connection.new)
         → Keeps (state S.Store connection.old) (state S.Store connection.new) }
     ensures mode { connection.new.in_transaction ≡ false }

@@ -6,15 +6,16 @@ ghost use Rattle.catalog_core.specs.Limits.{most_tables};
 ghost use Rattle.catalog_core.specs.table.TableWords.{has_date_period, has_distinct_names};
 ghost use Rattle.catalog_core.specs.declared.table.TableDef.{TableDef as AnyTable};
 ghost use Rattle.period_core.specs.declared.refusal.Refusal.TheVariants.{BadStore};
+ghost use Rattle.version_tables.specs.declared.form.Form.{Form as AnyForm};
 ghost use Rattle.version_store.specs.GoodStore.{AreTables, IsTableRow, SayRows, SaysVersion};
 ghost use Rattle.version_store.specs.StoreState.{IsOpenRefusal};
 
 use crate::row_values::are_row_values;
 use catalog_core::{Catalog, TableDef, decode_def, lawful};
-use period_core::{DecodeFault, Moment, Refusal, decode_values};
+use period_core::{DecodeFault, Refusal, decode_values};
 use sqlite::Row;
 use std::alloc::Global;
-use version_tables::{bytes_at, clock_of, is_definition, is_version, number_at};
+use version_tables::{Form, bytes_at, clock_of, is_definition, is_version, number_at};
 
 /// How many tables a store may have.
 const MOST_TABLES: usize = 64;
@@ -72,14 +73,20 @@ fn read_tables(alloc: Global, rows: &[Row]) -> Result<Catalog, Refusal>
     Ok(catalog)
 }
 
-/// Judges the row of a version, by the tables and the clock.
-fn judge_version(alloc: Global, catalog: &Catalog, clock: i64, row: &Row) -> Result<(), Refusal>
-    ensures good { IfOk result (λ _. SaysVersion catalog.now.tables clock row.now) }
+/// Judges the row of a version, by the form, the tables and the clock.
+fn judge_version(
+    alloc: Global,
+    form: Form,
+    catalog: &Catalog,
+    clock: i64,
+    row: &Row,
+) -> Result<(), Refusal>
+    ensures good { IfOk result (λ _. SaysVersion form catalog.now.tables clock row.now) }
     ensures bad { IfErr result (λ refusal. refusal ≡ BadStore
-        → ¬ SaysVersion catalog.now.tables clock row.now) }
+        → ¬ SaysVersion form catalog.now.tables clock row.now) }
     ensures named { IfErr result IsOpenRefusal }
 {
-    if !is_version(row, clock, catalog.len() as u32) {
+    if !is_version(row, form, clock, catalog.len() as u32) {
         return Err(Refusal::BadStore);
     }
     let Some(number) = number_at(row, 0) else {
@@ -107,45 +114,49 @@ fn judge_version(alloc: Global, catalog: &Catalog, clock: i64, row: &Row) -> Res
 }
 
 /// Judges the rows of the versions.
-fn judge_versions(alloc: Global, catalog: &Catalog, clock: i64, rows: &[Row]) -> Result<(), Refusal>
+fn judge_versions(
+    alloc: Global,
+    form: Form,
+    catalog: &Catalog,
+    clock: i64,
+    rows: &[Row],
+) -> Result<(), Refusal>
     ensures good { IfOk result
-        (λ _. AllByRecursion (SaysVersion catalog.now.tables clock) rows.now) }
+        (λ _. AllByRecursion (SaysVersion form catalog.now.tables clock) rows.now) }
     ensures bad { IfErr result (λ refusal. refusal ≡ BadStore
-        → ¬ AllByRecursion (SaysVersion catalog.now.tables clock) rows.now) }
+        → ¬ AllByRecursion (SaysVersion form catalog.now.tables clock) rows.now) }
     ensures named { IfErr result IsOpenRefusal }
 {
     for row in rows {
-        judge_version(alloc, catalog, clock, row)?;
+        judge_version(alloc, form, catalog, clock, row)?;
     }
     Ok(())
 }
 
-/// Judges the rows of the three tables. On `Ok` it has the tables and the clock.
+/// Judges the rows of the three tables. On `Ok` it has the tables, the form and the clock, a number
+/// in the form's unit.
 pub(crate) fn judge_rows(
     alloc: Global,
     metas: &[Row],
     tables: &[Row],
     versions: &[Row],
-) -> Result<(Catalog, Moment), Refusal>
+) -> Result<(Catalog, Form, i64), Refusal>
     ensures good { IfOk result (λ found.
-        SayRows metas.now tables.now versions.now found.0.tables found.1) }
+        SayRows metas.now tables.now versions.now found.0.tables found.1 found.2) }
     ensures bad { IfErr result (λ refusal. refusal ≡ BadStore
-        → (known : List AnyTable) (clock : ℤ)
-        → ¬ SayRows metas.now tables.now versions.now known clock) }
+        → (known : List AnyTable) (form : AnyForm) (clock : ℤ)
+        → ¬ SayRows metas.now tables.now versions.now known form clock) }
     ensures named { IfErr result IsOpenRefusal }
 {
-    let Some(number) = clock_of(metas) else {
-        return Err(Refusal::BadStore);
-    };
-    let Some(clock) = Moment::new(number) else {
+    let Some((form, clock)) = clock_of(metas) else {
         return Err(Refusal::BadStore);
     };
     let catalog = match read_tables(alloc, tables) {
         Ok(catalog) => catalog,
         Err(refusal) => return Err(refusal),
     };
-    match judge_versions(alloc, &catalog, number, versions) {
-        Ok(()) => Ok((catalog, clock)),
+    match judge_versions(alloc, form, &catalog, clock, versions) {
+        Ok(()) => Ok((catalog, form, clock)),
         Err(refusal) => Err(refusal),
     }
 }

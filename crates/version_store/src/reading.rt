@@ -4,19 +4,20 @@ ghost use Rattle.std.specs.Prelude.{◌≡◌, ◌≢◌, ℤ, IfErr, IfOk, Matc
 ghost use Rattle.std.specs.List.{All};
 ghost use Rattle.period_core.specs.Calendar.{IsDayNumber};
 ghost use Rattle.period_core.specs.Encoding.{IsColumnValue};
-ghost use Rattle.period_core.specs.Moments.{IsMomentNumber};
 ghost use Rattle.period_core.specs.declared.refusal.Refusal.TheVariants.{Store};
+ghost use Rattle.version_tables.specs.Forms.{IsNumberIn, end_in, moment_in};
 ghost use Rattle.version_tables.specs.Good.{AreDays};
 ghost use Rattle.version_tables.specs.Represents.{shown};
 ghost use Rattle.version_tables.specs.Rows.{IsNumberAt};
 ghost use Rattle.version_store.specs.Contents.{IsDated, TableVersion, version_in};
 ghost use Rattle.version_store.specs.StoreState.{IsStoreRefusal};
+ghost use Rattle.version_store.specs.Units.{version_of};
 ghost use Rattle.version_store.specs.Written.{written_version};
 
 use period_core::{Day, DecodeFault, Moment, Period, Refusal, Values, VersionRow, decode_values};
 use sqlite::Row;
 use std::alloc::Global;
-use version_tables::{bytes_at, number_at};
+use version_tables::{Form, bytes_at, number_at};
 
 /// The day at a place of a row, if its number is there.
 fn day_at(row: &Row, at: usize) -> Option<Day>
@@ -30,12 +31,20 @@ fn day_at(row: &Row, at: usize) -> Option<Day>
     }
 }
 
-/// The moment at a place of a row, if its number is there.
-fn moment_at(row: &Row, at: usize) -> Option<Moment>
-    ensures { MatchOption result (¬ ((n : ℤ) × IsNumberAt row.now at n × IsMomentNumber n))
-        (λ moment. IsNumberAt row.now at moment) }
+/// The moment at a place of a row, if a number is there that is one in the form's unit.
+fn moment_at(row: &Row, form: Form, at: usize) -> Option<Moment>
+    ensures { MatchOption result (¬ ((n : ℤ) × IsNumberAt row.now at n × IsNumberIn form n))
+        (λ moment. (n : ℤ) × IsNumberAt row.now at n × (moment ≡ moment_in form n)) }
 {
-    Moment::new(number_at(row, at)?)
+    form.moment(number_at(row, at)?)
+}
+
+/// The moment at which a system time ends whose end is at a place of a row.
+fn end_at(row: &Row, form: Form, at: usize) -> Option<Moment>
+    ensures { MatchOption result (¬ ((n : ℤ) × IsNumberAt row.now at n × IsNumberIn form n))
+        (λ moment. (n : ℤ) × IsNumberAt row.now at n × (moment ≡ end_in form n)) }
+{
+    form.end(number_at(row, at)?)
 }
 
 /// The period at two places of a row, if its days are there.
@@ -49,12 +58,14 @@ fn period_at(row: &Row, start: usize, end: usize) -> Option<Period>
 
 /// The version row that a row of the query shows: its values as bytes, its period, its moments. The
 /// row of a version that has days, moments and values of columns is always read, but for memory.
-pub(crate) fn read_version(alloc: Global, row: &Row) -> Result<VersionRow, Refusal>
-    ensures shown { IfOk result
-        (λ version. row.now ≡ shown (written_version (version_in 0 version))) }
+/// Its numbers are in the form's unit.
+pub(crate) fn read_version(alloc: Global, form: Form, row: &Row) -> Result<VersionRow, Refusal>
+    ensures shown { IfOk result (λ version. (v : TableVersion)
+        × (row.now ≡ shown (written_version v))
+        × (version_in v.table version ≡ version_of form v)) }
     ensures values { IfOk result (λ version. All IsColumnValue version.values) }
     ensures bad { IfErr result (λ refusal. refusal ≡ Store
-        → (v : TableVersion) → IsDated v → All IsColumnValue v.values
+        → (v : TableVersion) → IsDated (version_of form v) → All IsColumnValue v.values
         → row.now ≢ shown (written_version v)) }
     ensures named { IfErr result IsStoreRefusal }
 {
@@ -67,10 +78,10 @@ pub(crate) fn read_version(alloc: Global, row: &Row) -> Result<VersionRow, Refus
     let Some(period) = period_at(row, 1, 2) else {
         return Err(Refusal::Store);
     };
-    let Some(from) = moment_at(row, 3) else {
+    let Some(from) = moment_at(row, form, 3) else {
         return Err(Refusal::Store);
     };
-    let Some(to) = moment_at(row, 4) else {
+    let Some(to) = end_at(row, form, 4) else {
         return Err(Refusal::Store);
     };
     match decode_values(alloc, bytes) {

@@ -1,22 +1,26 @@
 //! Version rows handed over to a visitor, one at a time, as they are read; and all of a table.
 
-ghost use Rattle.std.specs.Prelude.{◌≡◌, ◌⊎◌, false, true, IfErr, IfOk, IsOk, MatchOption};
+ghost use Rattle.std.specs.Prelude.{◌≡◌, ◌⊎◌, ℤ, Bool, false, true, IfErr, IfOk, IsOk};
+ghost use Rattle.std.specs.Prelude.{MatchOption};
 ghost use Rattle.std.specs.Prelude.{OnErr, OnOk};
 ghost use Rattle.std.specs.List.{All};
 ghost use Rattle.period_core.specs.Encoding.{IsColumnValue};
 ghost use Rattle.period_core.specs.declared.refusal.Refusal.TheVariants.{Memory};
+ghost use Rattle.period_core.specs.Windows.{window_sees};
 ghost use Rattle.period_core.specs.declared.version.VersionRow.{VersionRow as AnyRow};
+ghost use Rattle.period_core.specs.declared.window.Window.TheVariants.{Now};
 ghost use Rattle.sqlite.specs.Held.{state};
 ghost use Rattle.sqlite.specs.State.{HasCleanDisk};
 ghost use Rattle.version_tables.specs.Represents.{shown};
-ghost use Rattle.version_tables.specs.Selections.{selects};
+ghost use Rattle.version_tables.specs.declared.form.Form.TheVariants.{Microseconds};
 ghost use Rattle.version_tables.specs.Steps.{Keeps, KeepsFaults};
 ghost use Rattle.version_store.specs.Contents.{AreDated, AreRowsOf, Contents, IsDated};
 ghost use Rattle.version_store.specs.Contents.{TableVersion, version_in};
-ghost use Rattle.version_store.specs.Scans.{AnswersRefusal, IsOwnRefusal, Sees, Visits};
+ghost use Rattle.version_store.specs.Scans.{AnswersRefusal, IsOwnRefusal, Selects, Visits};
 ghost use Rattle.version_store.specs.Scans.{VisitsChosen, is_empty};
 ghost use Rattle.version_store.specs.StoreState.{IsFailure, IsStoreRefusal, IsUsable};
-ghost use Rattle.version_store.specs.Written.{Has, written_version};
+ghost use Rattle.version_store.specs.Units.{in_microseconds, version_of};
+ghost use Rattle.version_store.specs.Written.{Has, HasIn, written_version};
 
 use crate::reading::read_version;
 use crate::refused::refusal_of;
@@ -25,12 +29,13 @@ use period_core::{Moment, Refusal, VersionRow, Window};
 use sqlite::{Connection, Row};
 use sqlite_trees::store::Alter;
 use std::alloc::Global;
-use version_tables::{Selection, rows_of, to_next_row};
+use version_tables::{Form, Selection, rows_of, to_next_row};
 
 /// The versions that a window sees, as the query selects them, or none where it is empty.
 fn selection_of(window: Window) -> Option<Selection>
     ensures { MatchOption result (is_empty window ≡ true)
-        (λ selection. (is_empty window ≡ false) × Sees window selection) }
+        (λ selection. (is_empty window ≡ false)
+        × Selects Microseconds selection (window_sees window)) }
 {
     match window {
         Window::Now => Some(Selection::EndingAt(Moment::forever().number())),
@@ -55,29 +60,38 @@ fn selection_of(window: Window) -> Option<Selection>
     }
 }
 
-/// Hands the version row that a row of the query shows over to the visitor. The row of a version
-/// that can be read is refused for memory alone, or by the visitor.
-fn visit_row<V: RowVisitor>(alloc: Global, row: &Row, visitor: &mut V) -> Result<(), Refusal>
+/// Hands the version row that a row of the query shows, with its numbers in the form's unit, over
+/// to the visitor. The row of a version that can be read is refused for memory alone, or by the
+/// visitor.
+fn visit_row<V: RowVisitor>(
+    alloc: Global,
+    form: Form,
+    row: &Row,
+    visitor: &mut V,
+) -> Result<(), Refusal>
     ensures visited { OnOk result ((version : TableVersion)
         → (row.now ≡ shown (written_version version)) → All IsColumnValue version.values
-        → (read : AnyRow) × (version_in version.table read ≡ version)
+        → (read : AnyRow) × (version_in version.table read ≡ version_of form version)
         × (V.meaning visitor.new ≡ V.next (V.meaning visitor.old) read)) }
     ensures refused { OnErr result (V.meaning visitor.new ≡ V.meaning visitor.old) }
     ensures named { IfErr result (λ refusal. IsStoreRefusal refusal ⊎ V.may_refuse refusal) }
     ensures answered { AnswersRefusal (V.answered visitor.old) (V.answered visitor.new) result }
-    ensures why { (version : TableVersion) → IsDated version → All IsColumnValue version.values
-        → (row.now ≡ shown (written_version version)) → IfErr result (λ refusal.
+    ensures why { (version : TableVersion) → IsDated (version_of form version)
+        → All IsColumnValue version.values → (row.now ≡ shown (written_version version))
+        → IfErr result (λ refusal.
         IsOwnRefusal V.may_refuse (V.answered visitor.new) refusal ⊎ (refusal ≡ Memory)) }
 {
-    match read_version(alloc, row) {
+    match read_version(alloc, form, row) {
         Ok(version) => visitor.visit(version),
         Err(refusal) => Err(refusal),
     }
 }
 
-/// Hands the selected version rows of the table of a number over to the visitor, in order.
+/// Hands the selected version rows of the table of a number over to the visitor, in order. The
+/// database is of the form, and the selection is in its unit.
 fn scan_selected<S: Alter, V: RowVisitor>(
     alloc: Global,
+    form: Form,
     connection: &mut Connection<S>,
     table: u8,
     selection: Selection,
@@ -85,11 +99,13 @@ fn scan_selected<S: Alter, V: RowVisitor>(
 ) -> Result<(), Refusal>
     requires { connection.old.in_transaction ≡ false }
     ensures visited { HasCleanDisk (state S.Store connection.new)
-        → (c : Contents) → Has (state S.Store connection.old).now c
-        → VisitsChosen V.next c table (selects selection)
+        → (c : Contents) → HasIn form (state S.Store connection.old).now c
+        → (chooses : ℤ → ℤ → Bool) → Selects form selection chooses
+        → VisitsChosen V.next (in_microseconds form c) table chooses
         (V.meaning visitor.old) (V.meaning visitor.new) result }
     ensures why { IsUsable S.Store connection.new
-        → (c : Contents) → Has (state S.Store connection.old).now c → AreDated c.versions
+        → (c : Contents) → HasIn form (state S.Store connection.old).now c
+        → AreDated (in_microseconds form c).versions
         → IfErr result (λ refusal. IsOwnRefusal V.may_refuse (V.answered visitor.new) refusal
         ⊎ IsFailure S.Store connection.old connection.new refusal) }
     ensures same { HasCleanDisk (state S.Store connection.new)
@@ -113,7 +129,7 @@ fn scan_selected<S: Alter, V: RowVisitor>(
         let Some(row) = rows.get() else {
             return Ok(());
         };
-        if let Err(refusal) = visit_row(alloc, row, visitor) {
+        if let Err(refusal) = visit_row(alloc, form, row, visitor) {
             return Err(refusal);
         }
     }
@@ -149,31 +165,71 @@ pub(crate) fn scan_rows<S: Alter, V: RowVisitor>(
     ensures answered { AnswersRefusal (V.answered visitor.old) (V.answered visitor.new) result }
 {
     match selection_of(window) {
-        Some(selection) => scan_selected(alloc, connection, table, selection, visitor),
+        Some(selection) => {
+            let form = Form::Microseconds;
+            scan_selected(alloc, form, connection, table, selection, visitor)
+        }
         None => Ok(()),
     }
 }
 
-/// The version rows of the table of a number, in order.
+/// Hands the current version rows of the table of a number over to the visitor, in order. The
+/// database is of the form.
+pub(crate) fn scan_current_rows<S: Alter, V: RowVisitor>(
+    alloc: Global,
+    form: Form,
+    connection: &mut Connection<S>,
+    table: u8,
+    visitor: &mut V,
+) -> Result<(), Refusal>
+    requires { connection.old.in_transaction ≡ false }
+    ensures visited { HasCleanDisk (state S.Store connection.new)
+        → (c : Contents) → HasIn form (state S.Store connection.old).now c
+        → Visits V.next (in_microseconds form c) table Now
+        (V.meaning visitor.old) (V.meaning visitor.new) result }
+    ensures why { IsUsable S.Store connection.new
+        → (c : Contents) → HasIn form (state S.Store connection.old).now c
+        → AreDated (in_microseconds form c).versions
+        → IfErr result (λ refusal. IsOwnRefusal V.may_refuse (V.answered visitor.new) refusal
+        ⊎ IsFailure S.Store connection.old connection.new refusal) }
+    ensures same { HasCleanDisk (state S.Store connection.new)
+        → Keeps (state S.Store connection.old) (state S.Store connection.new) }
+    ensures clean { HasCleanDisk (state S.Store connection.new)
+        → HasCleanDisk (state S.Store connection.old) }
+    ensures mode { connection.new.in_transaction ≡ false }
+    ensures faults { KeepsFaults (state S.Store connection.old) (state S.Store connection.new) }
+    ensures named { IfErr result (λ refusal. IsStoreRefusal refusal ⊎ V.may_refuse refusal) }
+    ensures answered { AnswersRefusal (V.answered visitor.old) (V.answered visitor.new) result }
+{
+    let current = Selection::EndingAt(form.open_end());
+    scan_selected(alloc, form, connection, table, current, visitor)
+}
+
+/// The version rows of the table of a number, in order. The database is of the form.
 pub(crate) fn table_rows<S: Alter>(
     alloc: Global,
+    form: Form,
     connection: &mut Connection<S>,
     table: u8,
 ) -> Result<Vec<VersionRow>, Refusal>
     requires { connection.old.in_transaction ≡ false }
     ensures rows { HasCleanDisk (state S.Store connection.new)
-        → (c : Contents) → Has (state S.Store connection.old).now c
-        → IfOk result (λ rows. AreRowsOf c table rows.items) }
+        → (c : Contents) → HasIn form (state S.Store connection.old).now c
+        → IfOk result (λ rows. AreRowsOf (in_microseconds form c) table rows.items) }
     ensures why { IsUsable S.Store connection.new
-        → (c : Contents) → Has (state S.Store connection.old).now c → AreDated c.versions
+        → (c : Contents) → HasIn form (state S.Store connection.old).now c
+        → AreDated (in_microseconds form c).versions
         → IfErr result (IsFailure S.Store connection.old connection.new) }
     ensures same { HasCleanDisk (state S.Store connection.new)
         → Keeps (state S.Store connection.old) (state S.Store connection.new) }
+    ensures clean { HasCleanDisk (state S.Store connection.new)
+        → HasCleanDisk (state S.Store connection.old) }
+    ensures faults { KeepsFaults (state S.Store connection.old) (state S.Store connection.new) }
     ensures mode { connection.new.in_transaction ≡ false }
     ensures named { IfErr result IsStoreRefusal }
 {
     let mut kept = KeptRows::new(alloc);
-    match scan_selected(alloc, connection, table, Selection::Whole, &mut kept) {
+    match scan_selected(alloc, form, connection, table, Selection::Whole, &mut kept) {
         Ok(()) => Ok(kept.rows),
         Err(refusal) => Err(refusal),
     }

@@ -27,12 +27,9 @@ use sqlite_trees::store::Alter;
 use std::alloc::Global;
 use std::marker::Model;
 use std::mem;
-use version_tables::create;
+use version_tables::{Form, create};
 
 pub mod opened;
-
-/// The form of the three tables.
-const FORM: i64 = 1;
 
 /// The tables' definitions, the clock and the version rows in a database. The definitions and the
 /// clock are kept in memory too. No transaction is open on its connection.
@@ -87,7 +84,8 @@ impl<S: Alter> VersionStore<S> {
         ensures settled { IfErr result (λ failed. failed.1.in_transaction ≡ false) }
         ensures named { IfErr result (λ failed. IsStoreRefusal failed.0) }
     {
-        match create(&mut connection, FORM, Moment::first().number()) {
+        let form = Form::Microseconds.number();
+        match create(&mut connection, form, Moment::first().number()) {
             Ok(()) => Ok(VersionStore {
                 connection,
                 catalog: Catalog::new(alloc),
@@ -220,7 +218,7 @@ impl<S: Alter> VersionStore<S> {
         ensures clock { self.new.clock ≡ self.old.clock }
         ensures named { IfErr result IsStoreRefusal }
     {
-        table_rows(alloc, &mut self.connection, table)
+        table_rows(alloc, Form::Microseconds, &mut self.connection, table)
     }
 
     /// Hands the version rows of the table of a number that the window sees over to the visitor,

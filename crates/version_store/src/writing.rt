@@ -1,6 +1,7 @@
 //! The changes: inside a transaction, and each whole in one of its own.
 
 ghost use Rattle.std.specs.Prelude.{◌≡◌, ◌+◌, false, length, IfErr};
+ghost use Rattle.version_tables.specs.Moves.{AreInSeconds, moved};
 ghost use Rattle.version_tables.specs.Represents.{with_definition};
 ghost use Rattle.version_store.specs.Changed.{planned, with_clock};
 ghost use Rattle.version_store.specs.StoreState.{IsStoreRefusal, IsUsable};
@@ -14,7 +15,7 @@ use period_core::{Moment, Refusal};
 use sqlite::{Connection, Transaction};
 use sqlite_trees::store::Alter;
 use std::alloc::Global;
-use version_tables::{insert_definition, set_clock};
+use version_tables::{insert_definition, move_to_microseconds, set_clock};
 
 /// Makes what a plan says in one transaction, or nothing of it.
 pub(crate) fn write_plan<S: Alter>(
@@ -114,6 +115,47 @@ pub(crate) fn write_clock<S: Alter>(
     let _settled = connection.is_autocommit();
     let mut transaction = connection.transaction();
     put_clock(&mut transaction, moment)?;
+    match transaction.commit() {
+        Ok(()) => Ok(()),
+        Err(error) => Err(refusal_of(&error)),
+    }
+}
+
+/// Counts the moments in microseconds, where they are seconds.
+fn put_microseconds<S: Alter>(
+    transaction: &mut Transaction<'_, S>,
+    clock: Moment,
+) -> Result<(), Refusal>
+    ensures same_reference { transaction.new.conn.ghost_name ≡ transaction.old.conn.ghost_name }
+    ensures made { ChangesWhere S.Store transaction.old.conn.now transaction.new.conn.now result
+        (AreInSeconds clock) moved }
+    ensures inside { CommitsNothing S.Store transaction.old.conn.now transaction.new.conn.now }
+    ensures named { IfErr result IsStoreRefusal }
+{
+    match move_to_microseconds(transaction, clock.number()) {
+        Ok(()) => Ok(()),
+        Err(error) => Err(refusal_of(&error)),
+    }
+}
+
+/// Moves a database of form 1 to form 2 in one transaction, or not at all. The clock is its clock
+/// in microseconds.
+pub(crate) fn write_move<S: Alter>(
+    connection: &mut Connection<S>,
+    clock: Moment,
+) -> Result<(), Refusal>
+    requires { connection.old.in_transaction ≡ false }
+    ensures made { CommitsWhere S.Store connection.old connection.new result
+        (AreInSeconds clock) moved }
+    ensures none { Undoes S.Store connection.old connection.new result }
+    ensures usable { IsUsable S.Store connection.new → IsUsable S.Store connection.old }
+    ensures mode { connection.new.in_transaction ≡ false }
+    ensures named { IfErr result IsStoreRefusal }
+{
+    // For the proof alone: whether a transaction is open is known by this call.
+    let _settled = connection.is_autocommit();
+    let mut transaction = connection.transaction();
+    put_microseconds(&mut transaction, clock)?;
     match transaction.commit() {
         Ok(()) => Ok(()),
         Err(error) => Err(refusal_of(&error)),

@@ -10,6 +10,8 @@ use Rattle.sqlite.specs.View.{is_int}
 use Rattle.version_tables.specs.Represents.{Version, version, meta_row, stored}
 use Rattle.version_tables.specs.Good.{IsClock, IsKnown, AreDays, AreMoments, IsGoodParts, SayClock, SaysVersion, IsDefinition}
 use Rattle.version_tables.specs.Rows.{IsNumberAt, AreBytesAt, Rise}
+use Rattle.version_tables.specs.Forms.{form_number}
+use Rattle.version_tables.specs.declared.form.Form.{Form}
 
 pub never : {P : Type 0} → IsTrue false → P
 never h = cc
@@ -32,17 +34,33 @@ rise_read a b low high p q h = rw (same_int low h.low _ p.1 h.low_is.1, same_int
 
 -- ---- the form and the clock
 
-pub record ClockColumns (row : Row) (clock : ℤ) : Type 0 where
+pub record ClockColumns (row : Row) (form : Form) (clock : ℤ) : Type 0 where
   pub width : length row ≡ 3
   pub id : IsNumberAt row 0 (pos 1)
-  pub form : IsNumberAt row 1 (pos 1)
+  pub number : IsNumberAt row 1 (form_number form)
   pub at : IsNumberAt row 2 clock
-  pub is_clock : IsClock clock
+  pub is_clock : IsClock form clock
 
-pub clock_columns : (row : Row) (clock : ℤ) → SayClock (row ∷ []) clock → ClockColumns row clock
-clock_columns row clock h =
-    let same : row ≡ meta_row (pos 1) clock = let e = h.0 in cc in
-    rw same (record { width = refl; id = (omega arith, refl); form = (omega arith, refl); at = (omega arith, refl); is_clock = h.1 })
+pub clock_columns : (row : Row) (form : Form) (clock : ℤ) → SayClock (row ∷ []) form clock → ClockColumns row form clock
+clock_columns row form clock h =
+    let same : row ≡ meta_row (form_number form) clock = let e = h.0 in cc in
+    rw same (record { width = refl; id = (omega arith, refl); number = (omega arith, refl); at = (omega arith, refl); is_clock = h.1 })
+
+three : (row : Row) → length row ≡ 3 → row ≡ column row 0 ∷ column row 1 ∷ column row 2 ∷ []
+three [] h = absurd (omega arith)
+three (a ∷ []) h = absurd (omega arith)
+three (a ∷ b ∷ []) h = absurd (omega arith)
+three (a ∷ b ∷ c ∷ []) h = refl
+three (a ∷ b ∷ c ∷ d ∷ more) h = absurd (omega arith)
+
+pub says_clock : (row : Row) (form : Form) (id number clock : ℤ) → length row ≡ 3 → IsNumberAt row 0 id → IsNumberAt row 1 number → IsNumberAt row 2 clock → id ≡ pos 1 → form_number form ≡ number
+    → row ∷ [] ≡ meta_row (form_number form) clock ∷ []
+says_clock row form id number clock width a b c one known =
+    let whole = three row width in
+    let p = a.1 in
+    let q = b.1 in
+    let r = c.1 in
+    cc
 
 -- ---- a version
 
@@ -56,7 +74,7 @@ six (a ∷ b ∷ c ∷ d ∷ e ∷ []) h = absurd (omega arith)
 six (a ∷ b ∷ c ∷ d ∷ e ∷ f ∷ []) h = refl
 six (a ∷ b ∷ c ∷ d ∷ e ∷ f ∷ g ∷ more) h = absurd (omega arith)
 
-pub record VersionColumns (clock : ℤ) (tables : ℕ) (row : Row) : Type 0 where
+pub record VersionColumns (form : Form) (clock : ℤ) (tables : ℕ) (row : Row) : Type 0 where
   pub width : length row ≡ 6
   pub it : Version
   pub table : IsNumberAt row 0 (pos it.table)
@@ -65,10 +83,10 @@ pub record VersionColumns (clock : ℤ) (tables : ℕ) (row : Row) : Type 0 wher
   pub end : IsNumberAt row 3 it.end
   pub from : IsNumberAt row 4 it.from
   pub to : IsNumberAt row 5 it.to
-  pub good : IsGoodParts clock tables (pos it.table) it.start it.end it.from it.to
+  pub good : IsGoodParts form clock tables (pos it.table) it.start it.end it.from it.to
 
-pub version_columns : (clock : ℤ) (tables : ℕ) (row : Row) → SaysVersion clock tables row → VersionColumns clock tables row
-version_columns clock tables row h =
+pub version_columns : (form : Form) (clock : ℤ) (tables : ℕ) (row : Row) → SaysVersion form clock tables row → VersionColumns form clock tables row
+version_columns form clock tables row h =
     let at : (n : ℕ) → n < 6 → n < length row = λ n low. rw h.1 low in
     let v = h.0 in
     let one : (n : ℕ) → column row n ≡ column (stored v) n = λ n. ap (λ r. column r n) h.1 in
@@ -88,9 +106,9 @@ natural : (tables : ℕ) (n : ℤ) → IsKnown tables n → (k : ℕ) × (n ≡ 
 natural tables (pos k) h = (k, refl)
 natural tables (negsuc k) h = absurd (let low = h.low in omega (arith, ints))
 
-pub says_version : (clock : ℤ) (tables : ℕ) (row : Row) (table : ℤ) (values : List ℕ) (start end from to : ℤ) → length row ≡ 6 → IsNumberAt row 0 table → AreBytesAt row 1 values
-    → IsNumberAt row 2 start → IsNumberAt row 3 end → IsNumberAt row 4 from → IsNumberAt row 5 to → IsKnown tables table → AreDays start end → AreMoments clock from to → SaysVersion clock tables row
-says_version clock tables row table values start end from to width a b c d e f known days moments =
+pub says_version : (form : Form) (clock : ℤ) (tables : ℕ) (row : Row) (table : ℤ) (values : List ℕ) (start end from to : ℤ) → length row ≡ 6 → IsNumberAt row 0 table → AreBytesAt row 1 values
+    → IsNumberAt row 2 start → IsNumberAt row 3 end → IsNumberAt row 4 from → IsNumberAt row 5 to → IsKnown tables table → AreDays start end → AreMoments form clock from to → SaysVersion form clock tables row
+says_version form clock tables row table values start end from to width a b c d e f known days moments =
     let whole = six row width in
     let n = natural tables table known in
     let p = a.1 ∙ ap Int n.1 in
@@ -103,10 +121,10 @@ says_version clock tables row table values start end from to width a b c d e f k
     let same : row ≡ stored v = cc in
     (v, same, record { known = subst (IsKnown tables) n.1 known; days = days; moments = moments })
 
-pub good_parts : (clock : ℤ) (tables : ℕ) (row : Row) (table start end from to : ℤ) → IsNumberAt row 0 table → IsNumberAt row 2 start → IsNumberAt row 3 end → IsNumberAt row 4 from → IsNumberAt row 5 to
-    → SaysVersion clock tables row → IsGoodParts clock tables table start end from to
-good_parts clock tables row table start end from to a c d e f says =
-    let has = version_columns clock tables row says in
+pub good_parts : (form : Form) (clock : ℤ) (tables : ℕ) (row : Row) (table start end from to : ℤ) → IsNumberAt row 0 table → IsNumberAt row 2 start → IsNumberAt row 3 end → IsNumberAt row 4 from → IsNumberAt row 5 to
+    → SaysVersion form clock tables row → IsGoodParts form clock tables table start end from to
+good_parts form clock tables row table start end from to a c d e f says =
+    let has = version_columns form clock tables row says in
     let p = same_int table (pos has.it.table) _ a.1 has.table.1 in
     let q = same_int start has.it.start _ c.1 has.start.1 in
     let r = same_int end has.it.end _ d.1 has.end.1 in

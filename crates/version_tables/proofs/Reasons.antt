@@ -1,5 +1,5 @@
 -- Why a query of the versions fails where the three tables are there.
-use Rattle.std.proofs.Common.{◌≡◌, ◌∙◌, inl, inr, ℕ, List, [], ◌∷◌, true, false, codes, Ok, Err, Result, refl, sym, ap, subst, subst₂, append-nil, length, true≢false, arith}
+use Rattle.std.proofs.Common.{◌≡◌, ◌∙◌, inl, inr, ℕ, List, [], ◌∷◌, true, codes, Ok, Err, Result, refl, sym, ap, subst, subst₂, append-nil, length, true≢false, arith}
 use Rattle.std.specs.Prelude.{nat_le}
 use Rattle.std.specs.List.{Any}
 use Rattle.std.proofs.lemmas.Bool.Decides.{nat_tests}

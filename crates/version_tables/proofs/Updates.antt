@@ -1,4 +1,5 @@
--- What UPDATE of a version by its key does, whatever columns it sets.
+-- What UPDATE of versions does, whatever columns it sets: of those of which its tests are true, and
+-- of those with a key.
 use Rattle.std.proofs.Common.{◌≡◌, ℕ, pos, List, [], ◌∷◌, ◌++◌, map, drop, filter, length, Bool, true, false, not, None, Ok, refl, sym, ap, subst, subst₂, ◌∙◌, arith}
 use Rattle.std.specs.Prelude.{unwrap_or}
 use Rattle.std.specs.List.{list_all, AllByRecursion}
@@ -30,7 +31,7 @@ use Rattle.sqlite.proofs.Callers.{IsPlain, command_of, statement_of, runs_as, on
 use Rattle.sqlite_rules.specs.Calls.{ids_of}
 use Rattle.version_tables.specs.Tables.{store_schema, version_table}
 use Rattle.version_tables.specs.Represents.{Version, Records, Represents, changed, defined, meta_shown, table_shown, version_shown, AreUntied, stored, same_key}
-use Rattle.version_tables.proofs.Texts.{changing}
+use Rattle.version_tables.proofs.Texts.{by_key, changing, updating}
 use Rattle.version_tables.proofs.Rows.{went, same_value, put_row_fresh}
 use Rattle.version_tables.proofs.Shows.{chosen}
 use Rattle.version_tables.proofs.Goes.{rid, taken_out, untied-put_row}
@@ -68,39 +69,42 @@ put_keyed (r ∷ rs) rows ints all = let parts = and_parts _ _ ints in put_keyed
 abbrev pub again : Row → Row
 again s = cast_row (version_table 2) (drop 1 s)
 
-module _ (columns : List Term) where
-  has_key-row : (k : Version) (more r : Row) → list_all (holds (key_and k more ∷ r ∷ [])) (changing columns).filter ≡ has_key k (version_shown r)
-  unfolding has_key
-  has_key-row k more r = refl
+has_key-row : (k : Version) (more r : Row) → list_all (holds (key_and k more ∷ r ∷ [])) by_key ≡ has_key k (version_shown r)
+unfolding has_key
+has_key-row k more r = refl
 
-  ids : (params : Row) (rs : List Row) → ids_of (map (λ (o : Output). o.1) (map (output (changing columns)) (map (λ r. params ∷ r ∷ []) rs))) ≡ map rid rs
-  ids params [] = refl
-  ids params (r ∷ rs) = let more = ids params rs in cc
+module _ (tests columns : List Term) (params : Row) where
+  ids : (rs : List Row) → ids_of (map (λ (o : Output). o.1) (map (output (updating tests columns)) (map (λ r. params ∷ r ∷ []) rs))) ≡ map rid rs
+  ids [] = refl
+  ids (r ∷ rs) = let more = ids rs in cc
 
-  module _ (params : Row) (body : Row → Row) (body_is : (r : Row) → version_shown (again (output (changing columns) (params ∷ r ∷ [])).1) ≡ body (version_shown r)) where
-    bodies : (rs : List Row) → map (λ s. version_shown (again s)) (map (λ (o : Output). o.1) (map (output (changing columns)) (map (λ r. params ∷ r ∷ []) rs))) ≡ map body (map version_shown rs)
+  module _ (body : Row → Row) (body_is : (r : Row) → version_shown (again (output (updating tests columns) (params ∷ r ∷ [])).1) ≡ body (version_shown r)) where
+    bodies : (rs : List Row) → map (λ s. version_shown (again s)) (map (λ (o : Output). o.1) (map (output (updating tests columns)) (map (λ r. params ∷ r ∷ []) rs))) ≡ map body (map version_shown rs)
     bodies [] = refl
     bodies (r ∷ rs) = let one = body_is r in let more = bodies rs in cc
 
-made : (body : Row → Row) (f : Version → Version) (stays : (v : Version) → body (stored v) ≡ stored (f v)) (vs : List Version) → map body (map stored vs) ≡ map stored (map f vs)
-made body f stays [] = refl
-made body f stays (v ∷ vs) = let one = stays v in let more = made body f stays vs in cc
+made : (P : Version → Type 0) (body : Row → Row) (f : Version → Version) (stays : (v : Version) → P v → body (stored v) ≡ stored (f v)) (vs : List Version) → AllByRecursion P vs → map body (map stored vs) ≡ map stored (map f vs)
+made P body f stays [] all = refl
+made P body f stays (v ∷ vs) all = let one = stays v all.0 in let more = made P body f stays vs all.1 in cc
 
 fused : (f : Row → Row) (g : Row → Row) (xs : List Row) → map f (map g xs) ≡ map (λ x. f (g x)) xs
 fused f g [] = refl
 fused f g (x ∷ xs) = ap (λ l. f (g x) ∷ l) (fused f g xs)
 
--- the rows with the key are changed, and counted
-module _ (text : List ℕ) (columns : List Term) (k : Version) (more : Row) (f : Version → Version) (body : Row → Row)
-    (is : (command_of (understood store_schema text) ≡ Update 2 (record { lets = []; body = changing columns })) × IsPlain (understood store_schema text))
-    (body_is : (r : Row) → version_shown (again (output (changing columns) (key_and k more ∷ r ∷ [])).1) ≡ body (version_shown r))
-    (body-stored : (v : Version) → body (stored v) ≡ stored (f v)) where
-  pub updates : (old new : State) (count : ℕ) (m : Records) → Represents old.now m → Executes text (key_and k more) old new (Ok count) → Represents new.now (changed k f m) × (count ≡ length (filter (same_key k) m.versions))
-  updates old new count m was h =
+-- the rows of which the tests are true are changed, and counted; of the versions P holds
+module _ (text : List ℕ) (tests columns : List Term) (params : Row) (picks : Version → Bool) (test : Row → Bool) (P : Version → Type 0) (f : Version → Version) (body : Row → Row)
+    (is : (command_of (understood store_schema text) ≡ Update 2 (record { lets = []; body = updating tests columns })) × IsPlain (understood store_schema text))
+    (test_is : (r : Row) → list_all (holds (params ∷ r ∷ [])) tests ≡ test (version_shown r))
+    (test-stored : (v : Version) → test (stored v) ≡ picks v)
+    (body_is : (r : Row) → version_shown (again (output (updating tests columns) (params ∷ r ∷ [])).1) ≡ body (version_shown r))
+    (body-stored : (v : Version) → P v → body (stored v) ≡ stored (f v)) where
+  pub changes : (old new : State) (count : ℕ) (m : Records) → AllByRecursion P m.versions → Represents old.now m → Executes text params old new (Ok count)
+      → Represents new.now (record m { versions = map f (filter picks m.versions) ++ filter (λ v. not (picks v)) m.versions }) × (count ≡ length (filter picks m.versions))
+  changes old new count m are was h =
       let has = was.schema in
-      let params = key_and k more in
       let db = old.now.trees in
-      let command = Update 2 (record { lets = []; body = (changing columns) }) in
+      let query = updating tests columns in
+      let command = Update 2 (record { lets = []; body = query }) in
       let table = version_table 2 in
       let w = runs_as text params old new store_schema has command is.0 is.1 count h in
       let done = went (subst (λ s. Does old.step_limit (mode_of old) params (record old.now { schema = s }) (statement_of text (understood store_schema text)) None command (Ok (w.tally, new.now))) has w.changed) in
@@ -111,35 +115,35 @@ module _ (text : List ℕ) (columns : List Term) (k : Version) (more : Row) (f :
       let edit = edit_of db table (ids_of found.0) Given 1 found.0 in
       let applied = one_step store_schema _ db written.0 edit refl written.1 in
       let after : (t : ℕ) → new.now.trees t ≡ written.0 t = λ t. ap (λ (d : Database). d.trees t) now ∙ ap (λ (all : Trees). all t) trees in
-      let p = λ (r : Row). list_all (holds (params ∷ r ∷ [])) (changing columns).filter in
+      let p = λ (r : Row). list_all (holds (params ∷ r ∷ [])) tests in
       let env = λ (r : Row). params ∷ r ∷ [] in
-      let a : IsAnswer (changing columns) (overlay db []) params found.0 = found.1.answer Null in
-      let kept : a.kept ≡ map (output (changing columns)) (map env (filter p (db 2))) = a.distinct ∙ ap (map (output (changing columns))) (a.grouped ∙ chosen p env (db 2)) in
+      let a : IsAnswer query (overlay db []) params found.0 = found.1.answer Null in
+      let kept : a.kept ≡ map (output query) (map env (filter p (db 2))) = a.distinct ∙ ap (map (output query)) (a.grouped ∙ chosen p env (db 2)) in
       let these : IsPermutation (map rid (filter p (db 2))) (ids_of found.0) =
-      subst₂ IsPermutation (ap (λ l. ids_of (map (λ (o : Output). o.1) l)) kept ∙ ids columns params (filter p (db 2))) (ap ids_of (sym a.shown)) (IsPermutation-map rid _ _ (IsPermutation-map (λ (o : Output). o.1) _ _ a.same)) in
-      let tests : p ≡ (λ r. has_key k (version_shown r)) = fun_ext (has_key-row columns k more) in
-      let left : without_all (db 2) (ids_of found.0) ≡ filter (λ r. not (has_key k (version_shown r))) (db 2) =
-      taken_out p (db 2) (ids_of found.0) was.untied was.keyed these ∙ ap (λ q. filter (λ r. not (q r)) (db 2)) tests in
+      subst₂ IsPermutation (ap (λ l. ids_of (map (λ (o : Output). o.1) l)) kept ∙ ids tests columns params (filter p (db 2))) (ap ids_of (sym a.shown)) (IsPermutation-map rid _ _ (IsPermutation-map (λ (o : Output). o.1) _ _ a.same)) in
+      let tested : p ≡ (λ r. test (version_shown r)) = fun_ext test_is in
+      let left : without_all (db 2) (ids_of found.0) ≡ filter (λ r. not (test (version_shown r))) (db 2) =
+      taken_out p (db 2) (ids_of found.0) was.untied was.keyed these ∙ ap (λ q. filter (λ r. not (q r)) (db 2)) tested in
       let news : edit.news ≡ map again found.0 = numbered_given _ _ in
       let put : new.now.trees 2 ≡ put_all (without_all (db 2) (ids_of found.0)) edit.news = after 2 ∙ applied.rows in
-      let q = λ (b : Row). not (has_key k b) in
-      let same : (λ (v : Version). has_key k (stored v)) ≡ same_key k = fun_ext (has_key-stored k) in
-      let gone : IsPermutation (map stored (map f (filter (same_key k) m.versions))) (map version_shown edit.news) =
+      let q = λ (b : Row). not (test b) in
+      let same : (λ (v : Version). test (stored v)) ≡ picks = fun_ext test-stored in
+      let gone : IsPermutation (map stored (map f (filter picks m.versions))) (map version_shown edit.news) =
       subst₂ IsPermutation
-      (ap (map body) (filter-map (has_key k) stored m.versions ∙ ap (λ t. map stored (filter t m.versions)) same) ∙ made body f body-stored (filter (same_key k) m.versions))
+      (ap (map body) (filter-map test stored m.versions ∙ ap (λ t. map stored (filter t m.versions)) same) ∙ made P body f body-stored (filter picks m.versions) (all-filter P picks m.versions are))
       (ap (map (λ s. version_shown (again s))) (sym a.shown) ∙ sym (fused version_shown again found.0) ∙ ap (map version_shown) (sym news))
-      (IsPermutation-trans _ _ _ (IsPermutation-map body _ _ (IsPermutation-filter (has_key k) _ _ was.says.versions))
+      (IsPermutation-trans _ _ _ (IsPermutation-map body _ _ (IsPermutation-filter test _ _ was.says.versions))
       (subst (λ l. IsPermutation l (map (λ s. version_shown (again s)) (map (λ (o : Output). o.1) a.ordered)))
-      (ap (λ l. map (λ s. version_shown (again s)) (map (λ (o : Output). o.1) l)) kept ∙ bodies columns params body body_is (filter p (db 2)) ∙ ap (λ t. map body (map version_shown (filter t (db 2)))) tests ∙ ap (map body) (sym (filter-map (has_key k) version_shown (db 2))))
+      (ap (λ l. map (λ s. version_shown (again s)) (map (λ (o : Output). o.1) l)) kept ∙ bodies tests columns params body body_is (filter p (db 2)) ∙ ap (λ t. map body (map version_shown (filter t (db 2)))) tested ∙ ap (map body) (sym (filter-map test version_shown (db 2))))
       (IsPermutation-map (λ s. version_shown (again s)) _ _ (IsPermutation-map (λ (o : Output). o.1) _ _ a.same)))) in
-      let rest : IsPermutation (map stored (filter (λ v. not (same_key k v)) m.versions)) (map version_shown (without_all (db 2) (ids_of found.0))) =
+      let rest : IsPermutation (map stored (filter (λ v. not (picks v)) m.versions)) (map version_shown (without_all (db 2) (ids_of found.0))) =
       subst₂ IsPermutation
       (filter-map q stored m.versions ∙ ap (λ t. map stored (filter (λ v. not (t v)) m.versions)) same)
       (filter-map q version_shown (db 2) ∙ ap (map version_shown) (sym left))
       (IsPermutation-filter q _ _ was.says.versions) in
       let answered : count ≡ length edit.news =
       w.counted ∙ ap (λ (n : Tally × Database). unwrap_or n.0.rows 0) (same_value (went (went done.2).2).2) ∙ ap (λ (it : Written). length it.rows) (same_value written.2) in
-      let all : length edit.news ≡ length (filter (same_key k) m.versions) =
+      let all : length edit.news ≡ length (filter picks m.versions) =
       sym (length-map edit.news version_shown) ∙ length_permutation _ _ gone ∙ length-map _ stored ∙ length-map _ f in (
         record {
           schema = ap (λ (d : Database). d.schema) now;
@@ -153,3 +157,17 @@ module _ (text : List ℕ) (columns : List Term) (k : Version) (more : Row) (f :
         },
         answered ∙ all,
       )
+
+everywhere : (P : Version → Type 0) → ((v : Version) → P v) → (vs : List Version) → AllByRecursion P vs
+everywhere P holds [] = tt
+everywhere P holds (v ∷ vs) = (holds v, everywhere P holds vs)
+
+-- the rows with the key are changed, and counted
+module _ (text : List ℕ) (columns : List Term) (k : Version) (more : Row) (f : Version → Version) (body : Row → Row)
+    (is : (command_of (understood store_schema text) ≡ Update 2 (record { lets = []; body = changing columns })) × IsPlain (understood store_schema text))
+    (body_is : (r : Row) → version_shown (again (output (changing columns) (key_and k more ∷ r ∷ [])).1) ≡ body (version_shown r))
+    (body-stored : (v : Version) → body (stored v) ≡ stored (f v)) where
+  pub updates : (old new : State) (count : ℕ) (m : Records) → Represents old.now m → Executes text (key_and k more) old new (Ok count) → Represents new.now (changed k f m) × (count ≡ length (filter (same_key k) m.versions))
+  updates old new count m was h =
+      changes text by_key columns (key_and k more) (same_key k) (has_key k) (λ _. Unit {0}) f body is (has_key-row k more) (has_key-stored k) body_is (λ v _. body-stored v)
+      old new count m (everywhere (λ _. Unit {0}) (λ _. tt) m.versions) was h

@@ -40,6 +40,17 @@ define_text = codes "INSERT INTO bt_table (id, def) VALUES (?1, ?2)"
 abbrev pub clock_text : List ℕ
 clock_text = codes "UPDATE bt_meta SET clock = ?1"
 
+-- The moments of the versions, in microseconds in place of seconds: ?1 is the open end in seconds,
+-- ?2 is the other one.
+
+abbrev pub microseconds_text : List ℕ
+microseconds_text =
+    codes "UPDATE bt_version SET ss = ss * 1000000, "
+    ++ codes "se = CASE WHEN se = ?1 THEN ?2 ELSE se * 1000000 END"
+
+abbrev pub form_text : List ℕ
+form_text = codes "UPDATE bt_meta SET form = ?1, clock = ?2"
+
 -- Versions are added by one, two, four or eight in a statement. ?1 is their table, ?2 and ?3 are
 -- the ends of their system time, and each of them has three more parameters.
 

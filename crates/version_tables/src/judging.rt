@@ -3,45 +3,48 @@
 
 ghost use Rattle.std.specs.Prelude.{◌↔◌, ◌∷◌, [], ℤ, IsTrue, MatchOption};
 ghost use Rattle.period_core.specs.Calendar.{IsDayNumber};
-ghost use Rattle.period_core.specs.Moments.{IsMomentNumber};
+ghost use Rattle.version_tables.specs.declared.form.Form.{Form as AnyForm};
 ghost use Rattle.version_tables.specs.Good.{AreDays, AreMoments, IsClock, IsDefinition, IsKnown};
 ghost use Rattle.version_tables.specs.Good.{IsPast, SayClock, SaysVersion};
 ghost use Rattle.version_tables.specs.Rows.{AreNumbered, AreRising, HaveOneKey, RepeatKey};
 ghost use Rattle.version_tables.specs.Rows.{Rise, ShareBytes, ShareNumber};
 
 use crate::columns::{bytes_at, number_at};
-use period_core::{Day, Moment};
+use crate::form::Form;
+use period_core::Day;
 use sqlite::Row;
 
-fn is_clock(moment: i64) -> bool
-    ensures { IsTrue result ↔ IsClock moment }
+fn is_clock(form: Form, moment: i64) -> bool
+    ensures { IsTrue result ↔ IsClock form moment }
 {
-    moment >= Moment::first().number() && moment < Moment::forever().number()
+    moment >= form.least_number() && moment < form.open_end()
 }
 
-/// The clock, if the row is one of bt_meta with form 1 and a clock.
-fn clock_in(row: &Row) -> Option<i64>
+/// The form and the clock, if the row is one of bt_meta with a form and a clock in its unit.
+fn clock_in(row: &Row) -> Option<(Form, i64)>
     ensures { MatchOption result
-        (¬ ((clock : ℤ) × SayClock (row.now ∷ []) clock)) (SayClock (row.now ∷ [])) }
+        ((form : AnyForm) (clock : ℤ) → ¬ SayClock (row.now ∷ []) form clock)
+        (λ found. SayClock (row.now ∷ []) found.0 found.1) }
 {
     if row.column_count() != 3 {
         return None;
     }
     let id = number_at(row, 0)?;
-    let form = number_at(row, 1)?;
+    let number = number_at(row, 1)?;
     let clock = number_at(row, 2)?;
-    if id == 1 && form == 1 && is_clock(clock) {
-        Some(clock)
+    let form = Form::of_number(number)?;
+    if id == 1 && is_clock(form, clock) {
+        Some((form, clock))
     } else {
         None
     }
 }
 
-/// The clock, a moment's number, if the rows are those of a good bt_meta: one row, whose number and
-/// form are 1 and whose clock is a moment below FOREVER.
-pub fn clock_of(rows: &[Row]) -> Option<i64>
-    ensures { MatchOption result
-        (¬ ((clock : ℤ) × SayClock rows.now clock)) (SayClock rows.now) }
+/// The form and the clock, a moment's number in its unit, if the rows are those of a good bt_meta:
+/// one row, whose number is 1, whose form is 1 or 2 and whose clock is before the open end.
+pub fn clock_of(rows: &[Row]) -> Option<(Form, i64)>
+    ensures { MatchOption result ((form : AnyForm) (clock : ℤ) → ¬ SayClock rows.now form clock)
+        (λ found. SayClock rows.now found.0 found.1) }
 {
     match rows {
         [row] => clock_in(row),
@@ -86,35 +89,29 @@ fn are_days(start: i64, end: i64) -> bool
     is_day(start) && is_day(end) && start < end
 }
 
-fn is_moment(number: i64) -> bool
-    ensures { IsTrue result ↔ IsMomentNumber number }
+fn is_past(form: Form, from: i64, to: i64, clock: i64) -> bool
+    ensures { IsTrue result ↔ IsPast form clock from to }
 {
-    Moment::new(number).is_some()
+    from <= clock && (to <= clock || to == form.open_end())
 }
 
-fn is_past(from: i64, to: i64, clock: i64) -> bool
-    ensures { IsTrue result ↔ IsPast clock from to }
+fn are_moments(form: Form, from: i64, to: i64, clock: i64) -> bool
+    ensures { IsTrue result ↔ AreMoments form clock from to }
 {
-    from <= clock && (to <= clock || to == Moment::forever().number())
-}
-
-fn are_moments(from: i64, to: i64, clock: i64) -> bool
-    ensures { IsTrue result ↔ AreMoments clock from to }
-{
-    if !is_moment(from) {
+    if !form.has_number(from) {
         return false;
     }
-    if !is_moment(to) {
+    if !form.has_number(to) {
         return false;
     }
-    from < to && is_past(from, to, clock)
+    from < to && is_past(form, from, to, clock)
 }
 
-/// Whether the row is one of bt_version with numbers that a version may have, where the clock is at
-/// this moment and there are so many tables: a table that is there, a period of days, a system time
-/// that begins up to the clock and ends up to it or at FOREVER.
-pub fn is_version(row: &Row, clock: i64, tables: u32) -> bool
-    ensures { IsTrue result ↔ SaysVersion clock tables row.now }
+/// Whether the row is one of bt_version with numbers that a version may have in a store of the
+/// form, where the clock is at this moment and there are so many tables: a table that is there, a
+/// period of days, a system time that begins up to the clock and ends up to it or at the open end.
+pub fn is_version(row: &Row, form: Form, clock: i64, tables: u32) -> bool
+    ensures { IsTrue result ↔ SaysVersion form clock tables row.now }
 {
     if row.column_count() != 6 {
         return false;
@@ -143,7 +140,7 @@ pub fn is_version(row: &Row, clock: i64, tables: u32) -> bool
     if !are_days(start, end) {
         return false;
     }
-    are_moments(from, to, clock)
+    are_moments(form, from, to, clock)
 }
 
 /// Whether each row begins with an integer.

@@ -31,6 +31,8 @@ AT TIMESTAMP '2024-01-00 00:00:00';
 AT TIMESTAMP '0000-12-31 23:59:59';
 AT TIMESTAMP '10000-01-01 00:00:00';
 
--- the last moment of a clock, and the open end
+-- the last second, the last moment of a clock, and the open end
 AT TIMESTAMP '9999-12-31 23:59:58';
 AT TIMESTAMP '9999-12-31 23:59:59';
+AT TIMESTAMP '9999-12-31 23:59:59.999998';
+AT TIMESTAMP '9999-12-31 23:59:59.999999';

@@ -1,8 +1,7 @@
 -- What a sequenced query is answered from: the rows that its table references see, and the columns
 -- of its answer.
-use Rattle.std.specs.Prelude.{◌≡◌, ◌↔◌, ℕ, ℤ, List, IsPermutation, Some, filter, map, true}
+use Rattle.std.specs.Prelude.{◌≡◌, ◌↔◌, ℕ, ℤ, List, IsPermutation, Some, map, true}
 use Rattle.std.specs.List.{AllByRecursion, AllZip}
-use Rattle.period_core.specs.Windows.{window_sees}
 use Rattle.period_core.specs.declared.row.PeriodRow.{PeriodRow}
 use Rattle.period_core.specs.declared.value.Value.{Value}
 use Rattle.period_core.specs.declared.version.VersionRow.{VersionRow}
@@ -15,6 +14,7 @@ use Rattle.catalog_core.specs.query.Fitting.{are_in_place}
 use Rattle.catalog_core.specs.query.Queries.{Query, both, one, references_of}
 use Rattle.catalog_core.specs.query.Resolving.{value_kinds}
 use Rattle.catalog_core.specs.table.TableWords.{table_of}
+use Rattle.ended_versions.specs.Packed.{seen_through}
 use Rattle.history_model.specs.Histories.{History}
 use Rattle.history_model.specs.Left.{AreLeftBy}
 use Rattle.history_model.specs.OrdinaryQuery.{HistorySights}
@@ -34,10 +34,6 @@ abbrev pub AreSeenBy : History → QueryReference → List PeriodRow → Type 0
 AreSeenBy history reference rows =
     (day : ℤ) (values : List Value)
     → (InSnapshot rows day values ↔ HistorySights history day reference values)
-
--- the versions that the window sees
-abbrev pub seen_through : Window → List VersionRow → List VersionRow
-seen_through window = filter (λ (v : VersionRow). window_sees window v.from v.to)
 
 -- the reference sees these rows: of the versions that the history leaves of its table those that
 -- its window sees, without their system times, each once and in any order; so the rows hold on each

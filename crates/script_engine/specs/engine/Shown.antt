@@ -1,5 +1,5 @@
 -- Lists of versions: their columns, and which versions a stored query shows.
-use Rattle.std.specs.Prelude.{◌≡◌, ◌==◌, ℕ, List, IsPermutation, IsSorted, filter, length, map}
+use Rattle.std.specs.Prelude.{◌==◌, ℕ, List, IsPermutation, IsSorted, filter, length, map}
 use Rattle.std.specs.Prelude.{[], if◌then◌else◌, take}
 use Rattle.std.specs.List.{enumerate_from}
 use Rattle.period_core.specs.declared.version.VersionRow.{VersionRow}
@@ -12,7 +12,6 @@ use Rattle.catalog_core.specs.declared.table.ColumnKind.TheVariants.{Date, Integ
 use Rattle.catalog_core.specs.declared.table.ColumnKind.TheVariants.{RowEnd, RowStart}
 use Rattle.catalog_core.specs.declared.table.TableDef.{TableDef}
 use Rattle.version_store.specs.Contents.{Contents, of_table, version_cmp, version_in}
-use Rattle.version_store.specs.Scans.{AreFirstSeen}
 use Rattle.script_engine.specs.declared.engine.outcome.Cell.{Cell}
 use Rattle.script_engine.specs.declared.engine.outcome.Cell.TheVariants.{End, From, Start, To}
 use Rattle.script_engine.specs.declared.engine.outcome.Cell.TheVariants.{Value}
@@ -65,9 +64,3 @@ AreShownIn c query rows =
     (versions : List VersionRow)
     → IsPermutation (of_table query.table c.versions) (map (version_in query.table) versions)
     → AreShown query versions rows
-
--- the rows are those that the query shows of the versions that a store has of its table, in order
-pub record AreShownOf (c : Contents) (query : Stored) (rows : List VersionRow) : Type 0 where
-  pub seen : List VersionRow
-  pub all : AreFirstSeen c query.table query.window seen []
-  pub shown : rows ≡ shown_versions query seen

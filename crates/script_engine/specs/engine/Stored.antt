@@ -7,14 +7,19 @@ use Rattle.sqlite.specs.Held.{Held}
 use Rattle.sqlite.specs.Store.{Ghosts}
 use Rattle.version_tables.specs.Presence.{IsNoneThere}
 use Rattle.version_tables.specs.Tables.{no_schema}
+use Rattle.version_tables.specs.declared.form.Form.{Form}
 use Rattle.version_store.specs.Contents.{Contents, TableVersion, of_table, version_in}
 use Rattle.version_store.specs.GoodStore.{AreGood, IsGoodStore, NothingMore}
 use Rattle.version_store.specs.StoreState.{IsUsable, StoreRepresents}
-use Rattle.version_store.specs.Written.{Has}
+use Rattle.version_store.specs.Units.{in_microseconds}
+use Rattle.version_store.specs.Written.{HasIn}
 use Rattle.history_model.specs.Histories.{History, IsInOrder, catalog_of, clock_of, new_database}
 use Rattle.history_model.specs.Histories.{last_state, opened}
 use Rattle.history_model.specs.Left.{AreLeftBy}
 use Rattle.period_keys.specs.Lawful.{IsLawfulState}
+use Rattle.ended_versions.specs.Packed.{PackedVersion}
+use Rattle.period_keys.specs.Rows.{RowsByKey}
+use Rattle.script_engine.specs.engine.Ended.{HaveEnded}
 use Rattle.script_engine.specs.engine.EngineState.{EngineState, store_of}
 use Rattle.script_engine.specs.engine.Faults.{AreConstrained}
 use Rattle.script_engine.specs.engine.InMemory.{HaveCurrentRows}
@@ -40,12 +45,22 @@ pub record AreOfHistory (history : History) (c : Contents) : Type 0 where
   -- parent
   pub lawful : IsLawfulState (catalog_of history) (last_state history)
 
+-- the versions in memory are those that the history leaves: the current ones, and those that have
+-- ended
+pub record RowsRepresent (history : History) (tables : List RowsByKey)
+    (lists : List (List PackedVersion)) : Type 0 where
+  pub contents : Contents
+  pub said : AreOfHistory history contents
+  pub current : HaveCurrentRows contents tables
+  pub ended : HaveEnded contents lists
+
 -- the engine has these contents: in the database, as it was last committed, and in memory, with
--- the current versions of each table
+-- all versions of each table
 pub record HasContents {S : Type 0} (g : Ghosts S) (engine : EngineState S) (c : Contents)
     : Type 0 where
   pub stored : StoreRepresents g (store_of engine) c
   pub current : HaveCurrentRows c engine.tables
+  pub ended : HaveEnded c engine.ended
 
 -- the engine has the history's clock, its tables and, in any order, its versions
 pub record EngineRepresents {S : Type 0} (g : Ghosts S) (history : History)
@@ -54,17 +69,20 @@ pub record EngineRepresents {S : Type 0} (g : Ghosts S) (history : History)
   pub stored : StoreRepresents g (store_of engine) contents
   pub said : AreOfHistory history contents
   pub current : HaveCurrentRows contents engine.tables
+  pub ended : HaveEnded contents engine.ended
 
 -- the engine represents a history of which this holds
 abbrev pub RepresentsSome : {S : Type 0} → Ghosts S → (History → Type 0) → EngineState S → Type 0
 RepresentsSome g Holds engine =
     (history : History) × Holds history × EngineRepresents g history engine
 
--- the database is what the history says; one without tables is a new store
+-- the database is what the history says, where its moments are counted in microseconds, of
+-- whichever form it is; one without tables is a new store
 abbrev pub DatabaseRepresents : History → Database → Type 0
 DatabaseRepresents history db =
     ((db.schema ≡ no_schema) × (history ≡ opened new_database))
-    ⊎ ((c : Contents) × Has db c × AreOfHistory history c)
+    ⊎ ((form : Form) × (c : Contents) × HasIn form db c
+    × AreOfHistory history (in_microseconds form c))
 
 -- the database has some of the three tables, and is no good store
 abbrev pub IsBadStore : Database → Type 0

@@ -1,244 +1,207 @@
 //! Sequenced queries answered: what their table references see, as period rows, and the answer over
-//! these rows.
+//! these rows. All versions are in memory, so no query reads the database.
 
-ghost use Rattle.std.specs.Prelude.{◌≡◌, ◌++◌, ◌∷◌, [], IfErr, IfOk, List, OnOk, map, true};
+ghost use Rattle.std.specs.Prelude.{◌≡◌, ◌++◌, IfErr, IfOk, List, OnOk, map};
+ghost use Rattle.std.specs.Prelude.{reverse, true};
 ghost use Rattle.catalog_core.specs.declared.query.AnswerColumn.{AnswerColumn as Item};
 ghost use Rattle.catalog_core.specs.declared.query.resolved.QueryReference.{QueryReference as Ref};
 ghost use Rattle.catalog_core.specs.query.Fitting.{fits};
 ghost use Rattle.catalog_core.specs.query.Queries.{plain_query, references_of};
-ghost use Rattle.history_model.specs.Histories.{History};
+ghost use Rattle.ended_versions.specs.Packed.{Hold, seen_through};
+ghost use Rattle.history_model.specs.Histories.{History, catalog_of};
 ghost use Rattle.history_model.specs.OrdinaryQuery.{InAnswerOn, InAnswerOver};
 ghost use Rattle.history_model.specs.Versions.{row_of};
 ghost use Rattle.period_core.specs.declared.refusal.Refusal.TheVariants.{Memory as OutOfMemory};
-ghost use Rattle.period_core.specs.declared.row.PeriodRow.{PeriodRow as Row};
+ghost use Rattle.period_core.specs.declared.version.VersionRow.{VersionRow as Version};
 ghost use Rattle.period_keys.specs.Current.{rows_by_key};
-ghost use Rattle.version_store.specs.Contents.{Contents};
-ghost use Rattle.version_store.specs.StoreState.{IsFailure, IsOnlyRead, IsStoreRefusal};
-ghost use Rattle.version_store.specs.StoreState.{IsUsable, StoreRepresents};
+ghost use Rattle.version_store.specs.StoreState.{IsStoreRefusal};
 ghost use Rattle.script_engine.specs.Headline.{IsSequencedAnswer};
-ghost use Rattle.script_engine.specs.engine.Answering.{AreRowsSeen, EachSees, SeesRows};
+ghost use Rattle.script_engine.specs.engine.Answering.{EachSees, SeesRows};
 ghost use Rattle.script_engine.specs.engine.Answering.{IsOfCatalog, columns_of};
 ghost use Rattle.script_engine.specs.engine.Audits.{HaveSeenRows};
-ghost use Rattle.script_engine.specs.engine.EngineState.{engine_of};
+ghost use Rattle.script_engine.specs.engine.Ended.{ended_in};
 ghost use Rattle.script_engine.specs.engine.InMemory.{rows_in};
-ghost use Rattle.script_engine.specs.engine.Stored.{EngineRepresents};
+ghost use Rattle.script_engine.specs.engine.Stored.{RowsRepresent};
 
 use crate::engine::indexed::rows_of_number;
 use catalog_core::resolved::{Query, QueryReference, Tables};
-use catalog_core::{AnswerColumn, fits};
+use catalog_core::{AnswerColumn, fits, of_number};
 use coalesce_core::{coalesce, witnesses};
+use ended_versions::EndedVersions;
 use period_core::{Answer, Items, Memory, PeriodRow, Refusal, Text, VersionRow, Window};
-use period_keys::{TableIndex, rows_of_current};
+use period_keys::{CurrentRows, TableIndex};
 use sequenced_ops::run_query;
-use sqlite_trees::store::Alter;
 use std::alloc::Global;
-use version_store::{RowVisitor, VersionStore};
 
 // ---- what a table reference sees
 
-/// A visitor that keeps the versions that it is handed, without their system time.
-#[derive(Drop)]
-struct SeenRows {
-    /// The rows so far.
-    rows: Vec<PeriodRow>,
-}
-
-impl SeenRows {
-    /// No rows so far.
-    fn new(alloc: Global) -> SeenRows
-        ensures { result.rows.items ≡ [] }
-    {
-        SeenRows {
-            rows: Vec::new(alloc),
+/// Adds copies of those of these versions that the window sees, without their system time.
+fn push_current(
+    alloc: Global,
+    window: &Window,
+    versions: &[VersionRow],
+    rows: &mut Vec<PeriodRow>,
+) -> Result<(), Memory>
+    ensures { OnOk result (rows.new.items
+        ≡ rows.old.items ++ map row_of (seen_through window.now versions.now)) }
+{
+    for version in versions {
+        if window.sees(version.from, version.to) {
+            rows.push(PeriodRow {
+                values: version.values.copy(alloc)?,
+                period: version.period,
+            })?;
         }
     }
+    Ok(())
 }
 
-// A version is refused where there is no memory for it.
-impl RowVisitor for SeenRows {
-    ghost Meaning = { List Row };
-
-    ghost meaning = { λ seen. seen.rows.items };
-
-    ghost next = { λ rows version. rows ++ row_of version ∷ [] };
-
-    ghost may_refuse = { λ refusal. refusal ≡ OutOfMemory };
-
-    ghost answered = { λ _ _. Unit {0} };
-
-    fn visit(&mut self, version: VersionRow) -> Result<(), Refusal> {
-        let VersionRow {
-            values,
-            period,
-            from: _,
-            to: _,
-        } = version;
-        match self.rows.push(PeriodRow { values, period }) {
-            Ok(()) => Ok(()),
-            Err(_) => Err(Refusal::Memory),
-        }
+/// Adds those that the window sees of the current rows of a table, of each key in turn.
+fn push_current_rows(
+    alloc: Global,
+    window: &Window,
+    current: &CurrentRows,
+    rows: &mut Vec<PeriodRow>,
+) -> Result<(), Memory>
+    ensures { OnOk result (rows.new.items
+        ≡ rows.old.items ++ map row_of (seen_through window.now current.now.rows)) }
+{
+    for group in current.groups() {
+        push_current(alloc, window, group.as_slice(), rows)?;
     }
+    Ok(())
 }
 
-/// The current rows of the table of a number, copied from memory.
-fn current_rows(alloc: Global, tables: &[TableIndex], number: u8) -> Result<Vec<PeriodRow>, Memory>
-    ensures { IfOk result
-        (λ rows. rows.items ≡ map row_of (rows_in (map rows_by_key tables.now) number)) }
+/// Adds those that the window sees of the versions that have ended.
+fn push_ended(
+    alloc: Global,
+    window: &Window,
+    ended: &EndedVersions,
+    rows: &mut Vec<PeriodRow>,
+) -> Result<(), Memory>
+    ensures { (versions : List Version) → Hold ended.now versions → OnOk result (rows.new.items
+        ≡ rows.old.items ++ map row_of (reverse (seen_through window.now versions))) }
+{
+    for version in ended.seen(alloc, *window)? {
+        rows.push(PeriodRow {
+            values: version.values,
+            period: version.period,
+        })?;
+    }
+    Ok(())
+}
+
+/// The same of the table of a number.
+fn push_current_of(
+    alloc: Global,
+    window: &Window,
+    tables: &[TableIndex],
+    number: u8,
+    rows: &mut Vec<PeriodRow>,
+) -> Result<(), Memory>
+    ensures { OnOk result (rows.new.items ≡ rows.old.items
+        ++ map row_of (seen_through window.now (rows_in (map rows_by_key tables.now) number))) }
 {
     match rows_of_number(tables, number) {
-        Some(current) => rows_of_current(alloc, current),
-        None => Ok(Vec::new(alloc)),
+        Some(current) => push_current_rows(alloc, window, current, rows),
+        None => Ok(()),
     }
 }
 
-/// The rows of a reference's table that its window sees, read from the store. Where the window is
-/// empty nothing is read.
-fn scanned_rows<S: Alter>(
+/// The same of the versions that have ended.
+fn push_ended_of(
     alloc: Global,
-    store: &mut VersionStore<S>,
-    reference: &QueryReference,
-) -> Result<Vec<PeriodRow>, Refusal>
-    ensures seen { IsUsable S.Store store.new.connection
-        → (c : Contents) → StoreRepresents S.Store store.old c
-        → IfOk result (λ rows.
-        AreRowsSeen c reference.now.table reference.now.window rows.items) }
-    ensures why { IsUsable S.Store store.new.connection
-        → (c : Contents) → StoreRepresents S.Store store.old c
-        → IfErr result (IsFailure S.Store store.old.connection store.new.connection) }
-    ensures read { IsOnlyRead S.Store store.old store.new }
-    ensures named { IfErr result IsStoreRefusal }
+    window: &Window,
+    ended: &[EndedVersions],
+    number: u8,
+    rows: &mut Vec<PeriodRow>,
+) -> Result<(), Memory>
+    ensures { (versions : List Version) → Hold (ended_in ended.now number) versions
+        → OnOk result (rows.new.items
+        ≡ rows.old.items ++ map row_of (reverse (seen_through window.now versions))) }
 {
-    let mut seen = SeenRows::new(alloc);
-    match store.scan(alloc, reference.table, reference.window, &mut seen) {
-        Ok(()) => Ok(seen.rows),
-        Err(refusal) => Err(refusal),
+    match of_number(ended, number) {
+        Some(list) => push_ended(alloc, window, list, rows),
+        None => Ok(()),
     }
 }
 
-/// What a table reference sees through its window: the current rows, which are in memory, or those
-/// that a scan of the store hands over. They may come in any order, with overlaps and repeats.
-/// Nothing is changed.
-pub fn seen_by<S: Alter>(
+/// What a table reference sees through its window, of the versions in memory. The rows may come in
+/// any order, with overlaps and repeats.
+pub fn seen_by(
     alloc: Global,
-    store: &mut VersionStore<S>,
     tables: &[TableIndex],
+    ended: &[EndedVersions],
     reference: &QueryReference,
-) -> Result<Items<PeriodRow>, Refusal>
-    ensures seen { IsUsable S.Store store.new.connection
-        → (history : History)
-        → EngineRepresents S.Store history (engine_of store.old (map rows_by_key tables.now))
-        → IfOk result (SeesRows history reference.now) }
-    ensures why { IsUsable S.Store store.new.connection
-        → (history : History)
-        → EngineRepresents S.Store history (engine_of store.old (map rows_by_key tables.now))
-        → IfErr result (IsFailure S.Store store.old.connection store.new.connection) }
-    ensures read { IsOnlyRead S.Store store.old store.new }
-    ensures named { IfErr result IsStoreRefusal }
+) -> Result<Items<PeriodRow>, Memory>
+    ensures { IfOk result (λ rows. (history : History)
+        → RowsRepresent history (map rows_by_key tables.now) ended.now
+        → SeesRows history reference.now rows) }
 {
-    match reference.window {
-        Window::Now => match current_rows(alloc, tables, reference.table) {
-            Ok(rows) => Ok(Items::from_vec(rows)),
-            Err(_) => Err(Refusal::Memory),
-        },
-        _ => match scanned_rows(alloc, store, reference) {
-            Ok(rows) => Ok(Items::from_vec(rows)),
-            Err(refusal) => Err(refusal),
-        },
-    }
+    let mut rows = Vec::new(alloc);
+    push_current_of(alloc, &reference.window, tables, reference.table, &mut rows)?;
+    push_ended_of(alloc, &reference.window, ended, reference.table, &mut rows)?;
+    Ok(Items::from_vec(rows))
 }
 
 // ---- what the references of a query see
 
 /// Adds to lists what each of the table references sees, in their order.
-fn push_seen<S: Alter>(
+fn push_seen(
     alloc: Global,
-    store: &mut VersionStore<S>,
     tables: &[TableIndex],
+    ended: &[EndedVersions],
     references: &[QueryReference],
     lists: &mut Vec<Items<PeriodRow>>,
-) -> Result<(), Refusal>
-    ensures seen { IsUsable S.Store store.new.connection
-        → (history : History)
-        → EngineRepresents S.Store history (engine_of store.old (map rows_by_key tables.now))
+) -> Result<(), Memory>
+    ensures { (history : History) → RowsRepresent history (map rows_by_key tables.now) ended.now
         → (before : List Ref) → EachSees history before lists.old.items
         → OnOk result (EachSees history (before ++ references.now) lists.new.items) }
-    ensures why { IsUsable S.Store store.new.connection
-        → (history : History)
-        → EngineRepresents S.Store history (engine_of store.old (map rows_by_key tables.now))
-        → IfErr result (IsFailure S.Store store.old.connection store.new.connection) }
-    ensures read { IsOnlyRead S.Store store.old store.new }
-    ensures named { IfErr result IsStoreRefusal }
 {
     for reference in references {
-        let rows = match seen_by(alloc, store, tables, reference) {
-            Ok(rows) => rows,
-            Err(refusal) => return Err(refusal),
-        };
-        let Ok(()) = lists.push(rows) else {
-            return Err(Refusal::Memory);
-        };
+        lists.push(seen_by(alloc, tables, ended, reference)?)?;
     }
     Ok(())
 }
 
 /// The same for the references of a query, in the order of the text.
-fn push_tables<S: Alter>(
+fn push_tables(
     alloc: Global,
-    store: &mut VersionStore<S>,
     tables: &[TableIndex],
+    ended: &[EndedVersions],
     query: &Query,
     lists: &mut Vec<Items<PeriodRow>>,
-) -> Result<(), Refusal>
-    ensures seen { IsUsable S.Store store.new.connection
-        → (history : History)
-        → EngineRepresents S.Store history (engine_of store.old (map rows_by_key tables.now))
+) -> Result<(), Memory>
+    ensures { (history : History) → RowsRepresent history (map rows_by_key tables.now) ended.now
         → (before : List Ref) → EachSees history before lists.old.items
         → OnOk result (EachSees history
         (before ++ references_of (plain_query query.now)) lists.new.items) }
-    ensures why { IsUsable S.Store store.new.connection
-        → (history : History)
-        → EngineRepresents S.Store history (engine_of store.old (map rows_by_key tables.now))
-        → IfErr result (IsFailure S.Store store.old.connection store.new.connection) }
-    ensures read { IsOnlyRead S.Store store.old store.new }
-    ensures named { IfErr result IsStoreRefusal }
 {
     match query {
         Query::Select(select) => {
-            push_seen(alloc, store, tables, select.references.as_slice(), lists)
+            push_seen(alloc, tables, ended, select.references.as_slice(), lists)
         }
         Query::Combined(_, left, right) => {
-            match push_tables(alloc, store, tables, left, lists) {
-                Ok(()) => {}
-                Err(refusal) => return Err(refusal),
-            }
-            push_tables(alloc, store, tables, right, lists)
+            push_tables(alloc, tables, ended, left, lists)?;
+            push_tables(alloc, tables, ended, right, lists)
         }
     }
 }
 
-/// What the table references of a query see, in the order of the text. Nothing is changed.
-fn tables_of<S: Alter>(
+/// What the table references of a query see, in the order of the text.
+fn tables_of(
     alloc: Global,
-    store: &mut VersionStore<S>,
     tables: &[TableIndex],
+    ended: &[EndedVersions],
     query: &Query,
-) -> Result<Tables, Refusal>
-    ensures seen { IsUsable S.Store store.new.connection
-        → (history : History)
-        → EngineRepresents S.Store history (engine_of store.old (map rows_by_key tables.now))
-        → IfOk result (EachSees history (references_of (plain_query query.now))) }
-    ensures why { IsUsable S.Store store.new.connection
-        → (history : History)
-        → EngineRepresents S.Store history (engine_of store.old (map rows_by_key tables.now))
-        → IfErr result (IsFailure S.Store store.old.connection store.new.connection) }
-    ensures read { IsOnlyRead S.Store store.old store.new }
-    ensures named { IfErr result IsStoreRefusal }
+) -> Result<Tables, Memory>
+    ensures { IfOk result (λ seen. (history : History)
+        → RowsRepresent history (map rows_by_key tables.now) ended.now
+        → EachSees history (references_of (plain_query query.now)) seen) }
 {
     let mut lists = Vec::new(alloc);
-    match push_tables(alloc, store, tables, query, &mut lists) {
-        Ok(()) => Ok(Tables::new(Items::from_vec(lists))),
-        Err(refusal) => Err(refusal),
-    }
+    push_tables(alloc, tables, ended, query, &mut lists)?;
+    Ok(Tables::new(Items::from_vec(lists)))
 }
 
 // ---- the answer
@@ -282,37 +245,32 @@ pub fn answer_over(alloc: Global, query: &Query, tables: &Tables) -> Result<Answ
     })
 }
 
-/// The answer of a query over the rows in memory and the store, and what its references saw. What
-/// the references of a query of the catalog see in a history always fits it. Where it does not, the
-/// connection is no longer usable, and the refusal is 62. Nothing is changed.
-pub fn answered<S: Alter>(
+/// The answer of a query over the rows in memory, and what its references saw. What the references
+/// of a query of the catalog see in a history always fits it. Where it does not, the rows in memory
+/// are those of no history, and the refusal is 62.
+pub fn answered(
     alloc: Global,
-    store: &mut VersionStore<S>,
     tables: &[TableIndex],
+    ended: &[EndedVersions],
     query: &Query,
 ) -> Result<(Answer, Tables), Refusal>
-    ensures right { IsUsable S.Store store.new.connection
-        → (history : History)
-        → EngineRepresents S.Store history (engine_of store.old (map rows_by_key tables.now))
+    ensures right { (history : History)
+        → RowsRepresent history (map rows_by_key tables.now) ended.now
         → IfOk result (λ found.
         IsSequencedAnswer (InAnswerOn history (plain_query query.now)) found.0) }
-    ensures seen { IsUsable S.Store store.new.connection
-        → (history : History)
-        → EngineRepresents S.Store history (engine_of store.old (map rows_by_key tables.now))
+    ensures seen { (history : History)
+        → RowsRepresent history (map rows_by_key tables.now) ended.now
         → IfOk result (λ found. HaveSeenRows history (plain_query query.now) found.1) }
-    ensures why { IsUsable S.Store store.new.connection
-        → (history : History)
-        → EngineRepresents S.Store history (engine_of store.old (map rows_by_key tables.now))
-        → IsOfCatalog store.old.catalog.tables (plain_query query.now)
-        → IfErr result (IsFailure S.Store store.old.connection store.new.connection) }
+    ensures why { (history : History)
+        → RowsRepresent history (map rows_by_key tables.now) ended.now
+        → IsOfCatalog (catalog_of history) (plain_query query.now)
+        → IfErr result (λ refusal. refusal ≡ OutOfMemory) }
     ensures columns { IfOk result (λ found. found.0.columns
         ≡ map (λ (item : Item). item.name) (columns_of (plain_query query.now))) }
-    ensures read { IsOnlyRead S.Store store.old store.new }
     ensures named { IfErr result IsStoreRefusal }
 {
-    let seen = match tables_of(alloc, store, tables, query) {
-        Ok(seen) => seen,
-        Err(refusal) => return Err(refusal),
+    let Ok(seen) = tables_of(alloc, tables, ended, query) else {
+        return Err(Refusal::Memory);
     };
     if !fits(query, &seen) {
         return Err(Refusal::Store);

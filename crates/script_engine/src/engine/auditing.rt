@@ -61,9 +61,11 @@ impl<S: Alter> Engine<S> {
             Ok(query) => query,
             Err(refusal) => return Entry::unaudited(Err(refusal)),
         };
-        match answered(alloc, &mut self.store, self.tables.as_slice(), &query) {
-            Ok((answer, tables)) => {
-                let audit = audit_of(alloc, &query, &tables, &answer);
+        let tables = self.tables.as_slice();
+        let ended = self.ended.as_slice();
+        match answered(alloc, tables, ended, &query) {
+            Ok((answer, seen)) => {
+                let audit = audit_of(alloc, &query, &seen, &answer);
                 Entry {
                     result: Ok(Outcome::Answer(answer)),
                     audit: Some(audit),

@@ -5,8 +5,8 @@ ghost use Rattle.period_keys.specs.Lawful.{key_positions};
 ghost use Rattle.period_keys.specs.Rows.{HasRows};
 ghost use Rattle.version_store.specs.Contents.{Contents};
 ghost use Rattle.version_store.specs.GoodStore.{HaveTables};
-ghost use Rattle.version_store.specs.StoreState.{IsOnlyRead, IsStoreRefusal, IsUsable};
-ghost use Rattle.version_store.specs.StoreState.{StoreRepresents};
+ghost use Rattle.version_store.specs.StoreState.{IsOpenedRead, IsStoreRefusal, IsUsable};
+ghost use Rattle.version_store.specs.StoreState.{OpenedRepresents};
 ghost use Rattle.script_engine.specs.engine.InMemory.{AreCurrentOf, HaveCurrentRows};
 
 use catalog_core::TableDef;
@@ -31,10 +31,10 @@ fn current_versions<S: Alter>(
     store: &mut OpenedStore<S>,
     number: u8,
 ) -> Result<Vec<VersionRow>, Refusal>
-    ensures current { IsUsable S.Store store.new.connection
-        → (c : Contents) → StoreRepresents S.Store store.old c
+    ensures current { IsUsable S.Store store.new.store.connection
+        → (c : Contents) → OpenedRepresents S.Store store.old c
         → IfOk result (λ rows. AreCurrentOf c number rows.items) }
-    ensures read { IsOnlyRead S.Store store.old store.new }
+    ensures read { IsOpenedRead S.Store store.old store.new }
     ensures named { IfErr result IsStoreRefusal }
 {
     let mut kept = KeptRows::new(alloc);
@@ -63,10 +63,10 @@ fn load_table<S: Alter>(
 ) -> Result<CurrentRows, Refusal>
     requires { rows.rows ≡ [] }
     ensures keys { IfOk result (λ loaded. loaded.positions ≡ rows.positions) }
-    ensures current { IsUsable S.Store store.new.connection
-        → (c : Contents) → StoreRepresents S.Store store.old c
+    ensures current { IsUsable S.Store store.new.store.connection
+        → (c : Contents) → OpenedRepresents S.Store store.old c
         → IfOk result (λ loaded. AreCurrentOf c number loaded.rows) }
-    ensures read { IsOnlyRead S.Store store.old store.new }
+    ensures read { IsOpenedRead S.Store store.old store.new }
     ensures named { IfErr result IsStoreRefusal }
 {
     let versions = match current_versions(alloc, store, number) {
@@ -85,13 +85,13 @@ pub fn load<S: Alter>(
     alloc: Global,
     store: &mut OpenedStore<S>,
 ) -> Result<Vec<CurrentRows>, Refusal>
-    ensures loaded { IsUsable S.Store store.new.connection
-        → (c : Contents) → StoreRepresents S.Store store.old c → HaveTables c
+    ensures loaded { IsUsable S.Store store.new.store.connection
+        → (c : Contents) → OpenedRepresents S.Store store.old c → HaveTables c
         → IfOk result (λ tables. HaveCurrentRows c tables.items) }
     ensures count { IfOk result
-        (λ tables. length tables.items ≡ length store.old.catalog.tables) }
-    ensures read { IsOnlyRead S.Store store.old store.new }
-    ensures some { OnErr result (store.old.catalog.tables ≡ [] → ⊥) }
+        (λ tables. length tables.items ≡ length store.old.store.catalog.tables) }
+    ensures read { IsOpenedRead S.Store store.old store.new }
+    ensures some { OnErr result (store.old.store.catalog.tables ≡ [] → ⊥) }
     ensures named { IfErr result IsStoreRefusal }
 {
     let mut tables = Vec::new(alloc);

@@ -17,8 +17,9 @@ ghost use Rattle.version_store.specs.Changed.{planned};
 ghost use Rattle.version_store.specs.Contents.{Contents};
 ghost use Rattle.version_store.specs.DistinctKeys.{HaveDistinctKeys};
 ghost use Rattle.version_store.specs.GoodStore.{AreLawful, HaveTables};
-ghost use Rattle.version_store.specs.StoreState.{Changes, IsOnlyRead, IsOpenRefusal};
-ghost use Rattle.version_store.specs.StoreState.{IsStoreRefusal, IsUsable, StoreRepresents};
+ghost use Rattle.version_store.specs.StoreState.{Changes, IsOpenRefusal, IsOpenedRead};
+ghost use Rattle.version_store.specs.StoreState.{IsStoreRefusal, IsUsable, OpenedRepresents};
+ghost use Rattle.version_store.specs.StoreState.{StoreRepresents};
 ghost use Rattle.script_engine.specs.engine.Faults.{AreConstrained};
 ghost use Rattle.script_engine.specs.engine.InMemory.{FollowCatalog, HaveCurrentRows};
 ghost use Rattle.script_engine.specs.engine.Stored.{WasUsable};
@@ -84,20 +85,20 @@ pub fn load_lawful<S: Alter>(
     alloc: Global,
     store: &mut OpenedStore<S>,
 ) -> Result<Vec<TableIndex>, Refusal>
-    requires { AreLawful [] store.old.catalog.tables }
+    requires { AreLawful [] store.old.store.catalog.tables }
     ensures follow { IfOk result
-        (λ tables. FollowCatalog store.old.catalog.tables tables.items) }
-    ensures loaded { IsUsable S.Store store.new.connection
-        → (c : Contents) → StoreRepresents S.Store store.old c → HaveTables c
+        (λ tables. FollowCatalog store.old.store.catalog.tables tables.items) }
+    ensures loaded { IsUsable S.Store store.new.store.connection
+        → (c : Contents) → OpenedRepresents S.Store store.old c → HaveTables c
         → IfOk result (λ tables. HaveCurrentRows c (map rows_by_key tables.items)) }
-    ensures lawful { IsUsable S.Store store.new.connection
-        → (c : Contents) → StoreRepresents S.Store store.old c → HaveTables c
+    ensures lawful { IsUsable S.Store store.new.store.connection
+        → (c : Contents) → OpenedRepresents S.Store store.old c → HaveTables c
         → OnOk result (AreConstrained c) }
-    ensures bad { IsUsable S.Store store.new.connection
-        → (c : Contents) → StoreRepresents S.Store store.old c → HaveTables c
+    ensures bad { IsUsable S.Store store.new.store.connection
+        → (c : Contents) → OpenedRepresents S.Store store.old c → HaveTables c
         → IfErr result (λ refusal. refusal ≡ BadStore → AreConstrained c → ⊥) }
-    ensures read { IsOnlyRead S.Store store.old store.new }
-    ensures some { OnErr result (store.old.catalog.tables ≡ [] → ⊥) }
+    ensures read { IsOpenedRead S.Store store.old store.new }
+    ensures some { OnErr result (store.old.store.catalog.tables ≡ [] → ⊥) }
     ensures named { IfErr result IsOpenRefusal }
 {
     let rows = match load(alloc, store) {

@@ -8,33 +8,32 @@ ghost use Rattle.catalog_core.specs.declared.query.AnswerColumn.{AnswerColumn as
 ghost use Rattle.catalog_core.specs.declared.table.TableDef.{TableDef as Definition};
 ghost use Rattle.catalog_core.specs.query.Queries.{plain_query};
 ghost use Rattle.catalog_core.specs.table.TableWords.{table_of, value_columns};
-ghost use Rattle.history_model.specs.Histories.{History};
+ghost use Rattle.history_model.specs.Histories.{History, catalog_of};
 ghost use Rattle.history_model.specs.OrdinaryQuery.{InAnswerOn};
 ghost use Rattle.history_model.specs.Versions.{row_of};
+ghost use Rattle.period_core.specs.declared.refusal.Refusal.TheVariants.{Memory as OutOfMemory};
 ghost use Rattle.period_core.specs.declared.row.PeriodRow.{PeriodRow as Row};
 ghost use Rattle.period_core.specs.declared.version.VersionRow.{VersionRow as Version};
 ghost use Rattle.period_keys.specs.Current.{rows_by_key};
 ghost use Rattle.sequenced_ops.specs.Planning.{IsPruned};
 ghost use Rattle.temporal_model.specs.Snapshot.{InSnapshot};
-ghost use Rattle.version_store.specs.StoreState.{IsFailure, IsOnlyRead, IsStoreRefusal, IsUsable};
+ghost use Rattle.version_store.specs.StoreState.{IsStoreRefusal};
 ghost use Rattle.script_engine.specs.Headline.{IsSequencedAnswer};
 ghost use Rattle.script_engine.specs.engine.Answering.{IsOfCatalog, columns_of};
-ghost use Rattle.script_engine.specs.engine.EngineState.{engine_of};
 ghost use Rattle.script_engine.specs.engine.InMemory.{rows_in};
 ghost use Rattle.script_engine.specs.engine.Needed.{AddNeeded, IsNeeded, IsNeededBy};
 ghost use Rattle.script_engine.specs.engine.Needed.{SeeNeeded};
-ghost use Rattle.script_engine.specs.engine.Stored.{EngineRepresents};
+ghost use Rattle.script_engine.specs.engine.Stored.{RowsRepresent};
 
 use crate::engine::answering::{answer_over, seen_by};
 use crate::engine::indexed::rows_of_number;
 use catalog_core::resolved::{Query, QueryReference, Select, Tables};
 use catalog_core::{Catalog, Cond, TableDef, fits, is_value_column};
+use ended_versions::EndedVersions;
 use period_core::{Answer, Items, Memory, PeriodRow, Refusal, VersionRow, Window};
 use period_keys::{CurrentRows, TableIndex, fixed_key_within};
 use sequenced_ops::is_ruled_out;
-use sqlite_trees::store::Alter;
 use std::alloc::Global;
-use version_store::VersionStore;
 
 // ---- the rows of a table
 
@@ -151,165 +150,128 @@ fn needed_current(
 
 /// What a table reference has to see, where a combined row has the values of its row from a
 /// position on: the current rows that the conditions do not rule out; through a window all that it
-/// sees. Nothing is changed.
-fn needed_by<S: Alter>(
+/// sees.
+fn needed_by(
     alloc: Global,
-    store: &mut VersionStore<S>,
+    catalog: &Catalog,
     tables: &[TableIndex],
+    ended: &[EndedVersions],
     conjuncts: &[Cond],
     start: usize,
     reference: &QueryReference,
-) -> Result<Items<PeriodRow>, Refusal>
-    ensures needed { IsUsable S.Store store.new.connection
-        → (history : History)
-        → EngineRepresents S.Store history (engine_of store.old (map rows_by_key tables.now))
-        → IfOk result (IsNeeded history conjuncts.now start reference.now) }
-    ensures why { IsUsable S.Store store.new.connection
-        → (history : History)
-        → EngineRepresents S.Store history (engine_of store.old (map rows_by_key tables.now))
-        → IfErr result (IsFailure S.Store store.old.connection store.new.connection) }
-    ensures read { IsOnlyRead S.Store store.old store.new }
-    ensures named { IfErr result IsStoreRefusal }
+) -> Result<Items<PeriodRow>, Memory>
+    ensures { IfOk result (λ rows. (history : History) → (catalog.now.tables ≡ catalog_of history)
+        → RowsRepresent history (map rows_by_key tables.now) ended.now
+        → IsNeeded history conjuncts.now start reference.now rows) }
 {
     match reference.window {
         Window::Now => {
-            let width = width_of_number(store.catalog(), reference.table);
-            match needed_current(alloc, tables, conjuncts, start, width, reference.table) {
-                Ok(rows) => Ok(Items::from_vec(rows)),
-                Err(_) => Err(Refusal::Memory),
-            }
+            let width = width_of_number(catalog, reference.table);
+            let rows = needed_current(alloc, tables, conjuncts, start, width, reference.table)?;
+            Ok(Items::from_vec(rows))
         }
-        _ => seen_by(alloc, store, tables, reference),
+        _ => seen_by(alloc, tables, ended, reference),
     }
 }
 
 /// Adds to lists what each of these references of a select has to see, in their order. The values
 /// of the first begin at this position of a combined row.
-fn push_needed_by_each<S: Alter>(
+fn push_needed_by_each(
     alloc: Global,
-    store: &mut VersionStore<S>,
+    catalog: &Catalog,
     tables: &[TableIndex],
+    ended: &[EndedVersions],
     conjuncts: &[Cond],
     start: usize,
     references: &[QueryReference],
     lists: &mut Vec<Items<PeriodRow>>,
-) -> Result<(), Refusal>
-    ensures needed { IsUsable S.Store store.new.connection
-        → (history : History)
-        → EngineRepresents S.Store history (engine_of store.old (map rows_by_key tables.now))
+) -> Result<(), Memory>
+    ensures { (history : History) → (catalog.now.tables ≡ catalog_of history)
+        → RowsRepresent history (map rows_by_key tables.now) ended.now
         → OnOk result (AddNeeded (SeeNeeded history conjuncts.now start references.now)
         lists.old.items lists.new.items) }
-    ensures why { IsUsable S.Store store.new.connection
-        → (history : History)
-        → EngineRepresents S.Store history (engine_of store.old (map rows_by_key tables.now))
-        → IfErr result (IsFailure S.Store store.old.connection store.new.connection) }
-    ensures read { IsOnlyRead S.Store store.old store.new }
-    ensures named { IfErr result IsStoreRefusal }
 {
     let [reference, more @ ..] = references else {
         return Ok(());
     };
-    let rows = match needed_by(alloc, store, tables, conjuncts, start, reference) {
-        Ok(rows) => rows,
-        Err(refusal) => return Err(refusal),
-    };
-    let Ok(()) = lists.push(rows) else {
-        return Err(Refusal::Memory);
-    };
-    let width = width_of_number(store.catalog(), reference.table);
+    lists.push(needed_by(alloc, catalog, tables, ended, conjuncts, start, reference)?)?;
+    let width = width_of_number(catalog, reference.table);
     let Some(next) = start.checked_add(width) else {
-        return Err(Refusal::Memory);
+        return Err(Memory);
     };
-    push_needed_by_each(alloc, store, tables, conjuncts, next, more, lists)
+    push_needed_by_each(alloc, catalog, tables, ended, conjuncts, next, more, lists)
 }
 
 /// The same for the references of a query, in the order of the text.
-fn push_needed_tables<S: Alter>(
+fn push_needed_tables(
     alloc: Global,
-    store: &mut VersionStore<S>,
+    catalog: &Catalog,
     tables: &[TableIndex],
+    ended: &[EndedVersions],
     query: &Query,
     lists: &mut Vec<Items<PeriodRow>>,
-) -> Result<(), Refusal>
-    ensures needed { IsUsable S.Store store.new.connection
-        → (history : History)
-        → EngineRepresents S.Store history (engine_of store.old (map rows_by_key tables.now))
+) -> Result<(), Memory>
+    ensures { (history : History) → (catalog.now.tables ≡ catalog_of history)
+        → RowsRepresent history (map rows_by_key tables.now) ended.now
         → OnOk result (AddNeeded (IsNeededBy history (plain_query query.now))
         lists.old.items lists.new.items) }
-    ensures why { IsUsable S.Store store.new.connection
-        → (history : History)
-        → EngineRepresents S.Store history (engine_of store.old (map rows_by_key tables.now))
-        → IfErr result (IsFailure S.Store store.old.connection store.new.connection) }
-    ensures read { IsOnlyRead S.Store store.old store.new }
-    ensures named { IfErr result IsStoreRefusal }
 {
     match query {
         Query::Select(select) => {
             let conjuncts = select.conjuncts.as_slice();
             let references = select.references.as_slice();
-            push_needed_by_each(alloc, store, tables, conjuncts, 0, references, lists)
+            push_needed_by_each(
+                alloc, catalog, tables, ended, conjuncts, 0, references, lists,
+            )
         }
         Query::Combined(_, left, right) => {
-            match push_needed_tables(alloc, store, tables, left, lists) {
-                Ok(()) => {}
-                Err(refusal) => return Err(refusal),
-            }
-            push_needed_tables(alloc, store, tables, right, lists)
+            push_needed_tables(alloc, catalog, tables, ended, left, lists)?;
+            push_needed_tables(alloc, catalog, tables, ended, right, lists)
         }
     }
 }
 
-/// What the table references of a query have to see, in the order of the text. Nothing is changed.
-fn needed_tables<S: Alter>(
+/// What the table references of a query have to see, in the order of the text.
+fn needed_tables(
     alloc: Global,
-    store: &mut VersionStore<S>,
+    catalog: &Catalog,
     tables: &[TableIndex],
+    ended: &[EndedVersions],
     query: &Query,
-) -> Result<Tables, Refusal>
-    ensures needed { IsUsable S.Store store.new.connection
-        → (history : History)
-        → EngineRepresents S.Store history (engine_of store.old (map rows_by_key tables.now))
-        → IfOk result (IsNeededBy history (plain_query query.now)) }
-    ensures why { IsUsable S.Store store.new.connection
-        → (history : History)
-        → EngineRepresents S.Store history (engine_of store.old (map rows_by_key tables.now))
-        → IfErr result (IsFailure S.Store store.old.connection store.new.connection) }
-    ensures read { IsOnlyRead S.Store store.old store.new }
-    ensures named { IfErr result IsStoreRefusal }
+) -> Result<Tables, Memory>
+    ensures { IfOk result (λ needed. (history : History)
+        → (catalog.now.tables ≡ catalog_of history)
+        → RowsRepresent history (map rows_by_key tables.now) ended.now
+        → IsNeededBy history (plain_query query.now) needed) }
 {
     let mut lists = Vec::new(alloc);
-    match push_needed_tables(alloc, store, tables, query, &mut lists) {
-        Ok(()) => Ok(Tables::new(Items::from_vec(lists))),
-        Err(refusal) => Err(refusal),
-    }
+    push_needed_tables(alloc, catalog, tables, ended, query, &mut lists)?;
+    Ok(Tables::new(Items::from_vec(lists)))
 }
 
-/// The answer of a query over the rows in memory and the store. Of what its references see, only
-/// what it needs is looked at, which in a history always fits a query of the catalog. Where it does
-/// not, the connection is no longer usable, and the refusal is 62. Nothing is changed.
-pub fn answer_of<S: Alter>(
+/// The answer of a query over the rows in memory. Of what its references see, only what it needs is
+/// looked at, which in a history always fits a query of the catalog. Where it does not, the rows in
+/// memory are those of no history, and the refusal is 62.
+pub fn answer_of(
     alloc: Global,
-    store: &mut VersionStore<S>,
+    catalog: &Catalog,
     tables: &[TableIndex],
+    ended: &[EndedVersions],
     query: &Query,
 ) -> Result<Answer, Refusal>
-    ensures right { IsUsable S.Store store.new.connection
-        → (history : History)
-        → EngineRepresents S.Store history (engine_of store.old (map rows_by_key tables.now))
+    ensures right { (history : History) → (catalog.now.tables ≡ catalog_of history)
+        → RowsRepresent history (map rows_by_key tables.now) ended.now
         → IfOk result (IsSequencedAnswer (InAnswerOn history (plain_query query.now))) }
-    ensures why { IsUsable S.Store store.new.connection
-        → (history : History)
-        → EngineRepresents S.Store history (engine_of store.old (map rows_by_key tables.now))
-        → IsOfCatalog store.old.catalog.tables (plain_query query.now)
-        → IfErr result (IsFailure S.Store store.old.connection store.new.connection) }
+    ensures why { (history : History) → (catalog.now.tables ≡ catalog_of history)
+        → RowsRepresent history (map rows_by_key tables.now) ended.now
+        → IsOfCatalog catalog.now.tables (plain_query query.now)
+        → IfErr result (λ refusal. refusal ≡ OutOfMemory) }
     ensures columns { IfOk result (λ answer. answer.columns
         ≡ map (λ (item : Item). item.name) (columns_of (plain_query query.now))) }
-    ensures read { IsOnlyRead S.Store store.old store.new }
     ensures named { IfErr result IsStoreRefusal }
 {
-    let needed = match needed_tables(alloc, store, tables, query) {
-        Ok(needed) => needed,
-        Err(refusal) => return Err(refusal),
+    let Ok(needed) = needed_tables(alloc, catalog, tables, ended, query) else {
+        return Err(Refusal::Memory);
     };
     if !fits(query, &needed) {
         return Err(Refusal::Store);

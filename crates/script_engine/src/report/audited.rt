@@ -79,7 +79,8 @@ fn write_audit<W: ReportWriter>(
     Ok(())
 }
 
-fn write_entry<W: ReportWriter>(
+/// The records of an entry.
+pub(crate) fn write_entry<W: ReportWriter>(
     alloc: Global,
     line: &mut Record,
     buffer: &mut ReportBuffer,

@@ -94,14 +94,15 @@ impl Record {
         self.push(&text)
     }
 
-    /// Adds a moment as YYYY-MM-DD HH:MM:SS.
+    /// Adds a moment as YYYY-MM-DD HH:MM:SS, with a point and six digits behind it where it has a
+    /// fraction.
     fn push_moment(&mut self, moment: Moment) -> Result<(), ReportFault>
         ensures ok { OnOk result (self.new ≡ self.old ++ printed_moment moment ∷ []) }
         ensures err { IfErr result (λ e. e ≡ ReportFault.Memory) }
     {
-        let mut text = [0; 19];
-        moment.write_text(&mut text);
-        self.push(&text)
+        let mut text = [0; 26];
+        let length = moment.write_text(&mut text);
+        self.push(&text[..length])
     }
 
     /// Adds a day, or `none` where there is none.

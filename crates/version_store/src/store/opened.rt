@@ -1,56 +1,83 @@
 //! A store that has been opened, and is not in use yet.
 
-ghost use Rattle.std.specs.Prelude.{◌≡◌, ◌≢◌, ◌⊎◌, [], false, IfErr, IfOk, IsTrue};
+ghost use Rattle.std.specs.Prelude.{◌≡◌, ◌≢◌, ◌⊎◌, [], false, IfErr, IfOk, IsOk, IsTrue};
 ghost use Rattle.period_core.specs.declared.refusal.Refusal.TheVariants.{BadStore};
 ghost use Rattle.period_core.specs.declared.window.Window.TheVariants.{Now};
 ghost use Rattle.sqlite.specs.Held.{state};
 ghost use Rattle.version_tables.specs.Presence.{IsNoneThere};
 ghost use Rattle.version_tables.specs.Steps.{IsAsBefore};
 ghost use Rattle.version_tables.specs.Tables.{no_schema};
-ghost use Rattle.version_store.specs.Contents.{Contents, empty_contents};
+ghost use Rattle.version_tables.specs.declared.form.Form.{Form as AnyForm};
+ghost use Rattle.version_tables.specs.declared.form.Form.TheVariants.{Microseconds};
+ghost use Rattle.version_store.specs.Contents.{AreRowsOf, Contents, empty_contents};
 ghost use Rattle.version_store.specs.GoodStore.{AreGood, AreLawful, HaveTables, IsGoodStore};
 ghost use Rattle.version_store.specs.GoodStore.{NothingMore};
 ghost use Rattle.version_store.specs.Scans.{AnswersRefusal, IsOwnRefusal, Visits};
-ghost use Rattle.version_store.specs.StoreState.{IsFailure, IsOnlyRead, IsOpenRefusal, IsOurs};
-ghost use Rattle.version_store.specs.StoreState.{IsStoreRefusal, IsUsable, StoreRepresents};
-ghost use Rattle.version_store.specs.Written.{Has};
+ghost use Rattle.version_store.specs.StoreState.{IsFailure, IsOpenRefusal, IsOpenedRead, IsOurs};
+ghost use Rattle.version_store.specs.StoreState.{IsStoreRefusal, IsUsable, OpenedRepresents};
+ghost use Rattle.version_store.specs.StoreState.{StoreRepresents};
+ghost use Rattle.version_store.specs.Units.{in_microseconds};
+ghost use Rattle.version_store.specs.Written.{HasIn};
 
 use crate::inspecting::inspect;
+use crate::scanning::{scan_current_rows, table_rows};
 use crate::store::VersionStore;
 use crate::visitor::RowVisitor;
+use crate::writing::write_move;
 use catalog_core::Catalog;
-use period_core::{Refusal, Window};
+use period_core::{Moment, Refusal, VersionRow};
 use sqlite::Connection;
 use sqlite_trees::store::Alter;
 use std::alloc::Global;
 use std::marker::Model;
-use version_tables::{Presence, tables_there};
+use version_tables::{Form, Presence, tables_there};
 
 /// A store as `VersionStore::open` gives it. Its definitions, its clock and each of its versions
 /// are those of a good store. Whether its current rows keep the keys and references of their tables
 /// is still to be judged, by whoever knows these; so it can only be read. `accept` gives the store
-/// for use, `refuse` gives the connection back.
+/// for use, `refuse` gives the connection back. A database of form 1 is read in microseconds, and
+/// stays of form 1 until it is accepted.
 #[derive(Drop)]
 pub struct OpenedStore<S: Alter> {
     store: VersionStore<S>,
+    form: Form,
 }
 
 impl<S: Alter> Model for OpenedStore<S> {
-    ghost use Rattle.version_store.specs.StoreState.{StoreState, store_state_code};
+    ghost use Rattle.version_store.specs.StoreState.{OpenedState, opened_state_code};
 
-    ghost Value = { StoreState S };
+    ghost Value = { OpenedState S };
 
-    ghost coded = { store_state_code S.code };
+    ghost coded = { opened_state_code S.code };
 
-    ghost view = { λ opened. opened.store };
+    ghost view = { λ opened. record { store = opened.store; form = opened.form } };
 }
 
 impl<S: Alter> OpenedStore<S> {
     /// The tables.
     pub fn catalog(&self) -> &Catalog
-        ensures { result.now ≡ self.now.catalog }
+        ensures { result.now ≡ self.now.store.catalog }
     {
         self.store.catalog()
+    }
+
+    /// The clock.
+    pub fn clock(&self) -> Moment
+        ensures { result ≡ self.now.store.clock }
+    {
+        self.store.clock()
+    }
+
+    /// The version rows of the table of a number, in order, as `VersionStore::rows` gives them.
+    /// Nothing is changed.
+    pub fn rows(&mut self, alloc: Global, table: u8) -> Result<Vec<VersionRow>, Refusal>
+        ensures rows { IsUsable S.Store self.new.store.connection
+            → (c : Contents) → OpenedRepresents S.Store self.old c
+            → IfOk result (λ rows. AreRowsOf c table rows.items) }
+        ensures read { IsOpenedRead S.Store self.old self.new }
+        ensures named { IfErr result IsStoreRefusal }
+    {
+        table_rows(alloc, self.form, &mut self.store.connection, table)
     }
 
     /// Hands the current version rows of the table of a number over to the visitor, as
@@ -61,31 +88,54 @@ impl<S: Alter> OpenedStore<S> {
         table: u8,
         visitor: &mut V,
     ) -> Result<(), Refusal>
-        ensures visited { IsUsable S.Store self.new.connection
-            → (c : Contents) → StoreRepresents S.Store self.old c
+        ensures visited { IsUsable S.Store self.new.store.connection
+            → (c : Contents) → OpenedRepresents S.Store self.old c
             → Visits V.next c table Now (V.meaning visitor.old) (V.meaning visitor.new) result }
-        ensures why { IsUsable S.Store self.new.connection
-            → (c : Contents) → StoreRepresents S.Store self.old c
+        ensures why { IsUsable S.Store self.new.store.connection
+            → (c : Contents) → OpenedRepresents S.Store self.old c
             → IfErr result (λ refusal. IsOwnRefusal V.may_refuse (V.answered visitor.new) refusal
-            ⊎ IsFailure S.Store self.old.connection self.new.connection refusal) }
-        ensures read { IsOnlyRead S.Store self.old self.new }
+            ⊎ IsFailure S.Store self.old.store.connection self.new.store.connection refusal) }
+        ensures read { IsOpenedRead S.Store self.old self.new }
         ensures answered { AnswersRefusal (V.answered visitor.old) (V.answered visitor.new) result }
         ensures named { IfErr result (λ refusal. IsStoreRefusal refusal ⊎ V.may_refuse refusal) }
     {
-        self.store.scan(alloc, table, Window::Now, visitor)
+        scan_current_rows(alloc, self.form, &mut self.store.connection, table, visitor)
     }
 
-    /// The store, for use: its keys and references were found kept.
-    pub fn accept(self) -> VersionStore<S>
-        ensures { result ≡ self }
+    /// The store, for use: its keys and references were found kept. A database of form 1 is moved
+    /// to form 2, in one transaction; one of form 2 is not written. On `Err`, 61 or 62, the
+    /// database is as it was opened, the connection is handed back, and no transaction is open on
+    /// it.
+    pub fn accept(self) -> Result<VersionStore<S>, (Refusal, Connection<S>)>
+        ensures accepted { IfOk result (λ store. IsUsable S.Store store.connection
+            → (c : Contents) → OpenedRepresents S.Store self c → StoreRepresents S.Store store c) }
+        ensures kept { IfOk result (λ store. (store.catalog ≡ self.store.catalog)
+            × (store.clock ≡ self.store.clock)) }
+        ensures usable { IfOk result (λ store. IsUsable S.Store store.connection
+            → IsUsable S.Store self.store.connection) }
+        ensures unwritten { self.form ≡ Microseconds
+            → IsOk result × IfOk result (λ store. store ≡ self.store) }
+        ensures none { IfErr result (λ failed. IsUsable S.Store failed.1
+            → IsAsBefore (state S.Store self.store.connection) (state S.Store failed.1)) }
+        ensures was_usable { IfErr result (λ failed. IsUsable S.Store failed.1
+            → IsUsable S.Store self.store.connection) }
+        ensures settled { IfErr result (λ failed. failed.1.in_transaction ≡ false) }
+        ensures named { IfErr result (λ failed. IsStoreRefusal failed.0) }
     {
-        self.store
+        let OpenedStore { mut store, form } = self;
+        match form {
+            Form::Microseconds => Ok(store),
+            Form::Seconds => match write_move(&mut store.connection, store.clock) {
+                Ok(()) => Ok(store),
+                Err(refusal) => Err((refusal, store.close())),
+            },
+        }
     }
 
     /// The connection, handed back: no transaction is open on it, and the database is as it was
     /// opened.
     pub fn refuse(self) -> Connection<S>
-        ensures same { result ≡ self.connection }
+        ensures same { result ≡ self.store.connection }
         ensures settled { result.in_transaction ≡ false }
     {
         self.store.close()
@@ -95,7 +145,8 @@ impl<S: Alter> OpenedStore<S> {
 impl<S: Alter> VersionStore<S> {
     /// Opens a store, which is then still to be accepted. In a database that has none of the three
     /// tables they are made, as by `create`. Where all three are there, the store is opened exactly
-    /// if it is a good one but for its keys and references; what it holds is then as it was closed.
+    /// if it is a good one but for its keys and references; what it holds is then as it was closed,
+    /// of form 1 in microseconds.
     /// Of three tables that are not as the store makes them, or have other tables beside them, no
     /// more is said than that a refusal changes nothing. On `Err` nothing is changed, the
     /// connection is handed back, and no transaction is open on it.
@@ -104,25 +155,27 @@ impl<S: Alter> VersionStore<S> {
         mut connection: Connection<S>,
     ) -> Result<OpenedStore<S>, (Refusal, Connection<S>)>
         requires { connection.in_transaction ≡ false }
-        ensures fresh { IfOk result (λ store. IsUsable S.Store store.connection
+        ensures fresh { IfOk result (λ opened. IsUsable S.Store opened.store.connection
             → (state S.Store connection).now.schema ≡ no_schema
-            → StoreRepresents S.Store store empty_contents) }
-        ensures good { IfOk result (λ store. IsUsable S.Store store.connection
+            → OpenedRepresents S.Store opened empty_contents) }
+        ensures good { IfOk result (λ opened. IsUsable S.Store opened.store.connection
             → IsOurs (state S.Store connection).now.schema
             → IsNoneThere (state S.Store connection).now.schema
             ⊎ ((good : IsGoodStore NothingMore (state S.Store connection).now)
-            × StoreRepresents S.Store store good.contents)) }
-        ensures same { IfOk result (λ store. IsUsable S.Store store.connection
-            → (c : Contents) → Has (state S.Store connection).now c
-            → StoreRepresents S.Store store c) }
-        ensures tabled { IfOk result (λ store. IsUsable S.Store store.connection
-            → (c : Contents) → Has (state S.Store connection).now c → HaveTables c) }
-        ensures unchanged { IfOk result (λ store. IsUsable S.Store store.connection
-            → (store.catalog.tables ≡ [])
-            ⊎ IsAsBefore (state S.Store connection) (state S.Store store.connection)) }
-        ensures empty { IfOk result (λ store. IsNoneThere (state S.Store connection).now.schema
-            → store.catalog.tables ≡ []) }
-        ensures lawful { IfOk result (λ store. AreLawful [] store.catalog.tables) }
+            × (good.form ≡ opened.form)
+            × OpenedRepresents S.Store opened (in_microseconds good.form good.contents))) }
+        ensures same { IfOk result (λ opened. IsUsable S.Store opened.store.connection
+            → (form : AnyForm) (c : Contents) → HasIn form (state S.Store connection).now c
+            → OpenedRepresents S.Store opened (in_microseconds form c)) }
+        ensures tabled { IfOk result (λ opened. IsUsable S.Store opened.store.connection
+            → (form : AnyForm) (c : Contents) → HasIn form (state S.Store connection).now c
+            → HaveTables (in_microseconds form c)) }
+        ensures unchanged { IfOk result (λ opened. IsUsable S.Store opened.store.connection
+            → ((opened.store.catalog.tables ≡ []) × (opened.form ≡ Microseconds))
+            ⊎ IsAsBefore (state S.Store connection) (state S.Store opened.store.connection)) }
+        ensures empty { IfOk result (λ opened. IsNoneThere (state S.Store connection).now.schema
+            → (opened.store.catalog.tables ≡ []) × (opened.form ≡ Microseconds)) }
+        ensures lawful { IfOk result (λ opened. AreLawful [] opened.store.catalog.tables) }
         ensures bad { IfErr result (λ failed. IsUsable S.Store failed.1 → failed.0 ≡ BadStore
             → (¬ IsNoneThere (state S.Store connection).now.schema)
             × ¬ IsGoodStore NothingMore (state S.Store connection).now) }
@@ -137,19 +190,25 @@ impl<S: Alter> VersionStore<S> {
         let _settled = connection.is_autocommit();
         match tables_there(&connection) {
             Presence::Missing => match VersionStore::create(alloc, connection) {
-                Ok(store) => Ok(OpenedStore { store }),
+                Ok(store) => Ok(OpenedStore {
+                    store,
+                    form: Form::Microseconds,
+                }),
                 Err(failed) => Err(failed),
             },
             Presence::Partial => Err((Refusal::BadStore, connection)),
             Presence::Whole => match inspect(alloc, &mut connection) {
-                Ok((catalog, clock)) => {
-                    let store = VersionStore {
-                        connection,
-                        catalog,
-                        clock,
-                    };
-                    Ok(OpenedStore { store })
-                }
+                Ok((catalog, form, number)) => match form.moment(number) {
+                    Some(clock) => {
+                        let store = VersionStore {
+                            connection,
+                            catalog,
+                            clock,
+                        };
+                        Ok(OpenedStore { store, form })
+                    }
+                    None => Err((Refusal::BadStore, connection)),
+                },
                 Err(refusal) => Err((refusal, connection)),
             },
         }
@@ -158,8 +217,9 @@ impl<S: Alter> VersionStore<S> {
     /// Closes the store and opens it again, with the same tables, clock and versions. A store whose
     /// contents are good is not refused as a bad one.
     pub fn reopen(self, alloc: Global) -> Result<OpenedStore<S>, (Refusal, Connection<S>)>
-        ensures same { IfOk result (λ store. IsUsable S.Store store.connection
-            → (c : Contents) → StoreRepresents S.Store self c → StoreRepresents S.Store store c) }
+        ensures same { IfOk result (λ opened. IsUsable S.Store opened.store.connection
+            → (c : Contents) → StoreRepresents S.Store self c
+            → OpenedRepresents S.Store opened c) }
         ensures kept { IfErr result (λ failed. IsUsable S.Store failed.1
             → (c : Contents) → StoreRepresents S.Store self c → AreGood NothingMore c
             → failed.0 ≢ BadStore) }

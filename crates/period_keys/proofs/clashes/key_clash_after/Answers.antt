@@ -1,25 +1,16 @@
 use Rattle.std.proofs.Common.{◌≡◌, ◌++◌, List, ℕ, ℤ, map, take, refl, sym, subst, arith}
 use Rattle.std.specs.List.{Any}
 use Rattle.std.proofs.lemmas.List.{take_all}
-use Rattle.period_core.specs.declared.period.Period.{Period}
-use Rattle.period_core.specs.declared.value.Value.{Value}
 use Rattle.period_core.specs.declared.row.PeriodRow.{PeriodRow}
 use Rattle.history_model.specs.Versions.{row_of}
-use Rattle.period_keys.specs.Keys.{HasNoClash, IsKeyClash, IsLeastOf, key_values}
+use Rattle.period_keys.specs.Keys.{IsKeyClash, IsLeastOf, key_values}
 use Rattle.period_keys.specs.Index.{AddsClash, IsIndexOf, MeetsKept, periods_at}
-use Rattle.period_keys.specs.Ordered.{AreApart, AreInOrder}
 use Rattle.period_keys.specs.Rows.{RowsByKey}
-use Rattle.period_keys.proofs.Apart.{apart_in_parts}
 use Rattle.period_keys.proofs.Leasts.{least_more, IsLeastOf-either, IsLeastOf-same}
 use Rattle.period_keys.proofs.Locality.{clashes_after}
 use Rattle.period_keys.proofs.Touched.{meets_kept}
 use Rattle.period_keys.proofs.VersionKeys.{at_key, at_keys, rows_split}
 use Rattle.period_keys.proofs.clashes.key_clash_after.Goals as goal
-
--- the periods of a key that were looked up are apart, in each of their two lists
-apart_there : (table : RowsByKey) (key : List Value) (first second : List Period) → HasNoClash table.positions (map row_of table.rows) → first ++ second ≡ at_key table key
-    → (AreInOrder first → AreApart first) × (AreInOrder second → AreApart second)
-apart_there table key first second none is = apart_in_parts table.positions (map row_of table.rows) (at_key table) (at_keys table) none key first second is
 
 pub loop-row-preserved : goal.loop-row-preserved
 loop-row-preserved c = λ none.
@@ -29,11 +20,10 @@ loop-row-preserved c = λ none.
     let same : c.positions-positions.result.now ≡ table.positions = c.positions-positions.ensures in
     let gone : IsIndexOf table.positions ended c.in_ok-gone.gone = subst (λ (ps : List ℕ). IsIndexOf ps ended c.in_ok-gone.gone) same c.in_ok-gone.ensures in
     let own : c.in_ok-key.key ≡ key_values table.positions row = subst (λ (ps : List ℕ). c.in_ok-key.key ≡ key_values ps row) same c.in_ok-key.ensures in
-    let apart = apart_there table c.in_ok-key.key c.periods_of_key.result.0.now c.periods_of_key.result.1.now none c.periods_of_key.ensures.periods in
-    least_more (λ (row : PeriodRow) day. MeetsKept table.positions (at_key table) ended day row) c.args.added.now c.loop-row.row-index row c.loop-row.with_kept c.first_shared_of_both-kept.result c.earlier-with_kept.result
+    least_more (λ (row : PeriodRow) day. MeetsKept table.positions (at_key table) ended day row) c.args.added.now c.loop-row.row-index row c.loop-row.with_kept c.first_shared-kept.result c.earlier-with_kept.result
     (omega arith) c.row-item.is (c.loop-row.invariant none)
-    (meets_kept table.positions (at_key table) c.in_ok-gone.gone ended row c.in_ok-key.key (c.periods_of_key.result.0.now ++ c.periods_of_key.result.1.now) (periods_at c.in_ok-gone.gone c.in_ok-key.key) c.first_shared_of_both-kept.result own c.periods_of_key.ensures.periods refl gone
-    (c.first_shared_of_both-kept.ensures (apart.0 c.periods_of_key.ensures.first) (apart.1 c.periods_of_key.ensures.second)))
+    (meets_kept table.positions (at_key table) c.in_ok-gone.gone ended row c.in_ok-key.key (at_key table c.in_ok-key.key) (periods_at c.in_ok-gone.gone c.in_ok-key.key) c.first_shared-kept.result own refl refl gone
+    c.first_shared-kept.ensures)
     c.earlier-with_kept.ensures
 
 pub returns : goal.returns

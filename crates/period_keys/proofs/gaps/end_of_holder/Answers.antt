@@ -1,34 +1,30 @@
-use Rattle.std.proofs.Common.{◌≡◌, ◌+◌, ◌++◌, ◌∷◌, [], List, take, refl, sym, ◌∙◌, ap, subst, inl, inr, arith}
-use Rattle.std.specs.List.{Any, Contains}
-use Rattle.std.proofs.lemmas.List.{take_more, take_all}
-use Rattle.std.proofs.lemmas.List.Elements.{Contains-get_or}
+use Rattle.std.proofs.Common.{◌≡◌, ◌++◌, ℤ, List, Option, Some, None, inl, inr}
+use Rattle.std.specs.Prelude.{MatchOption}
+use Rattle.std.specs.List.{Any}
 use Rattle.period_core.specs.declared.period.Period.{Period}
 use Rattle.period_keys.specs.Keys.{IsWithin}
 use Rattle.period_keys.specs.Gaps.{IsHeld}
-use Rattle.period_keys.proofs.Members.{some_member, Any-append, Any-one}
+use Rattle.period_keys.proofs.Members.{Any-append}
 use Rattle.period_keys.proofs.gaps.end_of_holder.Goals as goal
 
-pub returns-then-contains_day : goal.returns-then-contains_day
-returns-then-contains_day c =
-    let periods : List Period = c.args.periods.now in
-    let other : Period = c.other-item.result in
-    let there : Contains periods other = subst (Contains periods) (sym c.other-item.is) (Contains-get_or periods c.loop-other.other-index other (omega arith)) in
-    some_member (λ (period : Period). IsWithin period c.args.day × (period.end ≡ other.end)) periods other there (c.if-contains_day.ensures.days.0 refl, refl)
+-- it holds the day, and ends then
+abbrev Ends : ℤ → ℤ → Period → Type 0
+Ends day end period = IsWithin period day × (period.end ≡ end)
 
-pub loop-other-preserved : goal.loop-other-preserved
-loop-other-preserved c = λ held.
-    let periods : List Period = c.args.periods.now in
-    let i = c.loop-other.other-index in
-    let other : Period = c.other-item.result in
-    let more : take (i + 1) periods ≡ take i periods ++ other ∷ [] = take_more periods i other (omega arith) ∙ ap (λ x. take i periods ++ x ∷ []) (sym c.other-item.is) in
-    let P : Period → Type 0 = λ period. IsWithin period c.args.day in
-    elim ((Any-append P (take i periods) (other ∷ [])).0 (subst (λ (list : List Period). Any P list) more held)) [
-      | inl old ↦ c.loop-other.invariant old
-      | inr one ↦ (let within : IsWithin other c.args.day = (Any-one P other).0 one in
-          let wrong = c.if-contains_day.ensures.days.1 within in cc)
-    ]
+pub returns-in-Some : goal.returns-in-Some
+returns-in-Some c = (Any-append (Ends c.args.day c.in-Some.end) c.args.first.now c.args.second.now).1 (inl c.in-Some.ensures)
+
+pub returns-in-Some-end_near : goal.returns-in-Some-end_near
+returns-in-Some-end_near c = (Any-append (Ends c.args.day c.in-Some-end_near.end) c.args.first.now c.args.second.now).1 (inr c.in-Some-end_near.ensures)
+
+pub returns-in-Some-end_of_any : goal.returns-in-Some-end_of_any
+returns-in-Some-end_of_any c = (Any-append (Ends c.args.day c.in-Some-end_of_any.end) c.args.first.now c.args.second.now).1 (inl c.in-Some-end_of_any.ensures)
+
+-- where the first list has none, one is of the second
+of_second : (first second : List Period) (day : ℤ) (found : Option ℤ) → (IsHeld first day → ⊥) → MatchOption found (IsHeld second day → ⊥) (λ end. Any (Ends day end) second)
+    → MatchOption found (IsHeld (first ++ second) day → ⊥) (λ end. Any (Ends day end) (first ++ second))
+of_second first second day (Some end) none found = (Any-append (Ends day end) first second).1 (inr found)
+of_second first second day None none found = λ held. elim ((Any-append (λ (period : Period). IsWithin period day) first second).0 held) [ inl one ↦ none one | inr other ↦ found other ]
 
 pub returns : goal.returns
-returns c = λ held.
-    let all : take c.loop-other.other-index c.args.periods.now ≡ c.args.periods.now = take_all _ _ (omega arith) in
-    c.loop-other.invariant (subst (λ (list : List Period). IsHeld list c.args.day) (sym all) held)
+returns c = of_second c.args.first.now c.args.second.now c.args.day c.end_of_any-2.result (λ held. c.in_default-end_of_any.ensures held) c.end_of_any-2.ensures

@@ -1,21 +1,7 @@
-use Rattle.std.proofs.Common.{◌≡◌, ◌≤ℤ◌, ◌<ℤ◌, List, sym, subst, arith}
-use Rattle.std.proofs.lemmas.Int.{ints, by_lt_z}
-use Rattle.period_core.specs.declared.period.Period.{Period}
-use Rattle.period_keys.specs.Keys.{IsWithin}
-use Rattle.period_keys.specs.Gaps.{IsHeld}
-use Rattle.period_keys.proofs.Members.{some_member, member_of}
+use Rattle.std.proofs.Common.{◌++◌}
+use Rattle.period_keys.proofs.GapSteps.{first_of}
 use Rattle.period_keys.proofs.gaps.first_gap.Goals as goal
 
-pub loop-day-preserved : goal.loop-day-preserved
-loop-day-preserved c =
-    let inv = c.loop-day.invariant in
-    let periods : List Period = c.args.periods.now in
-    let (holder, there, (within, end_is)) = member_of (λ (period : Period). IsWithin period c.loop-day.day × (period.end ≡ c.in-Some.end)) periods c.in-Some.ensures in
-    let reaches : c.loop-day.day <ℤ c.in-Some.end = subst (λ e. c.loop-day.day <ℤ e) end_is within.1 in
-    let from : c.args.period.now.start ≤ℤ c.loop-day.day = inv.from in
-    record {
-      from = omega (arith, ints);
-      held = λ day start before. by_lt_z {P = IsHeld periods day} day c.loop-day.day (λ less. inv.held day start less)
-          (λ ge. let first : holder.start ≤ℤ c.loop-day.day = within.0 in
-          some_member (λ (period : Period). IsWithin period day) periods holder there (omega (arith, ints), subst (λ e. day <ℤ e) (sym end_is) before));
-    }
+pub returns : goal.returns
+returns c = first_of (c.args.first.now ++ c.args.second.now) c.args.period.now c.held_until-day.result c.found_at.result c.held_until-day.ensures.held c.held_until-day.ensures.from
+    c.held_until-day.ensures.gap c.found_at.ensures.day c.found_at.ensures.before

@@ -1,5 +1,5 @@
 use Rattle.std.proofs.Common.{◌≡◌, ℕ, List, true, sym, subst}
-use Rattle.std.specs.Prelude.{IfSome, Option}
+use Rattle.std.specs.Prelude.{IfSome, Option, filter}
 use Rattle.catalog_core.specs.Conditions.{compares, meets}
 use Rattle.catalog_core.specs.declared.change.Action.{Action}
 use Rattle.catalog_core.specs.declared.condition.CompareValues.{CompareValues}
@@ -30,6 +30,5 @@ returns-in-Ok-Some-clause-plan c =
     let key : List Value = c.in-Ok-Some.key in
     let fixes : FixesKey its_values compares c.in-Some.condition.now positions key = subst (λ (ps : List ℕ). FixesKey its_values compares c.in-Some.condition.now ps key) c.positions.ensures
     (subst (λ (o : Option (List Value)). IfSome o (FixesKey its_values compares c.in-Some.condition.now c.positions.result.now)) c.in-Ok-Some.field-0-is c.in-Ok-Some.ensures.fixed) in
-    if_ok c.plan_over.result (λ plan. Plans action c.of_key.result.now plan) (λ plan. IsPlanOf action rows plan)
-    (λ plan plans. plan_of_passing action (is_of_key positions key) rows plan (of_fixed action c.in-Some.condition.now positions key fixes c.in-Some.ensures.met)
-    (subst (λ (xs : List VersionRow). Plans action xs plan) c.of_key.ensures plans)) c.plan_over.ensures.plan
+    if_ok c.plan_of_key.result (λ plan. Plans action (filter (is_of_key positions key) rows) plan) (λ plan. IsPlanOf action rows plan)
+    (λ plan plans. plan_of_passing action (is_of_key positions key) rows plan (of_fixed action c.in-Some.condition.now positions key fixes c.in-Some.ensures.met) plans) c.plan_of_key.ensures.plan

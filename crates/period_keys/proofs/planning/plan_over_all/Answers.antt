@@ -26,7 +26,7 @@ loop-group-preserved c =
     let was : Plan = record { ended = c.loop-group.ended; added = c.loop-group.added } in
     let more : Plan = c.in-Ok.plan in
     let left : rows_of_lists c.loop-group.group-iterator ≡ rows ++ rows_of_lists c.next.new.self = ap rows_of_lists c.in-Some.ensures.steps in
-    let own : Plans action rows more = subst (λ (xs : List VersionRow). Plans action xs more) c.as_slice.ensures c.in-Ok.ensures.plan in
+    let own : Plans action rows more = c.in-Ok.ensures.plan in
     let both : Plans action (done ++ rows) (record { ended = c.loop-group.ended ++ more.ended; added = c.loop-group.added ++ more.added }) = plans_joined action done rows was more c.requires plans own in (
       done ++ rows,
       split ∙ ap (λ (xs : List VersionRow). done ++ xs) left ∙ sym (append_assoc done rows (rows_of_lists c.next.new.self)),

@@ -36,14 +36,14 @@ loop-key-preserved c = λ keys before ended stay added is gone_is new_is moved.
     let i : ℕ = c.loop-key.key-index in
     let here : Bor (List Value) = c.key-item.result in
     let key : List Value = here.now in
-    let there : List Period = c.as_slice.result.now in
+    let there : List Period = c.runs.result.0.now ++ c.runs.result.1.now in
     let after : List Period = periods_of_key keys (stay ++ added) key in
     let more : map values_of_key (take (i + 1) items) ≡ map values_of_key (take i items) ++ key ∷ [] =
     ap (map values_of_key) (take_more items i here (omega arith) ∙ ap (λ (k : Bor (List Value)). take i items ++ k ∷ []) (sym c.key-item.is)) ∙ map-append values_of_key (take i items) (here ∷ []) in
     let moved_there : IsPermutation there after =
     there_afterwards keys c.args.parents.now c.args.gone.now c.args.new.now before ended stay added key there is moved gone_is new_is
     (of_indexes c.args.parents.now c.args.gone.now c.args.new.now key c.of_key.result.now c.of_key-in-loop-key.result.now c.of_key-in-loop-key-2.result.now c.in_ok-there.there.items.items there
-    c.of_key.ensures c.of_key-in-loop-key.ensures c.of_key-in-loop-key-2.ensures c.as_slice.ensures c.in_ok-there.ensures) in
+    c.of_key.ensures c.of_key-in-loop-key.ensures c.of_key-in-loop-key-2.ensures c.runs.ensures c.in_ok-there.ensures) in
     subst (λ (done : List (List Value)). IsLeastOf (λ day. Any (λ k. LosesParent (periods_of_key keys (stay ++ added)) c.args.children.now k day) done) c.earlier-found.result) (sym more)
     (least_one_more (λ k day. LosesParent (periods_of_key keys (stay ++ added)) c.args.children.now k day) (map values_of_key (take i items)) key c.loop-key.found c.first_gap_of_some.result c.earlier-found.result
     (c.loop-key.invariant keys before ended stay added is gone_is new_is moved)

@@ -1,27 +1,76 @@
-use Rattle.std.proofs.Common.{◌≡◌, ◌<◌, List, length, map, take, take_all, arith, subst}
+use Rattle.std.proofs.Common.{◌≡◌, ◌≤◌, ◌<◌, ◌+◌, ◌++◌, ◌∷◌, List, [], length, map, take, take_all, arith, false, refl, subst, true}
+use Rattle.std.proofs.lemmas.List.{length_push}
 use Rattle.sql_statements.specs.Lexemes.{lexemes}
 use Rattle.sql_front.specs.Pieces.{spanned}
 use Rattle.sql_front.specs.declared.pieces.Span.{Span}
 use Rattle.script_engine.specs.engine.Stored.{RepresentsSome}
 use Rattle.script_engine.specs.script.Script.{StepPieces}
+use Rattle.script_engine.proofs.ListeningFacts.{front_of, hears_more, whole_front}
 use Rattle.script_engine.proofs.PieceSteps.{run_next}
 use Rattle.script_engine.proofs.script.run_pieces.Goals as goal
 
-pub loop-piece-preserved : goal.loop-piece-preserved
-loop-piece-preserved g c =
-    let inside : c.loop-piece.piece-index < length c.args.pieces.now = omega arith in
+pub loop-i-init : goal.loop-i-init
+loop-i-init g c = record {
+  usable = λ usable. usable;
+  run = ([], (refl, refl), refl, λ usable history kept. (history, refl, kept));
+}
+
+pub loop-i-preserved : goal.loop-i-preserved
+loop-i-preserved g c =
+    let (results, heard, count, ran) = c.loop-i.invariant.run in
+    let inside : c.loop-i.i < length c.args.pieces.now = omega arith in
+    let at : 1 + length results ≡ c.loop-i.i + 1 = omega (arith, count) in
+    let kept = c.run_piece-kept.result in
     record {
-      room = omega arith;
-      count = omega arith;
-      usable = λ usable. c.loop-piece.invariant.usable (c.run_piece-result.ensures.usable usable);
-      run = λ usable history kept.
-          let (last, run, represents) = c.loop-piece.invariant.run (c.run_piece-result.ensures.usable usable) history kept in
-          let (new, step, after) = c.run_piece-result.ensures.step usable last represents in
-          (new, run_next g.K.Kept.is_step history c.args.tokens.now c.args.pieces.now c.loop-piece.piece-index (record { start = 0; end = 0 }) c.loop-piece.kept.items c.push_reserved.new.self.items last c.run_piece-result.result new inside c.push_reserved.ensures.items run step, after);
+      usable = λ usable. c.loop-i.invariant.usable (c.run_piece-kept.ensures.usable usable);
+      run = (
+        results ++ kept ∷ [],
+        hears_more g.L.Listener.hears 1 (c.loop-i.i + 1) c.args.listener.now results c.loop-i.listener kept true c.hear.new.self at heard (rw c.if-not-hear.false at c.hear.ensures),
+        omega (arith, count, length_push results kept),
+        λ usable history represents.
+            let (last, run, stands) = ran (c.run_piece-kept.ensures.usable usable) history represents in
+            let (new, step, after) = c.run_piece-kept.ensures.step usable last stands in
+            (new, run_next g.K.Kept.is_step history c.args.tokens.now c.args.pieces.now c.loop-i.i (record { start = 0; end = 0 }) results (results ++ kept ∷ []) last kept new inside refl run step, after),
+      );
     }
 
+pub returns-then-not-hear-clause-run : goal.returns-then-not-hear-clause-run
+returns-then-not-hear-clause-run g c =
+    let (results, heard, count, ran) = c.loop-i.invariant.run in
+    let inside : c.loop-i.i < length c.args.pieces.now = omega arith in
+    let at : 1 + length results ≡ c.loop-i.i + 1 = omega (arith, count) in
+    let kept = c.run_piece-kept.result in (
+      results ++ kept ∷ [],
+      hears_more g.L.Listener.hears 1 (c.loop-i.i + 1) c.args.listener.now results c.loop-i.listener kept false c.hear.new.self at heard (rw c.if-not-hear.true at c.hear.ensures),
+      omega (arith, count, length_push results kept),
+      λ usable history represents.
+          let (last, run, stands) = ran (c.run_piece-kept.ensures.usable usable) history represents in
+          let (new, step, after) = c.run_piece-kept.ensures.step usable last stands in (
+            new,
+            front_of g.K.Kept.is_step history (lexemes c.args.tokens.now) c.args.pieces.now (c.loop-i.i + 1) (results ++ kept ∷ []) new
+                (run_next g.K.Kept.is_step history c.args.tokens.now c.args.pieces.now c.loop-i.i (record { start = 0; end = 0 }) results (results ++ kept ∷ []) last kept new inside refl run step),
+            after,
+          ),
+    )
+
 pub returns-clause-run : goal.returns-clause-run
-returns-clause-run g c = λ usable history kept.
-    let whole : take c.loop-piece.piece-index c.args.pieces.now ≡ c.args.pieces.now = take_all c.loop-piece.piece-index c.args.pieces.now (omega arith) in
-    subst (λ (pieces : List Span). RepresentsSome g.S.Store (StepPieces g.K.Kept.is_step history (map (spanned (lexemes c.args.tokens.now)) pieces) c.loop-piece.kept.items) c.loop-piece.engine) whole
-    (c.loop-piece.invariant.run usable history kept)
+returns-clause-run g c =
+    let (results, heard, count, ran) = c.loop-i.invariant.run in
+    let whole : take c.loop-i.i c.args.pieces.now ≡ c.args.pieces.now = take_all c.loop-i.i c.args.pieces.now (omega arith) in (
+      results,
+      heard,
+      omega (arith, count),
+      λ usable history represents.
+          let (last, run, stands) = ran usable history represents in (
+            last,
+            whole_front g.K.Kept.is_step history (map (spanned (lexemes c.args.tokens.now)) c.args.pieces.now) results last
+                (subst (λ (pieces : List Span). StepPieces g.K.Kept.is_step history (map (spanned (lexemes c.args.tokens.now)) pieces) results last) whole run),
+            stands,
+          ),
+    )
+
+pub returns-then-not-hear-clause-usable : goal.returns-then-not-hear-clause-usable
+returns-then-not-hear-clause-usable g c usable = c.loop-i.invariant.usable (c.run_piece-kept.ensures.usable usable)
+
+pub returns-clause-usable : goal.returns-clause-usable
+returns-clause-usable g c usable = c.loop-i.invariant.usable usable

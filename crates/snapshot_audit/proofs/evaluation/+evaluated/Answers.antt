@@ -11,7 +11,7 @@ use Rattle.snapshot_audit.proofs.evaluation.+evaluated.Goals as goal
 
 pub returns-in-Select : goal.returns-in-Select
 returns-in-Select t c =
-    IfOk-weaker c.selected.result _ _ (λ set is. subst (λ (q : code.Query). ListsSet (InQuery (ActiveSights c.args.seen.now) (plain_query q)) set.items) (sym c.in-Select.is) is) c.selected.ensures
+    IfOk-weaker c.selected_set.result _ _ (λ set is. subst (λ (q : code.Query). ListsSet (InQuery (ActiveSights c.args.seen.now) (plain_query q)) set.items) (sym c.in-Select.is) is) c.selected_set.ensures
 
 pub combined-requires : goal.combined-requires
 combined-requires t c = record {

@@ -8,11 +8,10 @@ use Rattle.catalog_core.specs.declared.query.resolved.QueryReference.{QueryRefer
 use Rattle.sql_statements.specs.declared.tree.Tree.{Tree}
 use Rattle.catalog_core.specs.declared.condition.CompareValues.{CompareValues}
 use Rattle.history_model.specs.OrdinaryQuery.{meets_all}
-use Rattle.snapshot_audit.specs.declared.sweep.Sweep.{Sweep}
-use Rattle.snapshot_audit.specs.ActiveRows.{RowReferences, ActiveSights, active_for}
+use Rattle.snapshot_audit.specs.ActiveRows.{ActiveLists, RowReferences, ActiveSights, active_for}
 use Rattle.snapshot_audit.specs.Selections.{InRest}
 use Rattle.snapshot_audit.proofs.ActiveFacts.{active_at}
-use Rattle.snapshot_audit.proofs.SweepSteps.{first_of}
+use Rattle.snapshot_audit.proofs.SelectSteps.{first_of}
 use Rattle.snapshot_audit.proofs.SelectSteps.{HasRests, HasRests-none, HasRests-more, HasRests-skip, HasRests-all, rest_done}
 use Rattle.snapshot_audit.proofs.selects.+add_rest.Goals as goal
 
@@ -60,12 +59,12 @@ pub returns : goal.returns
 returns t c = λ row.
     let references : List QueryReference = c.args.references.now in
     let after : List QueryReference = take (length references - 1) (drop 1 references) in
-    let seen : List Sweep = c.args.seen.now in
+    let seen : ActiveLists = c.args.seen.now in
     let list : RowReferences = c.deref-next-items.result.now in
     let is : references ≡ c.reference-item.result ∷ after = first_of references c.reference-item.result c.in-len1-up.len_at_least c.reference-item.is in
     let all : take c.loop-next.next-index list ≡ list = take_all c.loop-next.next-index list (omega arith) in
     let its : list ≡ active_for seen c.reference-item.result =
-    c.deref-next-items.ensures.value ∙ active_at seen c.reference-item.result.place c.in-Some.sweep.now c.in-Some.ensures.lookup.3.0 c.in-Some.ensures.lookup.1 in
+    c.deref-next-items.ensures.value ∙ active_at seen c.reference-item.result.place c.in-Some.active.now c.in-Some.ensures.lookup.3.0 c.in-Some.ensures.lookup.1 in
     let has : HasRests seen c.args.select.now after c.args.front.now c.args.rows.now.items (active_for seen c.reference-item.result) c.loop-next.rows.items =
     subst (λ l. HasRests seen c.args.select.now after c.args.front.now c.args.rows.now.items l c.loop-next.rows.items) (all ∙ its) c.loop-next.invariant in
     subst (λ l. Contains c.loop-next.rows.items row ↔ (Contains c.args.rows.now.items row ⊎ InRest (ActiveSights seen) c.args.select.now l c.args.front.now row)) (sym is)

@@ -5,7 +5,7 @@ use Rattle.period_core.specs.declared.value.Value.{Value}
 use Rattle.temporal_model.proofs.Members.{Contains-here, Contains-nil}
 use Rattle.snapshot_audit.specs.Sets.{IsAscending, NoneBelow}
 use Rattle.snapshot_audit.proofs.SetSteps.{first_alone}
-use Rattle.snapshot_audit.proofs.SweepSteps.{first_of}
+use Rattle.snapshot_audit.proofs.SelectSteps.{first_of}
 use Rattle.snapshot_audit.proofs.set_operations.is_first.Goals as goal
 
 pub returns-in_default : goal.returns-in_default

@@ -2,7 +2,7 @@ use Rattle.std.proofs.Common.{◌≡◌, ◌∷◌, ◌-◌, List, length, take,
 use Rattle.period_core.specs.declared.value.Value.{Value}
 use Rattle.snapshot_audit.specs.Sets.{IsAscending, NoneBelow}
 use Rattle.snapshot_audit.proofs.SetSteps.{ArePassed, passed_none, passed_more, none_below_from}
-use Rattle.snapshot_audit.proofs.SweepSteps.{first_of}
+use Rattle.snapshot_audit.proofs.SelectSteps.{first_of}
 use Rattle.snapshot_audit.proofs.set_operations.not_below.Goals as goal
 
 pub loop-rest-init : goal.loop-rest-init

@@ -62,6 +62,9 @@ returns-clause-bad g c clean on has =
 pub returns-clause-lawful : goal.returns-clause-lawful
 returns-clause-lawful g c = IfOk-weaker c.judge_rows.result _ _ (λ found says. all_lawful [] c.deref-5.result.now found.0.tables says.defined.each) c.judge_rows.ensures.good
 
+pub returns-clause-clock : goal.returns-clause-clock
+returns-clause-clock g c = IfOk-weaker c.judge_rows.result _ _ (λ found says. says.meta.1) c.judge_rows.ensures.good
+
 -- a good store's tables have their columns
 pub returns-then-not-columns_there-clause-bad : goal.returns-then-not-columns_there-clause-bad
 returns-then-not-columns_there-clause-bad g c clean on has = λ _ _.

@@ -11,7 +11,8 @@ answers old new (Err refusal) takes refuses = λ _. inl refuses
 
 pub returns-in-Ok-clause-visited : goal.returns-in-Ok-clause-visited
 returns-in-Ok-clause-visited g c =
-    on_ok c.visit.result (λ taken v shows held. (c.in-Ok.version, same_row v c.in-Ok.version held c.in-Ok.ensures.values (sym shows ∙ c.in-Ok.ensures.shown), taken)) c.visit.ensures.taken
+    let read = c.in-Ok.ensures.shown in
+    on_ok c.visit.result (λ taken v shows held. (c.in-Ok.version, same_row c.args.form v read.0 c.in-Ok.version held c.in-Ok.ensures.values (sym shows ∙ read.1) read.2, taken)) c.visit.ensures.taken
 
 pub returns-in-Ok-clause-answered : goal.returns-in-Ok-clause-answered
 returns-in-Ok-clause-answered g c = answers (g.V.RowVisitor.answered c.args.visitor.now) (g.V.RowVisitor.answered c.visit.new.self) c.visit.result c.visit.ensures.takes c.visit.ensures.refuses

@@ -2,21 +2,24 @@ use Rattle.std.proofs.Common.{◌≤ℤ◌, ◌<ℤ◌, ap, map, refl, rules, su
 use Rattle.period_core.specs.Moments.{forever}
 use Rattle.period_keys.specs.Current.{rows_by_key}
 use Rattle.script_engine.specs.engine.EngineState.{engine_of}
-use Rattle.script_engine.specs.engine.Stored.{EngineRepresents}
+use Rattle.script_engine.specs.engine.Stored.{EngineRepresents, HasContents}
 use Rattle.script_engine.proofs.Steps.{moved}
 use Rattle.script_engine.proofs.SameInMemory.{list_memory, same_memory}
 use Rattle.std.specs.Prelude.{OnErr}
 use Rattle.std.proofs.lemmas.Result.{on_err_weaker}
 use Rattle.script_engine.specs.engine.EngineState.{EngineState}
 use Rattle.script_engine.specs.engine.InMemory.{IsSameInMemory}
+use Rattle.catalog_core.specs.declared.table.catalog.Catalog.{Catalog}
+use Rattle.script_engine.specs.engine.InMemory.{FollowCatalog}
+use Rattle.script_engine.proofs.EndedAfter.{ended_later}
 use Rattle.script_engine.proofs.engine.Engine.at.Goals as goal
 
 pub returns-in-Some-2-clause-moved : goal.returns-in-Some-2-clause-moved
 returns-in-Some-2-clause-moved g c usable history kept =
-    let was : EngineRepresents g.S.Store history (engine_of c.self.inside.store (map rows_by_key c.self.inside.tables.items)) = subst (λ s. EngineRepresents g.S.Store history s) (sym c.self.view_is) kept in
+    let was : EngineRepresents g.S.Store history (engine_of c.self.inside.store (map rows_by_key c.self.inside.tables.items) c.self.inside.ended.items) = subst (λ s. EngineRepresents g.S.Store history s) (sym c.self.view_is) kept in
     let late : c.self.inside.store.clock ≤ℤ c.args.moment = search rules in
     let before : c.args.moment <ℤ forever = search rules in
-    moved g.S.Store history (engine_of c.self.inside.store (map rows_by_key c.self.inside.tables.items)) (engine_of c.advance.new.self (map rows_by_key c.self.inside.tables.items)) c.advance.result c.args.moment c.advance.ensures.changes refl late before usable was
+    moved g.S.Store history (engine_of c.self.inside.store (map rows_by_key c.self.inside.tables.items) c.self.inside.ended.items) (engine_of c.advance.new.self (map rows_by_key c.self.inside.tables.items) c.self.inside.ended.items) c.advance.result c.args.moment c.advance.ensures.changes refl refl late before usable was
 
 pub returns-in-Some-clause-memory : goal.returns-in-Some-clause-memory
 returns-in-Some-clause-memory g c = same_memory c.args.self.now
@@ -24,9 +27,24 @@ returns-in-Some-clause-memory g c = same_memory c.args.self.now
 pub returns-in-Some-2-clause-memory : goal.returns-in-Some-2-clause-memory
 returns-in-Some-2-clause-memory g c =
     let tables = map rows_by_key c.self.inside.tables.items in
-    let new : EngineState g.row.S.Denot = engine_of c.advance.new.self tables in
+    let ended = c.self.inside.ended.items in
+    let new : EngineState g.row.S.Denot = engine_of c.advance.new.self tables ended in
     subst (λ (e : EngineState g.row.S.Denot). OnErr c.advance.result (IsSameInMemory e new)) c.self.view_is
-    (on_err_weaker c.advance.result (λ same. list_memory (engine_of c.self.inside.store tables) new (ap (λ k. k.tables) c.advance.ensures.catalog) same refl) c.advance.ensures.clock)
+    (on_err_weaker c.advance.result (λ same. list_memory (engine_of c.self.inside.store tables ended) new (ap (λ k. k.tables) c.advance.ensures.catalog) same refl) c.advance.ensures.clock)
 
 pub returns-in-None-clause-memory : goal.returns-in-None-clause-memory
 returns-in-None-clause-memory g c = same_memory c.args.self.now
+
+pub invariant_of-self : goal.invariant_of-self
+invariant_of-self g c = (
+  subst (λ (k : Catalog). FollowCatalog k.tables c.self.inside.tables.items) (sym c.advance.ensures.catalog) c.self.invariant.0,
+  ended_later c.advance.result c.self.inside.store.clock c.advance.new.self.clock c.args.moment c.self.inside.ended.items c.advance.ensures.advanced c.advance.ensures.clock (search rules) c.self.invariant.1,
+)
+
+pub returns-in-Some-2-clause-kept : goal.returns-in-Some-2-clause-kept
+returns-in-Some-2-clause-kept g c = λ usable contents has.
+    let tables = map rows_by_key c.self.inside.tables.items in
+    let ended = c.self.inside.ended.items in
+    let new : EngineState g.row.S.Denot = engine_of c.advance.new.self tables ended in
+    let was : HasContents g.S.Store (engine_of c.self.inside.store tables ended) contents = subst (λ (e : EngineState g.row.S.Denot). HasContents g.S.Store e contents) (sym c.self.view_is) has in
+    on_err_weaker {Q = HasContents g.S.Store new contents} c.advance.result (λ stored. record { stored = stored; current = was.current; ended = was.ended }) (c.advance.ensures.changes usable contents was.stored).1

@@ -11,6 +11,7 @@ use Rattle.period_keys.specs.Current.{HoldCurrent, rows_by_key}
 use Rattle.period_keys.specs.Lawful.{IsLawfulChange, IsLawfulState}
 use Rattle.period_keys.specs.Planned.{IsPlanOf}
 use Rattle.period_keys.specs.Rows.{RowsByKey}
+use Rattle.script_engine.specs.engine.Ended.{HaveEnded}
 use Rattle.script_engine.specs.engine.EngineState.{EngineState}
 use Rattle.script_engine.specs.engine.Faults.{IsFault}
 use Rattle.script_engine.specs.engine.InMemory.{FollowCatalog, rows_in}
@@ -36,7 +37,7 @@ lawful_plan-requires g c =
     record {
       follow =
           subst (λ (k : Catalog). FollowCatalog k.tables c.as_slice.result.now) (sym tables)
-          (subst (FollowCatalog c.self.inside.store.catalog.tables) (sym c.as_slice.ensures.value) c.self.invariant);
+          (subst (FollowCatalog c.self.inside.store.catalog.tables) (sym c.as_slice.ensures.value) c.self.invariant.0);
       defined =
           resolved_table c.catalog-catalog.result.now.tables (plain c.args.statement.now) c.in-Ok.change
           (subst (λ (k : Catalog). ResolvesChange k.tables (plain c.args.statement.now) c.in-Ok.change) (c.catalog.ensures ∙ sym tables) c.in-Ok.ensures.resolved);
@@ -100,7 +101,7 @@ returns-in-Ok-apply-clause-step g c usable history kept =
     (subst₂ (λ (k : Catalog) (ts : List RowsByKey). HoldCurrent k.tables (last_state history) ts) (sym judged) (sym tables) (hold_before g.S.Store history old s c.requires kept))))
     (c.in-Ok-apply.ensures.distinct usable kept.contents kept.stored)
     (c.in-Ok-apply.ensures.changes usable kept.contents kept.stored).0
-    c.in-Ok-apply.ensures.made)
+    c.in-Ok-apply.ensures.made c.in-Ok-apply.ensures.closed)
 
 pub returns-clause-step : goal.returns-clause-step
 returns-clause-step g c usable history kept =
@@ -120,6 +121,7 @@ returns-clause-step g c usable history kept =
     (record {
       stored = (c.in-Err-apply.ensures.changes usable kept.contents kept.stored).1;
       current = current-kept kept.contents change.table old.tables new.tables c.in-Err-apply.ensures.none kept.current;
+      ended = subst (HaveEnded kept.contents) (sym c.in-Err-apply.ensures.open) kept.ended;
     })
     c.in-Err-apply.ensures.named
 
@@ -128,6 +130,7 @@ returns-clause-kept g c = λ usable contents has.
     record {
       stored = (c.in-Err-apply.ensures.changes usable contents has.stored).1;
       current = current-kept contents c.in-Ok.change.table c.args.self.now.tables c.apply.new.self.tables c.in-Err-apply.ensures.none has.current;
+      ended = subst (HaveEnded contents) (sym c.in-Err-apply.ensures.open) has.ended;
     }
 
 pub returns-in-Err-clause-refused : goal.returns-in-Err-clause-refused

@@ -1,4 +1,4 @@
-use Rattle.std.proofs.Common.{◌≡◌, ◌<◌, ◌∙◌, List, [], ap, length, map, refl, subst, sym}
+use Rattle.std.proofs.Common.{◌≡◌, ◌<◌, ◌++◌, ◌∷◌, ◌∙◌, ℤ, List, [], ap, length, map, refl, subst, sym}
 use Rattle.period_core.specs.Leasts.{MayAnswer, NoneApplies}
 use Rattle.catalog_core.specs.create.Creation.{create_conditions}
 use Rattle.catalog_core.specs.create.Definition.{Defines}
@@ -11,9 +11,11 @@ use Rattle.period_keys.specs.Current.{rows_by_key}
 use Rattle.period_keys.specs.Lawful.{key_positions}
 use Rattle.period_keys.specs.Rows.{RowsByKey}
 use Rattle.version_store.specs.Changed.{with_table}
+use Rattle.script_engine.specs.engine.Ended.{AllEndedBy, HaveEnded}
 use Rattle.script_engine.specs.engine.EngineState.{EngineState, engine_of}
 use Rattle.script_engine.specs.engine.InMemory.{FollowCatalog, HaveCurrentRows}
 use Rattle.script_engine.specs.engine.Stored.{EngineRepresents, HasContents}
+use Rattle.script_engine.proofs.EndedAfter.{ended-created, none_ended}
 use Rattle.script_engine.proofs.InMemory.{current-created}
 use Rattle.script_engine.proofs.Steps.{created_step, uncreated_step, unmade_step}
 use Rattle.script_engine.proofs.TableNumbers.{few_tables}
@@ -33,9 +35,9 @@ returns-in-Err-clause-step g c usable history kept =
     unmade_step g.S.Store history c.args.self.now c.args.create.now c.in-Err.refusal kept
     (subst (λ (tables : List TableDef). MayAnswer (Holds (create_conditions tables c.args.create.now)) c.in-Err.refusal) same c.in-Err.ensures.refused)
 
-pub add_index-requires : goal.add_index-requires
-add_index-requires g c = record {
-  follow = subst (λ (k : Catalog). FollowCatalog k.tables c.self.inside.tables.items) (sym c.catalog-catalog.ensures) c.self.invariant;
+pub add_versions-requires : goal.add_versions-requires
+add_versions-requires g c = record {
+  follow = subst (λ (k : Catalog). FollowCatalog k.tables c.self.inside.tables.items) (sym c.catalog-catalog.ensures) c.self.invariant.0;
   lawful =
       subst (λ (k : Catalog). IsLawful k.tables c.in-Ok.definition) (c.catalog.ensures ∙ sym c.catalog-catalog.ensures)
       (c.args.create.now, c.in-Ok.ensures.sound, c.in-Ok.ensures.defined);
@@ -48,8 +50,8 @@ add_table-requires-clause-room g c =
 pub returns-in-Ok-add_table-clause-step : goal.returns-in-Ok-add_table-clause-step
 returns-in-Ok-add_table-clause-step g c usable history kept =
     let ts : List RowsByKey = map rows_by_key c.self.inside.tables.items in
-    let old : EngineState g.row.S.Denot = engine_of c.self.inside.store ts in
-    let new : EngineState g.row.S.Denot = engine_of c.add_table.new.self (map rows_by_key c.add_index.new.tables.items) in
+    let old : EngineState g.row.S.Denot = engine_of c.self.inside.store ts c.self.inside.ended.items in
+    let new : EngineState g.row.S.Denot = engine_of c.add_table.new.self (map rows_by_key c.add_versions.new.tables.items) c.add_versions.new.ended.items in
     let create = c.args.create.now in
     let definition = c.in-Ok.definition in
     let was : EngineRepresents g.S.Store history old = subst (λ s. EngineRepresents g.S.Store history s) (sym c.self.view_is) kept in
@@ -59,32 +61,37 @@ returns-in-Ok-add_table-clause-step g c usable history kept =
     (record {
       stored = (c.in-Ok-add_table.ensures.changes usable was.contents was.stored).0;
       current =
-          subst (HaveCurrentRows (with_table definition was.contents)) (sym c.in-Ok-add_index.ensures.rows)
+          subst (HaveCurrentRows (with_table definition was.contents)) (sym c.in-Ok-add_versions.ensures.rows)
           (current-created was.contents ts definition (without_rows definition) was.current refl refl);
+      ended =
+          subst (HaveEnded (with_table definition was.contents)) (sym c.in-Ok-add_versions.ensures.closed)
+          (ended-created was.contents c.self.inside.ended.items definition was.ended);
     })
 
 pub returns-in-Err-add_table-clause-step : goal.returns-in-Err-add_table-clause-step
 returns-in-Err-add_table-clause-step g c usable history kept =
     let ts : List RowsByKey = map rows_by_key c.self.inside.tables.items in
-    let old : EngineState g.row.S.Denot = engine_of c.self.inside.store ts in
-    let new : EngineState g.row.S.Denot = engine_of c.add_table.new.self (map rows_by_key c.remove_last.new.tables.items) in
+    let old : EngineState g.row.S.Denot = engine_of c.self.inside.store ts c.self.inside.ended.items in
+    let new : EngineState g.row.S.Denot = engine_of c.add_table.new.self (map rows_by_key c.remove_versions.new.tables.items) c.remove_versions.new.ended.items in
     let create = c.args.create.now in
     let was : EngineRepresents g.S.Store history old = subst (λ s. EngineRepresents g.S.Store history s) (sym c.self.view_is) kept in
     uncreated_step g.S.Store history old new create c.in-Err-add_table.refusal was
     (subst (λ (k : Catalog). NoneApplies (Holds (create_conditions k.tables create))) c.catalog.ensures c.in-Ok.ensures.sound)
     (record {
       stored = (c.in-Err-add_table.ensures.changes usable was.contents was.stored).1;
-      current = subst (HaveCurrentRows was.contents) (sym (c.remove_last.ensures.rows ts (without_rows c.in-Ok.definition) c.in-Ok-add_index.ensures.rows)) was.current;
+      current = subst (HaveCurrentRows was.contents) (sym (c.remove_versions.ensures.rows ts (without_rows c.in-Ok.definition) c.in-Ok-add_versions.ensures.rows)) was.current;
+      ended = subst (HaveEnded was.contents) (sym (c.remove_versions.ensures.ended c.self.inside.ended.items [] c.in-Ok-add_versions.ensures.closed)) was.ended;
     })
     c.in-Err-add_table.ensures.named
 
 pub returns-in-Err-add_table-clause-kept : goal.returns-in-Err-add_table-clause-kept
 returns-in-Err-add_table-clause-kept g c = λ usable contents has.
     let ts : List RowsByKey = map rows_by_key c.self.inside.tables.items in
-    let was : HasContents g.S.Store (engine_of c.self.inside.store ts) contents = subst (λ s. HasContents g.S.Store s contents) (sym c.self.view_is) has in
+    let was : HasContents g.S.Store (engine_of c.self.inside.store ts c.self.inside.ended.items) contents = subst (λ s. HasContents g.S.Store s contents) (sym c.self.view_is) has in
     record {
       stored = (c.in-Err-add_table.ensures.changes usable contents was.stored).1;
-      current = subst (HaveCurrentRows contents) (sym (c.remove_last.ensures.rows ts (without_rows c.in-Ok.definition) c.in-Ok-add_index.ensures.rows)) was.current;
+      current = subst (HaveCurrentRows contents) (sym (c.remove_versions.ensures.rows ts (without_rows c.in-Ok.definition) c.in-Ok-add_versions.ensures.rows)) was.current;
+      ended = subst (HaveEnded contents) (sym (c.remove_versions.ensures.ended c.self.inside.ended.items [] c.in-Ok-add_versions.ensures.closed)) was.ended;
     }
 
 pub returns-in-Err-clause-refused : goal.returns-in-Err-clause-refused
@@ -106,8 +113,27 @@ returns-in-Err-add_table-clause-refused g c =
 pub returns-in-Err-add_table-clause-memory : goal.returns-in-Err-add_table-clause-memory
 returns-in-Err-add_table-clause-memory g c =
     let ts : List RowsByKey = map rows_by_key c.self.inside.tables.items in
-    let old : EngineState g.row.S.Denot = engine_of c.self.inside.store ts in
-    let new : EngineState g.row.S.Denot = engine_of c.add_table.new.self (map rows_by_key c.remove_last.new.tables.items) in
+    let old : EngineState g.row.S.Denot = engine_of c.self.inside.store ts c.self.inside.ended.items in
+    let new : EngineState g.row.S.Denot = engine_of c.add_table.new.self (map rows_by_key c.remove_versions.new.tables.items) c.remove_versions.new.ended.items in
     subst (λ (e : EngineState g.row.S.Denot). IsSameInMemory e new) c.self.view_is
     (list_memory old new c.in-Err-add_table.ensures.none c.in-Err-add_table.ensures.clock
-    (c.remove_last.ensures.rows ts (without_rows c.in-Ok.definition) c.in-Ok-add_index.ensures.rows))
+    (c.remove_versions.ensures.rows ts (without_rows c.in-Ok.definition) c.in-Ok-add_versions.ensures.rows))
+
+pub invariant_of-self-in-Ok-add_table : goal.invariant_of-self-in-Ok-add_table
+invariant_of-self-in-Ok-add_table g c =
+    let definition : TableDef = c.in-Ok.definition in
+    let known : c.catalog-catalog.result.now.tables ++ definition ∷ [] ≡ c.add_table.new.self.catalog.tables =
+    ap (λ (k : Catalog). k.tables ++ definition ∷ []) c.catalog-catalog.ensures ∙ sym c.in-Ok-add_table.ensures.added in (
+      subst (λ (tables : List TableDef). FollowCatalog tables c.add_versions.new.tables.items) known c.in-Ok-add_versions.ensures.follow,
+      subst (λ (m : ℤ). AllEndedBy m c.add_versions.new.ended.items) (sym c.in-Ok-add_table.ensures.clock)
+          (subst (AllEndedBy c.self.inside.store.clock) (sym c.in-Ok-add_versions.ensures.closed) (none_ended c.self.inside.store.clock c.self.inside.ended.items c.self.invariant.1)),
+    )
+
+pub invariant_of-self-in-Err-add_table : goal.invariant_of-self-in-Err-add_table
+invariant_of-self-in-Err-add_table g c =
+    let same : c.catalog-catalog.result.now.tables ≡ c.add_table.new.self.catalog.tables = ap (λ (k : Catalog). k.tables) c.catalog-catalog.ensures ∙ sym c.in-Err-add_table.ensures.none in (
+      subst (λ (tables : List TableDef). FollowCatalog tables c.remove_versions.new.tables.items) same
+          (c.remove_versions.ensures.follow c.catalog-catalog.result.now.tables c.in-Ok.definition c.in-Ok-add_versions.ensures.follow),
+      subst (λ (m : ℤ). AllEndedBy m c.remove_versions.new.ended.items) (sym c.in-Err-add_table.ensures.clock)
+          (subst (AllEndedBy c.self.inside.store.clock) (sym (c.remove_versions.ensures.ended c.self.inside.ended.items [] c.in-Ok-add_versions.ensures.closed)) c.self.invariant.1),
+    )

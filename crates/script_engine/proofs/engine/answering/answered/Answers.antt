@@ -1,4 +1,4 @@
-use Rattle.std.proofs.Common.{◌≡◌, ◌∙◌, List, inl, refl, subst, sym, true}
+use Rattle.std.proofs.Common.{◌≡◌, ◌∙◌, List, subst, sym, true}
 use Rattle.std.proofs.lemmas.Bool.{false≢true}
 use Rattle.catalog_core.specs.query.Fitting.{fits}
 use Rattle.catalog_core.specs.query.Queries.{plain_query}
@@ -9,27 +9,21 @@ use Rattle.script_engine.proofs.Fits.{always_fits}
 use Rattle.script_engine.proofs.engine.answering.answered.Goals as goal
 
 pub returns-in-Ok-answer_over-clause-seen : goal.returns-in-Ok-answer_over-clause-seen
-returns-in-Ok-answer_over-clause-seen g c usable history kept =
+returns-in-Ok-answer_over-clause-seen c history kept =
     let query = plain_query c.args.query.now in
     let fit : fits query c.in-Ok.seen ≡ true = sym c.fits.ensures ∙ c.if-not-fits.false in
-    have_seen history query c.in-Ok.seen fit (c.in-Ok.ensures.seen usable history kept)
+    have_seen history query c.in-Ok.seen fit (c.in-Ok.ensures history kept)
 
 pub returns-in-Ok-answer_over-clause-right : goal.returns-in-Ok-answer_over-clause-right
-returns-in-Ok-answer_over-clause-right g c usable history kept =
+returns-in-Ok-answer_over-clause-right c history kept =
     let query = plain_query c.args.query.now in
     let fit : fits query c.in-Ok.seen ≡ true = sym c.fits.ensures ∙ c.if-not-fits.false in
-    answer_in_history history query c.in-Ok.seen c.in-Ok-answer_over.answer (have_seen history query c.in-Ok.seen fit (c.in-Ok.ensures.seen usable history kept)) c.in-Ok-answer_over.ensures.right
+    answer_in_history history query c.in-Ok.seen c.in-Ok-answer_over.answer (have_seen history query c.in-Ok.seen fit (c.in-Ok.ensures history kept)) c.in-Ok-answer_over.ensures.right
 
 -- over a store that holds a history the lists always fit
 pub returns-then-not-fits-clause-why : goal.returns-then-not-fits-clause-why
-returns-then-not-fits-clause-why g c usable history kept known =
+returns-then-not-fits-clause-why c history kept known =
     let query = plain_query c.args.query.now in
-    let its : IsOfCatalog kept.contents.tables query = subst (λ (ts : List TableDef). IsOfCatalog ts query) kept.stored.catalog known in
-    let fit : fits query c.in-Ok.seen ≡ true = always_fits history kept.contents query c.in-Ok.seen kept.said its (c.in-Ok.ensures.seen usable history kept) in
+    let its : IsOfCatalog kept.contents.tables query = subst (λ (ts : List TableDef). IsOfCatalog ts query) (sym kept.said.tables) known in
+    let fit : fits query c.in-Ok.seen ≡ true = always_fits history kept.contents query c.in-Ok.seen kept.said its (c.in-Ok.ensures history kept) in
     absurd (false≢true (sym c.if-not-fits.true ∙ c.fits.ensures ∙ fit))
-
-pub returns-in-Err-answer_over-clause-why : goal.returns-in-Err-answer_over-clause-why
-returns-in-Err-answer_over-clause-why g c usable history kept known = inl refl
-
-pub returns-in-Err-clause-why : goal.returns-in-Err-clause-why
-returns-in-Err-clause-why g c usable history kept known = c.in-Err.ensures.why usable history kept

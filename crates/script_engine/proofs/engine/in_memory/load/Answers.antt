@@ -2,7 +2,7 @@ use Rattle.std.proofs.Common.{◌≡◌, ◌<◌, ◌≤◌, ◌+◌, ◌++◌, 
 use Rattle.catalog_core.specs.declared.table.TableDef.{TableDef}
 use Rattle.catalog_core.specs.declared.table.catalog.Catalog.{Catalog}
 use Rattle.period_keys.specs.Lawful.{key_positions}
-use Rattle.script_engine.proofs.Loaded.{AreLoaded, all_loaded, one_loaded, read_more, represents_still}
+use Rattle.script_engine.proofs.Loaded.{AreLoaded, all_loaded, one_loaded, opened_more, opened_still}
 use Rattle.script_engine.proofs.engine.in_memory.load.Goals as goal
 
 pub loop-place-preserved : goal.loop-place-preserved
@@ -11,18 +11,18 @@ loop-place-preserved g c =
     let read = c.in-Ok-load_table.ensures.read in
     let before = c.loop-place.invariant.read in
     record {
-      read = read_more g.S.Store c.args.store.now c.loop-place.store c.load_table.new.store before read;
+      read = opened_more g.S.Store c.args.store.now c.loop-place.store c.load_table.new.store before read;
       long =
           (let was = c.loop-place.invariant.long in
           let more : length c.push.new.self.items ≡ length (c.loop-place.tables.items ++ c.in-Ok-load_table.rows ∷ []) = ap length c.in-Ok-push.ensures.items in
           omega (arith, was, more, length-append c.loop-place.tables.items (c.in-Ok-load_table.rows ∷ [])));
       below =
-          (let ends : c.len-place-end.result ≡ length c.args.store.now.catalog.tables = c.len-place-end.ensures ∙ ap (λ (k : Catalog). length k.tables) c.catalog.ensures in
+          (let ends : c.len-place-end.result ≡ length c.args.store.now.store.catalog.tables = c.len-place-end.ensures ∙ ap (λ (k : Catalog). length k.tables) c.catalog.ensures in
           let inside = c.loop-place-test.true in
           omega (arith, inside, ends));
       loaded = λ usable d stored.
-          let was = c.loop-place.invariant.loaded (read.usable usable) d stored in
-          let mid = represents_still g.S.Store c.args.store.now c.loop-place.store d before (read.usable usable) stored in
+          let was = c.loop-place.invariant.loaded (read.0.usable usable) d stored in
+          let mid = opened_still g.S.Store c.args.store.now c.loop-place.store d before (read.0.usable usable) stored in
           let ends : c.len-place-end.result ≡ length d.tables = c.len-place-end.ensures ∙ ap (λ (k : Catalog). length k.tables) c.catalog.ensures ∙ ap length stored.catalog in
           let inside : place < length d.tables = subst (λ (n : ℕ). place < n) ends c.loop-place-test.true in
           let definition : TableDef = c.index-as_slice-place.result in
@@ -35,7 +35,7 @@ loop-place-preserved g c =
 
 pub returns-clause-count : goal.returns-clause-count
 returns-clause-count g c =
-    let ends : c.len-place-end.result ≡ length c.args.store.now.catalog.tables = c.len-place-end.ensures ∙ ap (λ (k : Catalog). length k.tables) c.catalog.ensures in
+    let ends : c.len-place-end.result ≡ length c.args.store.now.store.catalog.tables = c.len-place-end.ensures ∙ ap (λ (k : Catalog). length k.tables) c.catalog.ensures in
     let long = c.loop-place.invariant.long in
     let below = c.loop-place.invariant.below in
     omega (arith, long, below, c.loop-place-test.false, ends)

@@ -1,4 +1,4 @@
-use Rattle.std.proofs.Common.{◌≡◌, ◌∙◌, List, ap, length, map, sym, subst, subst₂, true}
+use Rattle.std.proofs.Common.{◌≡◌, ◌∙◌, ◌∷◌, [], List, ap, arith, refl, rules, length, map, sym, subst, subst₂, true}
 use Rattle.std.proofs.lemmas.Bool.{false≢true}
 use Rattle.std.proofs.lemmas.List.{length-map}
 use Rattle.std.proofs.lemmas.List.Sorted.{IsPermutation-refl}
@@ -8,9 +8,14 @@ use Rattle.period_keys.specs.Current.{HaveIndexes, HoldCurrent, rows_by_key}
 use Rattle.period_keys.specs.Lawful.{IsLawfulState}
 use Rattle.period_keys.specs.Rows.{RowsByKey}
 use Rattle.period_keys.specs.TableRows.{TableRows}
+use Rattle.script_engine.specs.engine.InMemory.{HaveCurrentRows}
 use Rattle.script_engine.specs.engine.Faults.{current_state}
 use Rattle.script_engine.proofs.LastState.{hold_now}
 use Rattle.script_engine.proofs.engine.indexed.load_lawful.Goals as goal
+
+no_items : {A : Type 0} (xs : List A) → length xs ≡ 0 → xs ≡ []
+no_items [] none = refl
+no_items (x ∷ xs) none = absurd (omega (arith, none))
 
 pub returns-in-Ok-true-clause-follow : goal.returns-in-Ok-true-clause-follow
 returns-in-Ok-true-clause-follow g c =
@@ -18,12 +23,22 @@ returns-in-Ok-true-clause-follow g c =
     record {
       lawful = c.requires;
       count = sym (length-map tables rows_by_key) ∙ ap length c.in-Ok-tables_of.ensures.rows ∙ c.in-Ok.ensures.count;
-      indexed = subst (λ (k : Catalog). HaveIndexes k.tables tables) (c.catalog.ensures ∙ c.in-Ok.ensures.read.catalog) c.in-Ok-tables_of.ensures.indexed;
+      indexed = subst (λ (k : Catalog). HaveIndexes k.tables tables) (c.catalog.ensures ∙ c.in-Ok.ensures.read.0.catalog) c.in-Ok-tables_of.ensures.indexed;
     }
+
+pub returns-then-is_empty-clause-loaded : goal.returns-then-is_empty-clause-loaded
+returns-then-is_empty-clause-loaded g c = λ usable d stored tabled.
+    let none : c.in-Ok.rows.items ≡ [] = no_items c.in-Ok.rows.items (search rules) in
+    subst (λ (ts : List TableRows). HaveCurrentRows d (map rows_by_key ts)) (sym c.new.ensures.items)
+    (subst (HaveCurrentRows d) none (c.in-Ok.ensures.loaded usable d stored tabled))
+
+pub returns-in-Ok-true-clause-loaded : goal.returns-in-Ok-true-clause-loaded
+returns-in-Ok-true-clause-loaded g c = λ usable d stored tabled.
+    subst (HaveCurrentRows d) (sym c.in-Ok-tables_of.ensures.rows) (c.in-Ok.ensures.loaded usable d stored tabled)
 
 pub returns-in-Ok-true-clause-lawful : goal.returns-in-Ok-true-clause-lawful
 returns-in-Ok-true-clause-lawful g c = λ usable d stored tabled.
-    let same : c.catalog-2.result.now.tables ≡ d.tables = ap (λ (k : Catalog). k.tables) (c.catalog-2.ensures ∙ c.in-Ok.ensures.read.catalog) ∙ stored.catalog in
+    let same : c.catalog-2.result.now.tables ≡ d.tables = ap (λ (k : Catalog). k.tables) (c.catalog-2.ensures ∙ c.in-Ok.ensures.read.0.catalog) ∙ stored.catalog in
     let rows : map rows_by_key c.as_slice.result.now ≡ c.in-Ok.rows.items = ap (map rows_by_key) c.as_slice.ensures.value ∙ c.in-Ok-tables_of.ensures.rows in
     let hold = hold_now d c.in-Ok.rows.items (c.in-Ok.ensures.loaded usable d stored tabled) (current_state d) (λ table day. IsPermutation-refl (current_state d table day)) in
     let law = c.in-Ok-true.ensures (current_state d) (subst₂ (λ (tables : List TableDef) (ts : List RowsByKey). HoldCurrent tables (current_state d) ts) (sym same) (sym rows) hold) in
@@ -31,7 +46,7 @@ returns-in-Ok-true-clause-lawful g c = λ usable d stored tabled.
 
 pub returns-in-Ok-false-clause-bad : goal.returns-in-Ok-false-clause-bad
 returns-in-Ok-false-clause-bad g c = λ usable d stored tabled bad lawful.
-    let same : c.catalog-2.result.now.tables ≡ d.tables = ap (λ (k : Catalog). k.tables) (c.catalog-2.ensures ∙ c.in-Ok.ensures.read.catalog) ∙ stored.catalog in
+    let same : c.catalog-2.result.now.tables ≡ d.tables = ap (λ (k : Catalog). k.tables) (c.catalog-2.ensures ∙ c.in-Ok.ensures.read.0.catalog) ∙ stored.catalog in
     let rows : map rows_by_key c.as_slice.result.now ≡ c.in-Ok.rows.items = ap (map rows_by_key) c.as_slice.ensures.value ∙ c.in-Ok-tables_of.ensures.rows in
     let hold = hold_now d c.in-Ok.rows.items (c.in-Ok.ensures.loaded usable d stored tabled) (current_state d) (λ table day. IsPermutation-refl (current_state d table day)) in
     let law = c.in-Ok-false.ensures (current_state d) (subst₂ (λ (tables : List TableDef) (ts : List RowsByKey). HoldCurrent tables (current_state d) ts) (sym same) (sym rows) hold) in

@@ -4,8 +4,8 @@ use Rattle.catalog_core.specs.query.Queries.{plain_query}
 use Rattle.script_engine.specs.engine.Needed.{IsNeededBy}
 use Rattle.script_engine.proofs.engine.needed.needed_tables.Goals as goal
 
-pub returns-in-Ok-clause-needed : goal.returns-in-Ok-clause-needed
-returns-in-Ok-clause-needed g c usable history kept =
-    let (added, made, needed) = c.in-Ok.ensures.needed usable history kept in
+pub returns : goal.returns
+returns c history same kept =
+    let (added, made, needed) = c.in_ok-push_needed_tables.ensures history same kept in
     let all : c.new.result ≡ added = c.new.ensures ∙ c.from_vec.ensures ∙ made ∙ ap (λ (l : List (List PeriodRow)). l ++ added) c.new-lists.ensures.items in
     subst (IsNeededBy history (plain_query c.args.query.now)) (sym all) needed

@@ -1,14 +1,19 @@
-use Rattle.std.proofs.Common.{◌≡◌, ◌∙◌, [], IsTrue, inl, inr, refl, rules, subst, sym}
+use Rattle.std.proofs.Common.{◌≡◌, ◌∙◌, ℤ, [], IsTrue, ap, ap₂, arith, inl, inr, refl, rules, subst, subst₂, sym, w64, to_z, of_z}
+use Rattle.std.proofs.lemmas.Int.{ints}
 use Rattle.sqlite.specs.Effect.{Database}
 use Rattle.sqlite.specs.Held.{state}
 use Rattle.version_tables.proofs.There.{not_both_ways, store_is_whole}
+use Rattle.version_tables.specs.Forms.{IsNumberIn, moment_in}
+use Rattle.version_tables.specs.Good.{IsClock}
+use Rattle.version_tables.specs.declared.form.Form.{Form}
 use Rattle.version_tables.specs.declared.presence.Presence.TheVariants.{Missing, Partial, Whole}
-use Rattle.version_store.proofs.Opens.{are_dated, have_tables, same_contents}
-use Rattle.sqlite_trees.proofs.ListLemmas.{all_weaker}
-use Rattle.version_store.proofs.Dated.{good_is_dated}
-use Rattle.version_store.specs.Contents.{IsDated}
+use Rattle.version_store.proofs.Opens.{are_dated, good_dated, have_tables, same_contents}
+use Rattle.version_store.proofs.Opened.{opened_new}
+use Rattle.version_store.proofs.Units.{tables_in}
+use Rattle.version_store.specs.Contents.{empty_contents}
 use Rattle.version_store.specs.GoodStore.{AreLawful}
-use Rattle.version_store.specs.Written.{Has}
+use Rattle.version_store.specs.Units.{in_microseconds}
+use Rattle.version_store.specs.Written.{HasIn}
 use Rattle.version_store.proofs.store.VersionStore.open.Goals as goal
 
 partial_missing : Partial ≡ Missing → ⊥
@@ -20,20 +25,23 @@ partial_whole e = absurd cc
 pub returns-in-Ok-clause-good : goal.returns-in-Ok-clause-good
 returns-in-Ok-clause-good g c = λ usable ours. inl (c.in-Missing.ensures.missing.0 refl)
 
+pub returns-in-Ok-clause-fresh : goal.returns-in-Ok-clause-fresh
+returns-in-Ok-clause-fresh g c = λ usable none. opened_new g.S.Store c.in-Ok.store empty_contents (c.in-Ok.ensures.fresh usable none)
+
 pub returns-in-Ok-clause-same : goal.returns-in-Ok-clause-same
-returns-in-Ok-clause-same g c = λ usable d has. absurd (not_both_ways c.args.connection.schema (c.in-Missing.ensures.missing.0 refl) (store_is_whole c.args.connection.schema has.rows.schema))
+returns-in-Ok-clause-same g c = λ usable form d has. absurd (not_both_ways c.args.connection.schema (c.in-Missing.ensures.missing.0 refl) (store_is_whole c.args.connection.schema has.rows.schema))
 
 pub returns-in-Ok-clause-tabled : goal.returns-in-Ok-clause-tabled
-returns-in-Ok-clause-tabled g c = λ usable d has. absurd (not_both_ways c.args.connection.schema (c.in-Missing.ensures.missing.0 refl) (store_is_whole c.args.connection.schema has.rows.schema))
+returns-in-Ok-clause-tabled g c = λ usable form d has. absurd (not_both_ways c.args.connection.schema (c.in-Missing.ensures.missing.0 refl) (store_is_whole c.args.connection.schema has.rows.schema))
 
 pub returns-in-Ok-clause-unchanged : goal.returns-in-Ok-clause-unchanged
-returns-in-Ok-clause-unchanged g c = λ usable. inl c.in-Ok.ensures.empty
+returns-in-Ok-clause-unchanged g c = λ usable. inl (c.in-Ok.ensures.empty, refl)
 
 pub returns-in-Ok-clause-lawful : goal.returns-in-Ok-clause-lawful
 returns-in-Ok-clause-lawful g c = subst (AreLawful []) (sym c.in-Ok.ensures.empty) tt
 
 pub returns-in-Ok-clause-empty : goal.returns-in-Ok-clause-empty
-returns-in-Ok-clause-empty g c = λ none. c.in-Ok.ensures.empty
+returns-in-Ok-clause-empty g c = λ none. (c.in-Ok.ensures.empty, refl)
 
 pub returns-in-Partial-clause-bad : goal.returns-in-Partial-clause-bad
 returns-in-Partial-clause-bad g c = λ usable _. (
@@ -47,45 +55,64 @@ returns-in-Err-inspect-clause-bad g c = λ usable bad. (
   λ good. c.in-Err-inspect.ensures.bad usable.0 usable.1 good.tables_there bad good,
 )
 
-pub returns-in-Ok-inspect-clause-good : goal.returns-in-Ok-inspect-clause-good
-returns-in-Ok-inspect-clause-good g c = λ usable ours.
+-- the clock that was found is one
+no_clock : {P : Type 0} (form : Form) (n : ℤ) → IsClock form n → ¬ IsNumberIn form n → P
+no_clock form n is none = absurd (none (is.0, let below = is.1 in omega (arith, ints, below)))
+
+pub returns-in-None-clause-bad : goal.returns-in-None-clause-bad
+returns-in-None-clause-bad g c =
+    let n : to_z w64 (of_z w64 c.in-Ok-inspect.number) ≡ c.in-Ok-inspect.number = search rules in
+    no_clock c.in-Ok-inspect.form c.in-Ok-inspect.number c.in-Ok-inspect.ensures.clock (rw n at c.in-None.ensures)
+
+pub returns-in-Some-clause-good : goal.returns-in-Some-clause-good
+returns-in-Some-clause-good g c = λ usable ours.
     let has = ours (c.in-Whole.ensures.whole.0 refl) in
     let settled : IsTrue (state g.S.Store c.args.connection).is_open → (state g.S.Store c.args.connection).now ≡ (state g.S.Store c.args.connection).committed = search rules in
     let found = c.in-Ok-inspect.ensures.good usable.0 usable.1 has in
     let same = c.in-Ok-inspect.ensures.same usable.0 in
+    let n : to_z w64 (of_z w64 c.in-Ok-inspect.number) ≡ c.in-Ok-inspect.number = search rules in
+    let clock = rw n at c.in-Some.ensures.1 in
     inr (
       found.0,
+      found.3,
       record {
-        now = subst (λ (d : Database). Has d found.0.contents) (sym (same.now usable.1)) found.1;
+        counted = found.0.contents;
+        same = ap (λ (f : Form). in_microseconds f found.0.contents) (sym found.3);
+        now = subst₂ (λ (f : Form) (d : Database). HasIn f d found.0.contents) found.3 (sym (same.now usable.1)) found.1;
         committed = same.committed usable.1 ∙ sym (settled (same.was_open usable.1)) ∙ sym (same.now usable.1);
         catalog = sym found.2;
-        clock = sym found.3;
-        dated = all_weaker _ IsDated (good_is_dated found.0.contents.tables found.0.contents.clock) found.0.contents.versions found.0.versions;
+        clock = clock ∙ ap₂ moment_in (sym found.3) (sym found.4);
+        dated = good_dated found.0;
       },
     )
 
-pub returns-in-Ok-inspect-clause-same : goal.returns-in-Ok-inspect-clause-same
-returns-in-Ok-inspect-clause-same g c = λ usable d is.
+pub returns-in-Some-clause-same : goal.returns-in-Some-clause-same
+returns-in-Some-clause-same g c = λ usable form d is.
     let old = (state g.S.Store c.args.connection).now in
     let settled : IsTrue (state g.S.Store c.args.connection).is_open → (state g.S.Store c.args.connection).now ≡ (state g.S.Store c.args.connection).committed = search rules in
     let found = c.in-Ok-inspect.ensures.good usable.0 usable.1 is.rows.schema in
     let same = c.in-Ok-inspect.ensures.same usable.0 in
-    let one = same_contents old found.0.contents d found.1 is in
+    let one = same_contents old found.0.form form found.0.contents d found.1 is in
+    let n : to_z w64 (of_z w64 c.in-Ok-inspect.number) ≡ c.in-Ok-inspect.number = search rules in
+    let clock = rw n at c.in-Some.ensures.1 in
+    let forms : form ≡ c.in-Ok-inspect.form = sym one.1 ∙ found.3 in
     record {
-      now = subst (λ (e : Database). Has e d) (sym (same.now usable.1)) is;
+      counted = d;
+      same = ap (λ (f : Form). in_microseconds f d) (sym forms);
+      now = subst₂ (λ (f : Form) (e : Database). HasIn f e d) forms (sym (same.now usable.1)) is;
       committed = same.committed usable.1 ∙ sym (settled (same.was_open usable.1)) ∙ sym (same.now usable.1);
       catalog = sym found.2 ∙ one.0;
-      clock = sym found.3 ∙ one.1;
-      dated = are_dated old d found.0 is;
+      clock = clock ∙ ap₂ moment_in (sym forms) (sym found.4 ∙ one.2);
+      dated = are_dated old form d found.0 one.1 is;
     }
 
-pub returns-in-Ok-inspect-clause-tabled : goal.returns-in-Ok-inspect-clause-tabled
-returns-in-Ok-inspect-clause-tabled g c = λ usable d is.
+pub returns-in-Some-clause-tabled : goal.returns-in-Some-clause-tabled
+returns-in-Some-clause-tabled g c = λ usable form d is.
     let found = c.in-Ok-inspect.ensures.good usable.0 usable.1 is.rows.schema in
-    have_tables (state g.S.Store c.args.connection).now d found.0 found.1 is
+    tables_in form d (have_tables (state g.S.Store c.args.connection).now form d found.0 found.1 is)
 
-pub returns-in-Ok-inspect-clause-unchanged : goal.returns-in-Ok-inspect-clause-unchanged
-returns-in-Ok-inspect-clause-unchanged g c = λ usable. let same = c.in-Ok-inspect.ensures.same usable.0 in inr (same.now usable.1, same.committed usable.1)
+pub returns-in-Some-clause-unchanged : goal.returns-in-Some-clause-unchanged
+returns-in-Some-clause-unchanged g c = λ usable. let same = c.in-Ok-inspect.ensures.same usable.0 in inr (same.now usable.1, same.committed usable.1)
 
-pub returns-in-Ok-inspect-clause-empty : goal.returns-in-Ok-inspect-clause-empty
-returns-in-Ok-inspect-clause-empty g c = λ none. absurd (not_both_ways c.args.connection.schema none (c.in-Whole.ensures.whole.0 refl))
+pub returns-in-Some-clause-empty : goal.returns-in-Some-clause-empty
+returns-in-Some-clause-empty g c = λ none. absurd (not_both_ways c.args.connection.schema none (c.in-Whole.ensures.whole.0 refl))

@@ -2,7 +2,10 @@ use Rattle.std.proofs.Common.{Result, Ok, Err, sym, subst}
 use Rattle.std.specs.Prelude.{IfErr}
 use Rattle.std.proofs.lemmas.Result.{IfOk-weaker}
 use Rattle.sqlite.specs.Held.{Held, state}
+use Rattle.version_tables.specs.declared.form.Form.TheVariants.{Microseconds}
+use Rattle.version_store.specs.StoreState.{OpenedRepresents}
 use Rattle.version_store.specs.Written.{Has}
+use Rattle.version_store.proofs.Units.{same_units}
 use Rattle.version_store.proofs.Keys.{keys_kept}
 use Rattle.version_store.proofs.Opens.{good_store}
 use Rattle.version_store.proofs.store.VersionStore.reopen.Goals as goal
@@ -20,4 +23,6 @@ returns-clause-kept g c =
 
 pub returns-clause-same : goal.returns-clause-same
 returns-clause-same g c =
-    IfOk-weaker c.open.result _ _ (λ store same usable d stands. same usable d (subst (λ (h : Held _). Has (state g.S.Store h).now d) (sym c.close-connection.ensures.same) stands.now)) c.open.ensures.same
+    IfOk-weaker c.open.result _ _ (λ opened same usable d stands.
+    let has = subst (λ (h : Held _). Has (state g.S.Store h).now d) (sym c.close-connection.ensures.same) stands.now in
+    subst (OpenedRepresents g.S.Store opened) (same_units d) (same usable Microseconds d has)) c.open.ensures.same

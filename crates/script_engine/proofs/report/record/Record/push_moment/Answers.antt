@@ -1,4 +1,4 @@
-use Rattle.std.proofs.Common.{◌≡◌, ℕ, ℤ, List}
+use Rattle.std.proofs.Common.{◌≡◌, ◌++◌, ◌∷◌, [], ℕ, ℤ, List, OnOk, subst}
 use Rattle.period_core.specs.Moments.{moment_text}
 use Rattle.script_engine.specs.report.Report.{printed_moment}
 use Rattle.script_engine.proofs.report.record.Record.push_moment.Goals as goal
@@ -9,4 +9,5 @@ printed text moment e = e
 
 pub returns-clause-ok : goal.returns-clause-ok
 returns-clause-ok c =
-    rw (← printed c.write_text.new.text c.args.moment c.write_text.ensures.text) c.push.ensures.ok
+    subst (λ (text : List ℕ). OnOk c.push.result (c.push.new.self ≡ c.args.self.now ++ text ∷ []))
+    (printed _ c.args.moment c.write_text-length.ensures.text) c.push.ensures.ok

@@ -1,0 +1,270 @@
+-- Scripts that are run one after the other.
+use Rattle.std.proofs.Common.{◌≡◌, ◌≢◌, ◌<◌, ◌⊎◌, ◌+◌, ◌++◌, ◌∷◌, ◌∙◌, ℕ, Bool, List, [], Option, None, Some, Result, Ok, Err, All, drop, get_or, length, map, take, false, true, ap, arith, inl, inr, refl, subst, sym, append_assoc}
+use Rattle.std.specs.Prelude.{IfSome, IsSome, max}
+use Rattle.std.specs.Io.KnownBytes.{Appends}
+use Rattle.std.proofs.KnownBytes.{Appends-nil, Appends-trans}
+use Rattle.std.proofs.lemmas.List.{append-nil, length-append, map-append, take-append-drop, take_more}
+use Rattle.std.proofs.lemmas.List.Elements.{All-append, All-cons, All-head, All-nil, All-tail}
+use Rattle.period_core.specs.declared.refusal.Refusal.{Refusal}
+use Rattle.history_model.specs.Histories.{History}
+use Rattle.sql_statements.specs.Lexemes.{Lexeme}
+use Rattle.sqlite.specs.Held.{Held, state}
+use Rattle.sqlite.specs.Store.{Ghosts}
+use Rattle.script_engine.specs.engine.EngineState.{EngineState}
+use Rattle.version_tables.specs.declared.form.Form.TheVariants.{Microseconds}
+use Rattle.version_store.proofs.Units.{same_units}
+use Rattle.script_engine.specs.engine.Stored.{AreOfHistory, DatabaseRepresents, EngineRepresents}
+use Rattle.script_engine.specs.script.Listening.{IsFrontRunBy}
+use Rattle.script_engine.specs.script.Script.{MayRefuseScript}
+use Rattle.command_tool.specs.Program.{read_of}
+use Rattle.command_tool.specs.declared.fault.RunFault.{RunFault}
+use Rattle.command_tool.specs.declared.fault.RunFault.TheVariants.{Memory, Read, Script}
+use Rattle.bitemporal_file.specs.Reporting.{EndsAtRefusal, IsReportFault, greatest_from, texts_from}
+use Rattle.bitemporal_file.specs.ScriptRuns.{AreAllRun, AreOfReaders, Ends, LeadsTo, MayRefuseNext, ScriptRun, reports, results_of}
+use Rattle.bitemporal_file.specs.declared.reporter.Reporter.{Reporter}
+use Rattle.bitemporal_file.proofs.Told.{Told}
+
+-- ---- one script
+
+-- why a script was not read is no refusal
+pub read_fault_is_plain : (has_failed : Bool) (fault : RunFault) (refusal : Refusal) → (fault ≡ Memory) ⊎ ((fault ≡ Read) × (has_failed ≡ true)) → fault ≡ Script refusal → ⊥
+read_fault_is_plain has_failed fault refusal (inl memory) is = cc
+read_fault_is_plain has_failed fault refusal (inr (read, failed)) is = cc
+
+-- the bytes of a script, as they are handed on
+pub read_bytes : (known : Option (List ℕ)) (script items : List ℕ) → script ≡ items → IfSome known (λ all. items ≡ read_of all) → IfSome known (λ all. script ≡ read_of all)
+read_bytes None script items same bytes = tt
+read_bytes (Some all) script items same bytes = same ∙ bytes
+
+-- its refusal is one of what the reader has
+pub read_refusal : (known : Option (List ℕ)) (script items : List ℕ) (refusal : Refusal) → script ≡ items → IfSome known (λ all. items ≡ read_of all) → MayRefuseScript script refusal → IfSome known (λ all. MayRefuseScript (read_of all) refusal)
+read_refusal None script items refusal same bytes may = tt
+read_refusal (Some all) script items refusal same bytes may = subst (λ (text : List ℕ). MayRefuseScript text refusal) (same ∙ bytes) may
+
+pub same_refusal : (refusal other : Refusal) → Script refusal ≡ Script other → refusal ≡ other
+same_refusal refusal other is = cc
+
+module _ {W K : Type 0} (contents : W → Option (List ℕ)) (text : ℕ → K → List ℕ) (status : K → ℕ) where
+  -- nothing was run
+  pub none_run : (readers : List (Option (List ℕ))) (old : Reporter W) (fault : RunFault) → old.fault ≡ None → ((refusal : Refusal) → fault ≡ Script refusal → MayRefuseNext {K = K} readers [] refusal) →
+      Ends contents text status readers old [] (Err fault) old
+  none_run readers old fault quiet may = record {
+    stops = refl;
+    worst = refl;
+    low = λ low. low;
+    written = λ none. Appends-nil (contents old.out);
+    faulty = rw quiet tt;
+    whole = λ on. let no : ⊥ = cc in absurd no;
+    stopped = λ off. let no : ⊥ = cc in absurd no;
+    refused = λ refusal is. may refusal (is_fault refusal is);
+  }
+    where
+      is_fault : (refusal : Refusal) → ◌≡◌ {A = Result Bool RunFault} (Err fault) (Err (Script refusal)) → fault ≡ Script refusal
+      is_fault refusal is = cc
+
+  -- no script was named yet
+  pub none_yet : (old : Reporter W) → old.fault ≡ None → Ends {K = K} contents text status [] old [] (Ok true) old
+  none_yet old quiet = record {
+    stops = refl;
+    worst = refl;
+    low = λ low. low;
+    written = λ none. Appends-nil (contents old.out);
+    faulty = rw quiet tt;
+    whole = λ on. ((refl, All-nil (λ (run : ScriptRun K). run.is_whole ≡ true)), λ stops. All-nil (λ r. status r ≡ 0));
+    stopped = λ off. let no : ⊥ = cc in absurd no;
+    refused = λ refusal is. let no : ⊥ = cc in absurd no;
+  }
+
+  -- the next script gave nothing
+  pub ends_failed : (readers rest : List (Option (List ℕ))) (old : Reporter W) (runs : List (ScriptRun K)) (fault : RunFault) (new : Reporter W) → new.fault ≡ None → ((refusal : Refusal) → fault ≡ Script refusal → ⊥) → Ends contents text status readers old runs (Ok true) new →
+      Ends contents text status (readers ++ rest) old runs (Err fault) new
+  ends_failed readers rest old runs fault new quiet plain ends = record {
+    stops = ends.stops;
+    worst = ends.worst;
+    low = ends.low;
+    written = ends.written;
+    faulty = rw quiet tt;
+    whole = λ on. let no : ⊥ = cc in absurd no;
+    stopped = λ off. let no : ⊥ = cc in absurd no;
+    refused = λ refusal is. let same : fault ≡ Script refusal = cc in absurd (plain refusal same);
+  }
+
+  abbrev pub one : List ℕ → List K → Bool → List (ScriptRun K)
+  one script results is_whole = record { script = script; results = results; is_whole = is_whole } ∷ []
+
+  same_flow : (flow other : Bool) → ◌≡◌ {A = Result Bool RunFault} (Ok flow) (Ok other) → flow ≡ other
+  same_flow flow other same = cc
+
+  same_fault : (fault other : RunFault) → ◌≡◌ {A = Result Bool RunFault} (Err fault) (Err other) → fault ≡ other
+  same_fault fault other same = cc
+
+  no_fault : {X : Type 0} (fault : Option X) → fault ≡ None → IsSome fault → ⊥
+  no_fault None same some = cc
+  no_fault (Some x) same some = cc
+
+  -- a script whose report met no fault
+  pub one_ended : (known : Option (List ℕ)) (script : List ℕ) (old : Reporter W) (results : List K) (goes_on : Bool) (new : Reporter W) → new.fault ≡ None → Told contents text status 1 old results goes_on new →
+      Ends contents text status (known ∷ []) old (one script results goes_on) (Ok goes_on) new
+  one_ended known script old results goes_on new quiet told = record {
+    stops = told.stops;
+    worst = told.worst ∙ ap (greatest_from status old.worst) (sym (append-nil results));
+    low = told.low;
+    written = λ none. subst (Appends (contents old.out) (contents new.out)) (sym (append-nil (texts_from text 1 results))) (told.written none);
+    faulty = rw quiet tt;
+    whole = λ is.
+        let on : goes_on ≡ true = same_flow goes_on true is in (
+          (refl, All-cons (λ (run : ScriptRun K). run.is_whole ≡ true) (record { script = script; results = results; is_whole = goes_on }) [] on (All-nil (λ (run : ScriptRun K). run.is_whole ≡ true))),
+          λ stops. subst (All (λ r. status r ≡ 0)) (sym (append-nil results)) ((told.on on).1 stops),
+        );
+    stopped = λ is.
+        let off : goes_on ≡ false = same_flow goes_on false is in
+        elim (told.off off).1 [
+          | inl some ↦ absurd (no_fault new.fault quiet some)
+          | inr stops ↦ (stops.0, subst (EndsAtRefusal status) (sym (append-nil results)) stops.1)
+        ];
+    refused = λ refusal is. let no : ⊥ = cc in absurd no;
+  }
+
+  its_fault : (fault : Option RunFault) (its : RunFault) → fault ≡ Some its → IfSome fault IsReportFault → IfSome fault (λ f. IsReportFault f × (◌≡◌ {A = Result Bool RunFault} (Err its) (Err f)))
+  its_fault None its is may = tt
+  its_fault (Some f) its is may = let same : its ≡ f = cc in (may, ap Err same)
+
+  is_none_of_script : (fault : RunFault) (refusal : Refusal) → IsReportFault fault → fault ≡ Script refusal → ⊥
+  is_none_of_script fault refusal (inl memory) is = cc
+  is_none_of_script fault refusal (inr write) is = cc
+
+  its_own : (fault : Option RunFault) (its : RunFault) → fault ≡ Some its → IfSome fault IsReportFault → IsReportFault its
+  its_own None its is may = let no : ⊥ = cc in absurd no
+  its_own (Some f) its is may = let same : f ≡ its = cc in subst IsReportFault same may
+
+  faulty_flow : (goes_on : Bool) (old new : Reporter W) (results : List K) (fault : RunFault) → new.fault ≡ Some fault → Told contents text status 1 old results goes_on new → IfSome new.fault IsReportFault
+  faulty_flow false old new results fault is told = (told.off refl).0
+  faulty_flow true old new results fault is told = rw (told.on refl).0 tt
+
+  -- a script whose report met one
+  pub one_faulty : (known : Option (List ℕ)) (script : List ℕ) (old : Reporter W) (results : List K) (goes_on : Bool) (new : Reporter W) (fault : RunFault) → new.fault ≡ Some fault → Told contents text status 1 old results goes_on new →
+      Ends contents text status (known ∷ []) old (one script results goes_on) (Err fault) new
+  one_faulty known script old results goes_on new fault is told =
+      let may = faulty_flow goes_on old new results fault is told in
+      record {
+        stops = told.stops;
+        worst = told.worst ∙ ap (greatest_from status old.worst) (sym (append-nil results));
+        low = told.low;
+        written = λ none. let no : ⊥ = cc in absurd no;
+        faulty = its_fault new.fault fault is may;
+        whole = λ on. let no : ⊥ = cc in absurd no;
+        stopped = λ off. let no : ⊥ = cc in absurd no;
+        refused = λ refusal same. absurd (is_none_of_script fault refusal (its_own new.fault fault is may) (same_fault fault (Script refusal) same));
+      }
+
+  -- without a fault of the report
+  pub quiet_of : (fault : Option RunFault) (ended : Result Bool RunFault) (flow : Bool) → IfSome fault (λ f. IsReportFault f × (ended ≡ Err f)) → ended ≡ Ok flow → fault ≡ None
+  quiet_of None ended flow may is = refl
+  quiet_of (Some f) ended flow may is = let wrong : ◌≡◌ {A = Result Bool RunFault} (Ok flow) (Err f) = sym is ∙ may.1 in let no : ⊥ = cc in absurd no
+
+  -- ---- one script more
+
+  pub results-more : (runs more : List (ScriptRun K)) → results_of (runs ++ more) ≡ results_of runs ++ results_of more
+  results-more [] more = refl
+  results-more (run ∷ runs) more = ap (λ rest. run.results ++ rest) (results-more runs more) ∙ sym (append_assoc run.results (results_of runs) (results_of more))
+
+  pub reports-more : (runs more : List (ScriptRun K)) → reports text (runs ++ more) ≡ reports text runs ++ reports text more
+  reports-more [] more = refl
+  reports-more (run ∷ runs) more = ap (λ rest. texts_from text 1 run.results ++ rest) (reports-more runs more) ∙ sym (append_assoc (texts_from text 1 run.results) (reports text runs) (reports text more))
+
+  greatest-more : (worst : ℕ) (results more : List K) → greatest_from status worst (results ++ more) ≡ greatest_from status (greatest_from status worst results) more
+  greatest-more worst [] more = refl
+  greatest-more worst (result ∷ results) more = greatest-more (max worst (status result)) results more
+
+  refusal-more : (results more : List K) → All (λ r. status r ≡ 0) results → EndsAtRefusal status more → EndsAtRefusal status (results ++ more)
+  refusal-more [] more zero ends = ends
+  refusal-more (result ∷ results) more zero ends =
+      inr (All-head (λ r. status r ≡ 0) result results zero, refusal-more results more (All-tail (λ r. status r ≡ 0) result results zero) ends)
+
+  pub readers-more : (readers : List (Option (List ℕ))) (known : Option (List ℕ)) (runs more : List (ScriptRun K)) → length runs ≡ length readers → AreOfReaders readers runs → AreOfReaders (known ∷ []) more → AreOfReaders (readers ++ known ∷ []) (runs ++ more)
+  readers-more [] known [] more count are its = its
+  readers-more [] known (run ∷ runs) more count are its = absurd are
+  readers-more (first ∷ readers) known [] more count are its = let no : ⊥ = cc in absurd no
+  readers-more (first ∷ readers) known (run ∷ runs) more count (here, are) its =
+      let left : length runs ≡ length readers = omega (arith, count) in
+      (here, readers-more readers known runs more left are its)
+
+  pub readers-within : (readers rest : List (Option (List ℕ))) (runs : List (ScriptRun K)) → AreOfReaders readers runs → AreOfReaders (readers ++ rest) runs
+  readers-within [] rest [] are = tt
+  readers-within [] rest (run ∷ runs) are = absurd are
+  readers-within (first ∷ readers) rest [] are = tt
+  readers-within (first ∷ readers) rest (run ∷ runs) (here, are) = (here, readers-within readers rest runs are)
+
+  next-more : (readers : List (Option (List ℕ))) (known : Option (List ℕ)) (runs more : List (ScriptRun K)) (refusal : Refusal) → length runs ≡ length readers → MayRefuseNext (known ∷ []) more refusal → MayRefuseNext (readers ++ known ∷ []) (runs ++ more) refusal
+  next-more [] known [] more refusal count may = may
+  next-more [] known (run ∷ runs) more refusal count may = let no : ⊥ = cc in absurd no
+  next-more (first ∷ readers) known [] more refusal count may = let no : ⊥ = cc in absurd no
+  next-more (first ∷ readers) known (run ∷ runs) more refusal count may =
+      let left : length runs ≡ length readers = omega (arith, count) in
+      next-more readers known runs more refusal left may
+
+  next-within : (readers rest : List (Option (List ℕ))) (runs : List (ScriptRun K)) (refusal : Refusal) → MayRefuseNext readers runs refusal → MayRefuseNext (readers ++ rest) runs refusal
+  next-within [] rest runs refusal may = absurd may
+  next-within (known ∷ readers) rest [] refusal may = may
+  next-within (known ∷ readers) rest (run ∷ runs) refusal may = next-within readers rest runs refusal may
+
+  pub ends_more : (readers : List (Option (List ℕ))) (known : Option (List ℕ)) (old : Reporter W) (runs : List (ScriptRun K)) (middle : Reporter W) (more : List (ScriptRun K)) (ended : Result Bool RunFault) (new : Reporter W) →
+      middle.fault ≡ None → Ends contents text status readers old runs (Ok true) middle → Ends contents text status (known ∷ []) middle more ended new →
+      Ends contents text status (readers ++ known ∷ []) old (runs ++ more) ended new
+  ends_more readers known old runs middle more ended new quiet first last =
+      let ((count, wholes), zeros) = first.whole refl in
+      record {
+        stops = last.stops ∙ first.stops;
+        worst = last.worst ∙ ap (λ w. greatest_from status w (results_of more)) first.worst ∙ sym (greatest-more old.worst (results_of runs) (results_of more)) ∙ ap (greatest_from status old.worst) (sym (results-more runs more));
+        low = λ low. last.low (first.low low);
+        written = λ none. subst (Appends (contents old.out) (contents new.out)) (sym (reports-more runs more))
+            (Appends-trans (contents old.out) (contents middle.out) (contents new.out) (reports text runs) (reports text more) (first.written quiet) (last.written none));
+        faulty = last.faulty;
+        whole = λ is.
+            let ((its, whole), zero) = last.whole is in (
+              (length-append runs more ∙ (λ k. count k + its k) ∙ sym (length-append readers (known ∷ [])), All-append (λ (run : ScriptRun K). run.is_whole ≡ true) runs more wholes whole),
+              λ stops. subst (All (λ r. status r ≡ 0)) (sym (results-more runs more)) (All-append (λ r. status r ≡ 0) (results_of runs) (results_of more) (zeros stops) (zero (first.stops ∙ stops))),
+            );
+        stopped = λ is.
+            let (stops, ends) = last.stopped is in
+            let stopping : old.stops ≡ true = sym first.stops ∙ stops in
+            (stopping, subst (EndsAtRefusal status) (sym (results-more runs more)) (refusal-more (results_of runs) (results_of more) (zeros stopping) ends));
+        refused = λ refusal is. next-more readers known runs more refusal count (last.refused refusal is);
+      }
+
+  -- scripts that end before the last
+  pub ends_within : (readers rest : List (Option (List ℕ))) (old : Reporter W) (runs : List (ScriptRun K)) (ended : Result Bool RunFault) (new : Reporter W) → (ended ≡ Ok true → ⊥) → Ends contents text status readers old runs ended new →
+      Ends contents text status (readers ++ rest) old runs ended new
+  ends_within readers rest old runs ended new before ends = record {
+    stops = ends.stops;
+    worst = ends.worst;
+    low = ends.low;
+    written = ends.written;
+    faulty = ends.faulty;
+    whole = λ is. absurd (before is);
+    stopped = ends.stopped;
+    refused = λ refusal is. next-within readers rest runs refusal (ends.refused refusal is);
+  }
+
+-- ---- names
+
+module _ {N T : Type 0} (f : N → T) (content : T → Option (List ℕ)) where
+  pub known-next : (names : List N) (i : ℕ) (d : N) → i < length names → map content (map f (take (i + 1) names)) ≡ map content (map f (take i names)) ++ content (f (get_or names i d)) ∷ []
+  known-next names i d inside =
+      ap (λ (ns : List N). map content (map f ns)) (take_more names i d inside) ∙ ap (map content) (map-append f (take i names) (get_or names i d ∷ [])) ∙ map-append content (map f (take i names)) (f (get_or names i d) ∷ [])
+
+  pub known-all : (names : List N) (i : ℕ) → map content (map f (take i names)) ++ map content (map f (drop i names)) ≡ map content (map f names)
+  known-all names i =
+      sym (map-append content (map f (take i names)) (map f (drop i names))) ∙ ap (map content) (sym (map-append f (take i names) (drop i names)) ∙ ap (map f) (take-append-drop i names))
+
+-- ---- histories
+
+pub leads-more : {K : Type 0} (IsStep : History → List Lexeme → K → History → Type 0) (history : History) (runs more : List (ScriptRun K)) (middle last : History) → LeadsTo IsStep history runs middle → LeadsTo IsStep middle more last → LeadsTo IsStep history (runs ++ more) last
+leads-more IsStep history [] more middle last same rest = subst (λ h. LeadsTo IsStep h more last) same rest
+leads-more IsStep history (run ∷ runs) more middle last (made, leads) rest = (made, leads-more IsStep made.last runs more middle last leads rest)
+
+-- what an engine represents its database stands for
+pub stands_for : {S : Type 0} (g : Ghosts S) (history : History) (engine : EngineState S) (connection : Held S) → connection ≡ engine.connection → EngineRepresents g history engine → DatabaseRepresents history (state g connection).now
+stands_for {S = S} g history engine connection same represents =
+    let said = subst (AreOfHistory history) (sym (same_units represents.contents)) represents.said in
+    subst (λ (held : Held S). DatabaseRepresents history (state g held).now) (sym same) (inr (Microseconds, represents.contents, represents.stored.now, said))

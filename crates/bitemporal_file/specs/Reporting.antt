@@ -1,0 +1,59 @@
+-- What a statement tells, and what a reporter becomes with it.
+use Rattle.std.specs.Prelude.{◌≡◌, ◌≢◌, ◌≤◌, ◌⊎◌, ◌+◌, ◌++◌, ◌∷◌, ℕ, Bool, List, [], Option, None}
+use Rattle.std.specs.Prelude.{Result, IfSome, IsSome, false, true, if◌then◌else◌, is_err, max}
+use Rattle.std.specs.Io.KnownBytes.{Appends}
+use Rattle.period_core.specs.declared.refusal.Refusal.{Refusal}
+use Rattle.script_engine.specs.declared.engine.outcome.Outcome.{Outcome}
+use Rattle.script_engine.specs.declared.entry.Entry.{Entry}
+use Rattle.command_tool.specs.Program.{fails_audit}
+use Rattle.command_tool.specs.declared.fault.RunFault.{RunFault}
+use Rattle.command_tool.specs.declared.fault.RunFault.TheVariants.{Memory, Write}
+use Rattle.bitemporal_file.specs.declared.reporter.Reporter.{Reporter}
+
+-- 1 where the statement was refused, else 0
+abbrev pub result_status : Result Outcome Refusal → ℕ
+result_status result = if is_err result then 1 else 0
+
+-- 3 where its audit did not agree or was refused; else 1 where it was refused, else 0
+abbrev pub entry_status : Entry → ℕ
+entry_status entry = if fails_audit entry.audit then 3 else result_status entry.result
+
+-- the fault of a report
+abbrev pub IsReportFault : RunFault → Type 0
+IsReportFault fault = (fault ≡ Memory) ⊎ (fault ≡ Write)
+
+-- the reporter of a run that may stop at a refusal is handed a result of this number, and says
+-- whether the run goes on
+pub record Tells {W K : Type 0} (contents : W → Option (List ℕ)) (text : ℕ → K → List ℕ)
+    (status : K → ℕ) (old : Reporter W) (number : ℕ) (kept : K) (goes_on : Bool)
+    (new : Reporter W) : Type 0 where
+  pub stops : new.stops ≡ old.stops
+  -- the greatest status so far
+  pub worst : new.worst ≡ max old.worst (status kept)
+  pub low : old.worst ≤ 3 → new.worst ≤ 3
+  -- without a fault its records are written, and nothing else
+  pub written : new.fault ≡ None → Appends (contents old.out) (contents new.out) (text number kept)
+  -- it goes on where there is no fault, and with --stop only behind a statement that has status 0
+  pub on : goes_on ≡ true
+      → (new.fault ≡ old.fault) × (old.stops ≡ true → status kept ≡ 0)
+  pub off : goes_on ≡ false → old.fault ≡ None
+      → IfSome new.fault IsReportFault
+      × (IsSome new.fault ⊎ ((old.stops ≡ true) × (status kept ≢ 0)))
+
+-- the texts of results, numbered from the first number on
+abbrev pub texts_from : {K : Type 0} → (ℕ → K → List ℕ) → ℕ → List K → List ℕ
+texts_from text n [] = []
+texts_from text n (result ∷ results) = text n result ++ texts_from text (n + 1) results
+
+-- the greatest of their statuses, from one on
+abbrev pub greatest_from : {K : Type 0} → (K → ℕ) → ℕ → List K → ℕ
+greatest_from status worst [] = worst
+greatest_from status worst (result ∷ results) =
+    greatest_from status (max worst (status result)) results
+
+-- none but the last has another status than 0
+abbrev pub EndsAtRefusal : {K : Type 0} → (K → ℕ) → List K → Type 0
+EndsAtRefusal status [] = ⊥
+EndsAtRefusal status (result ∷ results) =
+    ((status result ≢ 0) × (results ≡ []))
+    ⊎ ((status result ≡ 0) × EndsAtRefusal status results)

@@ -1,0 +1,84 @@
+-- Scripts that are run one after the other, and their reports.
+use Rattle.std.specs.Prelude.{◌≡◌, ◌≤◌, ◌++◌, ◌∷◌, ℕ, Bool, List, [], Option, None, Result}
+use Rattle.std.specs.Prelude.{Ok, Err}
+use Rattle.std.specs.Prelude.{All, IfSome, false, length, map, true}
+use Rattle.std.specs.Io.KnownBytes.{Appends}
+use Rattle.sql_statements.specs.Lexemes.{Lexeme}
+use Rattle.history_model.specs.Histories.{History}
+use Rattle.script_engine.specs.script.Listening.{IsFrontRunBy}
+use Rattle.command_tool.specs.Program.{read_of}
+use Rattle.period_core.specs.declared.refusal.Refusal.{Refusal}
+use Rattle.script_engine.specs.script.Script.{MayRefuseScript}
+use Rattle.command_tool.specs.declared.fault.RunFault.{RunFault}
+use Rattle.command_tool.specs.declared.fault.RunFault.TheVariants.{Script}
+use Rattle.bitemporal_file.specs.Reporting.{EndsAtRefusal, IsReportFault, greatest_from, texts_from}
+use Rattle.bitemporal_file.specs.declared.reporter.Reporter.{Reporter}
+
+-- the run of a script: its bytes, the results of its statements, and whether it came to its end
+pub record ScriptRun (K : Type 0) : Type 0 where
+  pub script : List ℕ
+  pub results : List K
+  pub is_whole : Bool
+
+-- the results are those of the scripts, each run from the history to which the one before it led
+abbrev pub LeadsTo : {K : Type 0} → (History → List Lexeme → K → History → Type 0)
+    → History → List (ScriptRun K) → History → Type 0
+LeadsTo IsStep history [] last = last ≡ history
+LeadsTo IsStep history (run ∷ runs) last =
+    (made : IsFrontRunBy IsStep history run.script run.results run.is_whole)
+    × LeadsTo IsStep made.last runs last
+
+-- the scripts are the first that the readers have, each of the bytes that are known of it
+abbrev pub AreOfReaders : {K : Type 0} → List (Option (List ℕ)) → List (ScriptRun K) → Type 0
+AreOfReaders readers [] = Unit {0}
+AreOfReaders [] (run ∷ runs) = ⊥
+AreOfReaders (known ∷ readers) (run ∷ runs) =
+    IfSome known (λ all. run.script ≡ read_of all) × AreOfReaders readers runs
+
+-- each of them was run, to its end
+abbrev pub AreAllRun : {K : Type 0} → List (Option (List ℕ)) → List (ScriptRun K) → Type 0
+AreAllRun readers runs =
+    (length runs ≡ length readers) × All (λ run. run.is_whole ≡ true) runs
+
+-- the results of all, in order
+abbrev pub results_of : {K : Type 0} → List (ScriptRun K) → List K
+results_of [] = []
+results_of (run ∷ runs) = run.results ++ results_of runs
+
+-- their reports, each numbered from 1, one after the other
+abbrev pub reports : {K : Type 0} → (ℕ → K → List ℕ) → List (ScriptRun K) → List ℕ
+reports text [] = []
+reports text (run ∷ runs) = texts_from text 1 run.results ++ reports text runs
+
+-- the next script, behind those that were run, may be refused as a whole
+abbrev pub MayRefuseNext : {K : Type 0} → List (Option (List ℕ)) → List (ScriptRun K) → Refusal
+    → Type 0
+MayRefuseNext [] runs refusal = ⊥
+MayRefuseNext (known ∷ readers) [] refusal =
+    IfSome known (λ all. MayRefuseScript (read_of all) refusal)
+MayRefuseNext (known ∷ readers) (run ∷ runs) refusal = MayRefuseNext readers runs refusal
+
+-- how scripts end that a reporter is handed the results of, before a fault or not
+pub record Ends {W K : Type 0} (contents : W → Option (List ℕ)) (text : ℕ → K → List ℕ)
+    (status : K → ℕ) (readers : List (Option (List ℕ))) (old : Reporter W)
+    (runs : List (ScriptRun K)) (ended : Result Bool RunFault) (new : Reporter W) : Type 0 where
+  pub stops : new.stops ≡ old.stops
+  -- the greatest status of all statements
+  pub worst : new.worst ≡ greatest_from status old.worst (results_of runs)
+  pub low : old.worst ≤ 3 → new.worst ≤ 3
+  -- the output got the reports, and nothing else, unless the report was at fault
+  pub written : new.fault ≡ None → Appends (contents old.out) (contents new.out) (reports text runs)
+  pub faulty : IfSome new.fault (λ fault. IsReportFault fault × (ended ≡ Err fault))
+  -- all scripts came to their ends, with --stop without a refusal; or they ended at the first
+  pub whole : ended ≡ Ok true
+      → AreAllRun readers runs
+      × (old.stops ≡ true → All (λ result. status result ≡ 0) (results_of runs))
+  pub stopped : ended ≡ Ok false → (old.stops ≡ true) × EndsAtRefusal status (results_of runs)
+  pub refused : (refusal : Refusal) → ended ≡ Err (Script refusal)
+      → MayRefuseNext readers runs refusal
+
+-- what is known of the scripts that are named, or, where none is, of the one reader
+abbrev pub readers_of : (List ℕ → Option (List ℕ)) → Option (List ℕ) → List (List ℕ)
+    → List (Option (List ℕ))
+readers_of content input [] = input ∷ []
+readers_of content input (name ∷ names) = map content (name ∷ names)

@@ -1,0 +1,42 @@
+//! The texts of the program's help.
+
+/// The version that `--version` prints behind the program's name.
+pub const VERSION: &str = "0.1.0";
+
+/// What the program is.
+pub const ABOUT: &str =
+    "Runs SQL over tables with a period of validity and a history, which stay in a file.";
+
+/// What STORE is.
+pub const STORE_HELP: &str = "The file of the store, which is made where it is not there";
+
+/// What FILE is.
+pub const FILE_HELP: &str = "The scripts, run in this order; without one, standard input is read";
+
+/// What `--audit` does.
+pub const AUDIT_HELP: &str = "Checks each answer day by day, and reports what that finds";
+
+/// What `--stop` does.
+pub const STOP_HELP: &str = "Runs nothing behind the first statement that is refused";
+
+/// What `--tables` does.
+pub const TABLES_HELP: &str =
+    "Lists the clock and the tables, with how many versions each has, and runs nothing";
+
+/// Examples and exit statuses, below the help.
+pub const AFTER_HELP: &str = "\
+Examples:
+  bitemporal_file pay.store monday.sql             runs a script over the store in pay.store
+  bitemporal_file pay.store < tuesday.sql          reads standard input, and finds what monday left
+  bitemporal_file pay.store --stop a.sql b.sql     ends at the first statement that is refused
+  bitemporal_file pay.store --tables               lists what is in it
+
+The records of a statement are printed as soon as its change is in the file.
+
+Exit status:
+  0  every statement was accepted
+  1  a statement was refused
+  2  the command line, a file, the store, a whole script or the output was refused, or memory was
+  3  an audit found a fault in an answer, or was refused
+
+`bitemporal --help` lists the refusals; docs/PROFILE.md says when each is given.";

@@ -1,0 +1,120 @@
+//! The program: what its command line asks for, over a store of the system.
+
+ghost use Rattle.std.specs.Prelude.{◌≤◌, IfOk};
+
+use crate::command::{Asked, command_line};
+use crate::listing::list_tables;
+use crate::reporter::{Reported, Reporter};
+use crate::runs::run_store;
+use crate::stores::{close_store, files_there, give_up, open_store};
+use command_arguments::CommandFault;
+use command_tool::{ProgramName, RunFault, Tracked, end_in, show};
+use period_core::Refusal;
+use script_engine::{Engine, Entry, Kept, Outcome};
+use sqlite::{File, FileStore};
+use std::io::{Read, Write};
+
+const NAME: &str = "bitemporal_file";
+
+/// Whether the words of a command line call this program: whether its name is at the end of the
+/// first.
+pub fn is_called(words: &[String]) -> bool {
+    match words.first() {
+        Some(word) => word.as_str().ends_with(NAME),
+        None => false,
+    }
+}
+
+// Runs the scripts over the store, and reports each statement. Gives the exit status.
+fn run_asked<K: Kept<FileStore<File>> + Reported + Drop, R: Read, W: Write>(
+    rt: &HostRuntime,
+    asked: &Asked,
+    input: &mut Tracked<R>,
+    out: &mut W,
+) -> Result<u8, RunFault>
+    ensures { IfOk result (λ status. status ≤ 3) }
+{
+    let name = asked.store.as_str();
+    let before = files_there(rt, name);
+    let connection = open_store(rt, name, before)?;
+    let mut reporter = Reporter::new(rt.alloc(), out, asked.stops);
+    let files = asked.files.as_slice();
+    let ran = run_store::<FileStore<File>, K, HostRuntime, R, &mut W>(
+        rt.alloc(),
+        connection,
+        rt,
+        files,
+        input,
+        &mut reporter,
+    );
+    match ran {
+        Ok((ended, connection)) => {
+            let closed = close_store(connection);
+            ended?;
+            closed?;
+            Ok(reporter.worst)
+        }
+        Err((refusal, connection)) => {
+            give_up(rt, name, before, connection);
+            Err(RunFault::Script(refusal))
+        }
+    }
+}
+
+// Lists the tables of the store. Gives the exit status.
+fn list_asked<W: Write>(rt: &HostRuntime, asked: &Asked, out: &mut W) -> Result<u8, RunFault>
+    ensures { IfOk result (λ status. status ≤ 3) }
+{
+    let name = asked.store.as_str();
+    let before = files_there(rt, name);
+    if !before.store {
+        return Err(RunFault::NoStore);
+    }
+    let connection = open_store(rt, name, before)?;
+    match Engine::open(rt.alloc(), connection) {
+        Ok(mut engine) => {
+            let listed = list_tables(rt.alloc(), &mut engine, out);
+            let closed = close_store(engine.close());
+            listed?;
+            closed?;
+            Ok(0)
+        }
+        Err((refusal, connection)) => {
+            give_up(rt, name, before, connection);
+            Err(RunFault::Script(refusal))
+        }
+    }
+}
+
+/// Does what the words ask for: runs scripts over the store in a file, those in files or that of
+/// `input`, and reports each statement on `out` as soon as it is done; or lists the store's tables;
+/// or shows help or the version. Gives the exit status: 0 to 3 as `bitemporal` does, for all
+/// scripts together. With 2 `err` gets a text that says why.
+pub fn run_file_program<R: Read, W: Write, E: Write>(
+    rt: &HostRuntime,
+    words: &[String],
+    input: &mut Tracked<R>,
+    out: &mut W,
+    err: &mut Tracked<E>,
+) -> u8
+    ensures { result ≤ 3 }
+{
+    let alloc = rt.alloc();
+    let program = ProgramName::BitemporalFile;
+    let asked = match command_line(alloc, words) {
+        Ok(asked) => asked,
+        Err(CommandFault::Clap(fault)) => return show(alloc, program, &fault, out, err),
+        Err(CommandFault::Memory) => return end_in(alloc, program, err, RunFault::Memory),
+    };
+    let ended = if asked.lists {
+        list_asked(rt, &asked, out)
+    } else if asked.audits {
+        run_asked::<Entry, R, W>(rt, &asked, input, out)
+    } else {
+        run_asked::<Result<Outcome, Refusal>, R, W>(rt, &asked, input, out)
+    };
+    match ended {
+        Ok(status) => status,
+        Err(fault) => end_in(alloc, program, err, fault),
+    }
+}

@@ -1,0 +1,177 @@
+//! Runs of scripts, one after the other, over one store.
+
+ghost use Rattle.std.specs.Prelude.{◌≡◌, ◌∷◌, [], List, None, map};
+ghost use Rattle.std.specs.Prelude.{IfErr, IfOk, false};
+ghost use Rattle.std.specs.String.{string_bytes};
+ghost use Rattle.sqlite.specs.Held.{state};
+ghost use Rattle.version_tables.specs.Steps.{IsAsBefore};
+ghost use Rattle.version_store.specs.StoreState.{IsOpenRefusal, IsUsable};
+ghost use Rattle.history_model.specs.Histories.{History};
+ghost use Rattle.period_core.specs.declared.refusal.Refusal.TheVariants.{BadStore};
+ghost use Rattle.script_engine.specs.engine.Stored.{DatabaseRepresents, EngineRepresents};
+ghost use Rattle.script_engine.specs.engine.Stored.{IsBadStore, RepresentsSome, WasUsable};
+ghost use Rattle.bitemporal_file.specs.ScriptRuns.{AreOfReaders, Ends, LeadsTo, readers_of};
+ghost use Rattle.bitemporal_file.specs.ScriptRuns.{ScriptRun};
+
+use crate::reporter::{Reported, Reporter};
+use command_tool::{RunFault, Scripts, Tracked, read_script};
+use period_core::Refusal;
+use script_engine::{Engine, Kept, run_over};
+use sqlite::{Alter, Connection};
+use std::alloc::Global;
+use std::io::{Read, Write};
+
+// Runs the script that a reader has, and reports it. Says whether the run came to its end.
+fn run_script<S: Alter, K: Kept<S> + Reported + Drop, R: Read, W: Write>(
+    alloc: Global,
+    engine: &mut Engine<S>,
+    input: &mut Tracked<R>,
+    reporter: &mut Reporter<W>,
+) -> Result<bool, RunFault>
+    requires { reporter.old.fault ≡ None }
+    ensures ran { (runs : List (ScriptRun K))
+        × AreOfReaders (R.remaining input.old.inner ∷ []) runs
+        × Ends W.contents K.text K.status_of (R.remaining input.old.inner ∷ [])
+        reporter.old runs result reporter.new
+        × (IsUsable S.Store engine.new.connection
+        → (history : History) → EngineRepresents S.Store history engine.old
+        → RepresentsSome S.Store (LeadsTo K.is_step history runs) engine.new) }
+    ensures usable { WasUsable S.Store engine.old.connection engine.new.connection }
+{
+    let script = match read_script(alloc, input) {
+        Ok(script) => script,
+        Err(fault) => return Err(fault),
+    };
+    match run_over::<S, K, Reporter<W>>(alloc, engine, script.as_slice(), reporter) {
+        Ok(goes_on) => match reporter.fault {
+            Some(fault) => Err(fault),
+            None => Ok(goes_on),
+        },
+        Err(refusal) => Err(RunFault::Script(refusal)),
+    }
+}
+
+// Runs the script that is named.
+fn run_named<S: Alter, K: Kept<S> + Reported + Drop, Q: Scripts, W: Write>(
+    alloc: Global,
+    engine: &mut Engine<S>,
+    scripts: &Q,
+    name: &str,
+    reporter: &mut Reporter<W>,
+) -> Result<bool, RunFault>
+    requires { reporter.old.fault ≡ None }
+    ensures ran { (runs : List (ScriptRun K))
+        × AreOfReaders (Q.content scripts.now name.now ∷ []) runs
+        × Ends W.contents K.text K.status_of (Q.content scripts.now name.now ∷ [])
+        reporter.old runs result reporter.new
+        × (IsUsable S.Store engine.new.connection
+        → (history : History) → EngineRepresents S.Store history engine.old
+        → RepresentsSome S.Store (LeadsTo K.is_step history runs) engine.new) }
+    ensures usable { WasUsable S.Store engine.old.connection engine.new.connection }
+{
+    match scripts.open_script(name) {
+        Ok(script) => {
+            let mut file = Tracked::new(script);
+            run_script::<S, K, Q::Script, W>(alloc, engine, &mut file, reporter)
+        }
+        Err(_) => Err(RunFault::Read),
+    }
+}
+
+// Runs the scripts that are named, in order.
+fn run_all<S: Alter, K: Kept<S> + Reported + Drop, Q: Scripts, W: Write>(
+    alloc: Global,
+    engine: &mut Engine<S>,
+    scripts: &Q,
+    names: &[String],
+    reporter: &mut Reporter<W>,
+) -> Result<bool, RunFault>
+    requires { reporter.old.fault ≡ None }
+    ensures ran { let readers = map (Q.content scripts.now) (map string_bytes names.now) in
+        (runs : List (ScriptRun K)) × AreOfReaders readers runs
+        × Ends W.contents K.text K.status_of readers reporter.old runs result reporter.new
+        × (IsUsable S.Store engine.new.connection
+        → (history : History) → EngineRepresents S.Store history engine.old
+        → RepresentsSome S.Store (LeadsTo K.is_step history runs) engine.new) }
+    ensures usable { WasUsable S.Store engine.old.connection engine.new.connection }
+{
+    for name in names {
+        let ended = run_named::<S, K, Q, W>(alloc, engine, scripts, name.as_str(), reporter);
+        let goes_on = match ended {
+            Ok(goes_on) => goes_on,
+            Err(fault) => return Err(fault),
+        };
+        if !goes_on {
+            return Ok(false);
+        }
+    }
+    Ok(true)
+}
+
+// Runs the scripts that are named, or else that of the reader.
+fn run_scripts<S: Alter, K: Kept<S> + Reported + Drop, Q: Scripts, R: Read, W: Write>(
+    alloc: Global,
+    engine: &mut Engine<S>,
+    scripts: &Q,
+    names: &[String],
+    input: &mut Tracked<R>,
+    reporter: &mut Reporter<W>,
+) -> Result<bool, RunFault>
+    requires { reporter.old.fault ≡ None }
+    ensures ran { let readers = readers_of (Q.content scripts.now)
+        (R.remaining input.old.inner) (map string_bytes names.now) in
+        (runs : List (ScriptRun K)) × AreOfReaders readers runs
+        × Ends W.contents K.text K.status_of readers reporter.old runs result reporter.new
+        × (IsUsable S.Store engine.new.connection
+        → (history : History) → EngineRepresents S.Store history engine.old
+        → RepresentsSome S.Store (LeadsTo K.is_step history runs) engine.new) }
+    ensures usable { WasUsable S.Store engine.old.connection engine.new.connection }
+{
+    if names.is_empty() {
+        run_script::<S, K, R, W>(alloc, engine, input, reporter)
+    } else {
+        run_all::<S, K, Q, W>(alloc, engine, scripts, names, reporter)
+    }
+}
+
+/// Runs the scripts that are named, or else that of the reader, one after the other, over the store
+/// of a connection, a new one where there is none, and reports each statement as soon as it is
+/// done. Gives the connection back. An `Err` says why the store is not opened: it changes nothing,
+/// and nothing is read.
+pub fn run_store<S: Alter, K: Kept<S> + Reported + Drop, Q: Scripts, R: Read, W: Write>(
+    alloc: Global,
+    connection: Connection<S>,
+    scripts: &Q,
+    names: &[String],
+    input: &mut Tracked<R>,
+    reporter: &mut Reporter<W>,
+) -> Result<(Result<bool, RunFault>, Connection<S>), (Refusal, Connection<S>)>
+    requires settled { connection.in_transaction ≡ false }
+    requires fresh { reporter.old.fault ≡ None }
+
+    // Whatever history the database stood for, the scripts are run one after the other from it on,
+    // and the database then stands for the history to which they led: so it is for the next call.
+    ensures ran { IfOk result (λ ended. let readers = readers_of (Q.content scripts.now)
+        (R.remaining input.old.inner) (map string_bytes names.now) in
+        (runs : List (ScriptRun K)) × AreOfReaders readers runs
+        × Ends W.contents K.text K.status_of readers reporter.old runs ended.0 reporter.new
+        × (IsUsable S.Store ended.1
+        → (history : History) → DatabaseRepresents history (state S.Store connection).now
+        → (last : History) × LeadsTo K.is_step history runs last
+        × DatabaseRepresents last (state S.Store ended.1).now)) }
+    ensures closed { IfOk result (λ ended. ended.1.in_transaction ≡ false) }
+
+    ensures named { IfErr result (λ failed. IsOpenRefusal failed.0) }
+    ensures bad { IfErr result (λ failed. IsUsable S.Store failed.1 → failed.0 ≡ BadStore
+        → IsBadStore (state S.Store connection).now) }
+    ensures none { IfErr result (λ failed. IsUsable S.Store failed.1
+        → IsAsBefore (state S.Store connection) (state S.Store failed.1)) }
+    ensures same { IfErr result (λ _. reporter.new ≡ reporter.old) }
+{
+    let mut engine = match Engine::open(alloc, connection) {
+        Ok(engine) => engine,
+        Err(failed) => return Err(failed),
+    };
+    let ended = run_scripts::<S, K, Q, R, W>(alloc, &mut engine, scripts, names, input, reporter);
+    Ok((ended, engine.close()))
+}

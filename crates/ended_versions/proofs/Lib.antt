@@ -1,0 +1,4 @@
+mod BoundFacts
+mod WalkFacts
+mod EntryFacts
+pub mod PackedFacts

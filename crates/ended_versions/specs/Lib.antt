@@ -1,0 +1,3 @@
+pub mod Packed
+pub mod Bounds
+pub mod Entries

@@ -1,0 +1,156 @@
+//! The list of the ended versions of a table.
+
+ghost use Rattle.std.specs.Prelude.{◌≡◌, ◌++◌, ◌∷◌, [], IfOk, List, OnErr, OnOk, length, map};
+ghost use Rattle.std.specs.Prelude.{reverse, take};
+ghost use Rattle.std.specs.List.{All};
+ghost use Rattle.period_core.specs.Encoding.{IsColumnValue};
+ghost use Rattle.period_core.specs.declared.version.VersionRow.{VersionRow as Version};
+ghost use Rattle.ended_versions.specs.Entries.{IsKept, packed_in};
+ghost use Rattle.ended_versions.specs.Packed.{AreEndedBy, AreOfColumns, Hold, closed_at, ended_at};
+ghost use Rattle.ended_versions.specs.Packed.{packed, seen_through};
+
+use crate::blocks::{Entry, least_with};
+use crate::walk::last_seen;
+use period_core::{
+    DecodeFault, Memory, Moment, Values, VersionRow, Window, decode_values, encode_values,
+};
+use std::alloc::Global;
+use std::marker::Model;
+
+/// The ended versions of a table, in the order in which they ended. Their values are kept as bytes,
+/// so a version of three numbers takes some 80 bytes. Contracts see the list, with the values so.
+#[derive(Drop)]
+pub struct EndedVersions {
+    bytes: Vec<u8>,
+    entries: Vec<Entry>,
+}
+
+impl Model for EndedVersions {
+    ghost use Rattle.std.specs.Prelude.{List, map};
+    ghost use Rattle.ended_versions.specs.Entries.{AreEntries, packed_in};
+    ghost use Rattle.ended_versions.specs.Packed.{PackedVersion};
+
+    ghost Value = { List PackedVersion };
+
+    ghost view = { λ e. map (packed_in e.bytes.items) e.entries.items };
+
+    ghost invariant = { λ e. AreEntries e.bytes.items e.entries.items };
+}
+
+impl EndedVersions {
+    /// No versions.
+    pub fn new(alloc: Global) -> EndedVersions
+        ensures { result ≡ [] }
+    {
+        EndedVersions {
+            bytes: Vec::new(alloc),
+            entries: Vec::new(alloc),
+        }
+    }
+
+    /// How many there are.
+    pub fn len(&self) -> usize
+        ensures { result ≡ length self.now }
+    {
+        self.entries.len()
+    }
+
+    /// Adds a version, ended at a moment: no other of the list ended later. An error changes
+    /// nothing.
+    pub fn add(&mut self, alloc: Global, version: &VersionRow, end: Moment) -> Result<(), Memory>
+        requires { AreEndedBy end self.old }
+        ensures ok { OnOk result (self.new ≡ self.old ++ packed (ended_at end version.now) ∷ []) }
+        ensures held { OnOk result (All IsColumnValue version.now.values) }
+        ensures err { OnErr result (self.new ≡ self.old) }
+        ensures ended { AreEndedBy end self.new }
+    {
+        let values = encode_values(alloc, version.values.as_slice())?;
+        let start = self.bytes.len();
+        self.bytes.extend_from_slice(values.as_slice())?;
+        let entry = Entry {
+            start,
+            end: self.bytes.len(),
+            period: version.period,
+            from: version.from,
+            to: end,
+            least: least_with(self.entries.as_slice(), version.from),
+        };
+        if let Err(refused) = self.entries.push(entry) {
+            self.bytes.truncate(start);
+            return Err(refused.into());
+        }
+        Ok(())
+    }
+
+    /// Adds versions that end at a moment, or none of them. Those that began at it are left out:
+    /// they were recorded at no moment. No other of the list ended later.
+    pub fn close_all(
+        &mut self,
+        alloc: Global,
+        versions: &[VersionRow],
+        moment: Moment,
+    ) -> Result<(), Memory>
+        requires { AreEndedBy moment self.old }
+        ensures ok { OnOk result
+            (self.new ≡ self.old ++ map packed (closed_at moment versions.now)) }
+        ensures held { OnOk result (AreOfColumns (closed_at moment versions.now)) }
+        ensures err { OnErr result (self.new ≡ self.old) }
+        ensures ended { AreEndedBy moment self.new }
+    {
+        let count = self.len();
+        for version in versions {
+            if version.from == moment {
+                continue;
+            }
+            if let Err(refused) = self.add(alloc, version, moment) {
+                self.truncate(count);
+                return Err(refused);
+            }
+        }
+        Ok(())
+    }
+
+    /// Takes back all but the first so many. It takes no memory.
+    pub fn truncate(&mut self, count: usize)
+        ensures { self.new ≡ take count self.old }
+    {
+        if count < self.entries.len() {
+            let start = self.entries[count].start;
+            self.bytes.truncate(start);
+            self.entries.truncate(count);
+        }
+    }
+
+    /// Those that a window sees, the last to end first.
+    pub fn seen(&self, alloc: Global, window: Window) -> Result<Vec<VersionRow>, Memory>
+        ensures { (versions : List Version) → Hold self.now versions
+            → IfOk result (λ seen. seen.items ≡ reverse (seen_through window versions)) }
+    {
+        let entries = self.entries.as_slice();
+        let mut seen = Vec::new(alloc);
+        let mut before = entries.len();
+        while let Some(place) = last_seen(entries, &window, before) {
+            seen.push(unpacked(alloc, self.bytes.as_slice(), &entries[place])?)?;
+            before = place;
+        }
+        Ok(seen)
+    }
+}
+
+/// The version of an entry.
+fn unpacked(alloc: Global, bytes: &[u8], entry: &Entry) -> Result<VersionRow, Memory>
+    requires { IsKept bytes.now entry.now }
+    ensures same { IfOk result (λ version. packed version ≡ packed_in bytes.now entry.now) }
+    ensures held { IfOk result (λ version. All IsColumnValue version.values) }
+{
+    match decode_values(alloc, &bytes[entry.start..entry.end]) {
+        Ok(values) => Ok(VersionRow {
+            values: Values::from_vec(values),
+            period: entry.period,
+            from: entry.from,
+            to: entry.to,
+        }),
+        Err(DecodeFault::Memory) => Err(Memory),
+        Err(DecodeFault::Malformed) => unreachable!(),
+    }
+}

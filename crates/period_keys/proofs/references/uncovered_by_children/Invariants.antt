@@ -1,7 +1,0 @@
-use Rattle.std.proofs.Common.{take}
-use Rattle.period_keys.specs.Keys.{IsLeastOf}
-use Rattle.period_keys.specs.Gaps.{LacksKeyOf}
-use Rattle.period_keys.proofs.references.uncovered_by_children.Given as goal
-
-abbrev pub invariant-loop-child : goal.invariant-loop-child
-invariant-loop-child l = IsLeastOf (LacksKeyOf l.own (take l.child-index l.added) l.parents) l.found

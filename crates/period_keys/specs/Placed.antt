@@ -1,0 +1,19 @@
+-- Rows whose places are found by their periods.
+use Rattle.std.specs.Prelude.{◌<◌, ℕ, List, Contains, length, slice_index_or}
+use Rattle.std.specs.List.{Any}
+use Rattle.period_core.specs.declared.version.VersionRow.{VersionRow}
+use Rattle.period_keys.specs.declared.block.Block.{Block}
+use Rattle.period_keys.specs.declared.period_blocks.PeriodBlocks.{PeriodBlocks}
+use Rattle.period_keys.specs.declared.placed_period.PlacedPeriod.{PlacedPeriod}
+
+-- the period is there with this place
+abbrev pub HasPlaced : PeriodBlocks → PlacedPeriod → Type 0
+HasPlaced placed item =
+    Any (λ (block : Block). Contains block.items.items item) placed.blocks.items
+
+-- no row's period is missing, with its place; others may be there too
+abbrev pub ArePlaced : List VersionRow → PeriodBlocks → Type 0
+ArePlaced rows placed =
+    (place : ℕ) (d : VersionRow) → place < length rows
+    → (HasPlaced placed
+    (record { period = (slice_index_or rows place d).period; place = place }) → ⊥) → ⊥

@@ -1,0 +1,25 @@
+-- What a query is handed of an engine: its catalog, and its versions in memory.
+use Rattle.std.proofs.Common.{◌≡◌, ◌∙◌, List, ap, subst₂, sym}
+use Rattle.sqlite.specs.Store.{Ghosts}
+use Rattle.catalog_core.specs.declared.table.catalog.Catalog.{Catalog}
+use Rattle.ended_versions.specs.Packed.{PackedVersion}
+use Rattle.history_model.specs.Histories.{History, catalog_of}
+use Rattle.period_keys.specs.Rows.{RowsByKey}
+use Rattle.script_engine.specs.engine.EngineState.{EngineState}
+use Rattle.script_engine.specs.engine.Stored.{EngineRepresents, HasContents, RowsRepresent}
+use Rattle.script_engine.proofs.Steps.{tables_of}
+
+module _ {S : Type 0} (g : Ghosts S) (history : History) (engine : EngineState S) (kept : EngineRepresents g history engine) where
+  -- what an engine represents it has
+  pub has_still : HasContents g engine kept.contents
+  has_still = record { stored = kept.stored; current = kept.current; ended = kept.ended }
+
+  -- its versions in memory are those of the history
+  pub handed_rows : (tables : List RowsByKey) (ended : List (List PackedVersion)) → tables ≡ engine.tables → ended ≡ engine.ended → RowsRepresent history tables ended
+  handed_rows tables ended same closed =
+      let all : RowsRepresent history engine.tables engine.ended = record { contents = kept.contents; said = kept.said; current = kept.current; ended = kept.ended } in
+      subst₂ (λ (ts : List RowsByKey) (es : List (List PackedVersion)). RowsRepresent history ts es) (sym same) (sym closed) all
+
+  -- its catalog is the history's
+  pub handed_catalog : (catalog : Catalog) → catalog ≡ engine.catalog → catalog.tables ≡ catalog_of history
+  handed_catalog catalog same = ap (λ (k : Catalog). k.tables) same ∙ tables_of g history engine kept

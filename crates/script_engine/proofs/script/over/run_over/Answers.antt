@@ -1,0 +1,18 @@
+use Rattle.std.proofs.Common.{List, map, subst₂, sym}
+use Rattle.sql_front.specs.Pieces.{spanned}
+use Rattle.sql_front.specs.declared.pieces.Span.{Span}
+use Rattle.sql_statements.specs.Lexemes.{lexemes}
+use Rattle.sql_statements.specs.declared.token.Token.{Token}
+use Rattle.script_engine.specs.script.Script.{IsCutInto}
+use Rattle.script_engine.proofs.script.over.run_over.Goals as goal
+
+pub returns-clause-run : goal.returns-clause-run
+returns-clause-run g c =
+    let (results, heard, few, ran) = c.run_pieces.ensures.run in (
+      results,
+      heard,
+      λ usable history represents.
+          let (last, run, after) = ran usable history represents in
+          let cut = subst₂ (λ (tokens : List Token) (spans : List Span). IsCutInto c.args.script.now (map (spanned (lexemes tokens)) spans)) (sym c.as_slice-tokens.ensures.value) (sym c.as_slice-spans.ensures.value) c.in_ok-pieces.ensures.cut in
+          (record { pieces = _; cut = cut; last = last; run = run }, after),
+    )

@@ -1,0 +1,34 @@
+-- What a listener is handed, and the run of a script's first pieces.
+use Rattle.std.specs.Prelude.{◌≡◌, ◌⊎◌, ◌+◌, ◌++◌, ◌∷◌, ℕ, Bool, List, [], false, true}
+use Rattle.sql_statements.specs.Lexemes.{Lexeme}
+use Rattle.history_model.specs.Histories.{History}
+use Rattle.script_engine.specs.script.Script.{IsCutInto, StepPieces}
+
+-- the listener is handed the results one after the other, numbered from the first number on; after
+-- each it asks for more, but where the run is stopped, not after the last
+abbrev pub HearsAll : {L K : Type 0} → (L → ℕ → K → Bool → L → Type 0)
+    → ℕ → L → List K → Bool → L → Type 0
+HearsAll Hears n old [] goes_on new = (new ≡ old) × (goes_on ≡ true)
+HearsAll {L} Hears n old (result ∷ results) goes_on new =
+    (Hears old n result false new × (results ≡ []) × (goes_on ≡ false))
+    ⊎ ((middle : L) × Hears old n result true middle
+    × HearsAll Hears (n + 1) middle results goes_on new)
+
+-- the results are those of the first pieces, one after the other, each by such a step; of all of
+-- them where the run is not stopped
+pub record StepFront {R : Type 0} (IsStep : History → List Lexeme → R → History → Type 0)
+    (history : History) (pieces : List (List Lexeme)) (results : List R) (goes_on : Bool)
+    (last : History) : Type 0 where
+  pub front : List (List Lexeme)
+  pub back : List (List Lexeme)
+  pub parted : pieces ≡ front ++ back
+  pub all : goes_on ≡ true → back ≡ []
+  pub run : StepPieces IsStep history front results last
+
+-- the results are those of the script's first pieces, from the opening on
+pub record IsFrontRunBy {R : Type 0} (IsStep : History → List Lexeme → R → History → Type 0)
+    (opening : History) (script : List ℕ) (results : List R) (goes_on : Bool) : Type 0 where
+  pub pieces : List (List Lexeme)
+  pub cut : IsCutInto script pieces
+  pub last : History
+  pub run : StepFront IsStep opening pieces results goes_on last

@@ -1,0 +1,224 @@
+//! The versions that have ended, in memory: loaded as a store is opened, and changed together with
+//! it.
+
+ghost use Rattle.std.specs.Prelude.{◌≡◌, ◌++◌, ◌∷◌, [], IfErr, IfOk, IfSome, IsPermutation, List};
+ghost use Rattle.std.specs.Prelude.{OnErr, OnOk, filter, map};
+ghost use Rattle.ended_versions.specs.Packed.{AreEndedBy, AreOfColumns, Hold, PackedVersion};
+ghost use Rattle.ended_versions.specs.Packed.{closed_at, packed};
+ghost use Rattle.period_core.specs.declared.version.VersionRow.{VersionRow as Version};
+ghost use Rattle.catalog_core.specs.create.Lawful.{IsLawful};
+ghost use Rattle.catalog_core.specs.declared.table.TableDef.{TableDef as Definition};
+ghost use Rattle.period_keys.specs.Current.{rows_by_key};
+ghost use Rattle.period_keys.specs.Lawful.{key_positions};
+ghost use Rattle.period_keys.specs.Rows.{RowsByKey};
+ghost use Rattle.period_keys.specs.TableRows.{HasTableRows};
+ghost use Rattle.period_keys.specs.Versions.{begun};
+ghost use Rattle.version_store.specs.Changed.{planned};
+ghost use Rattle.version_store.specs.Contents.{Contents};
+ghost use Rattle.version_store.specs.DistinctKeys.{HaveDistinctKeys};
+ghost use Rattle.version_store.specs.GoodStore.{HaveTables};
+ghost use Rattle.version_store.specs.StoreState.{Changes, IsOpenedRead, IsStoreRefusal, IsUsable};
+ghost use Rattle.version_store.specs.StoreState.{OpenedRepresents, StoreRepresents};
+ghost use Rattle.script_engine.specs.engine.Ended.{AllEndedBy, AreInOrderOfEnds, HasEnded};
+ghost use Rattle.script_engine.specs.engine.Ended.{HaveEnded, has_ended};
+ghost use Rattle.script_engine.specs.engine.InMemory.{FollowCatalog};
+ghost use Rattle.script_engine.specs.engine.Stored.{WasUsable};
+
+use crate::engine::indexed::{add_index, apply_plan, remove_last};
+use catalog_core::{Catalog, Plan, TableDef};
+use ended_versions::EndedVersions;
+use period_core::{Memory, Moment, Refusal, VersionRow};
+use period_keys::TableIndex;
+use sqlite_trees::store::Alter;
+use std::alloc::Global;
+use version_store::{OpenedStore, VersionStore};
+
+/// Makes what `apply_plan` makes, and adds the versions that the plan ends to those of the table
+/// that have ended. On `Err` nothing is changed.
+pub fn apply_closing<S: Alter>(
+    alloc: Global,
+    store: &mut VersionStore<S>,
+    table: &mut TableIndex,
+    ended: &mut EndedVersions,
+    number: u8,
+    plan: &Plan,
+) -> Result<(), Refusal>
+    requires split { (stay : List Version)
+        × IsPermutation table.old.rows (plan.now.ended ++ stay) }
+    requires before { AreEndedBy store.old.clock ended.old }
+    ensures changes { Changes S.Store store.old store.new result
+        (planned number store.old.clock plan.now.ended plan.now.added) }
+    ensures catalog { store.new.catalog ≡ store.old.catalog }
+    ensures clock { store.new.clock ≡ store.old.clock }
+    ensures usable { WasUsable S.Store store.old.connection store.new.connection }
+    ensures distinct { IsUsable S.Store store.new.connection
+        → (c : Contents) → StoreRepresents S.Store store.old c
+        → OnOk result (HaveDistinctKeys c.versions) }
+    ensures made { (stay : List Version)
+        → IsPermutation table.old.rows (plan.now.ended ++ stay)
+        → OnOk result (HasTableRows (map (begun store.old.clock) plan.now.added ++ stay)
+        table.old table.new) }
+    ensures none { OnErr result (HasTableRows table.old.rows table.old table.new) }
+    ensures indexed { table.new.indexed ≡ table.old.indexed }
+
+    // Of the versions that have ended:
+    ensures closed { OnOk result
+        (ended.new ≡ ended.old ++ map packed (closed_at store.old.clock plan.now.ended)) }
+    ensures held { OnOk result (AreOfColumns (closed_at store.old.clock plan.now.ended)) }
+    ensures open { OnErr result (ended.new ≡ ended.old) }
+    ensures before { AreEndedBy store.old.clock ended.new }
+    ensures named { IfErr result IsStoreRefusal }
+{
+    let count = ended.len();
+    let Ok(()) = ended.close_all(alloc, plan.ended.as_slice(), store.clock()) else {
+        return Err(Refusal::Memory);
+    };
+    match apply_plan(alloc, store, table, number, plan) {
+        Ok(()) => Ok(()),
+        Err(refusal) => {
+            ended.truncate(count);
+            Err(refusal)
+        }
+    }
+}
+
+// ---- a table more
+
+/// Adds a table without versions, as `add_index` does. On an error no table is added, and those
+/// that are there have the same versions.
+pub fn add_versions(
+    alloc: Global,
+    catalog: &Catalog,
+    tables: &mut Vec<TableIndex>,
+    ended: &mut Vec<EndedVersions>,
+    definition: &TableDef,
+) -> Result<(), Memory>
+    requires follow { FollowCatalog catalog.now.tables tables.old.items }
+    requires lawful { IsLawful catalog.now.tables definition.now }
+    ensures rows { OnOk result (map rows_by_key tables.new.items
+        ≡ map rows_by_key tables.old.items
+        ++ record { positions = key_positions definition.now; rows = [] } ∷ []) }
+    ensures follow { OnOk result
+        (FollowCatalog (catalog.now.tables ++ definition.now ∷ []) tables.new.items) }
+    ensures none { OnErr result
+        ((map rows_by_key tables.new.items ≡ map rows_by_key tables.old.items)
+        × FollowCatalog catalog.now.tables tables.new.items) }
+    ensures closed { OnOk result (ended.new.items ≡ ended.old.items ++ [] ∷ []) }
+    ensures open { OnErr result (ended.new.items ≡ ended.old.items) }
+{
+    ended.push(EndedVersions::new(alloc))?;
+    match add_index(alloc, catalog, tables, definition) {
+        Ok(()) => Ok(()),
+        Err(refused) => {
+            let _none = ended.pop();
+            Err(refused)
+        }
+    }
+}
+
+/// Removes the last table.
+pub fn remove_versions(tables: &mut Vec<TableIndex>, ended: &mut Vec<EndedVersions>)
+    ensures rows { (rows : List RowsByKey) (last : RowsByKey)
+        → map rows_by_key tables.old.items ≡ rows ++ last ∷ []
+        → map rows_by_key tables.new.items ≡ rows }
+    ensures follow { (catalog : List Definition) (last : Definition)
+        → FollowCatalog (catalog ++ last ∷ []) tables.old.items
+        → FollowCatalog catalog tables.new.items }
+    ensures ended { (lists : List (List PackedVersion)) (last : List PackedVersion)
+        → ended.old.items ≡ lists ++ last ∷ [] → ended.new.items ≡ lists }
+{
+    remove_last(tables);
+    let _last = ended.pop();
+}
+
+// ---- loaded
+
+/// The versions that have ended, in the order in which they did.
+fn in_order_of_ends(alloc: Global, versions: Vec<VersionRow>) -> Result<Vec<VersionRow>, Memory>
+    ensures ended { IfOk result
+        (λ ended. IsPermutation (filter has_ended versions.items) ended.items) }
+    ensures ordered { IfOk result (λ ended. AreInOrderOfEnds ended.items) }
+{
+    let forever = Moment::forever();
+    let mut ended: Vec<VersionRow> = Vec::new(alloc);
+    for version in versions {
+        if version.to != forever {
+            ended.push(version)?;
+        }
+    }
+    ended.sort_by_key(|version| version.to)?;
+    Ok(ended)
+}
+
+/// The list of the versions that have ended, if all did so by a moment.
+fn listed(
+    alloc: Global,
+    versions: Vec<VersionRow>,
+    moment: Moment,
+) -> Result<Option<EndedVersions>, Memory>
+    ensures held { IfOk result (λ found. IfSome found (λ list. (ended : List Version)
+        × Hold list ended × IsPermutation (filter has_ended versions.items) ended)) }
+    ensures before { IfOk result (λ found. IfSome found (AreEndedBy moment)) }
+{
+    let ended = in_order_of_ends(alloc, versions)?;
+    let mut list = EndedVersions::new(alloc);
+    for version in &ended {
+        if version.to > moment {
+            return Ok(None);
+        }
+        list.add(alloc, version, version.to)?;
+    }
+    Ok(Some(list))
+}
+
+/// The versions of the table of a number that have ended, read from an opened store. One that ended
+/// after the clock, which a good store has not, is a failure of it.
+fn load_table<S: Alter>(
+    alloc: Global,
+    store: &mut OpenedStore<S>,
+    number: u8,
+) -> Result<EndedVersions, Refusal>
+    ensures ended { IsUsable S.Store store.new.store.connection
+        → (c : Contents) → OpenedRepresents S.Store store.old c
+        → IfOk result (HasEnded c number) }
+    ensures before { IfOk result (AreEndedBy store.old.store.clock) }
+    ensures read { IsOpenedRead S.Store store.old store.new }
+    ensures named { IfErr result IsStoreRefusal }
+{
+    let versions = match store.rows(alloc, number) {
+        Ok(versions) => versions,
+        Err(refusal) => return Err(refusal),
+    };
+    match listed(alloc, versions, store.clock()) {
+        Ok(Some(list)) => Ok(list),
+        Ok(None) => Err(Refusal::Store),
+        Err(_) => Err(Refusal::Memory),
+    }
+}
+
+/// The versions of each table of an opened store that have ended, in the order of its catalog.
+/// Nothing is changed, and a store without tables is not refused.
+pub fn load_ended<S: Alter>(
+    alloc: Global,
+    store: &mut OpenedStore<S>,
+) -> Result<Vec<EndedVersions>, Refusal>
+    ensures loaded { IsUsable S.Store store.new.store.connection
+        → (c : Contents) → OpenedRepresents S.Store store.old c → HaveTables c
+        → IfOk result (λ lists. HaveEnded c lists.items) }
+    ensures before { IfOk result (λ lists. AllEndedBy store.old.store.clock lists.items) }
+    ensures read { IsOpenedRead S.Store store.old store.new }
+    ensures some { OnErr result (store.old.store.catalog.tables ≡ [] → ⊥) }
+    ensures named { IfErr result IsStoreRefusal }
+{
+    let mut lists = Vec::new(alloc);
+    for place in 0..store.catalog().len() {
+        let list = match load_table(alloc, store, place as u8 + 1) {
+            Ok(list) => list,
+            Err(refusal) => return Err(refusal),
+        };
+        let Ok(()) = lists.push(list) else {
+            return Err(Refusal::Memory);
+        };
+    }
+    Ok(lists)
+}

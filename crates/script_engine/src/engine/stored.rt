@@ -1,0 +1,134 @@
+//! Stored queries, answered from the versions in memory: no call of the database.
+
+ghost use Rattle.std.specs.Prelude.{◌≡◌, ◌++◌, IfOk, IfSome, List, OnOk, map, reverse, true};
+ghost use Rattle.catalog_core.specs.stored.StoredAnswers.{is_shown, shown_versions};
+ghost use Rattle.ended_versions.specs.Packed.{Hold, seen_through};
+ghost use Rattle.period_core.specs.declared.version.VersionRow.{VersionRow as Version};
+ghost use Rattle.period_keys.specs.Current.{rows_by_key};
+ghost use Rattle.period_keys.specs.Versions.{version_key};
+ghost use Rattle.version_store.specs.Contents.{Contents};
+ghost use Rattle.script_engine.specs.engine.Ended.{HaveEnded, ended_in};
+ghost use Rattle.script_engine.specs.engine.InMemory.{HaveCurrentRows, rows_in};
+ghost use Rattle.script_engine.specs.engine.Shown.{AreShownIn};
+
+use crate::engine::indexed::rows_of_number;
+use catalog_core::{Stored, meets, of_number};
+use ended_versions::EndedVersions;
+use period_core::{Memory, VersionRow};
+use period_keys::{CurrentRows, Key, TableIndex, fixed_key};
+use std::alloc::Global;
+
+/// Adds copies of the versions that the query shows of these.
+fn push_shown(
+    alloc: Global,
+    query: &Stored,
+    versions: &[VersionRow],
+    shown: &mut Vec<VersionRow>,
+) -> Result<(), Memory>
+    ensures { OnOk result
+        (shown.new.items ≡ shown.old.items ++ shown_versions query.now versions.now) }
+{
+    for version in versions {
+        if meets(query, version) {
+            shown.push(version.copy(alloc)?)?;
+        }
+    }
+    Ok(())
+}
+
+/// The key that the query's condition fixes, if it fixes one.
+fn key_of(alloc: Global, query: &Stored, positions: &[usize]) -> Result<Option<Key>, Memory>
+    ensures { IfOk result (λ found. IfSome found (λ key. (version : Version)
+        → is_shown query.now version ≡ true → version_key positions.now version ≡ key)) }
+{
+    match &query.condition {
+        Some(condition) => fixed_key(alloc, condition, positions),
+        None => Ok(None),
+    }
+}
+
+/// The versions that the query shows of a table's current ones. Where its condition fixes the key,
+/// those of that key alone are looked at.
+fn shown_of(alloc: Global, query: &Stored, current: &CurrentRows) -> Result<Vec<VersionRow>, Memory>
+    ensures { IfOk result
+        (λ shown. shown.items ≡ shown_versions query.now current.now.rows) }
+{
+    let mut shown = Vec::new(alloc);
+    if let Some(key) = key_of(alloc, query, current.positions())? {
+        push_shown(alloc, query, current.of_key(&key), &mut shown)?;
+        return Ok(shown);
+    }
+    for group in current.groups() {
+        push_shown(alloc, query, group.as_slice(), &mut shown)?;
+    }
+    Ok(shown)
+}
+
+/// Adds those that the query shows of the versions that have ended.
+fn push_ended(
+    alloc: Global,
+    query: &Stored,
+    ended: &EndedVersions,
+    shown: &mut Vec<VersionRow>,
+) -> Result<(), Memory>
+    ensures { (versions : List Version) → Hold ended.now versions → OnOk result (shown.new.items
+        ≡ shown.old.items
+        ++ shown_versions query.now (reverse (seen_through query.now.window versions))) }
+{
+    for version in ended.seen(alloc, query.window)? {
+        if meets(query, &version) {
+            shown.push(version)?;
+        }
+    }
+    Ok(())
+}
+
+/// The same of the versions of its table.
+fn push_ended_of(
+    alloc: Global,
+    query: &Stored,
+    ended: &[EndedVersions],
+    shown: &mut Vec<VersionRow>,
+) -> Result<(), Memory>
+    ensures { (versions : List Version) → Hold (ended_in ended.now query.now.table) versions
+        → OnOk result (shown.new.items ≡ shown.old.items
+        ++ shown_versions query.now (reverse (seen_through query.now.window versions))) }
+{
+    match of_number(ended, query.table) {
+        Some(list) => push_ended(alloc, query, list, shown),
+        None => Ok(()),
+    }
+}
+
+/// The current versions of its table that a query shows, in any order.
+fn current_shown(
+    alloc: Global,
+    tables: &[TableIndex],
+    query: &Stored,
+) -> Result<Vec<VersionRow>, Memory>
+    ensures { IfOk result (λ rows. rows.items
+        ≡ shown_versions query.now (rows_in (map rows_by_key tables.now) query.now.table)) }
+{
+    match rows_of_number(tables, query.table) {
+        Some(current) => shown_of(alloc, query, current),
+        None => Ok(Vec::new(alloc)),
+    }
+}
+
+/// The versions of its table that a stored query shows, by values, then period start, then system
+/// start: of those in memory, which are all.
+pub fn shown_by(
+    alloc: Global,
+    tables: &[TableIndex],
+    ended: &[EndedVersions],
+    query: &Stored,
+) -> Result<Vec<VersionRow>, Memory>
+    ensures { IfOk result (λ rows. (c : Contents)
+        → HaveCurrentRows c (map rows_by_key tables.now) → HaveEnded c ended.now
+        → AreShownIn c query.now rows.items) }
+{
+    let mut shown = current_shown(alloc, tables, query)?;
+    push_ended_of(alloc, query, ended, &mut shown)?;
+    shown.sort()?;
+    Ok(shown)
+}

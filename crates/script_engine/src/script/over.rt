@@ -1,0 +1,44 @@
+//! Runs of scripts over an engine that is open, with each result handed on as it is done.
+
+ghost use Rattle.std.specs.Prelude.{◌≡◌, IfErr, IfOk, List, OnErr};
+ghost use Rattle.version_store.specs.StoreState.{IsUsable};
+ghost use Rattle.history_model.specs.Histories.{History};
+ghost use Rattle.script_engine.specs.engine.Stored.{EngineRepresents, RepresentsSome, WasUsable};
+ghost use Rattle.script_engine.specs.script.Listening.{HearsAll, IsFrontRunBy};
+ghost use Rattle.script_engine.specs.script.Script.{MayRefuseScript};
+
+use crate::engine::Engine;
+use crate::script::kept::Kept;
+use crate::script::listener::Listener;
+use crate::script::{run_pieces, script_pieces};
+use period_core::Refusal;
+use sqlite_trees::store::Alter;
+use std::alloc::Global;
+
+/// Runs a script over an engine, and hands what it keeps of each piece to the listener as soon as
+/// the piece is done, its change in the database. Says whether the run came to the script's end: it
+/// ends before where the listener asks for no more. An `Err` is the refusal of the whole script, or
+/// out of memory: then nothing is run and nothing handed on.
+pub fn run_over<S: Alter, K: Kept<S>, L: Listener<K>>(
+    alloc: Global,
+    engine: &mut Engine<S>,
+    script: &[u8],
+    listener: &mut L,
+) -> Result<bool, Refusal>
+    // Whatever history the engine represents, what is handed on are the results of a run of the
+    // script's first pieces from it on, and the engine then represents the history to which it led.
+    ensures run { IfOk result (λ goes_on. (results : List K)
+        × HearsAll L.hears 1 listener.old results goes_on listener.new
+        × (IsUsable S.Store engine.new.connection
+        → (history : History) → EngineRepresents S.Store history engine.old
+        → (made : IsFrontRunBy K.is_step history script.now results goes_on)
+        × EngineRepresents S.Store made.last engine.new)) }
+    ensures refused { IfErr result (MayRefuseScript script.now) }
+    ensures none { OnErr result ((engine.new ≡ engine.old) × (listener.new ≡ listener.old)) }
+    ensures usable { WasUsable S.Store engine.old.connection engine.new.connection }
+{
+    let pieces = script_pieces(alloc, script)?;
+    let tokens = pieces.tokens.as_slice();
+    let spans = pieces.spans.as_slice();
+    Ok(run_pieces::<S, K, L>(alloc, engine, pieces.text, tokens, spans, listener))
+}

@@ -1,0 +1,64 @@
+-- Rows with the values by which they are joined.
+use Rattle.std.specs.Prelude.{◌≡◌, ◌⊎◌, ◌≤ℤ◌, ◌<ℤ◌, ℕ, List, All, AllPairs, Contains, Some}
+use Rattle.std.specs.Prelude.{◌++◌, length, map, slice_get}
+use Rattle.std.specs.declared.cmp.Ordering.TheVariants.{Less}
+use Rattle.period_core.specs.Order.{values_cmp}
+use Rattle.period_core.specs.declared.value.Value.{Value}
+use Rattle.period_core.specs.declared.row.PeriodRow.{PeriodRow}
+use Rattle.snapshot_audit.specs.declared.keys.Entry.{Entry}
+use Rattle.snapshot_audit.specs.declared.shared_columns.SharedColumns.{SharedColumns}
+
+-- the values have a value at each of these positions, and the key is these
+abbrev pub Reads : List ℕ → List Value → List Value → Type 0
+Reads columns values key = map (slice_get values) columns ≡ map Some key
+
+-- the entry has its row's period
+abbrev pub HasPeriod : Entry → Type 0
+HasPeriod entry = entry.row.now.period ≡ entry.period
+
+-- the key of the first comes before that of the second, or it is the same, and the first starts no
+-- later
+abbrev pub IsInOrder : Entry → Entry → Type 0
+IsInOrder entry other =
+    (values_cmp entry.key other.key ≡ Less)
+    ⊎ ((entry.key ≡ other.key) × (entry.period.start ≤ℤ other.period.start))
+
+-- it is so of each entry and each later one
+abbrev pub AreInOrder : List Entry → Type 0
+AreInOrder = AllPairs IsInOrder
+
+-- the entries of the rows that have a key, and no others, in order
+pub record AreByKey (columns : List ℕ) (rows : List PeriodRow) (entries : List Entry) : Type 0 where
+  pub ordered : AreInOrder entries
+  pub periods : All HasPeriod entries
+  pub made : (entry : Entry) → Contains entries entry
+      → Contains rows entry.row.now × Reads columns entry.row.now.values entry.key
+  pub all : (row : PeriodRow) (key : List Value) → Contains rows row → Reads columns row.values key
+      → (entry : Entry) × Contains entries entry × (entry.row.now ≡ row)
+
+-- the other has the same key, and starts on a day of this one
+abbrev pub BeginsWithin : Entry → Entry → Type 0
+BeginsWithin entry other =
+    (other.key ≡ entry.key) × (entry.period.start ≤ℤ other.period.start)
+    × (other.period.start <ℤ entry.period.end)
+
+-- ---- the columns of both sides
+
+-- where these are the values of two rows of so many values each, with more behind them, and this
+-- holds of all, what both sides read the same in the old columns they do in the new ones
+abbrev pub ReadsMore : ℕ → ℕ → (List Value → Type 0) → SharedColumns → SharedColumns → Type 0
+ReadsMore width more IsSo old new =
+    (first second rest key : List Value) → length first ≡ width → length second ≡ more
+    → IsSo ((first ++ second) ++ rest)
+    → Reads old.first.items first key → Reads old.second.items second key
+    → (longer : List Value)
+    × Reads new.first.items first longer × Reads new.second.items second longer
+
+-- there is a value at both positions, and it is the same
+abbrev pub IsSameAt : ℕ → ℕ → List Value → Type 0
+IsSameAt left right values =
+    (value : Value) × (slice_get values left ≡ Some value) × (slice_get values right ≡ Some value)
+
+-- each row has so many values
+abbrev pub HaveWidth : ℕ → List PeriodRow → Type 0
+HaveWidth width = All (λ row. length row.values ≡ width)

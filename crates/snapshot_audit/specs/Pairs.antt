@@ -1,0 +1,91 @@
+-- What is kept of pairs of rows that hold on the same days.
+use Rattle.std.specs.Prelude.{◌≡◌, ◌++◌, ◌⊎◌, ◌≤ℤ◌, ℕ, ℤ, List, Contains, length}
+use Rattle.period_core.specs.DaySets.{InPeriod}
+use Rattle.period_core.specs.declared.value.Value.{Value}
+use Rattle.period_core.specs.declared.row.PeriodRow.{PeriodRow}
+use Rattle.temporal_model.specs.Snapshot.{InSnapshot}
+use Rattle.catalog_core.specs.declared.query.resolved.Select.{Select}
+use Rattle.snapshot_audit.specs.declared.combined_rows.Output.{Output}
+use Rattle.snapshot_audit.specs.declared.joins.Side.{Side}
+use Rattle.snapshot_audit.specs.declared.joins.Side.TheVariants.{First, Second}
+use Rattle.snapshot_audit.specs.declared.keys.Entry.{Entry}
+use Rattle.snapshot_audit.specs.declared.shared_columns.SharedColumns.{SharedColumns}
+use Rattle.snapshot_audit.specs.Keys.{Reads}
+use Rattle.snapshot_audit.specs.Selections.{CanMeet, IsKept}
+
+-- ---- rows that are added
+
+-- the new rows hold what the old ones do; what else they hold is of the first sets; and they hold
+-- what is of the second
+pub record Adds (InMay InMust : ℤ → List Value → Type 0) (old new : List PeriodRow) : Type 0 where
+  pub kept : (day : ℤ) (row : List Value) → InSnapshot old day row → InSnapshot new day row
+  pub made : (day : ℤ) (row : List Value) → InSnapshot new day row
+      → (InSnapshot old day row ⊎ InMay day row)
+  pub all : (day : ℤ) (row : List Value) → InMust day row → InSnapshot new day row
+
+-- what is kept of two rows that both hold on the day
+abbrev pub InPair : Select → Output → PeriodRow → PeriodRow → ℤ → List Value → Type 0
+InPair select output first second day row =
+    InPeriod first.period day × InPeriod second.period day
+    × IsKept select output (first.values ++ second.values) row
+
+-- the same of two rows that can meet the conditions
+abbrev pub InMeetingPair : Select → Output → PeriodRow → PeriodRow → ℤ → List Value → Type 0
+InMeetingPair select output first second day row =
+    CanMeet select (first.values ++ second.values) × InPair select output first second day row
+
+-- ---- of entries
+
+-- a set of a pair, where the entry's row comes first, or behind
+abbrev pub Sided : (PeriodRow → PeriodRow → ℤ → List Value → Type 0) → Side → Entry → Entry
+    → ℤ → List Value → Type 0
+Sided InBoth First entry other = InBoth entry.row.now other.row.now
+Sided InBoth Second entry other = InBoth other.row.now entry.row.now
+
+-- a set of the entry with one of the others
+abbrev pub InEach : (Entry → Entry → ℤ → List Value → Type 0) → Entry → List Entry → ℤ
+    → List Value → Type 0
+InEach InBoth entry others day row =
+    (other : Entry) × Contains others other × InBoth entry other day row
+
+-- a set of one of the entries with one of the others
+abbrev pub InAny : (Entry → Entry → ℤ → List Value → Type 0) → List Entry → List Entry → ℤ
+    → List Value → Type 0
+InAny InBoth entries others day row =
+    (entry : Entry) × Contains entries entry × InEach InBoth entry others day row
+
+-- the same where the other has the entry's key, and starts no earlier
+abbrev pub Begun : (Entry → Entry → ℤ → List Value → Type 0) → Entry → Entry → ℤ → List Value
+    → Type 0
+Begun InBoth entry other day row =
+    (other.key ≡ entry.key) × (entry.period.start ≤ℤ other.period.start)
+    × InBoth entry other day row
+
+-- ---- the whole
+
+-- the columns are read as the same key in each pair of rows that can meet the conditions
+abbrev pub AreShared : Select → List PeriodRow → List PeriodRow → List ℕ → List ℕ → Type 0
+AreShared select rows others first second =
+    (row other : PeriodRow) → Contains rows row → Contains others other
+    → CanMeet select (row.values ++ other.values)
+    → (key : List Value) × Reads first row.values key × Reads second other.values key
+
+-- these columns are read as the same key in each two lists of so many values that can meet the
+-- conditions
+abbrev pub ReadSame : Select → ℕ → ℕ → SharedColumns → Type 0
+ReadSame select width more columns =
+    (first second : List Value) → length first ≡ width → length second ≡ more
+    → CanMeet select (first ++ second)
+    → (key : List Value)
+    × Reads columns.first.items first key × Reads columns.second.items second key
+
+-- the joined rows hold on each day what is kept of the values of a row of each side: at least of
+-- those that can meet the conditions
+pub record AreJoined (select : Select) (output : Output) (rows others joined : List PeriodRow)
+    : Type 0 where
+  pub made : (day : ℤ) (row : List Value) → InSnapshot joined day row
+      → (first second : List Value) × InSnapshot rows day first × InSnapshot others day second
+      × IsKept select output (first ++ second) row
+  pub all : (day : ℤ) (first second row : List Value) → InSnapshot rows day first
+      → InSnapshot others day second → CanMeet select (first ++ second)
+      → IsKept select output (first ++ second) row → InSnapshot joined day row
