@@ -39,6 +39,7 @@ mod Needed
 mod NewStore
 mod Openings
 mod AuditCounts
+mod Moved
 mod AuditLaws
 mod Audited
 mod AuditedSteps

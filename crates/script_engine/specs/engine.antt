@@ -3,6 +3,7 @@ pub mod InMemory
 pub mod Ended
 pub mod Faults
 pub mod Stored
+pub mod Moved
 pub mod Planned
 pub mod Shown
 pub mod Answering

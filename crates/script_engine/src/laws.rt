@@ -1,9 +1,10 @@
-//! What follows from the theorem of sequenced answers. Each function does nothing: its contract is
-//! a law.
+//! What follows from the theorem of sequenced answers, and from the definitions of what is stored.
+//! Each function does nothing: its contract is a law.
 
 ghost use Rattle.script_engine.specs.Laws.{AnswersAreUnique, AnswersMapOneToOne};
 ghost use Rattle.script_engine.specs.Laws.{SameSnapshotsSameAnswers, SlicesJoinToTheAnswer};
 ghost use Rattle.script_engine.specs.engine.Audits.{AuditsAgree, AuditsCountOnce};
+ghost use Rattle.script_engine.specs.engine.Moved.{StoresMoveAsTheModel};
 
 /// A list with the same snapshots has a row of its own for each row of an answer, of the same
 /// values and first day. So no such list is shorter.
@@ -38,4 +39,11 @@ pub fn audits_agree()
 /// see, and of the answer.
 pub fn audits_count_once()
     ensures { AuditsCountOnce }
+{}
+
+/// Where a store that counts moments in whole seconds has what a database of the model keeps, it
+/// has in microseconds what the moved database keeps. So the law of moved openings is one of stores
+/// that are opened.
+pub fn stores_move_as_the_model()
+    ensures { StoresMoveAsTheModel }
 {}
