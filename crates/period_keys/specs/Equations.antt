@@ -53,6 +53,7 @@ module _ (c : CompareValues) (row : List Value) (position : ℕ) (value : Value)
       compared Equal (side_value l row) (side_value c.right row) ≡ true) left
       (subst (λ o. compared o (side_value c.left row) (side_value c.right row) ≡ true) is h))))
 
+-- a test that says `column = literal` fixes the value at its position
 pub equation_fixes
     : (c : CompareValues) (row : List Value) (position : ℕ) (value : Value)
     → IsEquation c position value → compares row c ≡ true → slice_get row position ≡ Some value

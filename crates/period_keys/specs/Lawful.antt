@@ -17,10 +17,11 @@ use Rattle.period_keys.specs.Positions.{positions_of_places}
 abbrev pub key_positions : TableDef → List ℕ
 key_positions def = positions_of_places def def.key
 
--- those of a reference: the child's own, and those of the parent's that they refer to
+-- those of a reference's own columns, in the child
 abbrev pub own_positions : TableDef → Reference → List ℕ
 own_positions child reference = positions_of_places child reference.own
 
+-- those of the columns in the parent that they refer to
 abbrev pub parent_positions : TableDef → Reference → List ℕ
 parent_positions parent reference = positions_of_places parent reference.keys
 

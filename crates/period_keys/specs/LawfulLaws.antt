@@ -1,4 +1,4 @@
--- What the faults of a change are among the period rows that stand after it. Each law is the
+-- What the faults of a change are among the period rows that are current after it. Each law is the
 -- contract of a function of this crate.
 use Rattle.std.specs.Prelude.{◌≡◌, ◌↔◌, ◌⊎◌, ℕ, ℤ, List, Some}
 use Rattle.period_core.specs.declared.row.PeriodRow.{PeriodRow}
@@ -13,8 +13,8 @@ use Rattle.period_keys.specs.Lawful.{HoldsTable, IsKeyFault, IsLawfulChange, IsL
 use Rattle.period_keys.specs.Lawful.{LacksParentBy, Refers, key_positions, own_positions}
 use Rattle.period_keys.specs.Lawful.{parent_positions, state_after}
 
--- given no clash before, the rows that stand after a change clash on exactly the days on which it
--- makes two rows of different origins share the key
+-- given no clash before, the rows that are current after a change clash on exactly the days on
+-- which it makes two rows of different origins share the key
 abbrev pub KeyFaultsAreClashes : Type 0
 KeyFaultsAreClashes =
     (catalog : List TableDef) (before : State) (change : Change) (def : TableDef)

@@ -12,7 +12,7 @@ use crate::placed_period::PlacedPeriod;
 use period_core::{Day, Memory, Period};
 use std::alloc::Global;
 
-// A block has at most so many.
+// The most periods that a block has.
 const MOST: usize = 256;
 
 /// Placed periods in any order. They lie between two days, so that a block far from a period is

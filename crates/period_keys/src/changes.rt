@@ -23,7 +23,7 @@ pub fn keys_of(alloc: Global, positions: &[usize], rows: &[PeriodRow]) -> Result
     Ok(keys)
 }
 
-/// Adds the rows, whose keys are handed in, or none of them.
+/// Adds the rows, whose keys these are, or none of them.
 pub fn add_rows(
     alloc: Global,
     index: &mut KeyedPeriods,
@@ -48,7 +48,7 @@ pub fn add_rows(
     Ok(())
 }
 
-/// Takes out the rows, whose keys are handed in. It takes no memory: so where several indexes
+/// Removes the rows, whose keys these are. It takes no memory: so where several indexes
 /// follow one change, the rows that were added to some can be taken out again once another was
 /// refused.
 pub fn take_rows(index: &mut KeyedPeriods, keys: &[Key], rows: &[PeriodRow])
@@ -61,7 +61,7 @@ pub fn take_rows(index: &mut KeyedPeriods, keys: &[Key], rows: &[PeriodRow])
     take_first(index, keys, rows, rows.len());
 }
 
-// Takes out the first rows, whose keys are handed in.
+// Removes the first rows, whose keys these are.
 fn take_first(index: &mut KeyedPeriods, keys: &[Key], rows: &[PeriodRow], count: usize)
     requires keys { length keys.now ≡ length rows.now }
     requires count { count ≤ length rows.now }

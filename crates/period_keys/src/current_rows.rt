@@ -106,9 +106,9 @@ impl CurrentRows {
         add_to(alloc, &mut self.groups, &key, row)
     }
 
-    /// Takes out a row of this key, with these values, this period and this system time, which is
+    /// Removes a row of this key, with these values, this period and this system time, which is
     /// there. It takes no memory.
-    fn take_recorded(
+    fn remove_version(
         &mut self,
         key: &Key,
         values: &Values,
@@ -125,7 +125,7 @@ impl CurrentRows {
         take_from(&mut self.groups, key, values, period, from, to);
     }
 
-    /// Takes out rows, which are there, whose keys are handed in. It takes no memory.
+    /// Removes rows that are there, whose keys these are. It takes no memory.
     pub fn take_all(&mut self, keys: &[Key], rows: &[VersionRow])
         requires { keys.now ≡ map (version_key self.old.positions) rows.now }
         ensures same { self.new.positions ≡ self.old.positions }
@@ -134,11 +134,11 @@ impl CurrentRows {
     {
         for i in 0..rows.len() {
             let row = &rows[i];
-            self.take_recorded(&keys[i], &row.values, row.period, row.from, row.to);
+            self.remove_version(&keys[i], &row.values, row.period, row.from, row.to);
         }
     }
 
-    /// Adds rows that begin at a moment, whose keys are handed in, or none of them.
+    /// Adds rows that begin at a moment, whose keys these are, or none of them.
     pub fn add_all(
         &mut self,
         alloc: Global,
@@ -153,7 +153,7 @@ impl CurrentRows {
     {
         for i in 0..rows.len() {
             if let Err(refused) = self.add_begun(alloc, moment, &keys[i], &rows[i]) {
-                self.take_begun(moment, keys, rows, i);
+                self.remove_first_added(moment, keys, rows, i);
                 return Err(refused);
             }
         }
@@ -168,10 +168,10 @@ impl CurrentRows {
             → IsPermutation self.old.rows (map (begun moment) rows.now ++ rest)
             → IsPermutation self.new.rows rest }
     {
-        self.take_begun(moment, keys, rows, rows.len());
+        self.remove_first_added(moment, keys, rows, rows.len());
     }
 
-    // Adds a row that begins at a moment, whose key is handed in.
+    // Adds a row that begins at a moment, whose key this is.
     fn add_begun(
         &mut self,
         alloc: Global,
@@ -193,8 +193,8 @@ impl CurrentRows {
         add_to(alloc, &mut self.groups, key, version)
     }
 
-    // Takes out the first rows that begin at a moment, whose keys are handed in.
-    fn take_begun(&mut self, moment: Moment, keys: &[Key], rows: &[PeriodRow], count: usize)
+    // Removes the first `count` of rows that begin at a moment, whose keys these are.
+    fn remove_first_added(&mut self, moment: Moment, keys: &[Key], rows: &[PeriodRow], count: usize)
         requires keys { keys.now ≡ map (key_values self.old.positions) rows.now }
         requires count { count ≤ length rows.now }
         ensures same { self.new.positions ≡ self.old.positions }
@@ -204,7 +204,7 @@ impl CurrentRows {
     {
         for i in 0..count {
             let row = &rows[i];
-            self.take_recorded(&keys[i], &row.values, row.period, moment, Moment::forever());
+            self.remove_version(&keys[i], &row.values, row.period, moment, Moment::forever());
         }
     }
 }

@@ -26,7 +26,7 @@ use crate::shared_days::{earlier, first_of_kept};
 use period_core::{Day, Memory, Moment, Period, Values, VersionRow};
 use std::alloc::Global;
 
-// Up to so many rows are looked at one by one.
+// Up to this many rows are looked at one by one.
 const FEW: usize = 32;
 
 /// The rows of one key. Where they are many, their periods are kept beside them with their places,

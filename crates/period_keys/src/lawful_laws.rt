@@ -4,8 +4,8 @@ ghost use Rattle.period_keys.specs.LawfulLaws.{ChangesBreakTheirOwnReferences};
 ghost use Rattle.period_keys.specs.LawfulLaws.{KeyFaultsAreClashes, LackingParentsAreUncovered};
 ghost use Rattle.period_keys.specs.LawfulLaws.{StatesStayLawful};
 
-/// Given no clash before, the rows that stand after a change clash on exactly the days on which it
-/// makes two rows of different origins share the key.
+/// Given no clash before, the rows that are current after a change clash on exactly the days on
+/// which it makes two rows of different origins share the key.
 pub fn key_faults_are_clashes()
     ensures { KeyFaultsAreClashes }
 {}

@@ -8,7 +8,7 @@
 //!   `near_rows` looks at the blocks near a period alone.
 //! - Beside them their periods are kept by the columns of references (`period_indexes`,
 //!   `keyed_periods`, `ordered_periods`). `TableIndex` has both, and follows a change all or none.
-//! - `planning` makes a change's plan of the rows of the key that its condition fixes
+//! - `plans` makes a change's plan of the rows of the key that its condition fixes
 //!   (`fixed_keys`), or of all, and of many rows of a key of those near its portion.
 //! - A plan is judged by the rows that it touches (`faults`, by `clashes` and `references`), and by
 //!   all references of the catalog (`reference_faults`).
@@ -38,7 +38,7 @@ mod ordered_periods;
 mod period_blocks;
 mod period_indexes;
 mod placed_period;
-mod planning;
+mod plans;
 mod positions;
 mod reference_faults;
 mod references;
@@ -49,7 +49,7 @@ mod table_list;
 mod tables;
 
 pub use current_rows::CurrentRows;
-pub use faults::{key_fault, rows_of, rows_of_current};
+pub use faults::{key_fault, rows_of};
 pub use fixed_keys::{Equation, fixed_key, fixed_key_within};
 pub use key::Key;
 pub use key_laws::{clashes_after_change, clashes_are_of_days, uncovered_are_of_days};
@@ -58,7 +58,7 @@ pub use lawful_laws::{
     states_stay_lawful,
 };
 pub use lawful_states::is_lawful;
-pub use planning::plan_change;
+pub use plans::plan_change;
 pub use positions::positions_of;
 pub use reference_faults::reference_fault;
 pub use table_index::TableIndex;

@@ -71,19 +71,12 @@ fn push_place(places: &mut Vec<usize>, item: &PlacedPeriod, period: &Period) -> 
     ensures near { OnOk result
         (Meets item.now.period period.now → Contains places.new.items item.now.place) }
 {
-    if meets(&item.period, period) {
+    if item.period.overlaps(*period) {
         places.push(item.place)?;
         Ok(())
     } else {
         Ok(())
     }
-}
-
-// Whether the two share a day.
-fn meets(one: &Period, other: &Period) -> bool
-    ensures { IsTrue result ↔ Meets one.now other.now }
-{
-    one.start < other.end && other.start < one.end
 }
 
 /// The first day that the period shares with some of these rows whose periods are not among those

@@ -12,10 +12,10 @@ ghost use Rattle.period_keys.specs.Ordered.{AreInOrder, FitsAt};
 use period_core::{Day, Memory, Period};
 use std::alloc::Global;
 
-// A period that comes in among the settled ones moves at most so many.
+// The most settled periods that one which comes in among them moves.
 const MOST_MOVED: usize = 512;
 
-/// Periods in two runs, each in the order of their starts. First come the settled ones, and behind
+/// Periods in two runs, each in the order of their starts. First come the settled ones, and after
 /// them the late ones, which came in since and belong far before the last.
 #[derive(Drop)]
 pub struct OrderedPeriods {
@@ -68,11 +68,11 @@ impl OrderedPeriods {
             (IsPermutation self.new.items.items (self.old.items.items ++ period ∷ [])) }
         ensures err { OnErr result (self.new.items.items ≡ self.old.items.items) }
     {
-        let (place, settles) = place_for(self.items.as_slice(), self.settled, period.start);
+        let (place, settles) = insertion_point(self.items.as_slice(), self.settled, period.start);
         self.items.insert(place, period)?;
         if settles {
             self.settled += 1;
-        } else if are_many(self.items.len() - self.settled, self.settled) {
+        } else if should_merge(self.items.len() - self.settled, self.settled) {
             self.settle();
         }
         Ok(())
@@ -129,7 +129,7 @@ impl OrderedPeriods {
 
 // The place among periods in two runs of one that starts on the day, and whether it is settled
 // there: else it is late.
-fn place_for(periods: &[Period], settled: usize, day: Day) -> (usize, bool)
+fn insertion_point(periods: &[Period], settled: usize, day: Day) -> (usize, bool)
     requires within { settled ≤ length periods.now }
     requires ordered { AreInOrder (take settled periods.now) }
     requires late { AreInOrder (drop settled periods.now) }
@@ -146,9 +146,9 @@ fn place_for(periods: &[Period], settled: usize, day: Day) -> (usize, bool)
     (settled + place_after(second, day), false)
 }
 
-// Whether so many late periods are enough to be settled. Each settled one moves then, so they are
-// as many as the square root of these at least.
-fn are_many(late: usize, settled: usize) -> bool {
+// Whether there are enough late periods to merge the two runs. Each settled one moves then, so the
+// late ones are at least as many as the square root of these.
+fn should_merge(late: usize, settled: usize) -> bool {
     late >= MOST_MOVED && late >= settled / late
 }
 

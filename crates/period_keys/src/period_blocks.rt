@@ -46,7 +46,7 @@ impl PeriodBlocks {
         ensures there { OnOk result (HasPlaced self.new item.now) }
     {
         let start = item.period.start;
-        let at = self.place_for(start);
+        let at = self.insertion_point(start);
         if at >= self.blocks.len() {
             return self.add_block(alloc, at, item);
         }
@@ -57,12 +57,12 @@ impl PeriodBlocks {
             return self.add_block(alloc, at + 1, item);
         }
         self.split(alloc, at)?;
-        let at = self.place_for(start);
+        let at = self.insertion_point(start);
         self.add_to(at, item)
     }
 
     // The last block of which some may start by the day, or the first.
-    fn place_for(&self, day: Day) -> usize
+    fn insertion_point(&self, day: Day) -> usize
         ensures { result ≤ length self.now.blocks.items }
     {
         let place = self.blocks.partition_point(|block| block.starts_by(day));

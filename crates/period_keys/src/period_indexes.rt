@@ -20,7 +20,7 @@ pub struct PeriodIndex {
 }
 
 impl PeriodIndex {
-    // Adds rows, whose keys are handed in, or none of them.
+    // Adds rows, whose keys these are, or none of them.
     fn add_all(&mut self, alloc: Global, keys: &[Key], rows: &[PeriodRow]) -> Result<(), Memory>
         requires { keys.now ≡ map (key_values self.old.positions) rows.now }
         ensures same { self.new.positions ≡ self.old.positions }
@@ -32,7 +32,7 @@ impl PeriodIndex {
         add_rows(alloc, &mut self.periods, keys, rows)
     }
 
-    // Takes out rows, whose keys are handed in.
+    // Removes rows, whose keys these are.
     fn take_all(&mut self, keys: &[Key], rows: &[PeriodRow])
         requires { keys.now ≡ map (key_values self.old.positions) rows.now }
         ensures same { self.new.positions ≡ self.old.positions }
@@ -60,7 +60,7 @@ pub fn keys_by_each(
     Ok(keys)
 }
 
-/// Adds rows, whose keys are handed in, to each of the indexes, or to none of them.
+/// Adds rows, whose keys these are, to each of the indexes, or to none of them.
 pub fn add_to_each(
     alloc: Global,
     indexes: &mut [PeriodIndex],
@@ -83,7 +83,7 @@ pub fn add_to_each(
     Ok(())
 }
 
-/// Takes rows, which are there and whose keys are handed in, out of each of the indexes. It takes
+/// Removes rows that are there, whose keys these are, from each of the indexes. It takes
 /// no memory.
 pub fn take_from_each(indexes: &mut [PeriodIndex], keys: &[Items<Key>], rows: &[PeriodRow])
     requires { AreKeysByEach rows.now (map positions_by indexes.old) keys.now }
@@ -95,7 +95,7 @@ pub fn take_from_each(indexes: &mut [PeriodIndex], keys: &[Items<Key>], rows: &[
     take_from_first(indexes, keys, rows, count);
 }
 
-// Takes rows, whose keys are handed in, out of the first indexes.
+// Removes rows, whose keys these are, from the first indexes.
 fn take_from_first(
     indexes: &mut [PeriodIndex],
     keys: &[Items<Key>],

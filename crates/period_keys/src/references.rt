@@ -18,7 +18,7 @@ use crate::shared_days::earlier;
 use period_core::{Day, Memory, Period, PeriodRow};
 use std::alloc::Global;
 
-// So many children are judged one by one, more by their keys.
+// Up to this many children are judged one by one, more by their keys.
 const FEW: usize = 8;
 
 /// The least day on which a child has no parent once added children are there, for an index of the

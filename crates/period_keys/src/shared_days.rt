@@ -12,15 +12,8 @@ use period_core::{Day, Period};
 fn first_of_both(one: &Period, other: &Period) -> Option<Day>
     ensures { IsLeastOf (λ day. BothHold day one.now other.now) result }
 {
-    if one.start < other.end && other.start < one.end {
-        Some(if one.start < other.start {
-            other.start
-        } else {
-            one.start
-        })
-    } else {
-        None
-    }
+    let both = one.intersect(*other)?;
+    Some(both.start)
 }
 
 /// The first day that both periods hold, where the other is not among those of the key that go.

@@ -120,7 +120,7 @@ impl TableIndex {
         })
     }
 
-    /// Adds rows that begin at a moment, whose keys are handed in, or none of them.
+    /// Adds rows that begin at a moment, whose keys these are, or none of them.
     pub fn add_all(
         &mut self,
         alloc: Global,
@@ -156,8 +156,8 @@ impl TableIndex {
         take_from_each(self.indexes.as_mut_slice(), keys.by_each.as_slice(), rows);
     }
 
-    /// Takes out versions, which are there. Handed in are also their rows, without system time, and
-    /// the keys of these. It takes no memory.
+    /// Removes versions that are there. `rows` are these without system time, and `keys` are those
+    /// of the rows. It takes no memory.
     pub fn take_all(&mut self, keys: &TouchedKeys, versions: &[VersionRow], rows: &[PeriodRow])
         requires keys { AreTouchedKeys self.old rows.now keys.now }
         requires rows { rows.now ≡ map row_of versions.now }

@@ -1,3 +1,4 @@
+pub mod PeriodParts
 pub mod Daily
 pub mod Planned
 pub mod Ending

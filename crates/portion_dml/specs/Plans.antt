@@ -13,16 +13,19 @@ use Rattle.history_model.specs.Versions.{plain_version, row_of}
 
 -- ---- the forms of changes
 
+-- it is an INSERT
 abbrev pub IsInsert : Action → Type 0
 IsInsert (Insert given) = Unit {0}
 IsInsert (Update portion assignments condition) = ⊥
 IsInsert (Delete portion condition) = ⊥
 
+-- it is an UPDATE
 abbrev pub IsUpdate : Action → Type 0
 IsUpdate (Insert given) = ⊥
 IsUpdate (Update portion assignments condition) = Unit {0}
 IsUpdate (Delete portion condition) = ⊥
 
+-- it is a DELETE
 abbrev pub IsDelete : Action → Type 0
 IsDelete (Insert given) = ⊥
 IsDelete (Update portion assignments condition) = ⊥

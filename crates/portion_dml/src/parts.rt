@@ -1,30 +1,16 @@
 //! Which versions a change touches, and the rows that begin in the place of one.
 
 ghost use Rattle.std.specs.Prelude.{◌≡◌, ◌++◌, IfOk, OnOk, map};
-ghost use Rattle.std.specs.Int.{int_max, int_min};
 ghost use Rattle.catalog_core.specs.Conditions.{meets_any};
 ghost use Rattle.history_model.specs.Effects.{with_set};
-ghost use Rattle.history_model.specs.Portions.{leftovers, meets_portion, part, plain_row};
+ghost use Rattle.history_model.specs.Portions.{leftovers, meets_portion, plain_row};
 ghost use Rattle.history_model.specs.Portions.{replacements, touches, within};
+ghost use Rattle.portion_dml.specs.Parts.{row_over};
 ghost use Rattle.portion_dml.specs.Plans.{version_row};
 
 use catalog_core::{Action, Assignment, Cond, holds};
-use period_core::{Day, Memory, Period, PeriodRow, Value, Values, VersionRow};
+use period_core::{Memory, Period, PeriodRow, Value, Values, VersionRow};
 use std::alloc::Global;
-
-/// The earlier of two days.
-fn earlier(day: Day, other: Day) -> Day
-    ensures { result ≡ int_min day other }
-{
-    if other < day { other } else { day }
-}
-
-/// The later of two days.
-fn later(day: Day, other: Day) -> Day
-    ensures { result ≡ int_max day other }
-{
-    if other < day { day } else { other }
-}
 
 /// Whether the action touches the version.
 pub fn touched(action: &Action, row: &VersionRow) -> bool
@@ -44,7 +30,7 @@ fn reaches(portion: &Option<Period>, row: &VersionRow) -> bool
 {
     match portion {
         None => true,
-        Some(portion) => row.period.start < portion.end && portion.start < row.period.end,
+        Some(portion) => row.period.overlaps(*portion),
     }
 }
 
@@ -58,19 +44,18 @@ fn is_met_by(condition: &Option<Cond>, row: &VersionRow) -> bool
     }
 }
 
-/// Adds a row of these values from a day on and before an end, where there is such a day.
+/// Adds a row of these values over a period, where there is one.
 fn push_part(
     alloc: Global,
     rows: &mut Vec<PeriodRow>,
     values: &Values,
-    start: Day,
-    end: Day,
+    period: Option<Period>,
 ) -> Result<(), Memory>
     ensures { OnOk result
         (map plain_row rows.new.items ≡ map plain_row rows.old.items
-        ++ part values.now start end) }
+        ++ row_over values.now period) }
 {
-    if let Some(period) = Period::new(start, end) {
+    if let Some(period) = period {
         rows.push(PeriodRow {
             values: values.copy(alloc)?,
             period,
@@ -90,12 +75,12 @@ fn push_leftovers(
         (map plain_row rows.new.items ≡ map plain_row rows.old.items
         ++ leftovers portion.now (version_row row.now)) }
 {
-    if let Some(portion) = portion {
-        let Period { start, end } = row.period;
-        push_part(alloc, rows, &row.values, start, earlier(end, portion.start))?;
-        push_part(alloc, rows, &row.values, later(start, portion.end), end)?;
-    }
-    Ok(())
+    let Some(portion) = portion else {
+        return Ok(());
+    };
+    let (before, after) = row.period.minus(*portion);
+    push_part(alloc, rows, &row.values, before)?;
+    push_part(alloc, rows, &row.values, after)
 }
 
 /// Adds a row of these values on the version's days in the portion.
@@ -110,16 +95,9 @@ fn push_within(
         (map plain_row rows.new.items ≡ map plain_row rows.old.items
         ++ within portion.now values.now (version_row row.now)) }
 {
-    let Period { start, end } = row.period;
     match portion {
-        None => push_part(alloc, rows, values, start, end),
-        Some(portion) => push_part(
-            alloc,
-            rows,
-            values,
-            later(start, portion.start),
-            earlier(end, portion.end),
-        ),
+        None => push_part(alloc, rows, values, Some(row.period)),
+        Some(portion) => push_part(alloc, rows, values, row.period.intersect(*portion)),
     }
 }
 

@@ -36,10 +36,8 @@ pub fn plan_update(alloc: Global, current: &[VersionRow], change: &Change) -> Re
     ensures plan { IfOk result (λ plan. Plans change.now.action current.now plan) }
     ensures refused { IfErr result (λ refusal. refusal ≡ Refusal.Memory) }
 {
-    match planned(alloc, current, &change.action) {
-        Ok(plan) => Ok(plan),
-        Err(_) => Err(Refusal::Memory),
-    }
+    let plan = planned(alloc, current, &change.action)?;
+    Ok(plan)
 }
 
 /// The plan of a DELETE over its table's current versions. Its only refusal is out of memory.
@@ -48,10 +46,8 @@ pub fn plan_delete(alloc: Global, current: &[VersionRow], change: &Change) -> Re
     ensures plan { IfOk result (λ plan. Plans change.now.action current.now plan) }
     ensures refused { IfErr result (λ refusal. refusal ≡ Refusal.Memory) }
 {
-    match planned(alloc, current, &change.action) {
-        Ok(plan) => Ok(plan),
-        Err(_) => Err(Refusal::Memory),
-    }
+    let plan = planned(alloc, current, &change.action)?;
+    Ok(plan)
 }
 
 /// Adds a row that INSERT gives. Its refusals are a period without a day, and out of memory.
@@ -66,13 +62,9 @@ fn push_given(alloc: Global, rows: &mut Vec<PeriodRow>, given: &GivenRow) -> Res
     let Some(period) = Period::new(given.start, given.end) else {
         return Err(Refusal::EmptyPeriod);
     };
-    let Ok(values) = given.values.copy(alloc) else {
-        return Err(Refusal::Memory);
-    };
-    match rows.push(PeriodRow { values, period }) {
-        Ok(()) => Ok(()),
-        Err(_) => Err(Refusal::Memory),
-    }
+    let values = given.values.copy(alloc)?;
+    rows.push(PeriodRow { values, period })?;
+    Ok(())
 }
 
 /// The plan of an INSERT, which ends none of its table's current versions. It is refused where a
@@ -90,10 +82,7 @@ pub fn plan_insert(alloc: Global, current: &[VersionRow], change: &Change) -> Re
     };
     let mut added = Vec::new(alloc);
     for row in given.as_slice() {
-        match push_given(alloc, &mut added, row) {
-            Ok(()) => {}
-            Err(refusal) => return Err(refusal),
-        }
+        push_given(alloc, &mut added, row)?;
     }
     Ok(Plan {
         ended: Items::empty(alloc),

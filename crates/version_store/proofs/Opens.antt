@@ -7,8 +7,8 @@ use Rattle.std.proofs.lemmas.List.{length-map}
 use Rattle.std.proofs.lemmas.List.Sorted.{IsPermutation-map, IsPermutation-sym, IsPermutation-trans}
 use Rattle.sqlite_trees.proofs.ListLemmas.{IsPermutation-same, all-map, all-permutation, all_from_map, all_weaker}
 use Rattle.period_core.specs.Encoding.{IsColumnValue}
-use Rattle.period_core.specs.declared.refusal.Refusal.{Refusal}
-use Rattle.period_core.specs.declared.refusal.Refusal.TheVariants.{BadStore}
+use Rattle.version_store.specs.declared.fault.OpenFault.{OpenFault}
+use Rattle.version_store.specs.declared.fault.OpenFault.TheVariants.{BadStore}
 use Rattle.catalog_core.specs.declared.table.catalog.Catalog.{Catalog}
 use Rattle.catalog_core.specs.declared.table.TableDef.{TableDef}
 use Rattle.catalog_core.specs.table.TableWords.{table_of}
@@ -135,12 +135,12 @@ module _ (db : Database) (metas tables versions : List Row) (pm : IsPermutation 
         each = all-permutation says _ _ pv shown;
       })
 
-  pub judged_good : db.schema ≡ store_schema → KeepsKeys db → (r : Result (Catalog × Form × ℤ) Refusal) → IfOk r (λ found. SayRows metas tables versions found.0.tables found.1 found.2)
+  pub judged_good : db.schema ≡ store_schema → KeepsKeys db → (r : Result (Catalog × Form × ℤ) OpenFault) → IfOk r (λ found. SayRows metas tables versions found.0.tables found.1 found.2)
       → IfOk r (λ found. (good : IsGoodStore NothingMore db) × (good.contents.tables ≡ found.0.tables) × (good.form ≡ found.1) × (good.contents.clock ≡ found.2))
   judged_good there keys (Err e) says = tt
   judged_good there keys (Ok found) says = points_hold there keys found.0.tables found.1 found.2 says
 
-  pub judged_bad : (r : Result (Catalog × Form × ℤ) Refusal) → IfErr r (λ refusal. refusal ≡ BadStore → (known : List TableDef) (form : Form) (clock : ℤ) → ¬ SayRows metas tables versions known form clock)
+  pub judged_bad : (r : Result (Catalog × Form × ℤ) OpenFault) → IfErr r (λ refusal. refusal ≡ BadStore → (known : List TableDef) (form : Form) (clock : ℤ) → ¬ SayRows metas tables versions known form clock)
       → IfErr r (λ refusal. refusal ≡ BadStore → ¬ IsGoodStore NothingMore db)
   judged_bad (Ok found) none = tt
   judged_bad (Err e) none = λ bad good. points_fail good (none bad)
@@ -153,7 +153,7 @@ has_contents db good untied keyed = record {
   values = all_weaker (IsGoodVersionIn good.form good.contents.tables good.contents.clock) (λ (v : TableVersion). All IsColumnValue v.values) (λ v fine. fine.held) good.contents.versions good.versions;
 }
 
-pub found_contents : (db : Database) → AreUntied (db.trees 2) → AllByRecursion (λ r. is_int (rowid r) ≡ true) (db.trees 2) → (r : Result (Catalog × Form × ℤ) Refusal)
+pub found_contents : (db : Database) → AreUntied (db.trees 2) → AllByRecursion (λ r. is_int (rowid r) ≡ true) (db.trees 2) → (r : Result (Catalog × Form × ℤ) OpenFault)
     → IfOk r (λ found. (good : IsGoodStore NothingMore db) × (good.contents.tables ≡ found.0.tables) × (good.form ≡ found.1) × (good.contents.clock ≡ found.2))
     → IfOk r (λ found. (good : IsGoodStore NothingMore db) × HasIn good.form db good.contents × (good.contents.tables ≡ found.0.tables) × (good.form ≡ found.1) × (good.contents.clock ≡ found.2))
 found_contents db untied keyed (Err e) says = tt

@@ -2,7 +2,6 @@
 use Rattle.std.specs.Prelude.{ℕ, ℤ, Bool, not, List, map, filter}
 use Rattle.std.specs.Prelude.{IsPermutation, IsTrue, OnOk, Result}
 use Rattle.std.specs.List.{AllByRecursion, list_any}
-use Rattle.period_core.specs.declared.refusal.Refusal.{Refusal}
 use Rattle.sqlite.specs.Store.{Ghosts}
 use Rattle.sqlite.specs.State.{HasCleanDisk}
 use Rattle.sqlite.specs.Held.{Held, state}
@@ -31,7 +30,7 @@ pub record HasBut (db : Database) (table : ℕ) (moment : ℤ) (leaving : List P
   pub values : HaveColumnValues c.versions
 
 -- on Ok the transaction goes on, the contents are changed, and so are the places of what is leaving
-abbrev pub CarriesBut : {S X : Type 0} → Ghosts S → Held S → Held S → Result X Refusal
+abbrev pub CarriesBut : {S X E : Type 0} → Ghosts S → Held S → Held S → Result X E
     → ℕ → ℤ → List Place → List Place → (Contents → Contents) → Type 0
 CarriesBut g old new result table moment before after change =
     HasCleanDisk (state g new) → IsTrue old.in_transaction

@@ -1,6 +1,5 @@
 -- What a step inside a transaction makes, and what a whole transaction makes.
 use Rattle.std.specs.Prelude.{◌≡◌, IsTrue, OnErr, OnOk, Result}
-use Rattle.period_core.specs.declared.refusal.Refusal.{Refusal}
 use Rattle.sqlite.specs.Store.{Ghosts}
 use Rattle.sqlite.specs.State.{HasCleanDisk}
 use Rattle.sqlite.specs.Held.{Held, state}
@@ -10,7 +9,7 @@ use Rattle.version_store.specs.Contents.{Contents}
 use Rattle.version_store.specs.Written.{Has}
 
 -- on Ok the transaction goes on, and the contents of the database are changed
-abbrev pub Carries : {S X : Type 0} → Ghosts S → Held S → Held S → Result X Refusal
+abbrev pub Carries : {S X E : Type 0} → Ghosts S → Held S → Held S → Result X E
     → (Contents → Contents) → Type 0
 Carries g old new result change =
     HasCleanDisk (state g new) → IsTrue old.in_transaction
@@ -18,7 +17,7 @@ Carries g old new result change =
     × ((c : Contents) → Has (state g old).now c → Has (state g new).now (change c)))
 
 -- outside a transaction: on Ok the contents are changed, and that is committed
-abbrev pub Commits : {S X : Type 0} → Ghosts S → Held S → Held S → Result X Refusal
+abbrev pub Commits : {S X E : Type 0} → Ghosts S → Held S → Held S → Result X E
     → (Contents → Contents) → Type 0
 Commits g old new result change =
     HasCleanDisk (state g new) → (c : Contents) → Has (state g old).now c
@@ -26,7 +25,7 @@ Commits g old new result change =
     × ((state g new).committed ≡ (state g new).now))
 
 -- the same of the rows of the three tables, where P holds of them
-abbrev pub CommitsWhere : {S X : Type 0} → Ghosts S → Held S → Held S → Result X Refusal
+abbrev pub CommitsWhere : {S X E : Type 0} → Ghosts S → Held S → Held S → Result X E
     → (Records → Type 0) → (Records → Records) → Type 0
 CommitsWhere g old new result P change =
     HasCleanDisk (state g new) → (records : Records) → P records
@@ -35,7 +34,7 @@ CommitsWhere g old new result P change =
     × ((state g new).committed ≡ (state g new).now))
 
 -- on Err what was there is there
-abbrev pub Undoes : {S X : Type 0} → Ghosts S → Held S → Held S → Result X Refusal → Type 0
+abbrev pub Undoes : {S X E : Type 0} → Ghosts S → Held S → Held S → Result X E → Type 0
 Undoes g old new result =
     HasCleanDisk (state g new) → IsTrue (state g new).is_open
     → OnErr result (IsAsBefore (state g old) (state g new))

@@ -51,5 +51,6 @@ pub record HasIn (form : Form) (db : Database) (c : Contents) : Type 0 where
 abbrev pub written : Contents → Records
 written = written_in Microseconds
 
+-- the database is of form 2 and has these contents
 abbrev pub Has : Database → Contents → Type 0
 Has = HasIn Microseconds

@@ -1,17 +1,16 @@
-//! Rows that a plan adds. A row that ended as it began is to leave: where a row is added at its
-//! place it becomes that row, which saves a removal and an insertion.
+//! Rows that a plan adds. A row that ended as it began has to be removed: where a row is added at
+//! its place it becomes that row, which saves a removal and an insertion.
 
-ghost use Rattle.std.specs.Prelude.{◌≡◌, ◌∷◌, [], map, IfErr};
+ghost use Rattle.std.specs.Prelude.{◌≡◌, ◌∷◌, [], map};
 ghost use Rattle.period_core.specs.Moments.{forever};
 ghost use Rattle.version_tables.specs.Represents.{added, all_added, new_version, removed};
 ghost use Rattle.version_tables.specs.Steps.{ChangesRecords, CommitsNothing};
 ghost use Rattle.version_store.specs.Changed.{added_at};
 ghost use Rattle.version_store.specs.Leaving.{CarriesBut, key_at};
-ghost use Rattle.version_store.specs.StoreState.{IsStoreRefusal};
 
+use crate::fault::StoreFault;
 use crate::place::{new_row, new_rows};
-use crate::refused::refusal_of;
-use period_core::{Moment, PeriodRow, Refusal};
+use period_core::{Moment, PeriodRow};
 use sqlite::Transaction;
 use sqlite_trees::store::Alter;
 use std::alloc::Global;
@@ -26,25 +25,22 @@ fn insert_rows<S: Alter>(
     table: u8,
     moment: Moment,
     new: &[NewRow],
-) -> Result<(), Refusal>
+) -> Result<(), StoreFault>
     ensures same_reference { transaction.new.conn.ghost_name ≡ transaction.old.conn.ghost_name }
     ensures made { ChangesRecords S.Store transaction.old.conn.now transaction.new.conn.now result
         (all_added (map (new_version table moment forever) new.now)) }
     ensures inside { CommitsNothing S.Store transaction.old.conn.now transaction.new.conn.now }
-    ensures named { IfErr result IsStoreRefusal }
 {
     let until = Moment::forever().number();
-    match insert_versions(
+    insert_versions(
         alloc,
         transaction,
         u32::from(table),
         moment.number(),
         until,
         new,
-    ) {
-        Ok(()) => Ok(()),
-        Err(error) => Err(refusal_of(&error)),
-    }
+    )?;
+    Ok(())
 }
 
 /// Inserts a row into a table at a moment.
@@ -54,12 +50,11 @@ fn insert_row<S: Alter>(
     table: u8,
     moment: Moment,
     new: &NewRow,
-) -> Result<(), Refusal>
+) -> Result<(), StoreFault>
     ensures same_reference { transaction.new.conn.ghost_name ≡ transaction.old.conn.ghost_name }
     ensures made { ChangesRecords S.Store transaction.old.conn.now transaction.new.conn.now result
         (added (new_version table moment forever new.now)) }
     ensures inside { CommitsNothing S.Store transaction.old.conn.now transaction.new.conn.now }
-    ensures named { IfErr result IsStoreRefusal }
 {
     insert_rows(alloc, transaction, table, moment, slice::from_ref(new))
 }
@@ -71,16 +66,15 @@ fn replace_row<S: Alter>(
     table: u8,
     moment: Moment,
     new: &NewRow,
-) -> Result<(), Refusal>
+) -> Result<(), StoreFault>
     ensures same_reference { transaction.new.conn.ghost_name ≡ transaction.old.conn.ghost_name }
     ensures made { ChangesRecords S.Store transaction.old.conn.now transaction.new.conn.now result
         (λ records. added (new_version table moment forever new.now)
         (removed (key_at table moment new.now.place) records)) }
     ensures inside { CommitsNothing S.Store transaction.old.conn.now transaction.new.conn.now }
-    ensures named { IfErr result IsStoreRefusal }
 {
     let to = Moment::forever().number();
-    match move_ends(
+    let replaced = move_ends(
         transaction,
         u32::from(table),
         new.place.values.as_slice(),
@@ -88,15 +82,16 @@ fn replace_row<S: Alter>(
         moment.number(),
         new.end,
         to,
-    ) {
-        Ok(0) => insert_row(alloc, transaction, table, moment, new),
-        Ok(1) => Ok(()),
-        Ok(_) => Err(Refusal::Store),
-        Err(error) => Err(refusal_of(&error)),
+    )?;
+    match replaced {
+        0 => insert_row(alloc, transaction, table, moment, new),
+        1 => Ok(()),
+        _ => Err(StoreFault::Database),
     }
 }
 
-/// Adds a row to a table at a moment. Where one that is to leave has its place, it takes that.
+/// Adds a row to a table at a moment. Where one that has to be removed has its place, it takes
+/// that.
 fn add_row<S: Alter>(
     alloc: Global,
     transaction: &mut Transaction<'_, S>,
@@ -104,12 +99,11 @@ fn add_row<S: Alter>(
     moment: Moment,
     row: &PeriodRow,
     leaving: &mut BTreeSet<Place>,
-) -> Result<(), Refusal>
+) -> Result<(), StoreFault>
     ensures same_reference { transaction.new.conn.ghost_name ≡ transaction.old.conn.ghost_name }
     ensures made { CarriesBut S.Store transaction.old.conn.now transaction.new.conn.now result
         table moment leaving.old.keys leaving.new.keys (added_at table moment (row.now ∷ [])) }
     ensures inside { CommitsNothing S.Store transaction.old.conn.now transaction.new.conn.now }
-    ensures named { IfErr result IsStoreRefusal }
 {
     let new = new_row(alloc, row)?;
     if leaving.remove(&new.place) {
@@ -118,8 +112,8 @@ fn add_row<S: Alter>(
     insert_row(alloc, transaction, table, moment, &new)
 }
 
-/// Adds rows to a table at a moment. They take the places of rows that are to leave. Where none is,
-/// they are inserted together.
+/// Adds rows to a table at a moment. They take the places of rows that have to be removed. Where
+/// none has, they are inserted together.
 pub(crate) fn add_rows<S: Alter>(
     alloc: Global,
     transaction: &mut Transaction<'_, S>,
@@ -127,12 +121,11 @@ pub(crate) fn add_rows<S: Alter>(
     moment: Moment,
     rows: &[PeriodRow],
     leaving: &mut BTreeSet<Place>,
-) -> Result<(), Refusal>
+) -> Result<(), StoreFault>
     ensures same_reference { transaction.new.conn.ghost_name ≡ transaction.old.conn.ghost_name }
     ensures made { CarriesBut S.Store transaction.old.conn.now transaction.new.conn.now result
         table moment leaving.old.keys leaving.new.keys (added_at table moment rows.now) }
     ensures inside { CommitsNothing S.Store transaction.old.conn.now transaction.new.conn.now }
-    ensures named { IfErr result IsStoreRefusal }
 {
     if leaving.is_empty() {
         let new = new_rows(alloc, rows)?;

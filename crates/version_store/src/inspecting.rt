@@ -1,20 +1,18 @@
 //! A store that is there, judged.
 
 ghost use Rattle.std.specs.Prelude.{◌≡◌, [], false, IfErr, IfOk, IsTrue};
-ghost use Rattle.period_core.specs.declared.refusal.Refusal.TheVariants.{BadStore};
 ghost use Rattle.sqlite.specs.Held.{state};
 ghost use Rattle.sqlite.specs.State.{HasCleanDisk};
 ghost use Rattle.version_tables.specs.Good.{IsClock};
 ghost use Rattle.version_tables.specs.Steps.{Keeps};
 ghost use Rattle.version_tables.specs.Tables.{store_schema};
 ghost use Rattle.version_store.specs.GoodStore.{AreLawful, IsGoodStore, NothingMore};
-ghost use Rattle.version_store.specs.StoreState.{IsOpenRefusal};
 ghost use Rattle.version_store.specs.Written.{HasIn};
+ghost use Rattle.version_store.specs.declared.fault.OpenFault.TheVariants.{BadStore};
 
+use crate::fault::{OpenFault, StoreFault};
 use crate::judging::judge_rows;
-use crate::refused::refusal_of;
 use catalog_core::Catalog;
-use period_core::Refusal;
 use sqlite::Connection;
 use sqlite_trees::store::Alter;
 use std::alloc::Global;
@@ -28,7 +26,7 @@ use version_tables::{
 pub(crate) fn inspect<S: Alter>(
     alloc: Global,
     connection: &mut Connection<S>,
-) -> Result<(Catalog, Form, i64), Refusal>
+) -> Result<(Catalog, Form, i64), OpenFault>
     requires { connection.old.in_transaction ≡ false }
     ensures good { HasCleanDisk (state S.Store connection.new)
         → IsTrue (state S.Store connection.new).is_open
@@ -41,44 +39,31 @@ pub(crate) fn inspect<S: Alter>(
     ensures bad { HasCleanDisk (state S.Store connection.new)
         → IsTrue (state S.Store connection.new).is_open
         → (state S.Store connection.old).now.schema ≡ store_schema
-        → IfErr result (λ refusal. refusal ≡ BadStore
+        → IfErr result (λ fault. fault ≡ BadStore
         → ¬ IsGoodStore NothingMore (state S.Store connection.old).now) }
     ensures lawful { IfOk result (λ found. AreLawful [] found.0.tables) }
     ensures clock { IfOk result (λ found. IsClock found.1 found.2) }
     ensures same { HasCleanDisk (state S.Store connection.new)
         → Keeps (state S.Store connection.old) (state S.Store connection.new) }
     ensures mode { connection.new.in_transaction ≡ false }
-    ensures named { IfErr result IsOpenRefusal }
 {
     if !columns_there(connection) {
-        return Err(Refusal::BadStore);
+        return Err(OpenFault::BadStore);
     }
     // For the proof alone: while a connection is open, no two rows share a key.
     let _live = connection.schema();
-    let metas = match meta_rows(connection) {
-        Ok(rows) => rows,
-        Err(error) => return Err(refusal_of(&error)),
-    };
-    let tables = match table_rows(connection) {
-        Ok(rows) => rows,
-        Err(error) => return Err(refusal_of(&error)),
-    };
-    let versions = match version_rows(connection) {
-        Ok(rows) => rows,
-        Err(error) => return Err(refusal_of(&error)),
-    };
-    let ids = match rowids(connection) {
-        Ok(rows) => rows,
-        Err(error) => return Err(refusal_of(&error)),
-    };
+    let metas = meta_rows(connection)?;
+    let tables = table_rows(connection)?;
+    let versions = version_rows(connection)?;
+    let ids = rowids(connection)?;
     if !are_numbered(&ids) {
-        return Err(Refusal::Store);
+        return Err(OpenFault::Store(StoreFault::Database));
     }
     if !are_rising(&ids) {
-        return Err(Refusal::Store);
+        return Err(OpenFault::Store(StoreFault::Database));
     }
     if repeat_key(&versions) {
-        return Err(Refusal::BadStore);
+        return Err(OpenFault::BadStore);
     }
     judge_rows(alloc, &metas, &tables, &versions)
 }

@@ -5,14 +5,14 @@ ghost use Rattle.std.specs.List.{AllByRecursion};
 ghost use Rattle.catalog_core.specs.Limits.{most_tables};
 ghost use Rattle.catalog_core.specs.table.TableWords.{has_date_period, has_distinct_names};
 ghost use Rattle.catalog_core.specs.declared.table.TableDef.{TableDef as AnyTable};
-ghost use Rattle.period_core.specs.declared.refusal.Refusal.TheVariants.{BadStore};
 ghost use Rattle.version_tables.specs.declared.form.Form.{Form as AnyForm};
 ghost use Rattle.version_store.specs.GoodStore.{AreTables, IsTableRow, SayRows, SaysVersion};
-ghost use Rattle.version_store.specs.StoreState.{IsOpenRefusal};
+ghost use Rattle.version_store.specs.declared.fault.OpenFault.TheVariants.{BadStore};
 
+use crate::fault::OpenFault;
 use crate::row_values::are_row_values;
 use catalog_core::{Catalog, TableDef, decode_def, lawful};
-use period_core::{DecodeFault, Refusal, decode_values};
+use period_core::decode_values;
 use sqlite::Row;
 use std::alloc::Global;
 use version_tables::{Form, bytes_at, clock_of, is_definition, is_version, number_at};
@@ -21,54 +21,41 @@ use version_tables::{Form, bytes_at, clock_of, is_definition, is_version, number
 const MOST_TABLES: usize = 64;
 
 /// The definition that a row has behind those of the catalog.
-fn read_table(alloc: Global, catalog: &Catalog, row: &Row) -> Result<TableDef, Refusal>
+fn read_table(alloc: Global, catalog: &Catalog, row: &Row) -> Result<TableDef, OpenFault>
     requires { length catalog.now.tables ≤ most_tables }
     ensures good { IfOk result (IsTableRow catalog.now.tables row.now) }
     ensures dated { IfOk result (λ d. has_date_period d ≡ true) }
     ensures distinct { IfOk result (λ d. has_distinct_names d ≡ true) }
-    ensures bad { IfErr result (λ refusal. refusal ≡ BadStore
+    ensures bad { IfErr result (λ fault. fault ≡ BadStore
         → (d : AnyTable) → ¬ IsTableRow catalog.now.tables row.now d) }
-    ensures named { IfErr result IsOpenRefusal }
 {
     if !is_definition(row, catalog.len() as u32 + 1) {
-        return Err(Refusal::BadStore);
+        return Err(OpenFault::BadStore);
     }
     let Some(bytes) = bytes_at(row, 1) else {
-        return Err(Refusal::BadStore);
+        return Err(OpenFault::BadStore);
     };
-    match decode_def(alloc, bytes) {
-        Ok(definition) => {
-            if lawful(catalog, &definition) {
-                Ok(definition)
-            } else {
-                Err(Refusal::BadStore)
-            }
-        }
-        Err(DecodeFault::Memory) => Err(Refusal::Memory),
-        Err(DecodeFault::Malformed) => Err(Refusal::BadStore),
+    let definition = decode_def(alloc, bytes)?;
+    if lawful(catalog, &definition) {
+        Ok(definition)
+    } else {
+        Err(OpenFault::BadStore)
     }
 }
 
 /// The catalog of the definitions that the rows have.
-fn read_tables(alloc: Global, rows: &[Row]) -> Result<Catalog, Refusal>
+fn read_tables(alloc: Global, rows: &[Row]) -> Result<Catalog, OpenFault>
     ensures good { IfOk result (λ catalog. AreTables rows.now catalog.tables) }
-    ensures bad { IfErr result (λ refusal. refusal ≡ BadStore
+    ensures bad { IfErr result (λ fault. fault ≡ BadStore
         → (tables : List AnyTable) → ¬ AreTables rows.now tables) }
-    ensures named { IfErr result IsOpenRefusal }
 {
     let mut catalog = Catalog::new(alloc);
     if rows.len() > MOST_TABLES {
-        return Err(Refusal::BadStore);
+        return Err(OpenFault::BadStore);
     }
     for row in rows {
-        match read_table(alloc, &catalog, row) {
-            Ok(definition) => {
-                let Ok(()) = catalog.push(definition) else {
-                    return Err(Refusal::Memory);
-                };
-            }
-            Err(refusal) => return Err(refusal),
-        }
+        let definition = read_table(alloc, &catalog, row)?;
+        catalog.push(definition)?;
     }
     Ok(catalog)
 }
@@ -80,37 +67,31 @@ fn judge_version(
     catalog: &Catalog,
     clock: i64,
     row: &Row,
-) -> Result<(), Refusal>
+) -> Result<(), OpenFault>
     ensures good { IfOk result (λ _. SaysVersion form catalog.now.tables clock row.now) }
-    ensures bad { IfErr result (λ refusal. refusal ≡ BadStore
+    ensures bad { IfErr result (λ fault. fault ≡ BadStore
         → ¬ SaysVersion form catalog.now.tables clock row.now) }
-    ensures named { IfErr result IsOpenRefusal }
 {
     if !is_version(row, form, clock, catalog.len() as u32) {
-        return Err(Refusal::BadStore);
+        return Err(OpenFault::BadStore);
     }
     let Some(number) = number_at(row, 0) else {
-        return Err(Refusal::BadStore);
+        return Err(OpenFault::BadStore);
     };
     let Some(bytes) = bytes_at(row, 1) else {
-        return Err(Refusal::BadStore);
+        return Err(OpenFault::BadStore);
     };
     let Ok(number) = u8::try_from(number) else {
-        return Err(Refusal::BadStore);
+        return Err(OpenFault::BadStore);
     };
     let Some(definition) = catalog.def(number) else {
-        return Err(Refusal::BadStore);
+        return Err(OpenFault::BadStore);
     };
-    match decode_values(alloc, bytes) {
-        Ok(values) => {
-            if !are_row_values(definition, values.as_slice()) {
-                return Err(Refusal::BadStore);
-            }
-            Ok(())
-        }
-        Err(DecodeFault::Memory) => Err(Refusal::Memory),
-        Err(DecodeFault::Malformed) => Err(Refusal::BadStore),
+    let values = decode_values(alloc, bytes)?;
+    if !are_row_values(definition, values.as_slice()) {
+        return Err(OpenFault::BadStore);
     }
+    Ok(())
 }
 
 /// Judges the rows of the versions.
@@ -120,12 +101,11 @@ fn judge_versions(
     catalog: &Catalog,
     clock: i64,
     rows: &[Row],
-) -> Result<(), Refusal>
+) -> Result<(), OpenFault>
     ensures good { IfOk result
         (λ _. AllByRecursion (SaysVersion form catalog.now.tables clock) rows.now) }
-    ensures bad { IfErr result (λ refusal. refusal ≡ BadStore
+    ensures bad { IfErr result (λ fault. fault ≡ BadStore
         → ¬ AllByRecursion (SaysVersion form catalog.now.tables clock) rows.now) }
-    ensures named { IfErr result IsOpenRefusal }
 {
     for row in rows {
         judge_version(alloc, form, catalog, clock, row)?;
@@ -140,23 +120,17 @@ pub(crate) fn judge_rows(
     metas: &[Row],
     tables: &[Row],
     versions: &[Row],
-) -> Result<(Catalog, Form, i64), Refusal>
+) -> Result<(Catalog, Form, i64), OpenFault>
     ensures good { IfOk result (λ found.
         SayRows metas.now tables.now versions.now found.0.tables found.1 found.2) }
-    ensures bad { IfErr result (λ refusal. refusal ≡ BadStore
+    ensures bad { IfErr result (λ fault. fault ≡ BadStore
         → (known : List AnyTable) (form : AnyForm) (clock : ℤ)
         → ¬ SayRows metas.now tables.now versions.now known form clock) }
-    ensures named { IfErr result IsOpenRefusal }
 {
     let Some((form, clock)) = clock_of(metas) else {
-        return Err(Refusal::BadStore);
+        return Err(OpenFault::BadStore);
     };
-    let catalog = match read_tables(alloc, tables) {
-        Ok(catalog) => catalog,
-        Err(refusal) => return Err(refusal),
-    };
-    match judge_versions(alloc, form, &catalog, clock, versions) {
-        Ok(()) => Ok((catalog, form, clock)),
-        Err(refusal) => Err(refusal),
-    }
+    let catalog = read_tables(alloc, tables)?;
+    judge_versions(alloc, form, &catalog, clock, versions)?;
+    Ok((catalog, form, clock))
 }

@@ -5,13 +5,13 @@
 #![tactic(auto)]
 
 mod adding;
+mod fault;
 mod inspecting;
 mod judging;
 pub mod laws;
 mod place;
 mod plans;
 mod reading;
-mod refused;
 mod row_values;
 mod scanning;
 mod store;

@@ -1,24 +1,23 @@
 //! Rows as a plan's change writes them.
 
-ghost use Rattle.std.specs.Prelude.{◌≡◌, ℕ, ℤ, map, IfErr, IfOk};
+ghost use Rattle.std.specs.Prelude.{◌≡◌, ℕ, ℤ, map, IfOk};
 ghost use Rattle.std.specs.List.{All, AllByRecursion};
 ghost use Rattle.period_core.specs.Encoding.{IsColumnValue, encoded};
 ghost use Rattle.period_core.specs.Moments.{forever};
 ghost use Rattle.version_tables.specs.Represents.{new_version};
 ghost use Rattle.version_store.specs.Contents.{added_in};
 ghost use Rattle.version_store.specs.Written.{written_version};
-ghost use Rattle.version_store.specs.StoreState.{IsStoreRefusal};
 
-use period_core::{Period, PeriodRow, Refusal, Values, encode_values};
+use crate::fault::StoreFault;
+use period_core::{Period, PeriodRow, Values, encode_values};
 use std::alloc::Global;
 use version_tables::{NewRow, Place};
 
 /// The place of a row with these values and this period.
-pub(crate) fn place_of(alloc: Global, values: &Values, period: Period) -> Result<Place, Refusal>
+pub(crate) fn place_of(alloc: Global, values: &Values, period: Period) -> Result<Place, StoreFault>
     ensures bytes { IfOk result (λ place. place.values.items ≡ encoded values.now) }
     ensures start { IfOk result (λ place. place.start ≡ period.start) }
     ensures held { IfOk result (λ _. All IsColumnValue values.now) }
-    ensures named { IfErr result IsStoreRefusal }
 {
     Ok(Place {
         values: encode_values(alloc, values.as_slice())?,
@@ -27,12 +26,11 @@ pub(crate) fn place_of(alloc: Global, values: &Values, period: Period) -> Result
 }
 
 /// A row as it is added.
-pub(crate) fn new_row(alloc: Global, row: &PeriodRow) -> Result<NewRow, Refusal>
+pub(crate) fn new_row(alloc: Global, row: &PeriodRow) -> Result<NewRow, StoreFault>
     ensures bytes { IfOk result (λ new. new.place.values.items ≡ encoded row.now.values) }
     ensures start { IfOk result (λ new. new.place.start ≡ row.now.period.start) }
     ensures end { IfOk result (λ new. new.end ≡ row.now.period.end) }
     ensures held { IfOk result (λ _. All IsColumnValue row.now.values) }
-    ensures named { IfErr result IsStoreRefusal }
 {
     Ok(NewRow {
         place: place_of(alloc, &row.values, row.period)?,
@@ -41,22 +39,16 @@ pub(crate) fn new_row(alloc: Global, row: &PeriodRow) -> Result<NewRow, Refusal>
 }
 
 /// Rows as they are added.
-pub(crate) fn new_rows(alloc: Global, rows: &[PeriodRow]) -> Result<Vec<NewRow>, Refusal>
+pub(crate) fn new_rows(alloc: Global, rows: &[PeriodRow]) -> Result<Vec<NewRow>, StoreFault>
     ensures same { IfOk result (λ new. (table : ℕ) (moment : ℤ)
         → map (new_version table moment forever) new.items
         ≡ map (λ row. written_version (added_in table moment forever row)) rows.now) }
     ensures held { IfOk result
         (λ _. AllByRecursion (λ row. All IsColumnValue row.values) rows.now) }
-    ensures named { IfErr result IsStoreRefusal }
 {
-    let Ok(mut new) = Vec::with_capacity(alloc, rows.len()) else {
-        return Err(Refusal::Memory);
-    };
+    let mut new = Vec::with_capacity(alloc, rows.len())?;
     for row in rows {
-        let row = new_row(alloc, row)?;
-        let Ok(()) = new.push(row) else {
-            return Err(Refusal::Memory);
-        };
+        new.push(new_row(alloc, row)?)?;
     }
     Ok(new)
 }

@@ -1,26 +1,25 @@
 //! What a plan makes of a table, step by step inside a transaction: rows end, others are added, and
 //! last those are removed that ended as they began, where none was added at their place.
 
-ghost use Rattle.std.specs.Prelude.{◌≡◌, ◌∷◌, [], IfErr, OnOk};
+ghost use Rattle.std.specs.Prelude.{◌≡◌, ◌∷◌, [], OnOk};
 ghost use Rattle.version_tables.specs.Represents.{removed};
 ghost use Rattle.version_tables.specs.Steps.{ChangesRecords, CommitsNothing};
 ghost use Rattle.version_store.specs.Changed.{ended_at, planned};
 ghost use Rattle.version_store.specs.Leaving.{CarriesBut, key_at};
-ghost use Rattle.version_store.specs.StoreState.{IsStoreRefusal};
 ghost use Rattle.version_store.specs.Steps.{Carries};
 
 use crate::adding::add_rows;
+use crate::fault::StoreFault;
 use crate::place::place_of;
-use crate::refused::refusal_of;
 use catalog_core::Plan;
-use period_core::{Moment, Refusal, VersionRow};
+use period_core::{Moment, VersionRow};
 use sqlite::Transaction;
 use sqlite_trees::store::Alter;
 use std::alloc::Global;
 use std::collections::BTreeSet;
 use version_tables::{Place, end_version, remove_version};
 
-/// Ends a row of a table at a moment. If it began then, it is to leave.
+/// Ends a row of a table at a moment. If it began then, it has to be removed.
 fn end_row<S: Alter>(
     alloc: Global,
     transaction: &mut Transaction<'_, S>,
@@ -28,35 +27,30 @@ fn end_row<S: Alter>(
     moment: Moment,
     row: &VersionRow,
     leaving: &mut BTreeSet<Place>,
-) -> Result<(), Refusal>
+) -> Result<(), StoreFault>
     ensures same_reference { transaction.new.conn.ghost_name ≡ transaction.old.conn.ghost_name }
     ensures made { CarriesBut S.Store transaction.old.conn.now transaction.new.conn.now result
         table moment leaving.old.keys leaving.new.keys (ended_at table moment (row.now ∷ [])) }
     ensures inside { CommitsNothing S.Store transaction.old.conn.now transaction.new.conn.now }
-    ensures named { IfErr result IsStoreRefusal }
 {
     let place = place_of(alloc, &row.values, row.period)?;
     let from = row.from.number();
     if from == moment.number() {
-        return match leaving.insert(place) {
-            Ok(_) => Ok(()),
-            Err(_) => Err(Refusal::Memory),
-        };
+        leaving.insert(place)?;
+        return Ok(());
     }
-    match end_version(
+    end_version(
         transaction,
         u32::from(table),
         place.values.as_slice(),
         place.start,
         from,
         moment.number(),
-    ) {
-        Ok(_) => Ok(()),
-        Err(error) => Err(refusal_of(&error)),
-    }
+    )?;
+    Ok(())
 }
 
-/// Ends rows of a table at a moment. Those that began then are to leave.
+/// Ends rows of a table at a moment. Those that began then have to be removed.
 fn end_rows<S: Alter>(
     alloc: Global,
     transaction: &mut Transaction<'_, S>,
@@ -64,12 +58,11 @@ fn end_rows<S: Alter>(
     moment: Moment,
     rows: &[VersionRow],
     leaving: &mut BTreeSet<Place>,
-) -> Result<(), Refusal>
+) -> Result<(), StoreFault>
     ensures same_reference { transaction.new.conn.ghost_name ≡ transaction.old.conn.ghost_name }
     ensures made { CarriesBut S.Store transaction.old.conn.now transaction.new.conn.now result
         table moment leaving.old.keys leaving.new.keys (ended_at table moment rows.now) }
     ensures inside { CommitsNothing S.Store transaction.old.conn.now transaction.new.conn.now }
-    ensures named { IfErr result IsStoreRefusal }
 {
     for row in rows {
         end_row(alloc, transaction, table, moment, row, leaving)?;
@@ -83,37 +76,33 @@ fn remove_row<S: Alter>(
     table: u8,
     moment: Moment,
     place: &Place,
-) -> Result<(), Refusal>
+) -> Result<(), StoreFault>
     ensures same_reference { transaction.new.conn.ghost_name ≡ transaction.old.conn.ghost_name }
     ensures made { ChangesRecords S.Store transaction.old.conn.now transaction.new.conn.now result
         (removed (key_at table moment place.now)) }
     ensures inside { CommitsNothing S.Store transaction.old.conn.now transaction.new.conn.now }
-    ensures named { IfErr result IsStoreRefusal }
 {
-    match remove_version(
+    remove_version(
         transaction,
         u32::from(table),
         place.values.as_slice(),
         place.start,
         moment.number(),
-    ) {
-        Ok(_) => Ok(()),
-        Err(error) => Err(refusal_of(&error)),
-    }
+    )?;
+    Ok(())
 }
 
-/// Removes what is still to leave.
+/// Removes those that still have to be removed.
 fn remove_rows<S: Alter>(
     transaction: &mut Transaction<'_, S>,
     table: u8,
     moment: Moment,
     leaving: &mut BTreeSet<Place>,
-) -> Result<(), Refusal>
+) -> Result<(), StoreFault>
     ensures same_reference { transaction.new.conn.ghost_name ≡ transaction.old.conn.ghost_name }
     ensures made { CarriesBut S.Store transaction.old.conn.now transaction.new.conn.now result
         table moment leaving.old.keys [] (λ c. c) }
     ensures inside { CommitsNothing S.Store transaction.old.conn.now transaction.new.conn.now }
-    ensures named { IfErr result IsStoreRefusal }
 {
     'places: while let Some(place) = leaving.pop_first() {
         remove_row(transaction, table, moment, &place)?;
@@ -128,12 +117,11 @@ pub(crate) fn put_plan<S: Alter>(
     table: u8,
     moment: Moment,
     plan: &Plan,
-) -> Result<(), Refusal>
+) -> Result<(), StoreFault>
     ensures same_reference { transaction.new.conn.ghost_name ≡ transaction.old.conn.ghost_name }
     ensures made { Carries S.Store transaction.old.conn.now transaction.new.conn.now result
         (planned table moment plan.now.ended plan.now.added) }
     ensures inside { CommitsNothing S.Store transaction.old.conn.now transaction.new.conn.now }
-    ensures named { IfErr result IsStoreRefusal }
 {
     let mut leaving = BTreeSet::new(alloc);
     end_rows(

@@ -4,17 +4,17 @@ ghost use Rattle.std.specs.Prelude.{◌≡◌, ◌≢◌, ℤ, IfErr, IfOk, Matc
 ghost use Rattle.std.specs.List.{All};
 ghost use Rattle.period_core.specs.Calendar.{IsDayNumber};
 ghost use Rattle.period_core.specs.Encoding.{IsColumnValue};
-ghost use Rattle.period_core.specs.declared.refusal.Refusal.TheVariants.{Store};
 ghost use Rattle.version_tables.specs.Forms.{IsNumberIn, end_in, moment_in};
 ghost use Rattle.version_tables.specs.Good.{AreDays};
 ghost use Rattle.version_tables.specs.Represents.{shown};
 ghost use Rattle.version_tables.specs.Rows.{IsNumberAt};
 ghost use Rattle.version_store.specs.Contents.{IsDated, TableVersion, version_in};
-ghost use Rattle.version_store.specs.StoreState.{IsStoreRefusal};
 ghost use Rattle.version_store.specs.Units.{version_of};
 ghost use Rattle.version_store.specs.Written.{written_version};
+ghost use Rattle.version_store.specs.declared.fault.StoreFault.TheVariants.{Database};
 
-use period_core::{Day, DecodeFault, Moment, Period, Refusal, Values, VersionRow, decode_values};
+use crate::fault::StoreFault;
+use period_core::{Day, Moment, Period, Values, VersionRow, decode_values};
 use sqlite::Row;
 use std::alloc::Global;
 use version_tables::{Form, bytes_at, number_at};
@@ -59,39 +59,35 @@ fn period_at(row: &Row, start: usize, end: usize) -> Option<Period>
 /// The version row that a row of the query shows: its values as bytes, its period, its moments. The
 /// row of a version that has days, moments and values of columns is always read, but for memory.
 /// Its numbers are in the form's unit.
-pub(crate) fn read_version(alloc: Global, form: Form, row: &Row) -> Result<VersionRow, Refusal>
+pub(crate) fn read_version(alloc: Global, form: Form, row: &Row) -> Result<VersionRow, StoreFault>
     ensures shown { IfOk result (λ version. (v : TableVersion)
         × (row.now ≡ shown (written_version v))
         × (version_in v.table version ≡ version_of form v)) }
     ensures values { IfOk result (λ version. All IsColumnValue version.values) }
-    ensures bad { IfErr result (λ refusal. refusal ≡ Store
+    ensures bad { IfErr result (λ fault. fault ≡ Database
         → (v : TableVersion) → IsDated (version_of form v) → All IsColumnValue v.values
         → row.now ≢ shown (written_version v)) }
-    ensures named { IfErr result IsStoreRefusal }
 {
     if row.column_count() != 5 {
-        return Err(Refusal::Store);
+        return Err(StoreFault::Database);
     }
     let Some(bytes) = bytes_at(row, 0) else {
-        return Err(Refusal::Store);
+        return Err(StoreFault::Database);
     };
     let Some(period) = period_at(row, 1, 2) else {
-        return Err(Refusal::Store);
+        return Err(StoreFault::Database);
     };
     let Some(from) = moment_at(row, form, 3) else {
-        return Err(Refusal::Store);
+        return Err(StoreFault::Database);
     };
     let Some(to) = end_at(row, form, 4) else {
-        return Err(Refusal::Store);
+        return Err(StoreFault::Database);
     };
-    match decode_values(alloc, bytes) {
-        Ok(values) => Ok(VersionRow {
-            values: Values::from_vec(values),
-            period,
-            from,
-            to,
-        }),
-        Err(DecodeFault::Memory) => Err(Refusal::Memory),
-        Err(DecodeFault::Malformed) => Err(Refusal::Store),
-    }
+    let values = decode_values(alloc, bytes)?;
+    Ok(VersionRow {
+        values: Values::from_vec(values),
+        period,
+        from,
+        to,
+    })
 }

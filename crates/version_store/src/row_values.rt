@@ -1,10 +1,9 @@
 //! Whether values are those of a row of a table.
 
 ghost use Rattle.std.specs.Prelude.{◌≡◌};
-ghost use Rattle.catalog_core.specs.table.TableWords.{is_value_column};
 ghost use Rattle.version_store.specs.RowValues.{are_row_values, is_of_column};
 
-use catalog_core::{Column, ColumnKind, TableDef};
+use catalog_core::{ColumnKind, TableDef, is_value_column};
 use period_core::Value;
 
 /// Whether a value is of a column's kind, and no longer than the column takes.
@@ -16,23 +15,6 @@ fn is_of_column(kind: ColumnKind, value: &Value) -> bool
         (ColumnKind::Varchar(n), Value::Text(text)) => text.char_count() <= usize::from(n),
         (ColumnKind::Date, Value::Date(_)) => true,
         _ => false,
-    }
-}
-
-/// Whether the column that is declared at a place is a value column.
-#[tactic(auto, unfolding(catalog_core::specs::table::TableWords::is_value_column))]
-fn is_value_column(table: &TableDef, place: usize, column: &Column) -> bool
-    ensures { result ≡ is_value_column table.now (place, column.now) }
-{
-    if place == table.period.start || place == table.period.end {
-        return false;
-    }
-    match column.kind {
-        ColumnKind::Integer => true,
-        ColumnKind::Varchar(_) => true,
-        ColumnKind::Date => true,
-        ColumnKind::RowStart(_) => false,
-        ColumnKind::RowEnd(_) => false,
     }
 }
 

@@ -22,8 +22,8 @@ ghost use Rattle.version_store.specs.StoreState.{IsFailure, IsStoreRefusal, IsUs
 ghost use Rattle.version_store.specs.Units.{in_microseconds, version_of};
 ghost use Rattle.version_store.specs.Written.{Has, HasIn, written_version};
 
+use crate::fault::refusal_of;
 use crate::reading::read_version;
-use crate::refused::refusal_of;
 use crate::visitor::{KeptRows, RowVisitor};
 use period_core::{Moment, Refusal, VersionRow, Window};
 use sqlite::{Connection, Row};
@@ -81,10 +81,8 @@ fn visit_row<V: RowVisitor>(
         → IfErr result (λ refusal.
         IsOwnRefusal V.may_refuse (V.answered visitor.new) refusal ⊎ (refusal ≡ Memory)) }
 {
-    match read_version(alloc, form, row) {
-        Ok(version) => visitor.visit(version),
-        Err(refusal) => Err(refusal),
-    }
+    let version = read_version(alloc, form, row)?;
+    visitor.visit(version)
 }
 
 /// Hands the selected version rows of the table of a number over to the visitor, in order. The
@@ -229,8 +227,6 @@ pub(crate) fn table_rows<S: Alter>(
     ensures named { IfErr result IsStoreRefusal }
 {
     let mut kept = KeptRows::new(alloc);
-    match scan_selected(alloc, form, connection, table, Selection::Whole, &mut kept) {
-        Ok(()) => Ok(kept.rows),
-        Err(refusal) => Err(refusal),
-    }
+    scan_selected(alloc, form, connection, table, Selection::Whole, &mut kept)?;
+    Ok(kept.rows)
 }

@@ -16,7 +16,7 @@ ghost use Rattle.version_store.specs.Scans.{AnswersRefusal, IsOwnRefusal, Visits
 ghost use Rattle.version_store.specs.StoreState.{Changes, IsFailure, IsOnlyRead, IsStoreRefusal};
 ghost use Rattle.version_store.specs.StoreState.{IsUsable, StoreRepresents};
 
-use crate::refused::refusal_of;
+use crate::fault::refusal_of;
 use crate::scanning::{scan_rows, table_rows};
 use crate::visitor::RowVisitor;
 use crate::writing::{write_clock, write_plan, write_table};
@@ -138,18 +138,14 @@ impl<S: Alter> VersionStore<S> {
             → IsUsable S.Store self.old.connection }
         ensures named { IfErr result IsStoreRefusal }
     {
-        let Ok(bytes) = encode_def(alloc, &definition) else {
-            return Err(Refusal::Memory);
-        };
+        let bytes = encode_def(alloc, &definition)?;
         let number = self.catalog.len() as u32 + 1;
-        let Ok(()) = self.catalog.push(definition) else {
-            return Err(Refusal::Memory);
-        };
+        self.catalog.push(definition)?;
         match write_table(&mut self.connection, number, bytes.as_slice()) {
             Ok(()) => Ok(()),
-            Err(refusal) => {
+            Err(fault) => {
                 take_last(alloc, &mut self.catalog);
-                Err(refusal)
+                Err(Refusal::from(fault))
             }
         }
     }
@@ -167,13 +163,9 @@ impl<S: Alter> VersionStore<S> {
             → IsUsable S.Store self.old.connection }
         ensures named { IfErr result IsStoreRefusal }
     {
-        match write_clock(&mut self.connection, moment) {
-            Ok(()) => {
-                self.clock = moment;
-                Ok(())
-            }
-            Err(refusal) => Err(refusal),
-        }
+        write_clock(&mut self.connection, moment)?;
+        self.clock = moment;
+        Ok(())
     }
 
     /// Makes what a plan says of the table of a number at a moment: its ended rows are closed then,
@@ -199,7 +191,8 @@ impl<S: Alter> VersionStore<S> {
     {
         // For the proof alone: while a connection is open, no two rows share a key.
         let _live = self.connection.schema();
-        write_plan(alloc, &mut self.connection, table, moment, plan)
+        write_plan(alloc, &mut self.connection, table, moment, plan)?;
+        Ok(())
     }
 
     /// The version rows of the table of a number, by values, then period start, then system start.

@@ -1,4 +1,4 @@
-//! Who is handed the rows of a scan.
+//! Visitors, which take the rows of a scan.
 
 ghost use Rattle.std.specs.Prelude.{◌≡◌, ◌++◌, ◌∷◌, [], List, OnErr, OnOk, IfErr};
 ghost use Rattle.std.specs.Prelude.{None, Option, Some};
@@ -9,8 +9,8 @@ ghost use Rattle.period_core.specs.declared.version.VersionRow.{VersionRow as An
 use period_core::{Refusal, VersionRow};
 use std::alloc::Global;
 
-/// One who is handed version rows, one at a time. What it makes of them is its meaning: each row
-/// that it takes leads from one meaning to the next.
+/// A visitor, which takes version rows one at a time. What it makes of them is its meaning: each
+/// row that it takes leads from one meaning to the next.
 pub trait RowVisitor {
     /// What it can mean.
     ghost Meaning: { Type 0 };
@@ -24,8 +24,7 @@ pub trait RowVisitor {
     /// Which refusals it may answer.
     ghost may_refuse: { AnyRefusal → Type 0 };
 
-    /// What it tells of how it answered last: by a refusal, or by none. One that keeps nothing of
-    /// it tells nothing.
+    /// How it answered last: by a refusal, or by none. A visitor may leave this open.
     ghost answered: { Self → Option AnyRefusal → Type 0 };
 
     /// Takes a row, or refuses it. A refused row leaves the meaning.
@@ -37,7 +36,7 @@ pub trait RowVisitor {
         ensures refuses { IfErr result (λ refusal. answered self.new (Some refusal)) };
 }
 
-/// A visitor that keeps all rows, in the order in which it is handed them.
+/// A visitor that keeps all rows, in the order in which it takes them.
 #[derive(Drop, Debug)]
 pub struct KeptRows {
     /// The rows so far.
@@ -68,9 +67,7 @@ impl RowVisitor for KeptRows {
     ghost answered = { λ _ _. Unit {0} };
 
     fn visit(&mut self, row: VersionRow) -> Result<(), Refusal> {
-        match self.rows.push(row) {
-            Ok(()) => Ok(()),
-            Err(_) => Err(Refusal::Memory),
-        }
+        self.rows.push(row)?;
+        Ok(())
     }
 }

@@ -1,17 +1,17 @@
 //! The changes: inside a transaction, and each whole in one of its own.
 
-ghost use Rattle.std.specs.Prelude.{◌≡◌, ◌+◌, false, length, IfErr};
+ghost use Rattle.std.specs.Prelude.{◌≡◌, ◌+◌, false, length};
 ghost use Rattle.version_tables.specs.Moves.{AreInSeconds, moved};
 ghost use Rattle.version_tables.specs.Represents.{with_definition};
 ghost use Rattle.version_store.specs.Changed.{planned, with_clock};
-ghost use Rattle.version_store.specs.StoreState.{IsStoreRefusal, IsUsable};
+ghost use Rattle.version_store.specs.StoreState.{IsUsable};
 ghost use Rattle.version_store.specs.Steps.{Carries, Commits, CommitsWhere, Undoes};
 ghost use Rattle.version_tables.specs.Steps.{CommitsNothing, ChangesWhere};
 
+use crate::fault::StoreFault;
 use crate::plans::put_plan;
-use crate::refused::refusal_of;
 use catalog_core::Plan;
-use period_core::{Moment, Refusal};
+use period_core::Moment;
 use sqlite::{Connection, Transaction};
 use sqlite_trees::store::Alter;
 use std::alloc::Global;
@@ -24,23 +24,20 @@ pub(crate) fn write_plan<S: Alter>(
     table: u8,
     moment: Moment,
     plan: &Plan,
-) -> Result<(), Refusal>
+) -> Result<(), StoreFault>
     requires { connection.old.in_transaction ≡ false }
     ensures made { Commits S.Store connection.old connection.new result
         (planned table moment plan.now.ended plan.now.added) }
     ensures none { Undoes S.Store connection.old connection.new result }
     ensures usable { IsUsable S.Store connection.new → IsUsable S.Store connection.old }
     ensures mode { connection.new.in_transaction ≡ false }
-    ensures named { IfErr result IsStoreRefusal }
 {
     // For the proof alone: whether a transaction is open is known by this call.
     let _settled = connection.is_autocommit();
     let mut transaction = connection.transaction();
     put_plan(alloc, &mut transaction, table, moment, plan)?;
-    match transaction.commit() {
-        Ok(()) => Ok(()),
-        Err(error) => Err(refusal_of(&error)),
-    }
+    transaction.commit()?;
+    Ok(())
 }
 
 /// Adds the bytes of the definition that follows the others.
@@ -48,31 +45,28 @@ fn put_table<S: Alter>(
     transaction: &mut Transaction<'_, S>,
     number: u32,
     definition: &[u8],
-) -> Result<(), Refusal>
+) -> Result<(), StoreFault>
     ensures same_reference { transaction.new.conn.ghost_name ≡ transaction.old.conn.ghost_name }
     ensures made { ChangesWhere S.Store transaction.old.conn.now transaction.new.conn.now result
         (λ records. number ≡ length records.tables + 1) (with_definition definition.now) }
     ensures inside { CommitsNothing S.Store transaction.old.conn.now transaction.new.conn.now }
-    ensures named { IfErr result IsStoreRefusal }
 {
-    match insert_definition(transaction, number, definition) {
-        Ok(_) => Ok(()),
-        Err(error) => Err(refusal_of(&error)),
-    }
+    insert_definition(transaction, number, definition)?;
+    Ok(())
 }
 
 /// Sets the clock.
-fn put_clock<S: Alter>(transaction: &mut Transaction<'_, S>, moment: Moment) -> Result<(), Refusal>
+fn put_clock<S: Alter>(
+    transaction: &mut Transaction<'_, S>,
+    moment: Moment,
+) -> Result<(), StoreFault>
     ensures same_reference { transaction.new.conn.ghost_name ≡ transaction.old.conn.ghost_name }
     ensures made { Carries S.Store transaction.old.conn.now transaction.new.conn.now result
         (with_clock moment) }
     ensures inside { CommitsNothing S.Store transaction.old.conn.now transaction.new.conn.now }
-    ensures named { IfErr result IsStoreRefusal }
 {
-    match set_clock(transaction, moment.number()) {
-        Ok(_) => Ok(()),
-        Err(error) => Err(refusal_of(&error)),
-    }
+    set_clock(transaction, moment.number())?;
+    Ok(())
 }
 
 /// Adds the bytes of the definition that follows the others in one transaction, or nothing.
@@ -80,62 +74,53 @@ pub(crate) fn write_table<S: Alter>(
     connection: &mut Connection<S>,
     number: u32,
     definition: &[u8],
-) -> Result<(), Refusal>
+) -> Result<(), StoreFault>
     requires { connection.old.in_transaction ≡ false }
     ensures made { CommitsWhere S.Store connection.old connection.new result
         (λ records. number ≡ length records.tables + 1) (with_definition definition.now) }
     ensures none { Undoes S.Store connection.old connection.new result }
     ensures usable { IsUsable S.Store connection.new → IsUsable S.Store connection.old }
     ensures mode { connection.new.in_transaction ≡ false }
-    ensures named { IfErr result IsStoreRefusal }
 {
     // For the proof alone: whether a transaction is open is known by this call.
     let _settled = connection.is_autocommit();
     let mut transaction = connection.transaction();
     put_table(&mut transaction, number, definition)?;
-    match transaction.commit() {
-        Ok(()) => Ok(()),
-        Err(error) => Err(refusal_of(&error)),
-    }
+    transaction.commit()?;
+    Ok(())
 }
 
 /// Sets the clock in one transaction, or not at all.
 pub(crate) fn write_clock<S: Alter>(
     connection: &mut Connection<S>,
     moment: Moment,
-) -> Result<(), Refusal>
+) -> Result<(), StoreFault>
     requires { connection.old.in_transaction ≡ false }
     ensures made { Commits S.Store connection.old connection.new result (with_clock moment) }
     ensures none { Undoes S.Store connection.old connection.new result }
     ensures usable { IsUsable S.Store connection.new → IsUsable S.Store connection.old }
     ensures mode { connection.new.in_transaction ≡ false }
-    ensures named { IfErr result IsStoreRefusal }
 {
     // For the proof alone: whether a transaction is open is known by this call.
     let _settled = connection.is_autocommit();
     let mut transaction = connection.transaction();
     put_clock(&mut transaction, moment)?;
-    match transaction.commit() {
-        Ok(()) => Ok(()),
-        Err(error) => Err(refusal_of(&error)),
-    }
+    transaction.commit()?;
+    Ok(())
 }
 
 /// Counts the moments in microseconds, where they are seconds.
 fn put_microseconds<S: Alter>(
     transaction: &mut Transaction<'_, S>,
     clock: Moment,
-) -> Result<(), Refusal>
+) -> Result<(), StoreFault>
     ensures same_reference { transaction.new.conn.ghost_name ≡ transaction.old.conn.ghost_name }
     ensures made { ChangesWhere S.Store transaction.old.conn.now transaction.new.conn.now result
         (AreInSeconds clock) moved }
     ensures inside { CommitsNothing S.Store transaction.old.conn.now transaction.new.conn.now }
-    ensures named { IfErr result IsStoreRefusal }
 {
-    match move_to_microseconds(transaction, clock.number()) {
-        Ok(()) => Ok(()),
-        Err(error) => Err(refusal_of(&error)),
-    }
+    move_to_microseconds(transaction, clock.number())?;
+    Ok(())
 }
 
 /// Moves a database of form 1 to form 2 in one transaction, or not at all. The clock is its clock
@@ -143,21 +128,18 @@ fn put_microseconds<S: Alter>(
 pub(crate) fn write_move<S: Alter>(
     connection: &mut Connection<S>,
     clock: Moment,
-) -> Result<(), Refusal>
+) -> Result<(), StoreFault>
     requires { connection.old.in_transaction ≡ false }
     ensures made { CommitsWhere S.Store connection.old connection.new result
         (AreInSeconds clock) moved }
     ensures none { Undoes S.Store connection.old connection.new result }
     ensures usable { IsUsable S.Store connection.new → IsUsable S.Store connection.old }
     ensures mode { connection.new.in_transaction ≡ false }
-    ensures named { IfErr result IsStoreRefusal }
 {
     // For the proof alone: whether a transaction is open is known by this call.
     let _settled = connection.is_autocommit();
     let mut transaction = connection.transaction();
     put_microseconds(&mut transaction, clock)?;
-    match transaction.commit() {
-        Ok(()) => Ok(()),
-        Err(error) => Err(refusal_of(&error)),
-    }
+    transaction.commit()?;
+    Ok(())
 }

@@ -127,7 +127,7 @@ impl<S: Alter> OpenedStore<S> {
             Form::Microseconds => Ok(store),
             Form::Seconds => match write_move(&mut store.connection, store.clock) {
                 Ok(()) => Ok(store),
-                Err(refusal) => Err((refusal, store.close())),
+                Err(fault) => Err((Refusal::from(fault), store.close())),
             },
         }
     }
@@ -209,7 +209,7 @@ impl<S: Alter> VersionStore<S> {
                     }
                     None => Err((Refusal::BadStore, connection)),
                 },
-                Err(refusal) => Err((refusal, connection)),
+                Err(fault) => Err((Refusal::from(fault), connection)),
             },
         }
     }

@@ -17,24 +17,24 @@ use Rattle.version_store.proofs.inspecting.inspect.Goals as goal
 pub returns-clause-good : goal.returns-clause-good
 returns-clause-good g c clean on has =
     let old = (state g.S.Store c.args.connection.now).now in
-    let clean3 = c.in-Ok-rowids.ensures.reads.clean clean in
-    let clean2 = c.in-Ok-version_rows.ensures.reads.clean clean3 in
-    let clean1 = c.in-Ok-table_rows.ensures.reads.clean clean2 in
-    let u1 = c.in-Ok.ensures.reads.unchanged clean1 in
+    let clean3 = c.in_ok-ids.ensures.reads.clean clean in
+    let clean2 = c.in_ok-versions.ensures.reads.clean clean3 in
+    let clean1 = c.in_ok-tables.ensures.reads.clean clean2 in
+    let u1 = c.in_ok-metas.ensures.reads.unchanged clean1 in
     let now1 = u1.0.now_is in
     let has1 = ap (λ (d : Database). d.schema) now1 ∙ has in
-    let u2 = c.in-Ok-table_rows.ensures.reads.unchanged clean2 in
+    let u2 = c.in_ok-tables.ensures.reads.unchanged clean2 in
     let now2 = u2.0.now_is ∙ now1 in
     let has2 = ap (λ (d : Database). d.schema) now2 ∙ has in
-    let u3 = c.in-Ok-version_rows.ensures.reads.unchanged clean3 in
+    let u3 = c.in_ok-versions.ensures.reads.unchanged clean3 in
     let now3 = u3.0.now_is ∙ now2 in
     let has3 = ap (λ (d : Database). d.schema) now3 ∙ has in
     let was_open = u1.0.was_open in
-    let pm = subst (IsPermutation (map meta_shown (old.trees 0))) (sym c.deref-4.ensures.value) (c.in-Ok.ensures.shows clean1 has) in
-    let pt = subst₂ (λ (d : Database) (rows : List Row). InOrder table_shown by_rowid (d.trees 1) rows) now1 (sym c.deref-5.ensures.value) (c.in-Ok-table_rows.ensures.shows clean2 has1) in
-    let pv = subst₂ (λ (d : Database) (rows : List Row). IsPermutation (map version_shown (d.trees 2)) rows) now2 (sym c.deref-6.ensures.value) (c.in-Ok-version_rows.ensures.shows clean3 has2) in
-    let ids = c.in-Ok-rowids.rows.items in
-    let same = subst (λ (d : Database). IsPermutation (map rowid_shown (d.trees 2)) ids) now3 (c.in-Ok-rowids.ensures.shows clean has3) in
+    let pm = subst (IsPermutation (map meta_shown (old.trees 0))) (sym c.deref-4.ensures.value) (c.in_ok-metas.ensures.shows clean1 has) in
+    let pt = subst₂ (λ (d : Database) (rows : List Row). InOrder table_shown by_rowid (d.trees 1) rows) now1 (sym c.deref-5.ensures.value) (c.in_ok-tables.ensures.shows clean2 has1) in
+    let pv = subst₂ (λ (d : Database) (rows : List Row). IsPermutation (map version_shown (d.trees 2)) rows) now2 (sym c.deref-6.ensures.value) (c.in_ok-versions.ensures.shows clean3 has2) in
+    let ids = c.in_ok-ids.ids.items in
+    let same = subst (λ (d : Database). IsPermutation (map rowid_shown (d.trees 2)) ids) now3 (c.in_ok-ids.ensures.shows clean has3) in
     let numbered = subst AreNumbered c.deref.ensures.value (c.are_numbered.ensures.0 c.if-not-are_numbered.false) in
     let rising = subst AreRising c.deref-2.ensures.value (c.are_rising.ensures.0 c.if-not-are_rising.false) in
     let own = own_rowids (old.trees 2) ids same numbered rising in
@@ -45,18 +45,18 @@ returns-clause-good g c clean on has =
 pub returns-clause-bad : goal.returns-clause-bad
 returns-clause-bad g c clean on has =
     let old = (state g.S.Store c.args.connection.now).now in
-    let clean3 = c.in-Ok-rowids.ensures.reads.clean clean in
-    let clean2 = c.in-Ok-version_rows.ensures.reads.clean clean3 in
-    let clean1 = c.in-Ok-table_rows.ensures.reads.clean clean2 in
-    let u1 = c.in-Ok.ensures.reads.unchanged clean1 in
+    let clean3 = c.in_ok-ids.ensures.reads.clean clean in
+    let clean2 = c.in_ok-versions.ensures.reads.clean clean3 in
+    let clean1 = c.in_ok-tables.ensures.reads.clean clean2 in
+    let u1 = c.in_ok-metas.ensures.reads.unchanged clean1 in
     let now1 = u1.0.now_is in
     let has1 = ap (λ (d : Database). d.schema) now1 ∙ has in
-    let u2 = c.in-Ok-table_rows.ensures.reads.unchanged clean2 in
+    let u2 = c.in_ok-tables.ensures.reads.unchanged clean2 in
     let now2 = u2.0.now_is ∙ now1 in
     let has2 = ap (λ (d : Database). d.schema) now2 ∙ has in
-    let pm = subst (IsPermutation (map meta_shown (old.trees 0))) (sym c.deref-4.ensures.value) (c.in-Ok.ensures.shows clean1 has) in
-    let pt = subst₂ (λ (d : Database) (rows : List Row). InOrder table_shown by_rowid (d.trees 1) rows) now1 (sym c.deref-5.ensures.value) (c.in-Ok-table_rows.ensures.shows clean2 has1) in
-    let pv = subst₂ (λ (d : Database) (rows : List Row). IsPermutation (map version_shown (d.trees 2)) rows) now2 (sym c.deref-6.ensures.value) (c.in-Ok-version_rows.ensures.shows clean3 has2) in
+    let pm = subst (IsPermutation (map meta_shown (old.trees 0))) (sym c.deref-4.ensures.value) (c.in_ok-metas.ensures.shows clean1 has) in
+    let pt = subst₂ (λ (d : Database) (rows : List Row). InOrder table_shown by_rowid (d.trees 1) rows) now1 (sym c.deref-5.ensures.value) (c.in_ok-tables.ensures.shows clean2 has1) in
+    let pv = subst₂ (λ (d : Database) (rows : List Row). IsPermutation (map version_shown (d.trees 2)) rows) now2 (sym c.deref-6.ensures.value) (c.in_ok-versions.ensures.shows clean3 has2) in
     judged_bad old c.deref-4.result.now c.deref-5.result.now c.deref-6.result.now pm pt pv c.judge_rows.result c.judge_rows.ensures.bad
 
 pub returns-clause-lawful : goal.returns-clause-lawful
@@ -75,13 +75,13 @@ returns-then-not-columns_there-clause-bad g c clean on has = λ _ _.
 pub returns-then-repeat_key-clause-bad : goal.returns-then-repeat_key-clause-bad
 returns-then-repeat_key-clause-bad g c clean on has = λ _ good.
     let old = (state g.S.Store c.args.connection.now).now in
-    let clean3 = c.in-Ok-rowids.ensures.reads.clean clean in
-    let clean2 = c.in-Ok-version_rows.ensures.reads.clean clean3 in
-    let clean1 = c.in-Ok-table_rows.ensures.reads.clean clean2 in
-    let u1 = c.in-Ok.ensures.reads.unchanged clean1 in
+    let clean3 = c.in_ok-ids.ensures.reads.clean clean in
+    let clean2 = c.in_ok-versions.ensures.reads.clean clean3 in
+    let clean1 = c.in_ok-tables.ensures.reads.clean clean2 in
+    let u1 = c.in_ok-metas.ensures.reads.unchanged clean1 in
     let now1 = u1.0.now_is in
-    let u2 = c.in-Ok-table_rows.ensures.reads.unchanged clean2 in
+    let u2 = c.in_ok-tables.ensures.reads.unchanged clean2 in
     let now2 = u2.0.now_is ∙ now1 in
     let has2 = ap (λ (d : Database). d.schema) now2 ∙ has in
-    let pv = subst₂ (λ (d : Database) (rows : List Row). IsPermutation (map version_shown (d.trees 2)) rows) now2 (sym c.deref-3.ensures.value) (c.in-Ok-version_rows.ensures.shows clean3 has2) in
+    let pv = subst₂ (λ (d : Database) (rows : List Row). IsPermutation (map version_shown (d.trees 2)) rows) now2 (sym c.deref-3.ensures.value) (c.in_ok-versions.ensures.shows clean3 has2) in
     good_keys old c.deref-3.result.now pv (c.repeat_key.ensures.0 c.if-repeat_key.true) good

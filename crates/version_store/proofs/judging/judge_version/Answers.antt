@@ -23,14 +23,14 @@ pub returns-then-not-are_row_values-clause-bad : goal.returns-then-not-are_row_v
 returns-then-not-are_row_values-clause-bad c = λ _ says.
     let number : IsNumberAt c.args.row.now 0 (pos c.in-Ok.number) = search rules in
     let known : table_of c.args.catalog.now.tables c.in-Ok.number ≡ Some c.in-Some-def.definition.now = search rules in
-    let fits = row_fits c.args.form c.args.catalog.now.tables c.args.clock c.args.row.now c.in-Ok.number c.in-Some-bytes_at.bytes.now c.in-Some-def.definition.now c.in-Ok-decode_values.values.items says number c.in-Some-bytes_at.ensures known c.in-Ok-decode_values.ensures.found c.in-Ok-decode_values.ensures.held in
+    let fits = row_fits c.args.form c.args.catalog.now.tables c.args.clock c.args.row.now c.in-Ok.number c.in-Some-bytes_at.bytes.now c.in-Some-def.definition.now c.in_ok-values.values.items says number c.in-Some-bytes_at.ensures known c.in_ok-values.ensures.found c.in_ok-values.ensures.held in
     never (sym c.if-not-are_row_values.true ∙ (rw c.as_slice.ensures.value at c.are_row_values.ensures) ∙ fits)
 
-pub returns-else-not-are_row_values-clause-good : goal.returns-else-not-are_row_values-clause-good
-returns-else-not-are_row_values-clause-good c =
+pub returns-clause-good : goal.returns-clause-good
+returns-clause-good c =
     let e = rw (to_z-of_z w64 c.args.clock c.ranges.clock) at c.is_version.ensures in
     let has = subst (λ (n : ℕ). raw.SaysVersion c.args.form c.args.clock n c.args.row.now) c.len.ensures (e.0 c.if-not-is_version.false) in
     let number : IsNumberAt c.args.row.now 0 (pos c.in-Ok.number) = search rules in
     let known : table_of c.args.catalog.now.tables c.in-Ok.number ≡ Some c.in-Some-def.definition.now = search rules in
-    says_by c.args.form c.args.catalog.now.tables c.args.clock c.args.row.now c.in-Ok.number c.in-Some-bytes_at.bytes.now c.in-Some-def.definition.now c.in-Ok-decode_values.values.items has number c.in-Some-bytes_at.ensures known c.in-Ok-decode_values.ensures.found c.in-Ok-decode_values.ensures.held
+    says_by c.args.form c.args.catalog.now.tables c.args.clock c.args.row.now c.in-Ok.number c.in-Some-bytes_at.bytes.now c.in-Some-def.definition.now c.in_ok-values.values.items has number c.in-Some-bytes_at.ensures known c.in_ok-values.ensures.found c.in_ok-values.ensures.held
     (sym (rw c.as_slice.ensures.value at c.are_row_values.ensures) ∙ c.if-not-are_row_values.false)

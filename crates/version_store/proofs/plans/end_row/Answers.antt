@@ -4,7 +4,6 @@ use Rattle.version_store.specs.Leaving.{is_leaving}
 use Rattle.version_store.proofs.Leaves.{closes, notes, same_place}
 use Rattle.version_store.proofs.Places.{one_more}
 use Rattle.version_store.proofs.Sweeps.{other_moment, same_ended, same_moment}
-use Rattle.version_store.proofs.plans.end_row.Goals.{in-Ok, in-Err}
 use Rattle.version_store.proofs.plans.end_row.Goals as goal
 
 pub returns-then-from-number-clause-made : goal.returns-then-from-number-clause-made
@@ -18,18 +17,14 @@ returns-then-from-number-clause-made g c clean begun =
     let after = c.insert.new.self.keys in
     let h : to_z w64 (of_z w64 c.number.result) ≡ c.number.result = search rules in
     let f : to_z w64 (of_z w64 c.number-from.result) ≡ c.number-from.result = search rules in
-    let from : row.from ≡ moment = sym c.number-from.ensures.value ∙ sym f ∙ ap (to_z w64) c.if-from-number.true ∙ h ∙ c.number.ensures.value in
-    elim c.match-insert.branch [
-      | in-Ok w ↦ rw w.result-is (
-        begun,
-        λ m was. notes table moment row c.in_ok-place.ensures.held old before after m was (same_moment row.from moment from)
-            (λ v. ap (λ l. is_leaving table moment l v) w.in-Ok.ensures.keys ∙ one_more table moment place v before ∙ ap (λ b. b || is_leaving table moment before v) (same_place table moment row place c.in_ok-place.ensures.bytes c.in_ok-place.ensures.start (sym from) v)),
-      )
-      | in-Err w ↦ rw w.result-is tt
-    ]
+    let from : row.from ≡ moment = sym c.number-from.ensures.value ∙ sym f ∙ ap (to_z w64) c.if-from-number.true ∙ h ∙ c.number.ensures.value in (
+      begun,
+      λ m was. notes table moment row c.in_ok-place.ensures.held old before after m was (same_moment row.from moment from)
+          (λ v. ap (λ l. is_leaving table moment l v) c.in_ok-insert.ensures.keys ∙ one_more table moment place v before ∙ ap (λ b. b || is_leaving table moment before v) (same_place table moment row place c.in_ok-place.ensures.bytes c.in_ok-place.ensures.start (sym from) v)),
+    )
 
-pub returns-in-Ok-end_version-clause-made : goal.returns-in-Ok-end_version-clause-made
-returns-in-Ok-end_version-clause-made g c clean begun =
+pub returns-clause-made : goal.returns-clause-made
+returns-clause-made g c clean begun =
     let old = (state g.S.Store c.args.transaction.now.conn.now).now in
     let new = (state g.S.Store c.end_version.new.transaction.conn.now).now in
     let row = c.args.row.now in
@@ -44,5 +39,5 @@ returns-in-Ok-end_version-clause-made g c clean begun =
     let from : to_z w64 (of_z w64 c.number-from.result) ≡ row.from = cc (f, c.number-from.ensures.value) in
     let to : to_z w64 (of_z w64 c.number-2.result) ≡ c.args.moment = cc (t, c.number-2.ensures.value) in
     let began = other_moment row.from c.args.moment (λ e. c.if-from-number.false (ap (of_z w64) (c.number-from.ensures.value ∙ e ∙ sym c.number.ensures.value))) in
-    let it = c.in-Ok-end_version.ensures.made clean begun in
+    let it = c.in_ok-end_version.ensures.made clean begun in
     (it.0, λ m was. closes c.args.table c.args.moment row c.in_ok-place.ensures.held old new c.args.leaving.now.keys m was began (same_ended old new c.args.table c.args.moment row _ _ _ _ _ table bytes start from to it.1))

@@ -14,14 +14,14 @@ returns-in_default-moment_at-clause-bad c = λ _ v dated held is. c.in_default-m
 pub returns-in_default-end_at-clause-bad : goal.returns-in_default-end_at-clause-bad
 returns-in_default-end_at-clause-bad c = λ _ v dated held is. c.in_default-end_at.ensures (to_in c.args.row.now v is c.args.form dated)
 
-pub returns-in-Ok-clause-shown : goal.returns-in-Ok-clause-shown
-returns-in-Ok-clause-shown c =
+pub returns-clause-shown : goal.returns-clause-shown
+returns-clause-shown c =
     let period = c.in-Some-period_at.period in
     let from = c.in-Some-moment_at.ensures in
     let to = c.in-Some-end_at.ensures in
     let values = c.from_vec.result in
     let v : TableVersion = record { table = 0; values = values; start = period.start; end = period.end; from = from.0; to = to.0 } in
-    let same : encoded values ≡ c.in-Some.bytes.now = ap encoded c.from_vec.ensures ∙ c.in-Ok.ensures.found in
+    let same : encoded values ≡ c.in-Some.bytes.now = ap encoded c.from_vec.ensures ∙ c.in_ok-values.ensures.found in
     let width = sym c.column_count.ensures ∙ c.if-column_count-ne5.false in (
       v,
       subst (λ (b : List ℕ). c.args.row.now ≡ Blob b ∷ Int period.start ∷ Int period.end ∷ Int from.0 ∷ Int to.0 ∷ []) (sym same)

@@ -9,10 +9,10 @@ answers : {X : Type 0} (old new : Option Refusal → Type 0) (r : Result X Refus
 answers old new (Ok x) takes refuses = λ _. takes
 answers old new (Err refusal) takes refuses = λ _. inl refuses
 
-pub returns-in-Ok-clause-visited : goal.returns-in-Ok-clause-visited
-returns-in-Ok-clause-visited g c =
-    let read = c.in-Ok.ensures.shown in
-    on_ok c.visit.result (λ taken v shows held. (c.in-Ok.version, same_row c.args.form v read.0 c.in-Ok.version held c.in-Ok.ensures.values (sym shows ∙ read.1) read.2, taken)) c.visit.ensures.taken
+pub returns-clause-visited : goal.returns-clause-visited
+returns-clause-visited g c =
+    let read = c.in_ok-version.ensures.shown in
+    on_ok c.visit.result (λ taken v shows held. (c.in_ok-version.version, same_row c.args.form v read.0 c.in_ok-version.version held c.in_ok-version.ensures.values (sym shows ∙ read.1) read.2, taken)) c.visit.ensures.taken
 
-pub returns-in-Ok-clause-answered : goal.returns-in-Ok-clause-answered
-returns-in-Ok-clause-answered g c = answers (g.V.RowVisitor.answered c.args.visitor.now) (g.V.RowVisitor.answered c.visit.new.self) c.visit.result c.visit.ensures.takes c.visit.ensures.refuses
+pub returns-clause-answered : goal.returns-clause-answered
+returns-clause-answered g c = answers (g.V.RowVisitor.answered c.args.visitor.now) (g.V.RowVisitor.answered c.visit.new.self) c.visit.result c.visit.ensures.takes c.visit.ensures.refuses

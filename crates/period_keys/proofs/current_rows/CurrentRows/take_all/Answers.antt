@@ -15,9 +15,9 @@ loop-i-preserved c =
     worked_at (version_key c.args.self.now.positions) c.args.keys.now rows i c.index-keys-i.result row c.requires below c.index-keys-i.is c.index-rows-i.is in
     let now_own : c.index-keys-i.result ≡ version_key c.loop-i.self.positions row = own ∙ ap (λ (ps : List ℕ). version_key ps row) (sym c.loop-i.invariant.same) in
     record {
-      same = c.take_recorded.ensures.same ∙ c.loop-i.invariant.same;
+      same = c.remove_version.ensures.same ∙ c.loop-i.invariant.same;
       left = λ rest moved.
-          c.take_recorded.ensures.rows (drop (i + 1) rows ++ rest) now_own
+          c.remove_version.ensures.rows (drop (i + 1) rows ++ rest) now_own
           (subst (λ (xs : List VersionRow). IsPermutation c.loop-i.self.rows (xs ++ rest)) (next_left rows i row below c.index-rows-i.is) (c.loop-i.invariant.left rest moved));
     }
 

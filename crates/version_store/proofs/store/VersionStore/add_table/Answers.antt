@@ -6,15 +6,15 @@ use Rattle.version_store.specs.Written.{written}
 use Rattle.version_store.proofs.Standing.{table_put, next_number}
 use Rattle.version_store.proofs.store.VersionStore.add_table.Goals as goal
 
-pub returns-in-Ok-write_table-clause-changes : goal.returns-in-Ok-write_table-clause-changes
-returns-in-Ok-write_table-clause-changes g k usable c stands =
+pub returns-in-Ok-clause-changes : goal.returns-in-Ok-clause-changes
+returns-in-Ok-clause-changes g k usable c stands =
     let was = subst (λ s. StoreRepresents g.S.Store s c) (sym k.self.view_is) stands in
     let new = (state g.S.Store k.write_table.new.connection).now in
-    let made = k.in-Ok-write_table.ensures.made usable.0 (written c) (next_number c k.self.inside.catalog.tables (k.len.result + 1) was.catalog (ap (λ n. n + 1) k.len.ensures)) was.now.rows in (
+    let made = k.in-Ok.ensures.made usable.0 (written c) (next_number c k.self.inside.catalog.tables (k.len.result + 1) was.catalog (ap (λ n. n + 1) k.len.ensures)) was.now.rows in (
       record {
-        now = table_put new c k.args.definition k.as_slice.result.now (k.as_slice.ensures.value ∙ sym k.in-Ok.ensures.2) made.0 was.now.definitions (k.in-Ok.ensures.0, k.in-Ok.ensures.1, refl) was.now.values;
+        now = table_put new c k.args.definition k.as_slice.result.now (k.as_slice.ensures.value ∙ sym k.in_ok-bytes.ensures.2) made.0 was.now.definitions (k.in_ok-bytes.ensures.0, k.in_ok-bytes.ensures.1, refl) was.now.values;
         committed = made.1;
-        catalog = k.in-Ok-push.ensures.pushed ∙ ap (λ (ts : List TableDef). ts ++ k.args.definition ∷ []) was.catalog;
+        catalog = k.in_ok-push.ensures.pushed ∙ ap (λ (ts : List TableDef). ts ++ k.args.definition ∷ []) was.catalog;
         clock = was.clock;
         dated = was.dated;
       },

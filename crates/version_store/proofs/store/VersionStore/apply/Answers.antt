@@ -1,20 +1,31 @@
 use Rattle.std.proofs.Common.{rules, sym, subst, refl}
+use Rattle.std.proofs.lemmas.Result.{err_from_is_err_and}
 use Rattle.period_core.specs.Moments.{IsMomentNumber}
 use Rattle.version_store.specs.StoreState.{StoreRepresents}
 use Rattle.version_store.proofs.Dated.{planned_dated}
 use Rattle.version_store.proofs.Keys.{keys_of}
-use Rattle.version_store.proofs.Standing.{on_ok, on_err, stays}
+use Rattle.version_store.proofs.Standing.{stays}
 use Rattle.version_store.proofs.store.VersionStore.apply.Goals as goal
 
 pub returns-clause-changes : goal.returns-clause-changes
 returns-clause-changes g k usable c stands =
     let was = subst (λ s. StoreRepresents g.S.Store s c) (sym k.self.view_is) stands in
-    let at : IsMomentNumber k.args.moment = search rules in (
-      on_ok k.write_plan.result (λ made. record { now = made.0; committed = made.1; catalog = was.catalog; clock = was.clock; dated = planned_dated k.args.table k.args.moment at k.args.plan.now.ended k.args.plan.now.added c was.dated }) (k.write_plan.ensures.made usable.0 c was.now),
-      on_err k.write_plan.result (λ same. stays g.S.Store _ _ c was same refl refl) (k.write_plan.ensures.none usable.0 usable.1),
-    )
+    let at : IsMomentNumber k.args.moment = search rules in
+    let made = k.in_ok-write_plan.ensures.made usable.0 c was.now in
+    (record { now = made.0; committed = made.1; catalog = was.catalog; clock = was.clock; dated = planned_dated k.args.table k.args.moment at k.args.plan.now.ended k.args.plan.now.added c was.dated }, tt)
+
+pub returns-in_err-write_plan-clause-changes : goal.returns-in_err-write_plan-clause-changes
+returns-in_err-write_plan-clause-changes g k usable c stands =
+    let was = subst (λ s. StoreRepresents g.S.Store s c) (sym k.self.view_is) stands in
+    let p = err_from_is_err_and k.from_residual.result k.from_residual.ensures.1 in
+    rw p.1 (tt, stays g.S.Store _ _ c was (k.in_err-write_plan.ensures.none usable.0 usable.1) refl refl)
 
 pub returns-clause-distinct : goal.returns-clause-distinct
 returns-clause-distinct g k usable c stands =
+    let was = subst (λ s. StoreRepresents g.S.Store s c) (sym k.self.view_is) stands in
+    keys_of _ c was.now (k.schema-live.ensures.live (k.write_plan.ensures.usable usable).1).0
+
+pub returns-in_err-write_plan-clause-distinct : goal.returns-in_err-write_plan-clause-distinct
+returns-in_err-write_plan-clause-distinct g k usable c stands =
     let was = subst (λ s. StoreRepresents g.S.Store s c) (sym k.self.view_is) stands in
     keys_of _ c was.now (k.schema-live.ensures.live (k.write_plan.ensures.usable usable).1).0

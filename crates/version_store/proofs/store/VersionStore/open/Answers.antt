@@ -52,7 +52,7 @@ returns-in-Partial-clause-bad g c = λ usable _. (
 pub returns-in-Err-inspect-clause-bad : goal.returns-in-Err-inspect-clause-bad
 returns-in-Err-inspect-clause-bad g c = λ usable bad. (
   λ none. not_both_ways c.args.connection.schema none (c.in-Whole.ensures.whole.0 refl),
-  λ good. c.in-Err-inspect.ensures.bad usable.0 usable.1 good.tables_there bad good,
+  λ good. c.in-Err-inspect.ensures.bad usable.0 usable.1 good.tables_there (c.from.ensures.1 bad) good,
 )
 
 -- the clock that was found is one

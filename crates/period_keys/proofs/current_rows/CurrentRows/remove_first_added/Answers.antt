@@ -5,7 +5,7 @@ use Rattle.period_core.specs.declared.row.PeriodRow.{PeriodRow}
 use Rattle.period_keys.specs.Keys.{key_values}
 use Rattle.period_keys.specs.Versions.{begun, recorded}
 use Rattle.period_keys.proofs.Loops.{next_of_first, none_left, worked_at}
-use Rattle.period_keys.proofs.current_rows.CurrentRows.take_begun.Goals as goal
+use Rattle.period_keys.proofs.current_rows.CurrentRows.remove_first_added.Goals as goal
 
 pub loop-i-preserved : goal.loop-i-preserved
 loop-i-preserved c =
@@ -19,9 +19,9 @@ loop-i-preserved c =
     worked_at (key_values c.args.self.now.positions) c.args.keys.now rows i c.index-keys-i.result row c.requires.keys below c.index-keys-i.is c.index-rows-i.is in
     let now_own : c.index-keys-i.result ≡ key_values c.loop-i.self.positions row = own ∙ ap (λ (ps : List ℕ). key_values ps row) (sym c.loop-i.invariant.same) in
     record {
-      same = c.take_recorded.ensures.same ∙ c.loop-i.invariant.same;
+      same = c.remove_version.ensures.same ∙ c.loop-i.invariant.same;
       left = λ rest moved.
-          c.take_recorded.ensures.rows (map (begun c.args.moment) (drop (i + 1) (take count rows)) ++ rest) now_own
+          c.remove_version.ensures.rows (map (begun c.args.moment) (drop (i + 1) (take count rows)) ++ rest) now_own
           (subst (λ (to : ℤ). IsPermutation c.loop-i.self.rows (recorded row.values row.period c.args.moment to ∷ (map (begun c.args.moment) (drop (i + 1) (take count rows)) ++ rest))) (sym c.forever.ensures)
           (subst (λ (xs : List PeriodRow). IsPermutation c.loop-i.self.rows (map (begun c.args.moment) xs ++ rest)) (next_of_first rows count i row c.loop-i-test.true fits c.index-rows-i.is) (c.loop-i.invariant.left rest moved)));
     }

@@ -10,7 +10,7 @@ use Rattle.portion_dml.specs.Plans.{Plans}
 use Rattle.portion_dml.proofs.Planned.{none_touched}
 use Rattle.period_keys.specs.Planned.{IsPlanOf}
 use Rattle.period_keys.proofs.PlanParts.{if_ok, plans_beside, touched}
-use Rattle.period_keys.proofs.planning.plan_without_condition.Goals as goal
+use Rattle.period_keys.proofs.plans.plan_without_condition.Goals as goal
 
 -- an INSERT touches none
 plan_of_insert : (action : Action) (given : List GivenRow) (rows : List VersionRow) (p : Plan) → action ≡ Insert given → Plans action [] p → IsPlanOf action rows p

@@ -32,13 +32,12 @@ pub fn plan_change(alloc: Global, current: &CurrentRows, change: &Change) -> Res
         ((refusal ≡ Refusal.EmptyPeriod) × IsTrue (has_empty_row change.now.action))
         ⊎ (refusal ≡ Refusal.Memory)) }
 {
-    match condition_of(&change.action) {
-        Some(condition) => match fixed_key(alloc, condition, current.positions()) {
-            Ok(Some(key)) => plan_of_key(alloc, current, &key, change),
-            Ok(None) => plan_over_all(alloc, current, change),
-            Err(_) => Err(Refusal::Memory),
-        },
-        None => plan_without_condition(alloc, current, change),
+    let Some(condition) = condition_of(&change.action) else {
+        return plan_without_condition(alloc, current, change);
+    };
+    match fixed_key(alloc, condition, current.positions())? {
+        Some(key) => plan_of_key(alloc, current, &key, change),
+        None => plan_over_all(alloc, current, change),
     }
 }
 
@@ -67,21 +66,15 @@ fn plan_over_all(alloc: Global, current: &CurrentRows, change: &Change) -> Resul
         ((refusal ≡ Refusal.EmptyPeriod) × IsTrue (has_empty_row change.now.action))
         ⊎ (refusal ≡ Refusal.Memory)) }
 {
-    let mut ended = Items::empty(alloc);
-    let mut added = Items::empty(alloc);
+    let mut plan = Plan {
+        ended: Items::empty(alloc),
+        added: Items::empty(alloc),
+    };
     for group in current.groups() {
-        let plan = match plan_of_group(alloc, group, change) {
-            Ok(plan) => plan,
-            Err(refusal) => return Err(refusal),
-        };
-        if let Err(_) = ended.append(plan.ended) {
-            return Err(Refusal::Memory);
-        }
-        if let Err(_) = added.append(plan.added) {
-            return Err(Refusal::Memory);
-        }
+        let own = plan_of_group(alloc, group, change)?;
+        append_plan(&mut plan, own)?;
     }
-    Ok(Plan { ended, added })
+    Ok(plan)
 }
 
 // The plan of a change that gives no rows, over the rows of a key.
@@ -116,14 +109,11 @@ fn plan_of_group(alloc: Global, group: &KeyRows, change: &Change) -> Result<Plan
     let Some(portion) = portion_of(&change.action) else {
         return plan_over(alloc, group.as_slice(), change);
     };
-    match group.places_near(alloc, portion) {
-        Ok(Some(places)) => match plan_at(alloc, group.as_slice(), places.as_slice(), change) {
-            Ok(plan) => Ok(plan),
-            Err(_) => Err(Refusal::Memory),
-        },
-        Ok(None) => plan_over(alloc, group.as_slice(), change),
-        Err(_) => Err(Refusal::Memory),
-    }
+    let Some(places) = group.places_near(alloc, portion)? else {
+        return plan_over(alloc, group.as_slice(), change);
+    };
+    let plan = plan_at(alloc, group.as_slice(), places.as_slice(), change)?;
+    Ok(plan)
 }
 
 // The portion of a change, if it has one.

@@ -1,6 +1,6 @@
 use Rattle.std.proofs.Common.{◌⊎◌, ◌<◌, ◌≤◌, ℕ, get_or, length, take}
 use Rattle.portion_dml.specs.Plans.{Plans}
-use Rattle.period_keys.proofs.planning.plan_at.Given as goal
+use Rattle.period_keys.proofs.plans.plan_at.Given as goal
 
 abbrev pub invariant-loop-place : goal.invariant-loop-place
 invariant-loop-place l = record {

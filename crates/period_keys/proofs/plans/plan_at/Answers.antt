@@ -7,8 +7,8 @@ use Rattle.period_core.specs.declared.version.VersionRow.{VersionRow}
 use Rattle.portion_dml.specs.Plans.{Plans}
 use Rattle.period_keys.proofs.PlanParts.{plans_nothing}
 use Rattle.period_keys.proofs.PlacedRows.{passed_more, plan_beside, quiet_after, quiet_to, row_of_some}
-use Rattle.period_keys.proofs.planning.plan_at.Goals as goal
-use Rattle.period_keys.proofs.planning.plan_at.Goals.{then-is_next+in_ok-plan_one, else-is_next}
+use Rattle.period_keys.proofs.plans.plan_at.Goals as goal
+use Rattle.period_keys.proofs.plans.plan_at.Goals.{then-is_next+in_ok-plan_one, else-is_next}
 
 pub loop-place-init : goal.loop-place-init
 loop-place-init c = record {

@@ -4,7 +4,7 @@ use Rattle.portion_dml.specs.Plans.{Plans}
 use Rattle.period_keys.proofs.Blocks.{on_ok}
 use Rattle.period_keys.proofs.PlacedRows.{one_row}
 use Rattle.period_keys.proofs.PlanParts.{plans_joined}
-use Rattle.period_keys.proofs.planning.plan_one.Goals as goal
+use Rattle.period_keys.proofs.plans.plan_one.Goals as goal
 
 pub returns-in-Ok : goal.returns-in-Ok
 returns-in-Ok c = on_ok c.append_plan.result (λ is. λ before d plans.
