@@ -15,5 +15,6 @@
     cells          a cell of the file to a value of the language
     mapping        which column of the file is which of the table, and its records as facts
     corrections    facts in the order of their recording to changes of portions
+    clashes        lines that say something of one day of a key, and ends that look a day early
     script_writer  statements to scripts, each within the limits
 """

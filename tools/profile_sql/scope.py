@@ -8,7 +8,7 @@ from .tree import (And, ColumnReference, Comparison, ContainsDay, Literal, Not, 
 
 
 # Words of joins that are not in the grammar. Each is a name: `A LEFT JOIN B` joins A, called LEFT.
-NO_JOINS = ('LEFT', 'RIGHT', 'FULL', 'CROSS', 'NATURAL')
+NO_JOINS = ('LEFT', 'RIGHT', 'FULL', 'OUTER', 'CROSS', 'NATURAL')
 
 
 def listed(names):
@@ -31,9 +31,9 @@ def repeated(names):
 
 
 def unknown_table(name, catalog):
-    there = f'The tables are {listed(catalog.tables)}.' if catalog.tables else 'There is no table.'
+    there = f'. The tables are {listed(catalog.tables)}.' if catalog.tables else ', nor any other.'
     return Fault(23, name.offset,
-                 f'There is no table {name}. {there}{guess(name, catalog.tables)}')
+                 f'There is no table {name}{there}{guess(name, catalog.tables)}')
 
 
 def is_no_period(start, end):
