@@ -2,7 +2,6 @@
 import collections
 
 from profile_data.report import NotOfScript
-from profile_sql.catalog import Catalog
 from profile_sql.lexis import Places, decoded, lexed, pieces
 from profile_sql.refusals import NAMES, Refused
 from profile_sql.script import Statement
@@ -72,6 +71,8 @@ class Explainer:
         causes = [(fault.offset, fault.why) for fault in statement.faults if fault.number == code]
         if refusal.clash:
             causes = list(clashes.causes(refusal.clash, self.places))
+        if refusal.day and not refusal.clash:
+            yield clashes.unseen_cause(refusal)
         if code in CAUSES:
             yield f'Cause: {CAUSES[code]}'
         word = 'At' if code in CAUSES else 'Cause at'
@@ -106,10 +107,10 @@ def made_table(statement):
 class Explanation:
     """What is said of a script, given as bytes, and of its report: `texts` of what is refused, and
     `notes` on statements that are right. `statements` are those of the script, none where it is
-    refused as a whole; `records` and `refusals` are those of the report. `NotOfScript` where the
-    report isn't that of the script."""
+    refused as a whole; `records` and `refusals` are those of the report. The script was run over
+    the tables of a catalog. `NotOfScript` where the report isn't that of the script."""
 
-    def __init__(self, path, script, report):
+    def __init__(self, path, script, report, catalog):
         self.statements, self.records, self.refusals, self.notes = [], [], [], []
         try:
             text = decoded(script)
@@ -121,11 +122,11 @@ class Explanation:
                                   f' it {why}') from None
             self.texts = [bad_tokens.of_script(path, script, refused)]
             return
-        read = Report(report, self.statements)
+        read = Report(report, self.statements, catalog)
         self.records, self.refusals = read.records, read.refusals()
         explainer = Explainer(path, text)
         self.texts = [explainer.explained(refusal) for refusal in self.refusals]
-        refused, catalog = {refusal.statement.number for refusal in self.refusals}, Catalog()
+        refused, catalog = {refusal.statement.number for refusal in self.refusals}, catalog.copy()
         for statement in self.statements:
             if statement.number not in refused and not statement.faults:
                 self.notes += explainer.noted(statement, catalog.tables)

@@ -31,7 +31,9 @@ def repeated(names):
 
 
 def unknown_table(name, catalog):
-    there = f'. The tables are {listed(catalog.tables)}.' if catalog.tables else ', nor any other.'
+    tables = catalog.tables
+    there = ', nor any other.' if not tables else f'. The only table is {listed(tables)}.' \
+        if len(tables) == 1 else f'. The tables are {listed(tables)}.'
     return Fault(23, name.offset,
                  f'There is no table {name}{there}{guess(name, catalog.tables)}')
 
