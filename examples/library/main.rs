@@ -17,6 +17,7 @@ use std::process::ExitCode;
 type InFile = FileStore<File>;
 
 /// Writes what it is handed.
+#[derive(Drop)]
 struct Reporting<W> {
     alloc: Global,
     out: W,
