@@ -1,18 +1,10 @@
 """Of each number that a statement can get what is to do, and the cause where no place tells it."""
-from profile_sql.literals import FOREVER
+from profile_sql.literals import FOREVER, GREATEST_NUMBER, LEAST_NUMBER
 from profile_sql.tree import Create, Delete, Insert, Sequenced, Stored, Update
 
 from .texts import recipe
 
 CAUSES = {
-    10: "The grammar has no such statement.",
-    11: "More than 32 parentheses are open at one place.",
-    12: "The text of a DATE literal isn't YYYY-MM-DD, or isn't a date from 0001-01-01 to"
-        " 9999-12-31.",
-    13: "The text of a TIMESTAMP literal isn't YYYY-MM-DD HH:MM:SS, with or without a point and one"
-        f" to six digits behind it, or isn't a moment from 0001-01-01 00:00:00 to {FOREVER}; or AT or"
-        " AS OF names that last moment, which means the open end.",
-    14: "A number, with its sign, is outside -9223372036854775808 to 9223372036854775807.",
     61: "The system refused memory that the statement needed. Nothing is wrong with the"
         " statement.",
     62: "The database refused the statement, for a cause other than memory.",
@@ -30,7 +22,8 @@ WHAT_TO_DO = {
     13: "Write nineteen characters with one space, or these, a point and one to six digits, and no"
         " time zone: TIMESTAMP '2024-01-01 00:00:00', TIMESTAMP '2024-01-01 00:00:00.25'. After AT"
         f" and AS OF name an earlier moment than {FOREVER}.",
-    14: "Write a number within these bounds, or keep its digits as a text in a VARCHAR column.",
+    14: f"Write a number from {LEAST_NUMBER} to {GREATEST_NUMBER}, or keep its digits as a text in a"
+        " VARCHAR column.",
     21: "Split the statement: a long INSERT into several of fewer rows (999 rows of one number and"
         " two dates are the most).",
     22: "Choose another name, or leave out this CREATE TABLE. Names ignore case: emp and EMP are"

@@ -4,12 +4,13 @@ import collections
 from profile_data.report import NotOfScript
 from profile_sql.lexis import Places, decoded, lexed, pieces
 from profile_sql.refusals import NAMES, Refused
+from profile_sql.scope import IS_NEW_NAME
 from profile_sql.script import Statement
 
 from . import bad_tokens, clashes
 from .causes import CAUSES, NO_STATEMENT, WHAT_TO_DO, what_to_do
 from .mends import Mending
-from .notes import NO_PARTNERS, joins, notes
+from .notes import NO_PARTNERS, notes
 from .report import Report
 from .texts import shown, wrapped
 
@@ -73,12 +74,11 @@ class Explainer:
             causes = list(clashes.causes(refusal.clash, self.places))
         if refusal.day and not refusal.clash:
             yield clashes.unseen_cause(refusal)
-        if code in CAUSES:
+        if code in CAUSES and not causes:
             yield f'Cause: {CAUSES[code]}'
-        word = 'At' if code in CAUSES else 'Cause at'
         most = MOST_CAUSES if code == 28 else MOST_PLACES
         for offset, why in causes[:most]:
-            yield f'{word} {self.places.shown(offset)}: {why}'
+            yield f'Cause at {self.places.shown(offset)}: {why}'
         if len(causes) > most:
             yield f'And at {len(causes) - most} more.'
         refused = self.refused_table(statement) if code == 23 else None
@@ -87,8 +87,8 @@ class Explainer:
                    f' {self.places.shown(refused.tokens[0].offset)}, which is refused.'
         else:
             what = what_to_do(code, statement.tree)
-        if code in (24, 25) and any(joins(statement.tokens)):
-            what = f'{what} {NO_PARTNERS}'
+        if code in (24, 25) and all(IS_NEW_NAME in why for _, why in causes):
+            what = NO_PARTNERS if code == 24 else f'{what} {NO_PARTNERS}'
         yield f'What to do: {what}'
 
     def refused_table(self, statement):

@@ -1,5 +1,5 @@
 """What is to be said of a statement that is right, and may say something else than was meant."""
-from profile_sql.scope import NO_JOINS
+from profile_sql.scope import IS_NEW_NAME, NO_JOINS
 from profile_sql.tree import And, ColumnReference, Comparison, Literal, Select, Sequenced
 
 from .texts import recipe
@@ -21,8 +21,8 @@ def joins(tokens):
         if word.word in NO_JOINS and join.word == 'JOIN' and \
                 (table.is_name or table.kind == 'text'):
             name = table.text if table.is_name else 'the table before it'
-            yield word.offset, (f'{word.text} is read as a new name of {name}, and this is an inner'
-                                f' join. {NO_PARTNERS}')
+            yield word.offset, (f'{word.text} {IS_NEW_NAME} {name}, and this is an inner join.'
+                                f' {NO_PARTNERS}')
 
 
 def disjoint_sides(query, tables):

@@ -241,8 +241,9 @@ QUERIES = [
 CONDITIONS = [
     (rf"(?P<out>(?P<left>{COLUMN})@ (?P<no>NOT )?IN \( (?P<items>(?:{LITERAL}|, )+)\) )",
      rewriting.comparisons, "There is no IN: write {put}."),
-    (rf"^(?P<out>(?P<query>VALIDTIME SELECT DISTINCT (?P<left>{COLUMN})FROM {NAME} )"
-     rf"WHERE {COLUMN}@ NOT IN \( SELECT (?:DISTINCT )?(?P<inner>[^()]*)\) )$",
+    (rf"^(?P<out>(?P<query>VALIDTIME SELECT DISTINCT (?P<left>{COLUMN})FROM {NAME} "
+     rf"(?:WHERE (?:(?!OR )\S+ )*(?=AND {COLUMN}@))?)"
+     rf"(?:WHERE|AND) {COLUMN}@ NOT IN \( SELECT (?:DISTINCT )?(?P<inner>[^()]*)\) )$",
      "{query} EXCEPT SELECT DISTINCT {inner}",
      f"There are no subqueries. EXCEPT takes away, on each day by itself: {{put}}. {EVER}"),
     (rf"(?P<out>(?P<left>{COLUMN})@ (?P<no>NOT )?IN \( (?:SELECT|VALIDTIME|\() .*\) )", "A = A",
