@@ -61,14 +61,13 @@ def commands(block):
 
 
 def folder_for_commands(name):
-    """Fills a folder in which the commands of a page find what they name: `./bitemporal` is the
-    program."""
+    """Fills a folder in which the commands of a page find what they name: `./bitemporal` and
+    `./bitemporal_file` are the program."""
     folder = pathlib.Path(name)
-    for part in ('tools', 'examples', 'docs'):
+    for part in ('tools', 'tests', 'examples', 'docs'):
         (folder / part).symlink_to(ROOT / part)
-    start = folder / 'bitemporal'
-    start.write_text(f'#!/bin/sh\nexec "{pathlib.Path(PROGRAM).resolve()}" "$@"\n')
-    start.chmod(0o755)
+    for start in ('bitemporal', 'bitemporal_file'):
+        (folder / start).symlink_to(pathlib.Path(PROGRAM).resolve())
     return folder
 
 

@@ -6,6 +6,7 @@ ROOT = pathlib.Path(__file__).resolve().parent.parent
 BUILT = ROOT / 'crates/bitemporal_cli/out/bitemporal_cli'
 
 
-def path():
-    """That of the variable BITEMPORAL; else the built one; else ./bitemporal, which builds it."""
-    return os.environ.get('BITEMPORAL') or str(BUILT if BUILT.exists() else ROOT / 'bitemporal')
+def path(called='bitemporal'):
+    """That of the variable BITEMPORAL; else the built one; else the script that builds it, whose
+    name has to be that by which the program is called."""
+    return os.environ.get('BITEMPORAL') or str(BUILT if BUILT.exists() else ROOT / called)

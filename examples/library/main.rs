@@ -1,47 +1,79 @@
 //! `run_over_file STORE < SCRIPT`: runs a script over a store in a file, which stays, and prints
-//! the report. The status is 0, 1 where a statement was refused, and 2 where the script or the store
+//! the records of each statement as soon as its change is in the file. It ends at the first that is
+//! refused. The status is 0, 1 where a statement was refused, and 2 where the script or the store
 //! was, or a file, the report or memory failed.
 #![tactic(auto)]
 
+ghost use Rattle.std.specs.Prelude.{◌≡◌, true, IsOk};
+
 use period_core::Refusal;
-use script_engine::{Engine, Outcome, run, write_report};
+use script_engine::{Engine, Listener, Outcome, run_over, write_statement};
 use sqlite::{Connection, File, FileStore};
+use std::alloc::Global;
 use std::env;
 use std::io::{Read, Write};
 use std::process::ExitCode;
 
 type InFile = FileStore<File>;
-/// The results of a script's statements with the engine that the run leaves; or why there is no
-/// run, and the connection.
-type Ran = Result<(Vec<Result<Outcome, Refusal>>, Engine<InFile>), (Refusal, Connection<InFile>)>;
 
-/// Runs a script over the store in a file, and writes its report. Gives the exit status.
-fn run_over(rt: &HostRuntime, store: &str, script: &[u8]) -> u8 {
+/// Writes what it is handed.
+#[derive(Drop)]
+struct Reporting<W> {
+    alloc: Global,
+    out: W,
+    status: u8,
+}
+
+impl<W: Write> Listener<Result<Outcome, Refusal>> for Reporting<W> {
+    // The run goes on only behind a statement that was accepted.
+    ghost hears = { λ _ _ kept goes_on _. goes_on ≡ true → IsOk kept };
+
+    fn hear(&mut self, number: u64, kept: Result<Outcome, Refusal>) -> bool {
+        let written = write_statement(self.alloc, &mut self.out, number, &kept);
+        if written.is_err() || self.out.flush().is_err() {
+            self.status = 2;
+            return false;
+        }
+        let is_accepted = kept.is_ok();
+        if !is_accepted {
+            self.status = 1;
+        }
+        is_accepted
+    }
+}
+
+/// Tells why a script or a store is refused. Gives the exit status.
+fn refused(rt: &HostRuntime, refusal: Refusal) -> u8 {
+    let code = refusal.code();
+    let _ = write!(rt.stderr(), "run_over_file: refused, {code}\n");
+    2
+}
+
+/// Runs the script over the store in a file, and reports it. Gives the exit status.
+fn run_in(rt: &HostRuntime, store: &str, script: &[u8]) -> u8 {
     let Ok(connection) = Connection::open(rt, store) else {
         let _ = write!(rt.stderr(), "run_over_file: cannot open the store\n");
         return 2;
     };
-    let ran: Ran = run(rt.alloc(), connection, script);
-    let (results, engine) = match ran {
-        Ok(ran) => ran,
-        Err((refusal, _connection)) => {
-            let code = refusal.code();
-            let _ = write!(rt.stderr(), "run_over_file: refused, {code}\n");
-            return 2;
-        }
+    let opened: Result<Engine<InFile>, (Refusal, Connection<InFile>)> =
+        Engine::open(rt.alloc(), connection);
+    let mut engine = match opened {
+        Ok(engine) => engine,
+        Err((refusal, _connection)) => return refused(rt, refusal),
     };
+    let mut reporting = Reporting {
+        alloc: rt.alloc(),
+        out: rt.stdout(),
+        status: 0,
+    };
+    let ran = run_over(rt.alloc(), &mut engine, script, &mut reporting);
     // The engine gives its connection back, and the connection puts all into the file.
     let closed = engine.close().close();
-    let written = write_report(rt.alloc(), &mut rt.stdout(), results.as_slice());
-    if closed.is_err() || written.is_err() {
-        return 2;
+    match ran {
+        Err(refusal) => refused(rt, refusal),
+        Ok(_) if closed.is_err() => 2,
+        Ok(_) => reporting.status,
     }
-    for result in results.as_slice() {
-        if result.is_err() {
-            return 1;
-        }
-    }
-    0
 }
 
 /// The words of the command line.
@@ -74,5 +106,5 @@ fn main(rt: HostRuntime) -> ExitCode {
     if words.len() != 2 {
         return ExitCode::from(2);
     }
-    ExitCode::from(run_over(&rt, words[1].as_str(), script.as_slice()))
+    ExitCode::from(run_in(&rt, words[1].as_str(), script.as_slice()))
 }

@@ -5,7 +5,7 @@ import re
 from profile_sql.lexis import LEXEME, RESERVED, Places
 from profile_sql.refusals import MOST_BYTES, NAMES
 
-from .texts import shown, wrapped
+from .texts import recipe, shown, wrapped
 
 MOST_PLACES = 5
 SPACES = '\u00a0\u1680\u2000-\u200a\u202f\u205f\u3000'
@@ -13,8 +13,10 @@ SPACES = '\u00a0\u1680\u2000-\u200a\u202f\u205f\u3000'
 # What is no token: a pattern at its place, the cause and what to do. {0} is what the pattern finds
 # and {1} its group.
 Oddity = collections.namedtuple('Oddity', 'pattern cause mend')
-NO_COMMANDS = ('{0} is a command of a shell.',
-               'Leave it out: a script has SQL statements alone. Rows come by INSERT.')
+A_COMMAND = '{0} is a command of a shell.'
+NO_COMMAND = 'Leave it out: a script has SQL statements alone.'
+ROWS_OF_A_FILE = ('Leave it out, and put the rows into INSERTs: tools/load makes these of a CSV file,'
+                  f' as {recipe("Load an export with corrections")} shows.')
 NO_PARAMETERS = 'Write the value itself: a script has no parameters.'
 ODDITIES = [Oddity(re.compile(pattern), cause, mend) for pattern, cause, mend in (
     (r'!=', 'No token begins with !.', 'Write <> for !=.'),
@@ -38,7 +40,7 @@ ODDITIES = [Oddity(re.compile(pattern), cause, mend) for pattern, cause, mend in
     (r'[\u200b-\u200f\u2028\u2029\u2060\ufeff]', 'This character is not seen.', 'Leave it out.'),
     (r'[\u2010-\u2015\u2212]+', '{0} is a dash.',
      'Write - for a minus sign, and -- for a comment.'),
-    (r'\\[A-Za-z!?.]+', *NO_COMMANDS), (r'\\', *NO_COMMANDS),
+    (r'\\copy\b', A_COMMAND, ROWS_OF_A_FILE), (r'\\[A-Za-z!?.]*', A_COMMAND, NO_COMMAND),
     (r'::\s*(\w+)?', ':: is no operator here.',
      "Leave out the cast. A date is written DATE '2024-01-01'."),
     (r'\|\|', 'There are no operators on texts.', 'Write out the whole text, or leave out ||.'),

@@ -35,6 +35,15 @@ def causes(clash, places):
                        f' would have {wanted(row, table, reference)}.')
 
 
+def unseen_cause(refusal):
+    """A sentence about a clash with rows of a store that the script does not show."""
+    table = refusal.tables[refusal.statement.tree.table]
+    what = f'two rows of {table.name} would have one key' if refusal.code == 42 else \
+        'a row would have no row of the table to which it refers'
+    return f"Cause: On {refusal.day} {what}. SELECT * FROM {table.name} WHERE {table.period.name}" \
+           f" CONTAINS DATE '{refusal.day}' shows what holds on that day before the statement."
+
+
 def wanted(row, table, reference):
     """What a parent of the row would have."""
     return ' and '.join(f'{other} = {cell(row.values[table.place(own)])}'

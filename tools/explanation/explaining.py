@@ -4,11 +4,13 @@ import collections
 from profile_data.report import NotOfScript
 from profile_sql.lexis import Places, decoded, lexed, pieces
 from profile_sql.refusals import NAMES, Refused
+from profile_sql.scope import IS_NEW_NAME
 from profile_sql.script import Statement
 
 from . import bad_tokens, clashes
-from .causes import CAUSES, NO_STATEMENT, WHAT_TO_DO
+from .causes import CAUSES, NO_STATEMENT, WHAT_TO_DO, what_to_do
 from .mends import Mending
+from .notes import NO_PARTNERS, notes
 from .report import Report
 from .texts import shown, wrapped
 
@@ -25,16 +27,30 @@ class Explainer:
 
     def __init__(self, path, text):
         self.path, self.text, self.places = path, text, Places(text)
+        # The refused CREATE TABLEs, by the name of their table.
+        self.refused_tables = {}
 
     def explained(self, refusal):
-        """The text about a refused statement."""
+        """The text about a refused statement. They are explained in order."""
         statement, code = refusal.statement, refusal.code
         lines = self.syntax_lines(refusal) if code == 10 else self.cause_lines(refusal)
+        text = self.text_about(statement, f'{code} {NAMES[code]}', lines)
+        name = made_table(statement)
+        if name:
+            self.refused_tables[name] = statement
+        return text
+
+    def noted(self, statement, tables):
+        """The text about a statement that is right, over these tables, or nothing."""
+        lines = [f'At {self.places.shown(offset)}: {what}'
+                 for offset, what in notes(statement, tables)]
+        return [self.text_about(statement, 'note', lines)] if lines else []
+
+    def text_about(self, statement, what, lines):
         first, last = statement.tokens[0], statement.tokens[-1]
         line = self.text[first.offset:last.end].split('\n', maxsplit=1)[0]
         return '\n'.join([f'{self.path}:{self.places.shown(first.offset)}: statement'
-                          f' {statement.number}: {code} {NAMES[code]}',
-                          '    ' + shown(line), *wrapped(lines)])
+                          f' {statement.number}: {what}', '    ' + shown(line), *wrapped(lines)])
 
     def syntax_lines(self, refusal):
         mending = Mending(refusal.statement.tokens, refusal.tables)
@@ -56,24 +72,46 @@ class Explainer:
         causes = [(fault.offset, fault.why) for fault in statement.faults if fault.number == code]
         if refusal.clash:
             causes = list(clashes.causes(refusal.clash, self.places))
-        if code in CAUSES:
+        if refusal.day and not refusal.clash:
+            yield clashes.unseen_cause(refusal)
+        if code in CAUSES and not causes:
             yield f'Cause: {CAUSES[code]}'
-        word = 'At' if code in CAUSES else 'Cause at'
         most = MOST_CAUSES if code == 28 else MOST_PLACES
         for offset, why in causes[:most]:
-            yield f'{word} {self.places.shown(offset)}: {why}'
+            yield f'Cause at {self.places.shown(offset)}: {why}'
         if len(causes) > most:
             yield f'And at {len(causes) - most} more.'
-        yield f'What to do: {WHAT_TO_DO[code]}'
+        refused = self.refused_table(statement) if code == 23 else None
+        if refused:
+            what = f'Mend its CREATE TABLE, statement {refused.number} at' \
+                   f' {self.places.shown(refused.tokens[0].offset)}, which is refused.'
+        else:
+            what = what_to_do(code, statement.tree)
+        if code in (24, 25) and all(IS_NEW_NAME in why for _, why in causes):
+            what = NO_PARTNERS if code == 24 else f'{what} {NO_PARTNERS}'
+        yield f'What to do: {what}'
+
+    def refused_table(self, statement):
+        """The refused CREATE TABLE of the first table that a statement lacks, or None."""
+        offset = next(fault.offset for fault in statement.faults if fault.number == 23)
+        name = next(token.word for token in statement.tokens if token.offset == offset)
+        return self.refused_tables.get(name)
+
+
+def made_table(statement):
+    """The name of the table of a CREATE TABLE, or None."""
+    words = [token.word for token in statement.tokens[:3]]
+    return words[2] if words[:2] == ['CREATE', 'TABLE'] and len(words) == 3 else None
 
 
 class Explanation:
-    """What is said of a script, given as bytes, and of its report: `texts`. `statements` are those
-    of the script, none where it is refused as a whole; `records` and `refusals` are those of the
-    report. `NotOfScript` where the report isn't that of the script."""
+    """What is said of a script, given as bytes, and of its report: `texts` of what is refused, and
+    `notes` on statements that are right. `statements` are those of the script, none where it is
+    refused as a whole; `records` and `refusals` are those of the report. The script was run over
+    the tables of a catalog. `NotOfScript` where the report isn't that of the script."""
 
-    def __init__(self, path, script, report):
-        self.statements, self.records, self.refusals = [], [], []
+    def __init__(self, path, script, report, catalog):
+        self.statements, self.records, self.refusals, self.notes = [], [], [], []
         try:
             text = decoded(script)
             self.statements = statements_of(text)
@@ -84,7 +122,12 @@ class Explanation:
                                   f' it {why}') from None
             self.texts = [bad_tokens.of_script(path, script, refused)]
             return
-        read = Report(report, self.statements)
+        read = Report(report, self.statements, catalog)
         self.records, self.refusals = read.records, read.refusals()
         explainer = Explainer(path, text)
         self.texts = [explainer.explained(refusal) for refusal in self.refusals]
+        refused, catalog = {refusal.statement.number for refusal in self.refusals}, catalog.copy()
+        for statement in self.statements:
+            if statement.number not in refused and not statement.faults:
+                self.notes += explainer.noted(statement, catalog.tables)
+                catalog.take(statement.tree)

@@ -2,7 +2,7 @@
 says."""
 import collections
 
-from profile_data.report import Done, Reader, Refused, shown
+from profile_data.report import WITH_DAY, Done, Reader, Refused, shown
 from profile_sql.catalog import Catalog
 from profile_sql.current_rows import CurrentRows
 from profile_sql.refusals import NAMES
@@ -11,16 +11,19 @@ from profile_sql.tree import Delete, Insert, Update
 MEMORY, STORE = 61, 62
 CHANGES = (Insert, Update, Delete)
 
-# A refusal that the report has: the statement, the tables that are there before it, by name, and
-# the clash that 42 and 43 are about.
-Refusal = collections.namedtuple('Refusal', 'statement code tables clash')
+# A refusal that the report has: the statement, the tables that are there before it, by name, and of
+# 42 and 43 the day and the clash that they are about (None where a store has rows that the script
+# does not show).
+Refusal = collections.namedtuple('Refusal', 'statement code tables day clash')
 
 
 class Report:
-    """The refusals of a report, given as text, over the statements of a script."""
+    """The refusals of a report, given as text, over the statements of a script, which was run over
+    the tables of a catalog."""
 
-    def __init__(self, text, statements):
+    def __init__(self, text, statements, catalog):
         self.statements, self.reader = statements, Reader(text, len(statements))
+        self.catalog = catalog
         self.records = self.reader.records
         self.is_check = bool(self.records) and self.records[-1][0] == 'checked'
 
@@ -40,7 +43,7 @@ class Report:
             if code != statement.syntax_refusal:
                 self.differs(statement, statement.syntax_refusal, code)
             if code:
-                yield Refusal(statement, code, dict(catalog.tables), None)
+                yield Refusal(statement, code, dict(catalog.tables), None, None)
                 continue
             statement.judge(catalog)
             if not statement.faults:
@@ -56,18 +59,20 @@ class Report:
 
     def refusals_of_run(self):
         """Judges each statement over what those before it left, by the report."""
-        catalog = Catalog()
+        catalog, is_store = self.catalog.copy(), bool(self.catalog.tables)
         has_days = any(record[0] == 'refused' and record[-1] for record in self.records)
-        rows = CurrentRows(catalog) if has_days else None
+        rows = CurrentRows(catalog) if has_days and not is_store else None
         for statement in self.statements:
             outcome = self.reader.outcome(statement.number, statement.tree, catalog)
             code = int(outcome.number) if isinstance(outcome, Refused) else 0
             statement.judge(catalog)
             judged, clash = statement.refusal, None
-            if not judged and rows and isinstance(statement.tree, CHANGES) and \
-                    code not in (MEMORY, STORE):
-                clash = rows.change(statement.tree)
-                judged = clash.number if clash else 0
+            if not judged and isinstance(statement.tree, CHANGES) and code not in (MEMORY, STORE):
+                if rows:
+                    clash = rows.change(statement.tree)
+                    judged = clash.number if clash else 0
+                elif is_store and code in WITH_DAY:
+                    judged = code
             if code not in (judged, MEMORY, STORE):
                 self.differs(statement, judged, code)
             if isinstance(statement.tree, Insert) and isinstance(outcome, Done) and \
@@ -77,7 +82,8 @@ class Report:
                 self.reader.fail(f'the day of statement {statement.number} is {clash.day} by the'
                                  ' script')
             if code:
-                yield Refusal(statement, code, dict(catalog.tables), clash)
+                day = outcome.day if code in WITH_DAY else None
+                yield Refusal(statement, code, dict(catalog.tables), day, clash)
             else:
                 catalog.take(statement.tree)
         self.reader.ends()

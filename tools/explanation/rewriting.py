@@ -25,6 +25,13 @@ def columns_of_first(groups, tables):
     return front + ', '.join(f'{name}.{column}' for column in table.value_names)
 
 
+def equal_columns(groups, tables):
+    """The condition of a join USING some columns."""
+    one, two = groups['new'] or groups['one'], groups['other'] or groups['two']
+    names = groups['by'].split(', ')
+    return 'ON ' + ' AND '.join(f'{one}.{name} = {two}.{name}' for name in names)
+
+
 def meant(groups, tables):
     """A comparison with a value that might mean what is not known."""
     name = groups['left'].split('.')[-1].strip().upper()

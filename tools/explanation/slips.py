@@ -14,6 +14,7 @@ import re
 from profile_sql.literals import FIRST_MOMENT, FOREVER
 
 from . import rewriting
+from .texts import recipe
 
 Slip = collections.namedtuple('Slip', 'pattern put what expects')
 
@@ -40,14 +41,20 @@ NO_ARITHMETIC = ("Leave out {out}: there is no arithmetic; columns and literals 
 A_DATE = "Write DATE before the text of a date: DATE {text}."
 CALENDAR = ("Leave out {out}: period predicates are for the WHERE of SELECT * FROM alone. Each row"
             " of an answer has its days; for some days alone, join a table with one row that holds"
-            " on these days.")
+            f" on these days: {recipe('An answer for some days alone')}.")
+EVER = f"For what was ever or never so see {recipe('Ever and never')}."
 NO_SUBQUERY = ("Leave out {out}: there are no subqueries. Where the column is in the other query's"
                " list, join the other table by =; to keep what is not there, write EXCEPT SELECT"
-               " DISTINCT .. FROM .., which applies on each day by itself.")
+               f" DISTINCT .. FROM .., which applies on each day by itself. {EVER}")
+NO_OUTER_JOIN = ("Leave out {out}: joins are inner. The rows without a partner come by UNION:"
+                 f" {recipe('Rows without a partner')}.")
+FROM_A_FILE = ("Leave it out, and put the rows into INSERTs: tools/load makes these of a CSV file,"
+               f" as {recipe('Load an export with corrections')} shows.")
 
 BEGINNINGS = [
     (r"^@ (?P<word>BEGIN|COMMIT|ROLLBACK|START|SAVEPOINT|END) ", None,
      "Leave out {word}: each statement is a transaction of its own."),
+    (r"^@ (?:COPY|LOAD DATA|\. IMPORT) ", None, FROM_A_FILE),
     (r"^@ (?P<word>DROP|TRUNCATE|ALTER) ", None,
      "Leave out {word}: a script begins without tables, and nothing of it remains. DELETE FROM"
      " takes out rows."),
@@ -201,12 +208,14 @@ QUERIES = [
      "Leave out HAVING: it is not in the grammar."),
     (r"(?P<out>(?:TOP|LIMIT|OFFSET) @ 0 |@ (?:LIMIT|OFFSET) 0 )", "",
      "Leave out {out}: an answer has all of its rows."),
-    (r"(?P<out>(?:@ )?(?:LEFT|RIGHT|FULL|NATURAL) (?:@ )?(?:OUTER )?)JOIN ", "",
-     "Leave out {out}: joins are inner. The rows without a partner come by UNION, as those that"
-     " EXCEPT leaves of all."),
+    (r"(?P<out>(?:@ )?(?:LEFT|RIGHT|FULL) (?:@ )?(?:OUTER )?)JOIN ", "", NO_OUTER_JOIN),
+    (r"(?P<out>(?:@ )?(?:OUTER|NATURAL) )JOIN ", "",
+     "Leave out {out}: joins are inner, and each has its condition after ON."),
     (r"(?P<out>CROSS JOIN (?P<table>\w+) @ )", ", {table}", "Write a comma for CROSS JOIN."),
-    (rf"FROM (?P<one>{NAME}) (?:INNER )?JOIN (?P<two>{NAME}) (?P<out>USING @ \( (?P<by>\w+) \) )",
-     "ON {one}.{by} = {two}.{by}", "Write {put} for {out}."),
+    (rf"(?:FROM|,) (?P<one>{NAME}) (?:{WINDOW})?(?:(?:AS )?(?P<new>{NAME}) )?(?:INNER )?"
+     rf"JOIN (?P<two>{NAME}) (?:{WINDOW})?(?:(?:AS )?(?P<other>(?!USING @){NAME}) )?"
+     rf"(?P<out>(?:USING @|@ USING) \( (?P<by>{NAME}(?: , {NAME})*) \) )", rewriting.equal_columns,
+     "Write {put} for {out}."),
     (rf"JOIN {NAME} (?:(?:AS )?{NAME} )?@ (?P<out>WHERE )", "ON",
      "Write ON for WHERE: each JOIN has its condition after ON.", "ON"),
     (rf"(?:{SET_OPERATOR}) @ (?P<out>ALL )", "", "Leave out ALL: an answer has no duplicates."),
@@ -232,10 +241,11 @@ QUERIES = [
 CONDITIONS = [
     (rf"(?P<out>(?P<left>{COLUMN})@ (?P<no>NOT )?IN \( (?P<items>(?:{LITERAL}|, )+)\) )",
      rewriting.comparisons, "There is no IN: write {put}."),
-    (rf"^(?P<out>(?P<query>VALIDTIME SELECT DISTINCT (?P<left>{COLUMN})FROM {NAME} )"
-     rf"WHERE {COLUMN}@ NOT IN \( SELECT (?:DISTINCT )?(?P<inner>[^()]*)\) )$",
+    (rf"^(?P<out>(?P<query>VALIDTIME SELECT DISTINCT (?P<left>{COLUMN})FROM {NAME} "
+     rf"(?:WHERE (?:(?!OR )\S+ )*(?=AND {COLUMN}@))?)"
+     rf"(?:WHERE|AND) {COLUMN}@ NOT IN \( SELECT (?:DISTINCT )?(?P<inner>[^()]*)\) )$",
      "{query} EXCEPT SELECT DISTINCT {inner}",
-     "There are no subqueries. EXCEPT takes away, on each day by itself: {put}."),
+     f"There are no subqueries. EXCEPT takes away, on each day by itself: {{put}}. {EVER}"),
     (rf"(?P<out>(?P<left>{COLUMN})@ (?P<no>NOT )?IN \( (?:SELECT|VALIDTIME|\() .*\) )", "A = A",
      NO_SUBQUERY),
     (r"(?P<out>EXISTS @ \( (?:SELECT|VALIDTIME) .*\) )", "A = A", NO_SUBQUERY),

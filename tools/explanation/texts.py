@@ -11,6 +11,11 @@ def shown(text):
     return text if len(text) <= MOST_SHOWN else text[:MOST_SHOWN - 3] + ' ..'
 
 
+def recipe(heading):
+    """Where a user finds how to do it: a heading of docs/HOWTO.md."""
+    return f'"{heading}" in docs/HOWTO.md'
+
+
 def wrapped(lines):
     return [WRAP.fill(line) for line in lines]
 

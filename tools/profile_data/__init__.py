@@ -2,6 +2,7 @@
 
     records        the records of docs/PROFILE.md section 9: fields to a line of CSV, and back
     report         a report read beside its script: what became of each statement
+    listing        the tables of a store, as `bitemporal_file STORE --tables` lists them
     command_line   what the tools do alike: files that are read and written, faults that end them
     shown          texts for spreadsheets and terminals: formulas and control characters made
                    harmless
@@ -15,5 +16,6 @@
     cells          a cell of the file to a value of the language
     mapping        which column of the file is which of the table, and its records as facts
     corrections    facts in the order of their recording to changes of portions
+    clashes        lines that say something of one day of a key, and ends that look a day early
     script_writer  statements to scripts, each within the limits
 """

@@ -7,6 +7,7 @@ import re
 
 from profile_sql.queries import columns_of
 from profile_sql.refusals import MOST_COLUMNS
+from profile_sql.tree import selects
 
 from . import cells
 from .command_line import Fault
@@ -36,6 +37,8 @@ class JudgedTable:
             raise Fault(f'the query has {len(self.kinds)} columns, and {MOST_COLUMNS - 5} are the'
                         ' most that can be judged')
         self.names = [f'C{number}' for number in range(1, len(self.kinds) + 1)]
+        self.answer_names = [item.new_name or item.column.name
+                             for item in selects(query)[0].items]
         self.name, number = 'JUDGED', 2
         while self.name in catalog.tables:
             self.name, number = f'JUDGED_{number}', number + 1
@@ -101,7 +104,9 @@ class JudgedTable:
     def queries(self, text):
         """The two queries, for that of a statement `VALIDTIME query`."""
         query = re.sub('(?i)^VALIDTIME', '', text).strip()
-        theirs = f'SELECT DISTINCT {", ".join(self.names)} FROM {self.name}'
+        items = [f'{name} AS {answer_name}'
+                 for name, answer_name in zip(self.names, self.answer_names)]
+        theirs = f'SELECT DISTINCT {", ".join(items)} FROM {self.name}'
         # The line feed ends a comment at the query's end.
         yield f'\n-- In our answer, and not in theirs\nVALIDTIME ({query}\n) EXCEPT {theirs}'
         yield f'\n-- In their answer, and not in ours\nVALIDTIME {theirs} EXCEPT ({query}\n)'

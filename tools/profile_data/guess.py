@@ -2,7 +2,7 @@
 
 Guessed are the type of each column, the two columns of the period and whether its end is the last
 day, the moment of recording, and the key: the fewest columns of which no two rows say something of
-one day, as far as they are recorded at one moment.
+one day, as far as they are recorded at one moment; of rows that hold on all days all columns.
 """
 import datetime
 import itertools
@@ -125,6 +125,8 @@ class Guess:
         return [sorted(group) for group in groups.values()]
 
     def find_key(self):
+        if self.wanted.always:  # equal rows are one
+            return self.values
         tried = [column for column in self.values if not column.has_empty and not column.scale]
         for count in range(1, MOST_KEY_COLUMNS + 1):
             for key in itertools.combinations(tried[:MOST_TRIED], count):
@@ -174,11 +176,14 @@ class Guess:
                 words.append(f'--{option} {self.quoted(value)}')
         words += [f'--scale {column.name}={column.scale}' for column in self.values
                   if column.scale]
-        if self.is_inclusive:
+        is_always = self.wanted.always or not (self.start or self.end)
+        if is_always:
+            words.append('--always')
+        elif self.is_inclusive:
             words.append('--inclusive-to')
-        if self.start is None:
-            words.append(f'--empty {self.free("S")}=0001-01-01' if self.end else '--always')
-        if self.end is None and self.start or self.end and self.end.has_empty:
+        if self.start is None and not is_always:
+            words.append(f'--empty {self.free("S")}=0001-01-01')
+        if not is_always and (self.end is None or self.end.has_empty):
             words.append('--open 9999-12-31')
         words += [f'--empty {column.name}=0' for column in self.values
                   if column.kind == 'INTEGER' and column.has_empty]
@@ -207,7 +212,7 @@ class Guess:
         lines = [f'-- A first guess from {os.path.basename(self.file.path)},'
                  f' {counted(len(self.file.records), "row")}. Edit what is wrong, then:',
                  f'--   tools/load {path} --table FILE {self.command()}'.rstrip()]
-        if not (self.start and self.end):
+        if not (self.start and self.end) and not self.wanted.always:
             lines.append('-- The file has no two columns of dates: look at the period.')
         if not self.key:
             lines.append('-- No columns were found that can be the key: these are the first ones.')

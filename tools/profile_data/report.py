@@ -7,7 +7,6 @@ lines of the comment above it, and its text. A report that isn't that of the scr
 import collections
 import sys
 
-from profile_sql.catalog import Catalog
 from profile_sql.lexis import lexed, pieces
 from profile_sql.parser import parsed
 from profile_sql.literals import date_of
@@ -38,20 +37,22 @@ class NotOfScript(Exception):
     """The report is none, or that of another script: why."""
 
 
-def read(script_path, report_path):
-    """The statements of the script in a file, with what the report in another says of each."""
+def read(script_path, report_path, catalog):
+    """The statements of the script in a file, with what the report in another says of each. They
+    were run over the tables of a catalog."""
     text = read_text(script_path)
     try:
         tokens = list(pieces(lexed(text)))
-        return statements(text, tokens, Reader(read_text(report_path), len(tokens)))
+        reader = Reader(read_text(report_path), len(tokens))
+        return statements(text, tokens, reader, catalog.copy())
     except RefusedScript as refused:
         raise Fault(f'{script_path} is refused as a whole: {refused}') from None
     except NotOfScript as why:
         raise Fault(f'{script_path}: {why}') from None
 
 
-def statements(text, tokens, reader):
-    catalog, found, before = Catalog(), [], 0
+def statements(text, tokens, reader, catalog):
+    found, before = [], 0
     for number, piece in enumerate(tokens, 1):
         tree = parsed(piece).tree
         outcome = reader.outcome(number, tree, catalog)
@@ -170,7 +171,10 @@ class Reader:
         columns, count = self.size('versions', number)
         names = self.take('columns', number, columns)
         rows = [self.take('version', number, columns) for _ in range(count)]
-        if table is None or names != [column.name for column in table.columns]:
+        if table is None:
+            self.fail(f'statement {number} asks of a table that the script does not make: where it'
+                      ' was run over a store, name its tables by --tables')
+        if names != [column.name for column in table.columns]:
             self.fail(f'it has not the columns of statement {number}')
         return Versions(names, rows, table)
 

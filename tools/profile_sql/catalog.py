@@ -29,6 +29,11 @@ class Catalog:
     def __init__(self):
         self.tables, self.clock = {}, FIRST_MOMENT
 
+    def copy(self):
+        other = Catalog()
+        other.tables, other.clock = dict(self.tables), self.clock
+        return other
+
     def take(self, tree):
         """What a statement without faults makes of it."""
         if isinstance(tree, At):

@@ -8,7 +8,8 @@ from .tree import (And, ColumnReference, Comparison, ContainsDay, Literal, Not, 
 
 
 # Words of joins that are not in the grammar. Each is a name: `A LEFT JOIN B` joins A, called LEFT.
-NO_JOINS = ('LEFT', 'RIGHT', 'FULL', 'CROSS', 'NATURAL')
+NO_JOINS = ('LEFT', 'RIGHT', 'FULL', 'OUTER', 'CROSS', 'NATURAL')
+IS_NEW_NAME = 'is read as a new name of'
 
 
 def listed(names):
@@ -31,9 +32,11 @@ def repeated(names):
 
 
 def unknown_table(name, catalog):
-    there = f'The tables are {listed(catalog.tables)}.' if catalog.tables else 'There is no table.'
+    tables = catalog.tables
+    there = ', nor any other.' if not tables else f'. The only table is {listed(tables)}.' \
+        if len(tables) == 1 else f'. The tables are {listed(tables)}.'
     return Fault(23, name.offset,
-                 f'There is no table {name}. {there}{guess(name, catalog.tables)}')
+                 f'There is no table {name}{there}{guess(name, catalog.tables)}')
 
 
 def is_no_period(start, end):
@@ -94,8 +97,8 @@ class Scope:
             mend = 'give each a name of its own' if repeated(names) else f'write {ways}'
             joins = [self.tables[place] for place, _ in found if self.tables[place][0] in NO_JOINS]
             if joins:
-                mend = f'{joins[0][0]} is read as a new name of {joins[0][1].name}, since there are' \
-                       f' no such joins. Leave it out'
+                mend = f'{joins[0][0]} {IS_NEW_NAME} {joins[0][1].name}, since there are no such' \
+                       ' joins. Leave it out'
             yield Fault(25, column.name.offset,
                         f'{column.name} is a column of several tables: {mend}.')
         for _, table in found:
@@ -113,8 +116,8 @@ class Scope:
             new_names = [name for name, table in self.tables if table.name == column.qualifier]
             joins = [name for name in new_names if name in NO_JOINS]
             if joins:
-                why = f'{joins[0]} is read as a new name of {column.qualifier}: there are no such' \
-                      f' joins. Leave out {joins[0]}.'
+                why = f'{joins[0]} {IS_NEW_NAME} {column.qualifier}: there are no such joins. Leave' \
+                      f' out {joins[0]}.'
             elif new_names:
                 why = f'{column.qualifier} goes by its new name {new_names[-1]} here: write' \
                       f' {new_names[-1]}.{column.name}.'

@@ -79,8 +79,9 @@ class Cluster:
                 self.submit(waiting.pop(0), tasks, done)
 
     def submit(self, part, tasks, done):
-        future = self.client.submit(self.task, self.program, self.words, part.path.read_bytes(),
-                                    pure=False)
+        # Sent ahead of its task: in it a slice of a megabyte is warned of.
+        script = self.client.scatter(part.path.read_bytes(), hash=False)
+        future = self.client.submit(self.task, self.program, self.words, script, pure=False)
         tasks[future] = part
         done.add(future)
 
