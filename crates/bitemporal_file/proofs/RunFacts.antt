@@ -78,10 +78,10 @@ module _ {W K : Type 0} (contents : W → Option (List ℕ)) (text : ℕ → K �
   abbrev pub one : List ℕ → List K → Bool → List (ScriptRun K)
   one script results is_whole = record { script = script; results = results; is_whole = is_whole } ∷ []
 
-  same_flow : (flow other : Bool) → ◌≡◌ {A = Result Bool RunFault} (Ok flow) (Ok other) → flow ≡ other
+  pub same_flow : (flow other : Bool) → ◌≡◌ {A = Result Bool RunFault} (Ok flow) (Ok other) → flow ≡ other
   same_flow flow other same = cc
 
-  same_fault : (fault other : RunFault) → ◌≡◌ {A = Result Bool RunFault} (Err fault) (Err other) → fault ≡ other
+  pub same_fault : (fault other : RunFault) → ◌≡◌ {A = Result Bool RunFault} (Err fault) (Err other) → fault ≡ other
   same_fault fault other same = cc
 
   no_fault : {X : Type 0} (fault : Option X) → fault ≡ None → IsSome fault → ⊥
@@ -111,19 +111,19 @@ module _ {W K : Type 0} (contents : W → Option (List ℕ)) (text : ℕ → K �
     refused = λ refusal is. let no : ⊥ = cc in absurd no;
   }
 
-  its_fault : (fault : Option RunFault) (its : RunFault) → fault ≡ Some its → IfSome fault IsReportFault → IfSome fault (λ f. IsReportFault f × (◌≡◌ {A = Result Bool RunFault} (Err its) (Err f)))
+  pub its_fault : (fault : Option RunFault) (its : RunFault) → fault ≡ Some its → IfSome fault IsReportFault → IfSome fault (λ f. IsReportFault f × (◌≡◌ {A = Result Bool RunFault} (Err its) (Err f)))
   its_fault None its is may = tt
   its_fault (Some f) its is may = let same : its ≡ f = cc in (may, ap Err same)
 
-  is_none_of_script : (fault : RunFault) (refusal : Refusal) → IsReportFault fault → fault ≡ Script refusal → ⊥
+  pub is_none_of_script : (fault : RunFault) (refusal : Refusal) → IsReportFault fault → fault ≡ Script refusal → ⊥
   is_none_of_script fault refusal (inl memory) is = cc
   is_none_of_script fault refusal (inr write) is = cc
 
-  its_own : (fault : Option RunFault) (its : RunFault) → fault ≡ Some its → IfSome fault IsReportFault → IsReportFault its
+  pub its_own : (fault : Option RunFault) (its : RunFault) → fault ≡ Some its → IfSome fault IsReportFault → IsReportFault its
   its_own None its is may = let no : ⊥ = cc in absurd no
   its_own (Some f) its is may = let same : f ≡ its = cc in subst IsReportFault same may
 
-  faulty_flow : (goes_on : Bool) (old new : Reporter W) (results : List K) (fault : RunFault) → new.fault ≡ Some fault → TellsAll contents text status (record old { next = 1 }) results goes_on new → IfSome new.fault IsReportFault
+  pub faulty_flow : (goes_on : Bool) (old new : Reporter W) (results : List K) (fault : RunFault) → new.fault ≡ Some fault → TellsAll contents text status old results goes_on new → IfSome new.fault IsReportFault
   faulty_flow false old new results fault is told = (told.off refl).0
   faulty_flow true old new results fault is told = rw (told.on refl).0 tt
 
@@ -131,7 +131,7 @@ module _ {W K : Type 0} (contents : W → Option (List ℕ)) (text : ℕ → K �
   pub one_faulty : (known : Option (List ℕ)) (script : List ℕ) (old : Reporter W) (results : List K) (goes_on : Bool) (new : Reporter W) (fault : RunFault) → new.fault ≡ Some fault → TellsAll contents text status (record old { next = 1 }) results goes_on new →
       Ends contents text status (known ∷ []) old (one script results goes_on) (Err fault) new
   one_faulty known script old results goes_on new fault is told =
-      let may = faulty_flow goes_on old new results fault is told in
+      let may = faulty_flow goes_on (record old { next = 1 }) new results fault is told in
       record {
         stops = told.stops;
         worst = told.worst ∙ ap (greatest_from status old.worst) (sym (append-nil results));

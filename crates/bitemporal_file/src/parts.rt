@@ -1,8 +1,8 @@
 //! The parts of a session: each is what was written up to a semicolon, and is run by itself.
 
-ghost use Rattle.std.specs.Prelude.{◌≡◌, ℕ, List, IfErr, IfOk, false, true};
+ghost use Rattle.std.specs.Prelude.{◌≡◌, ◌∷◌, [], IfErr, IfOk, IfSome, None, false, true};
 ghost use Rattle.std.specs.Io.KnownBytes.{Consumes, IsAtEnd};
-ghost use Rattle.command_tool.specs.declared.fault.RunFault.TheVariants.{Script};
+ghost use Rattle.command_tool.specs.declared.fault.RunFault.TheVariants.{Read as NotRead, Script};
 ghost use Rattle.period_core.specs.declared.refusal.Refusal.{Refusal};
 ghost use Rattle.period_core.specs.declared.refusal.Refusal.TheVariants.{ScriptTooLarge};
 ghost use Rattle.bitemporal_file.specs.Parts.{BeginsTooLarge, EndsAtSemicolon, IsOpen};
@@ -14,8 +14,8 @@ use script_engine::MOST_BYTES;
 use std::alloc::Global;
 use std::io::{ErrorKind, Read};
 
-// How many interrupted reads of one part are tried again.
-const MOST_RETRIES: usize = 1000;
+// How many reads of one byte are tried, all but the last interrupted.
+const MOST_READS: usize = 1001;
 
 /// Where in a script one is, behind some of its bytes.
 #[derive(Clone, Copy, Debug, PartialEq, Eq)]
@@ -68,8 +68,32 @@ pub(crate) struct Part {
     pub(crate) is_last: bool,
 }
 
-/// Reads the next part of a session, and nothing behind its semicolon. A read that is interrupted
-/// is tried again, up to 1,000 times in all.
+// The next byte of the input; nothing at its end. A read that is interrupted is tried again, up to
+// 1,000 times in all.
+fn next_byte<R: Read>(input: &mut R) -> Result<Option<u8>, RunFault>
+    ensures some { IfOk result (λ next. IfSome next (λ byte.
+        Consumes (R.remaining input.old) (R.remaining input.new) (byte ∷ []))) }
+    ensures none { IfOk result (λ next. next ≡ None
+        → Consumes (R.remaining input.old) (R.remaining input.new) []
+        × IsAtEnd (R.remaining input.new)) }
+    ensures fault { IfErr result (λ fault. fault ≡ NotRead) }
+{
+    let mut buffer = [0u8; 1];
+    'reads: for _ in 0..MOST_READS {
+        match input.read(&mut buffer) {
+            Ok(0) => return Ok(None),
+            Ok(_) => return Ok(Some(buffer[0])),
+            Err(error) => {
+                if error.kind() != ErrorKind::Interrupted {
+                    return Err(RunFault::Read);
+                }
+            }
+        }
+    }
+    Err(RunFault::Read)
+}
+
+/// Reads the next part of a session, and nothing behind its semicolon.
 pub(crate) fn read_part<R: Read>(alloc: Global, input: &mut R) -> Result<Part, RunFault>
     ensures taken { IfOk result (λ part. Consumes
         (R.remaining input.old) (R.remaining input.new) part.bytes.items) }
@@ -82,35 +106,26 @@ pub(crate) fn read_part<R: Read>(alloc: Global, input: &mut R) -> Result<Part, R
 {
     let mut bytes = Vec::new(alloc);
     let mut place = Place::Outside;
-    let mut next = [0u8; 1];
-    let mut retries = MOST_RETRIES;
-    while bytes.len() <= MOST_BYTES {
-        match input.read(&mut next) {
-            Ok(0) => {
-                return Ok(Part {
-                    bytes,
-                    is_last: true,
-                });
-            }
-            Ok(_) => {
-                let byte = next[0];
-                if bytes.push(byte).is_err() {
-                    return Err(RunFault::Memory);
-                }
-                place = place.after(byte);
-                if place == Place::Ended {
-                    return Ok(Part {
-                        bytes,
-                        is_last: false,
-                    });
-                }
-            }
-            Err(error) => {
-                if retries == 0 || error.kind() != ErrorKind::Interrupted {
-                    return Err(RunFault::Read);
-                }
-                retries -= 1;
-            }
+    'reads: while bytes.len() <= MOST_BYTES {
+        let next = match next_byte(input) {
+            Ok(next) => next,
+            Err(fault) => return Err(fault),
+        };
+        let Some(byte) = next else {
+            return Ok(Part {
+                bytes,
+                is_last: true,
+            });
+        };
+        if bytes.push(byte).is_err() {
+            return Err(RunFault::Memory);
+        }
+        place = place.after(byte);
+        if place == Place::Ended {
+            return Ok(Part {
+                bytes,
+                is_last: false,
+            });
         }
     }
     Err(RunFault::Script(Refusal::ScriptTooLarge))

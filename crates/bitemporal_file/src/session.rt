@@ -86,7 +86,8 @@ fn run_parts<S: Alter, K: Kept<S> + Reported + Drop, R: Read, W: Write>(
     ensures usable { WasUsable S.Store engine.old.connection engine.new.connection }
 {
     let mut start: usize = 0;
-    for _ in 0..u64::MAX {
+    // The input ends the loop. Its bound shows that it ends in any case.
+    'parts: for _ in 0..u64::MAX {
         let part = match read_part(alloc, input) {
             Ok(part) => part,
             Err(fault) => return Err(fault),
