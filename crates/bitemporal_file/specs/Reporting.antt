@@ -23,8 +23,8 @@ entry_status entry = if fails_audit entry.audit then 3 else result_status entry.
 abbrev pub IsReportFault : RunFault → Type 0
 IsReportFault fault = (fault ≡ Memory) ⊎ (fault ≡ Write)
 
--- the reporter of a run that may stop at a refusal is handed a result, and says whether the run goes
--- on
+-- the reporter of a run that may stop at a refusal is handed a result, and says whether the run
+-- goes on
 pub record Tells {W K : Type 0} (contents : W → Option (List ℕ)) (text : ℕ → K → List ℕ)
     (status : K → ℕ) (old : Reporter W) (kept : K) (goes_on : Bool) (new : Reporter W)
     : Type 0 where

@@ -114,8 +114,8 @@ fn list_asked<W: Write>(rt: &HostRuntime, asked: &Asked, out: &mut W) -> Result<
 
 /// Does what the words ask for: runs scripts over the store in a file, those in files or a session
 /// of `input`, and reports each statement on `out` as soon as it is done; or lists the store's
-/// tables; or shows help or the version. Gives the exit status: 0 to 3 as `bitemporal` does, for all
-/// scripts together. With 2 `err` gets a text that says why.
+/// tables; or shows help or the version. Gives the exit status: 0 to 3 as `bitemporal` does, for
+/// all scripts together. With 2 `err` gets a text that says why.
 pub fn run_file_program<R: Read, W: Write, E: Write>(
     rt: &HostRuntime,
     words: &[String],
