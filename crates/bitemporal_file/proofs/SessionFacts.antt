@@ -3,7 +3,7 @@ use Rattle.std.proofs.Common.{◌≡◌, ◌≢◌, ◌<◌, ◌≤◌, ◌+◌,
 use Rattle.std.specs.Io.KnownBytes.{Consumes, IsAtEnd, Keeps}
 use Rattle.std.proofs.KnownBytes.{Consumes-kept, Consumes-nil, Consumes-trans}
 use Rattle.std.proofs.lemmas.List.{append-nil}
-use Rattle.std.proofs.lemmas.List.Elements.{All-head, All-tail}
+use Rattle.std.proofs.lemmas.List.Elements.{All-append, All-cons, All-head, All-nil, All-tail}
 use Rattle.period_core.specs.declared.refusal.Refusal.{Refusal}
 use Rattle.history_model.specs.Histories.{History}
 use Rattle.sqlite.specs.Store.{Ghosts}
@@ -62,6 +62,13 @@ module _ {K : Type 0} where
 
   abbrev pub AllEnd : List (ScriptRun K) → Type 0
   AllEnd runs = All (λ (run : ScriptRun K). EndsAtSemicolon run.script) runs
+
+  pub all_more : (runs : List (ScriptRun K)) (run : ScriptRun K) → AllEnd runs → EndsAtSemicolon run.script → AllEnd (runs ++ run ∷ [])
+  all_more runs run all ends =
+      All-append (λ (r : ScriptRun K). EndsAtSemicolon r.script) runs (run ∷ []) all (All-cons (λ (r : ScriptRun K). EndsAtSemicolon r.script) run [] ends (All-nil (λ (r : ScriptRun K). EndsAtSemicolon r.script)))
+
+  pub bytes-length : (runs : List (ScriptRun K)) (run : ScriptRun K) → length (bytes_of (runs ++ run ∷ [])) ≡ length (bytes_of runs) + length run.script
+  bytes-length runs run = ap length (bytes-one runs run) ∙ length-append (bytes_of runs) run.script
 
   pub cut-all : (runs : List (ScriptRun K)) → AllEnd runs → AreCut runs
   cut-all [] all = tt
@@ -123,9 +130,9 @@ module _ {K : Type 0} where
         subst (λ (results : List K). TellsAll contents text status old results goes_on new) (sym (results-one runs run)) (told_more contents text status old (results_of runs) middle run.results goes_on new first last)
 
     -- by a fault that is none of the report
-    pub failed_told : (old : Reporter W) (results : List K) (fault : RunFault) (new : Reporter W) → new.fault ≡ None → TellsAll contents text status old results true new → EndsWith contents text status old results (Err fault) new
-    failed_told old results fault new quiet told =
-        ends_told contents text status old results true (Err fault) new told (rw quiet tt) (λ flow is. let no : ⊥ = cc in absurd no)
+    pub failed_told : (old : Reporter W) (results : List K) (goes_on : Bool) (fault : RunFault) (new : Reporter W) → new.fault ≡ None → TellsAll contents text status old results goes_on new → EndsWith contents text status old results (Err fault) new
+    failed_told old results goes_on fault new quiet told =
+        ends_told contents text status old results goes_on (Err fault) new told (rw quiet tt) (λ flow is. let no : ⊥ = cc in absurd no)
 
     -- by a fault of the report
     pub faulty_told : (old : Reporter W) (results : List K) (goes_on : Bool) (fault : RunFault) (new : Reporter W) → new.fault ≡ Some fault → TellsAll contents text status old results goes_on new → EndsWith contents text status old results (Err fault) new

@@ -2,6 +2,7 @@
 
 ghost use Rattle.std.specs.Prelude.{◌≡◌, ◌≤◌, ◌+◌, ℕ, Err, IfErr, List, None, OnOk};
 ghost use Rattle.std.specs.Io.KnownBytes.{Appends};
+ghost use Rattle.period_core.specs.declared.refusal.Refusal.{Refusal};
 ghost use Rattle.script_engine.specs.report.AuditedReport.{entry_text};
 ghost use Rattle.script_engine.specs.report.Report.{text_of};
 ghost use Rattle.bitemporal_file.specs.Reporting.{IsReportFault, Tells, entry_status};
