@@ -10,7 +10,7 @@ use Rattle.script_engine.specs.engine.EngineState.{EngineState}
 use Rattle.script_engine.specs.engine.Stored.{EngineRepresents}
 use Rattle.bitemporal_file.specs.Parts.{BeginsTooLarge, EndsAtSemicolon, IsPart}
 use Rattle.bitemporal_file.specs.Reporting.{EndsWith, TellsAll}
-use Rattle.bitemporal_file.specs.ScriptRuns.{ScriptRun}
+use Rattle.bitemporal_file.specs.ScriptRuns.{ScriptRun, results_of}
 use Rattle.bitemporal_file.specs.Sessions.{bytes_of}
 use Rattle.bitemporal_file.proofs.SessionFacts.{all_more, bytes-length, cut-all, cut-more, failed_told, faulty_told, one_run, part_is, parts_ended, parts_failed, quiet_told, ran_further, report_fault, taken-part, told_part}
 use Rattle.bitemporal_file.proofs.Told.{nothing_told}
@@ -49,7 +49,7 @@ returns-in-Err-run_part-clause-ran g c =
             (too_large, (bytes, g.R.Read.remaining c.read_part.new.input, c.in-Ok.ensures.taken, part_is part.is_last bytes c.in-Ok.ensures.ended c.in-Ok.ensures.last, omega (arith, ap length same, long))) in (
       runs,
       parts_failed _ _ runs c.in-Err-run_part.fault (cut-all runs ended) taken large,
-      subst (λ (new : _). EndsWith g.W.Write.contents g.K.Reported.text g.K.Reported.status_of c.args.reporter.now _ (Err c.in-Err-run_part.fault) new) (sym reporter)
+      subst (λ (new : _). EndsWith g.W.Write.contents g.K.Reported.text g.K.Reported.status_of c.args.reporter.now (results_of runs) (Err c.in-Err-run_part.fault) new) (sym reporter)
       (failed_told g.W.Write.contents g.K.Reported.text g.K.Reported.status_of c.args.reporter.now _ true c.in-Err-run_part.fault c.parts.reporter c.parts.invariant.quiet told),
       λ usable history stands.
           let (last, leads, represents) = did (subst (λ (e : EngineState g.row.S.Denot). IsUsable g.S.Store e.connection) engine usable) history stands in
@@ -152,7 +152,7 @@ parts-preserved g c =
         all_more runs run ended (subst EndsAtSemicolon (sym same) (c.in-Ok.ensures.ended more)),
         taken-part _ _ _ runs run taken took,
         omega (arith, sum, start, bytes-length runs run, c.len.ensures, c.as_slice-bytes.ensures.len),
-        subst (λ (flow : Bool). TellsAll g.W.Write.contents g.K.Reported.text g.K.Reported.status_of c.args.reporter.now _ flow c.run_part.new.reporter) on all,
+        subst (λ (flow : Bool). TellsAll g.W.Write.contents g.K.Reported.text g.K.Reported.status_of c.args.reporter.now (results_of (runs ++ run ∷ [])) flow c.run_part.new.reporter) on all,
         ran_further g.S.Store g.K.Kept.is_step g.K.Reported.refused c.args.engine.now c.parts.engine c.run_part.new.engine c.parts.start runs run start c.run_part.ensures.usable did went,
       );
     }
