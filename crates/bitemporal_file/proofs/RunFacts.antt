@@ -1,10 +1,10 @@
 -- Scripts that are run one after the other.
-use Rattle.std.proofs.Common.{◌≡◌, ◌≢◌, ◌<◌, ◌⊎◌, ◌+◌, ◌++◌, ◌∷◌, ◌∙◌, ℕ, Bool, List, [], Option, None, Some, Result, Ok, Err, All, drop, get_or, length, map, take, false, true, ap, arith, inl, inr, refl, subst, sym, append_assoc}
-use Rattle.std.specs.Prelude.{IfSome, IsSome, max}
+use Rattle.std.proofs.Common.{◌≡◌, ◌<◌, ◌⊎◌, ◌+◌, ◌++◌, ◌∷◌, ◌∙◌, ℕ, Bool, List, [], Option, None, Some, Result, Ok, Err, All, drop, get_or, length, map, take, false, true, ap, arith, inl, inr, refl, subst, sym, append_assoc}
+use Rattle.std.specs.Prelude.{IfSome, IsSome}
 use Rattle.std.specs.Io.KnownBytes.{Appends}
 use Rattle.std.proofs.KnownBytes.{Appends-nil, Appends-trans}
 use Rattle.std.proofs.lemmas.List.{append-nil, length-append, map-append, take-append-drop, take_more}
-use Rattle.std.proofs.lemmas.List.Elements.{All-append, All-cons, All-head, All-nil, All-tail}
+use Rattle.std.proofs.lemmas.List.Elements.{All-append, All-cons, All-nil}
 use Rattle.period_core.specs.declared.refusal.Refusal.{Refusal}
 use Rattle.history_model.specs.Histories.{History}
 use Rattle.sql_statements.specs.Lexemes.{Lexeme}
@@ -14,13 +14,12 @@ use Rattle.script_engine.specs.engine.EngineState.{EngineState}
 use Rattle.version_tables.specs.declared.form.Form.TheVariants.{Microseconds}
 use Rattle.version_store.proofs.Units.{same_units}
 use Rattle.script_engine.specs.engine.Stored.{AreOfHistory, DatabaseRepresents, EngineRepresents}
-use Rattle.script_engine.specs.script.Listening.{IsFrontRunBy}
 use Rattle.script_engine.specs.script.Script.{MayRefuseScript}
 use Rattle.command_tool.specs.Program.{read_of}
 use Rattle.command_tool.specs.declared.fault.RunFault.{RunFault}
 use Rattle.command_tool.specs.declared.fault.RunFault.TheVariants.{Memory, Read, Script}
 use Rattle.bitemporal_file.specs.Reporting.{EndsAtRefusal, IsReportFault, TellsAll, greatest_from, texts_from}
-use Rattle.bitemporal_file.specs.ScriptRuns.{AreAllRun, AreOfReaders, Ends, LeadsTo, MayRefuseNext, ScriptRun, reports, results_of}
+use Rattle.bitemporal_file.specs.ScriptRuns.{AreOfReaders, Ends, LeadsTo, MayRefuseNext, ScriptRun, reports, results_of}
 use Rattle.bitemporal_file.specs.declared.reporter.Reporter.{Reporter}
 use Rattle.bitemporal_file.proofs.Told.{greatest-more, refusal-more}
 

@@ -1,5 +1,5 @@
 -- What a reporter has written and found, once it was handed all results of a script.
-use Rattle.std.proofs.Common.{◌≡◌, ◌≢◌, ◌≤◌, ◌⊎◌, ◌==◌, ◌||◌, ◌+◌, ◌++◌, ◌∷◌, ◌∙◌, ℕ, Bool, List, [], Option, None, Some, All, Result, Ok, Err, false, true, not, ap, add-zero, arith, inl, inr, length, refl, subst, sym, append_assoc}
+use Rattle.std.proofs.Common.{◌≡◌, ◌≤◌, ◌==◌, ◌||◌, ◌+◌, ◌++◌, ◌∷◌, ◌∙◌, ℕ, Bool, List, [], Option, None, Some, All, Result, Ok, Err, false, true, not, ap, add-zero, arith, inl, inr, length, refl, subst, sym, append_assoc}
 use Rattle.std.specs.Prelude.{IfSome, IsSome, max}
 use Rattle.std.specs.Io.KnownBytes.{Appends}
 use Rattle.std.proofs.KnownBytes.{Appends-nil, Appends-trans}
@@ -53,7 +53,7 @@ module _ {W K : Type 0} (contents : W → Option (List ℕ)) (text : ℕ → K �
             let (first, next) = told.written silent in
             let (others, last) = rest.written none in
             let numbered : Appends (contents middle.out) (contents new.out) (texts_from text (old.next + 1) results) =
-                subst (λ n. Appends (contents middle.out) (contents new.out) (texts_from text n results)) next others in
+            subst (λ n. Appends (contents middle.out) (contents new.out) (texts_from text n results)) next others in
             (Appends-trans (contents old.out) (contents middle.out) (contents new.out) (text old.next result) (texts_from text (old.next + 1) results) first numbered, omega (arith, next, last));
         on = λ on.
             let (none, all) = rest.on on in
@@ -109,9 +109,9 @@ module _ {W K : Type 0} (contents : W → Option (List ℕ)) (text : ℕ → K �
             let (begun, next) = first.written quiet in
             let (others, end) = last.written none in
             let numbered : Appends (contents middle.out) (contents new.out) (texts_from text (old.next + length results) more) =
-                subst (λ n. Appends (contents middle.out) (contents new.out) (texts_from text n more)) next others in (
+            subst (λ n. Appends (contents middle.out) (contents new.out) (texts_from text n more)) next others in (
               subst (Appends (contents old.out) (contents new.out)) (sym (texts-more old.next results more))
-              (Appends-trans (contents old.out) (contents middle.out) (contents new.out) (texts_from text old.next results) (texts_from text (old.next + length results) more) begun numbered),
+                  (Appends-trans (contents old.out) (contents middle.out) (contents new.out) (texts_from text old.next results) (texts_from text (old.next + length results) more) begun numbered),
               omega (arith, next, end, length-append results more),
             );
         on = λ on.

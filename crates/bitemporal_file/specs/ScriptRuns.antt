@@ -1,7 +1,7 @@
 -- Scripts that are run one after the other, and their reports.
 use Rattle.std.specs.Prelude.{◌≡◌, ◌≤◌, ◌++◌, ◌∷◌, ℕ, Bool, List, [], Option, None, Result}
 use Rattle.std.specs.Prelude.{Ok, Err}
-use Rattle.std.specs.Prelude.{All, IfSome, false, length, map, true}
+use Rattle.std.specs.Prelude.{All, IfSome, false, length, true}
 use Rattle.std.specs.Io.KnownBytes.{Appends}
 use Rattle.sql_statements.specs.Lexemes.{Lexeme}
 use Rattle.history_model.specs.Histories.{History}

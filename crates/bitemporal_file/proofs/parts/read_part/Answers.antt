@@ -13,7 +13,7 @@ returns-then-eq-clause-ended g c same =
     let pushed : c.push.new.self.items ≡ bytes ++ byte ∷ [] = search rules in
     let ended : c.after-place.result ≡ Ended = search rules in
     let behind : place_behind Outside c.push.new.self.items ≡ c.after-place.result =
-        ap (place_behind Outside) pushed ∙ place-more Outside bytes byte ∙ ap (λ place. place_after place byte) (sym c.reads.invariant.behind) ∙ sym c.after-place.ensures in
+    ap (place_behind Outside) pushed ∙ place-more Outside bytes byte ∙ ap (λ place. place_after place byte) (sym c.reads.invariant.behind) ∙ sym c.after-place.ensures in
     (bytes, byte, pushed, c.reads.invariant.unended, behind ∙ ended)
 
 pub reads-preserved : goal.reads-preserved
@@ -24,7 +24,7 @@ reads-preserved g c =
     let on : c.after-place.result ≢ Ended = search rules in
     let took : Consumes (g.R.Read.remaining c.reads.input) (g.R.Read.remaining c.next_byte.new.input) (byte ∷ []) = search rules in
     let behind : place_behind Outside c.push.new.self.items ≡ c.after-place.result =
-        ap (place_behind Outside) pushed ∙ place-more Outside bytes byte ∙ ap (λ place. place_after place byte) (sym c.reads.invariant.behind) ∙ sym c.after-place.ensures in
+    ap (place_behind Outside) pushed ∙ place-more Outside bytes byte ∙ ap (λ place. place_after place byte) (sym c.reads.invariant.behind) ∙ sym c.after-place.ensures in
     record {
       taken = subst (Consumes (g.R.Read.remaining c.args.input.now) (g.R.Read.remaining c.next_byte.new.input)) (sym pushed) (Consumes-trans _ _ _ bytes (byte ∷ []) c.reads.invariant.taken took);
       behind = sym behind;

@@ -1,4 +1,4 @@
-use Rattle.std.proofs.Common.{◌≡◌, ◌∙◌, [], ◌∷◌, ℕ, Err, List, refl, subst, sym}
+use Rattle.std.proofs.Common.{[], ◌∷◌, Err, refl, subst, sym}
 use Rattle.script_engine.specs.engine.Stored.{EngineRepresents}
 use Rattle.script_engine.specs.script.Script.{MayRefuseScript}
 use Rattle.command_tool.specs.declared.fault.RunFault.TheVariants.{Script}

@@ -1,4 +1,4 @@
-use Rattle.std.proofs.Common.{◌≡◌, ◌≢◌, ◌∷◌, ◌∙◌, [], ap, inl, inr, refl, rules, subst, sym}
+use Rattle.std.proofs.Common.{◌≢◌, ◌∷◌, ◌∙◌, [], ap, inl, inr, refl, rules, subst, sym}
 use Rattle.period_core.specs.declared.refusal.Refusal.TheVariants.{ScriptTooLarge}
 use Rattle.script_engine.specs.engine.Stored.{EngineRepresents}
 use Rattle.bitemporal_file.specs.Reporting.{Tells}
