@@ -1,2 +1,4 @@
 mod Told
 mod RunFacts
+mod SessionFacts
+mod PartExamples

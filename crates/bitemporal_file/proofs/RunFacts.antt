@@ -1,10 +1,10 @@
 -- Scripts that are run one after the other.
-use Rattle.std.proofs.Common.{◌≡◌, ◌≢◌, ◌<◌, ◌⊎◌, ◌+◌, ◌++◌, ◌∷◌, ◌∙◌, ℕ, Bool, List, [], Option, None, Some, Result, Ok, Err, All, drop, get_or, length, map, take, false, true, ap, arith, inl, inr, refl, subst, sym, append_assoc}
-use Rattle.std.specs.Prelude.{IfSome, IsSome, max}
+use Rattle.std.proofs.Common.{◌≡◌, ◌<◌, ◌⊎◌, ◌+◌, ◌++◌, ◌∷◌, ◌∙◌, ℕ, Bool, List, [], Option, None, Some, Result, Ok, Err, All, drop, get_or, length, map, take, false, true, ap, arith, inl, inr, refl, subst, sym, append_assoc}
+use Rattle.std.specs.Prelude.{IfSome, IsSome}
 use Rattle.std.specs.Io.KnownBytes.{Appends}
 use Rattle.std.proofs.KnownBytes.{Appends-nil, Appends-trans}
 use Rattle.std.proofs.lemmas.List.{append-nil, length-append, map-append, take-append-drop, take_more}
-use Rattle.std.proofs.lemmas.List.Elements.{All-append, All-cons, All-head, All-nil, All-tail}
+use Rattle.std.proofs.lemmas.List.Elements.{All-append, All-cons, All-nil}
 use Rattle.period_core.specs.declared.refusal.Refusal.{Refusal}
 use Rattle.history_model.specs.Histories.{History}
 use Rattle.sql_statements.specs.Lexemes.{Lexeme}
@@ -14,15 +14,14 @@ use Rattle.script_engine.specs.engine.EngineState.{EngineState}
 use Rattle.version_tables.specs.declared.form.Form.TheVariants.{Microseconds}
 use Rattle.version_store.proofs.Units.{same_units}
 use Rattle.script_engine.specs.engine.Stored.{AreOfHistory, DatabaseRepresents, EngineRepresents}
-use Rattle.script_engine.specs.script.Listening.{IsFrontRunBy}
 use Rattle.script_engine.specs.script.Script.{MayRefuseScript}
 use Rattle.command_tool.specs.Program.{read_of}
 use Rattle.command_tool.specs.declared.fault.RunFault.{RunFault}
 use Rattle.command_tool.specs.declared.fault.RunFault.TheVariants.{Memory, Read, Script}
-use Rattle.bitemporal_file.specs.Reporting.{EndsAtRefusal, IsReportFault, greatest_from, texts_from}
-use Rattle.bitemporal_file.specs.ScriptRuns.{AreAllRun, AreOfReaders, Ends, LeadsTo, MayRefuseNext, ScriptRun, reports, results_of}
+use Rattle.bitemporal_file.specs.Reporting.{EndsAtRefusal, IsReportFault, TellsAll, greatest_from, texts_from}
+use Rattle.bitemporal_file.specs.ScriptRuns.{AreOfReaders, Ends, LeadsTo, MayRefuseNext, ScriptRun, reports, results_of}
 use Rattle.bitemporal_file.specs.declared.reporter.Reporter.{Reporter}
-use Rattle.bitemporal_file.proofs.Told.{Told}
+use Rattle.bitemporal_file.proofs.Told.{greatest-more, refusal-more}
 
 -- ---- one script
 
@@ -46,9 +45,9 @@ same_refusal refusal other is = cc
 
 module _ {W K : Type 0} (contents : W → Option (List ℕ)) (text : ℕ → K → List ℕ) (status : K → ℕ) where
   -- nothing was run
-  pub none_run : (readers : List (Option (List ℕ))) (old : Reporter W) (fault : RunFault) → old.fault ≡ None → ((refusal : Refusal) → fault ≡ Script refusal → MayRefuseNext {K = K} readers [] refusal) →
-      Ends contents text status readers old [] (Err fault) old
-  none_run readers old fault quiet may = record {
+  pub none_run : (readers : List (Option (List ℕ))) (old : Reporter W) (next : ℕ) (fault : RunFault) → old.fault ≡ None → ((refusal : Refusal) → fault ≡ Script refusal → MayRefuseNext {K = K} readers [] refusal) →
+      Ends contents text status readers old [] (Err fault) (record old { next = next })
+  none_run readers old next fault quiet may = record {
     stops = refl;
     worst = refl;
     low = λ low. low;
@@ -75,27 +74,13 @@ module _ {W K : Type 0} (contents : W → Option (List ℕ)) (text : ℕ → K �
     refused = λ refusal is. let no : ⊥ = cc in absurd no;
   }
 
-  -- the next script gave nothing
-  pub ends_failed : (readers rest : List (Option (List ℕ))) (old : Reporter W) (runs : List (ScriptRun K)) (fault : RunFault) (new : Reporter W) → new.fault ≡ None → ((refusal : Refusal) → fault ≡ Script refusal → ⊥) → Ends contents text status readers old runs (Ok true) new →
-      Ends contents text status (readers ++ rest) old runs (Err fault) new
-  ends_failed readers rest old runs fault new quiet plain ends = record {
-    stops = ends.stops;
-    worst = ends.worst;
-    low = ends.low;
-    written = ends.written;
-    faulty = rw quiet tt;
-    whole = λ on. let no : ⊥ = cc in absurd no;
-    stopped = λ off. let no : ⊥ = cc in absurd no;
-    refused = λ refusal is. let same : fault ≡ Script refusal = cc in absurd (plain refusal same);
-  }
-
   abbrev pub one : List ℕ → List K → Bool → List (ScriptRun K)
   one script results is_whole = record { script = script; results = results; is_whole = is_whole } ∷ []
 
-  same_flow : (flow other : Bool) → ◌≡◌ {A = Result Bool RunFault} (Ok flow) (Ok other) → flow ≡ other
+  pub same_flow : (flow other : Bool) → ◌≡◌ {A = Result Bool RunFault} (Ok flow) (Ok other) → flow ≡ other
   same_flow flow other same = cc
 
-  same_fault : (fault other : RunFault) → ◌≡◌ {A = Result Bool RunFault} (Err fault) (Err other) → fault ≡ other
+  pub same_fault : (fault other : RunFault) → ◌≡◌ {A = Result Bool RunFault} (Err fault) (Err other) → fault ≡ other
   same_fault fault other same = cc
 
   no_fault : {X : Type 0} (fault : Option X) → fault ≡ None → IsSome fault → ⊥
@@ -103,13 +88,13 @@ module _ {W K : Type 0} (contents : W → Option (List ℕ)) (text : ℕ → K �
   no_fault (Some x) same some = cc
 
   -- a script whose report met no fault
-  pub one_ended : (known : Option (List ℕ)) (script : List ℕ) (old : Reporter W) (results : List K) (goes_on : Bool) (new : Reporter W) → new.fault ≡ None → Told contents text status 1 old results goes_on new →
+  pub one_ended : (known : Option (List ℕ)) (script : List ℕ) (old : Reporter W) (results : List K) (goes_on : Bool) (new : Reporter W) → new.fault ≡ None → TellsAll contents text status (record old { next = 1 }) results goes_on new →
       Ends contents text status (known ∷ []) old (one script results goes_on) (Ok goes_on) new
   one_ended known script old results goes_on new quiet told = record {
     stops = told.stops;
     worst = told.worst ∙ ap (greatest_from status old.worst) (sym (append-nil results));
     low = told.low;
-    written = λ none. subst (Appends (contents old.out) (contents new.out)) (sym (append-nil (texts_from text 1 results))) (told.written none);
+    written = λ none. subst (Appends (contents old.out) (contents new.out)) (sym (append-nil (texts_from text 1 results))) (told.written none).0;
     faulty = rw quiet tt;
     whole = λ is.
         let on : goes_on ≡ true = same_flow goes_on true is in (
@@ -125,27 +110,27 @@ module _ {W K : Type 0} (contents : W → Option (List ℕ)) (text : ℕ → K �
     refused = λ refusal is. let no : ⊥ = cc in absurd no;
   }
 
-  its_fault : (fault : Option RunFault) (its : RunFault) → fault ≡ Some its → IfSome fault IsReportFault → IfSome fault (λ f. IsReportFault f × (◌≡◌ {A = Result Bool RunFault} (Err its) (Err f)))
+  pub its_fault : (fault : Option RunFault) (its : RunFault) → fault ≡ Some its → IfSome fault IsReportFault → IfSome fault (λ f. IsReportFault f × (◌≡◌ {A = Result Bool RunFault} (Err its) (Err f)))
   its_fault None its is may = tt
   its_fault (Some f) its is may = let same : its ≡ f = cc in (may, ap Err same)
 
-  is_none_of_script : (fault : RunFault) (refusal : Refusal) → IsReportFault fault → fault ≡ Script refusal → ⊥
+  pub is_none_of_script : (fault : RunFault) (refusal : Refusal) → IsReportFault fault → fault ≡ Script refusal → ⊥
   is_none_of_script fault refusal (inl memory) is = cc
   is_none_of_script fault refusal (inr write) is = cc
 
-  its_own : (fault : Option RunFault) (its : RunFault) → fault ≡ Some its → IfSome fault IsReportFault → IsReportFault its
+  pub its_own : (fault : Option RunFault) (its : RunFault) → fault ≡ Some its → IfSome fault IsReportFault → IsReportFault its
   its_own None its is may = let no : ⊥ = cc in absurd no
   its_own (Some f) its is may = let same : f ≡ its = cc in subst IsReportFault same may
 
-  faulty_flow : (goes_on : Bool) (old new : Reporter W) (results : List K) (fault : RunFault) → new.fault ≡ Some fault → Told contents text status 1 old results goes_on new → IfSome new.fault IsReportFault
+  pub faulty_flow : (goes_on : Bool) (old new : Reporter W) (results : List K) (fault : RunFault) → new.fault ≡ Some fault → TellsAll contents text status old results goes_on new → IfSome new.fault IsReportFault
   faulty_flow false old new results fault is told = (told.off refl).0
   faulty_flow true old new results fault is told = rw (told.on refl).0 tt
 
   -- a script whose report met one
-  pub one_faulty : (known : Option (List ℕ)) (script : List ℕ) (old : Reporter W) (results : List K) (goes_on : Bool) (new : Reporter W) (fault : RunFault) → new.fault ≡ Some fault → Told contents text status 1 old results goes_on new →
+  pub one_faulty : (known : Option (List ℕ)) (script : List ℕ) (old : Reporter W) (results : List K) (goes_on : Bool) (new : Reporter W) (fault : RunFault) → new.fault ≡ Some fault → TellsAll contents text status (record old { next = 1 }) results goes_on new →
       Ends contents text status (known ∷ []) old (one script results goes_on) (Err fault) new
   one_faulty known script old results goes_on new fault is told =
-      let may = faulty_flow goes_on old new results fault is told in
+      let may = faulty_flow goes_on (record old { next = 1 }) new results fault is told in
       record {
         stops = told.stops;
         worst = told.worst ∙ ap (greatest_from status old.worst) (sym (append-nil results));
@@ -171,15 +156,6 @@ module _ {W K : Type 0} (contents : W → Option (List ℕ)) (text : ℕ → K �
   pub reports-more : (runs more : List (ScriptRun K)) → reports text (runs ++ more) ≡ reports text runs ++ reports text more
   reports-more [] more = refl
   reports-more (run ∷ runs) more = ap (λ rest. texts_from text 1 run.results ++ rest) (reports-more runs more) ∙ sym (append_assoc (texts_from text 1 run.results) (reports text runs) (reports text more))
-
-  greatest-more : (worst : ℕ) (results more : List K) → greatest_from status worst (results ++ more) ≡ greatest_from status (greatest_from status worst results) more
-  greatest-more worst [] more = refl
-  greatest-more worst (result ∷ results) more = greatest-more (max worst (status result)) results more
-
-  refusal-more : (results more : List K) → All (λ r. status r ≡ 0) results → EndsAtRefusal status more → EndsAtRefusal status (results ++ more)
-  refusal-more [] more zero ends = ends
-  refusal-more (result ∷ results) more zero ends =
-      inr (All-head (λ r. status r ≡ 0) result results zero, refusal-more results more (All-tail (λ r. status r ≡ 0) result results zero) ends)
 
   pub readers-more : (readers : List (Option (List ℕ))) (known : Option (List ℕ)) (runs more : List (ScriptRun K)) → length runs ≡ length readers → AreOfReaders readers runs → AreOfReaders (known ∷ []) more → AreOfReaders (readers ++ known ∷ []) (runs ++ more)
   readers-more [] known [] more count are its = its
@@ -215,7 +191,7 @@ module _ {W K : Type 0} (contents : W → Option (List ℕ)) (text : ℕ → K �
       let ((count, wholes), zeros) = first.whole refl in
       record {
         stops = last.stops ∙ first.stops;
-        worst = last.worst ∙ ap (λ w. greatest_from status w (results_of more)) first.worst ∙ sym (greatest-more old.worst (results_of runs) (results_of more)) ∙ ap (greatest_from status old.worst) (sym (results-more runs more));
+        worst = last.worst ∙ ap (λ w. greatest_from status w (results_of more)) first.worst ∙ sym (greatest-more contents text status old.worst (results_of runs) (results_of more)) ∙ ap (greatest_from status old.worst) (sym (results-more runs more));
         low = λ low. last.low (first.low low);
         written = λ none. subst (Appends (contents old.out) (contents new.out)) (sym (reports-more runs more))
             (Appends-trans (contents old.out) (contents middle.out) (contents new.out) (reports text runs) (reports text more) (first.written quiet) (last.written none));
@@ -228,7 +204,7 @@ module _ {W K : Type 0} (contents : W → Option (List ℕ)) (text : ℕ → K �
         stopped = λ is.
             let (stops, ends) = last.stopped is in
             let stopping : old.stops ≡ true = sym first.stops ∙ stops in
-            (stopping, subst (EndsAtRefusal status) (sym (results-more runs more)) (refusal-more (results_of runs) (results_of more) (zeros stopping) ends));
+            (stopping, subst (EndsAtRefusal status) (sym (results-more runs more)) (refusal-more contents text status (results_of runs) (results_of more) (zeros stopping) ends));
         refused = λ refusal is. next-more readers known runs more refusal count (last.refused refusal is);
       }
 

@@ -1,40 +1,35 @@
 -- What a reporter has written and found, once it was handed all results of a script.
-use Rattle.std.proofs.Common.{◌≡◌, ◌≢◌, ◌≤◌, ◌⊎◌, ◌==◌, ◌||◌, ◌+◌, ◌++◌, ◌∷◌, ◌∙◌, ℕ, Bool, List, [], Option, None, Some, All, false, true, not, ap, arith, inl, inr, refl, subst, sym}
+use Rattle.std.proofs.Common.{◌≡◌, ◌≤◌, ◌==◌, ◌||◌, ◌+◌, ◌++◌, ◌∷◌, ◌∙◌, ℕ, Bool, List, [], Option, None, Some, All, Result, Ok, Err, false, true, not, ap, add-zero, arith, inl, inr, length, refl, subst, sym, append_assoc}
 use Rattle.std.specs.Prelude.{IfSome, IsSome, max}
 use Rattle.std.specs.Io.KnownBytes.{Appends}
 use Rattle.std.proofs.KnownBytes.{Appends-nil, Appends-trans}
-use Rattle.std.proofs.lemmas.List.Elements.{All-cons, All-nil}
+use Rattle.std.proofs.lemmas.List.{length-append}
+use Rattle.std.proofs.lemmas.List.Elements.{All-append, All-cons, All-head, All-nil, All-tail}
 use Rattle.std.proofs.lemmas.Bool.{eqb-false, eqb-true}
 use Rattle.command_tool.specs.declared.fault.RunFault.{RunFault}
 use Rattle.script_engine.specs.script.Listening.{HearsAll}
-use Rattle.bitemporal_file.specs.Reporting.{EndsAtRefusal, IsReportFault, Tells, greatest_from, texts_from}
+use Rattle.bitemporal_file.specs.Reporting.{EndsAtRefusal, EndsWith, IsReportFault, Tells, TellsAll, greatest_from, texts_from}
 use Rattle.bitemporal_file.specs.declared.reporter.Reporter.{Reporter}
 
 module _ {W K : Type 0} (contents : W → Option (List ℕ)) (text : ℕ → K → List ℕ) (status : K → ℕ) where
-  pub record Told (n : ℕ) (old : Reporter W) (results : List K) (goes_on : Bool) (new : Reporter W) : Type 0 where
-    pub stops : new.stops ≡ old.stops
-    pub worst : new.worst ≡ greatest_from status old.worst results
-    pub low : old.worst ≤ 3 → new.worst ≤ 3
-    pub written : new.fault ≡ None → Appends (contents old.out) (contents new.out) (texts_from text n results)
-    pub on : goes_on ≡ true → (new.fault ≡ None) × (old.stops ≡ true → All (λ result. status result ≡ 0) results)
-    pub off : goes_on ≡ false → IfSome new.fault IsReportFault × (IsSome new.fault ⊎ ((old.stops ≡ true) × EndsAtRefusal status results))
-
-  nothing_told : (n : ℕ) (old : Reporter W) → old.fault ≡ None → Told n old [] true old
-  nothing_told n old quiet = record {
+  pub nothing_told : (old : Reporter W) → old.fault ≡ None → TellsAll contents text status old [] true old
+  nothing_told old quiet = record {
     stops = refl;
     worst = refl;
     low = λ low. low;
-    written = λ none. Appends-nil (contents old.out);
+    written = λ none. (Appends-nil (contents old.out), sym (add-zero old.next));
     on = λ on. (quiet, λ stops. All-nil (λ r. status r ≡ 0));
     off = λ off. let no : ⊥ = cc in absurd no;
   }
 
-  last_told : (n : ℕ) (old : Reporter W) (result : K) (new : Reporter W) → old.fault ≡ None → Tells contents text status old n result false new → Told n old (result ∷ []) false new
-  last_told n old result new quiet told = record {
+  last_told : (old : Reporter W) (result : K) (new : Reporter W) → old.fault ≡ None → Tells contents text status old result false new → TellsAll contents text status old (result ∷ []) false new
+  last_told old result new quiet told = record {
     stops = told.stops;
     worst = told.worst;
     low = told.low;
-    written = λ none. Appends-trans (contents old.out) (contents new.out) (contents new.out) (text n result) [] (told.written none) (Appends-nil (contents new.out));
+    written = λ none.
+        let (appends, next) = told.written none in
+        (Appends-trans (contents old.out) (contents new.out) (contents new.out) (text old.next result) [] appends (Appends-nil (contents new.out)), next);
     on = λ on. let no : ⊥ = cc in absurd no;
     off = λ off.
         let (fault, cause) = told.off off quiet in (
@@ -46,15 +41,20 @@ module _ {W K : Type 0} (contents : W → Option (List ℕ)) (text : ℕ → K �
         );
   }
 
-  next_told : (n : ℕ) (old : Reporter W) (result : K) (middle : Reporter W) (results : List K) (goes_on : Bool) (new : Reporter W) → old.fault ≡ None → Tells contents text status old n result true middle → Told (n + 1) middle results goes_on new → Told n old (result ∷ results) goes_on new
-  next_told n old result middle results goes_on new quiet told rest =
+  next_told : (old : Reporter W) (result : K) (middle : Reporter W) (results : List K) (goes_on : Bool) (new : Reporter W) → old.fault ≡ None → Tells contents text status old result true middle → TellsAll contents text status middle results goes_on new → TellsAll contents text status old (result ∷ results) goes_on new
+  next_told old result middle results goes_on new quiet told rest =
       let (same, zero) = told.on refl in
       let silent : middle.fault ≡ None = same ∙ quiet in
       record {
         stops = rest.stops ∙ told.stops;
         worst = rest.worst ∙ ap (λ w. greatest_from status w results) told.worst;
         low = λ low. rest.low (told.low low);
-        written = λ none. Appends-trans (contents old.out) (contents middle.out) (contents new.out) (text n result) (texts_from text (n + 1) results) (told.written silent) (rest.written none);
+        written = λ none.
+            let (first, next) = told.written silent in
+            let (others, last) = rest.written none in
+            let numbered : Appends (contents middle.out) (contents new.out) (texts_from text (old.next + 1) results) =
+            subst (λ n. Appends (contents middle.out) (contents new.out) (texts_from text n results)) next others in
+            (Appends-trans (contents old.out) (contents middle.out) (contents new.out) (text old.next result) (texts_from text (old.next + 1) results) first numbered, omega (arith, next, last));
         on = λ on.
             let (none, all) = rest.on on in
             (none, λ stops. All-cons (λ r. status r ≡ 0) result results (zero stops) (all (told.stops ∙ stops)));
@@ -68,12 +68,89 @@ module _ {W K : Type 0} (contents : W → Option (List ℕ)) (text : ℕ → K �
             );
       }
 
-  pub all_told : (n : ℕ) (old : Reporter W) (results : List K) (goes_on : Bool) (new : Reporter W) → old.fault ≡ None → HearsAll (Tells contents text status) n old results goes_on new → Told n old results goes_on new
-  all_told n old [] goes_on new quiet (same, on) = rw (same, on) (nothing_told n old quiet)
-  all_told n old (result ∷ results) goes_on new quiet (inl (told, none, off)) = rw (none, off) (last_told n old result new quiet told)
+  pub all_told : (n : ℕ) (old : Reporter W) (results : List K) (goes_on : Bool) (new : Reporter W) → old.fault ≡ None → HearsAll (λ o m. Tells contents text status o) n old results goes_on new → TellsAll contents text status old results goes_on new
+  all_told n old [] goes_on new quiet (same, on) = rw (same, on) (nothing_told old quiet)
+  all_told n old (result ∷ results) goes_on new quiet (inl (told, none, off)) = rw (none, off) (last_told old result new quiet told)
   all_told n old (result ∷ results) goes_on new quiet (inr (middle, told, rest)) =
       let silent : middle.fault ≡ None = (told.on refl).0 ∙ quiet in
-      next_told n old result middle results goes_on new quiet told (all_told (n + 1) middle results goes_on new silent rest)
+      next_told old result middle results goes_on new quiet told (all_told (n + 1) middle results goes_on new silent rest)
+
+  -- one result alone
+  pub one_told : (old : Reporter W) (result : K) (goes_on : Bool) (new : Reporter W) → old.fault ≡ None → Tells contents text status old result goes_on new → TellsAll contents text status old (result ∷ []) goes_on new
+  one_told old result false new quiet told = last_told old result new quiet told
+  one_told old result true new quiet told = next_told old result new [] true new quiet told (nothing_told new ((told.on refl).0 ∙ quiet))
+
+  -- ---- more results
+
+  pub greatest-more : (worst : ℕ) (results more : List K) → greatest_from status worst (results ++ more) ≡ greatest_from status (greatest_from status worst results) more
+  greatest-more worst [] more = refl
+  greatest-more worst (result ∷ results) more = greatest-more (max worst (status result)) results more
+
+  pub refusal-more : (results more : List K) → All (λ r. status r ≡ 0) results → EndsAtRefusal status more → EndsAtRefusal status (results ++ more)
+  refusal-more [] more zero ends = ends
+  refusal-more (result ∷ results) more zero ends =
+      inr (All-head (λ r. status r ≡ 0) result results zero, refusal-more results more (All-tail (λ r. status r ≡ 0) result results zero) ends)
+
+  texts-more : (n : ℕ) (results more : List K) → texts_from text n (results ++ more) ≡ texts_from text n results ++ texts_from text (n + length results) more
+  texts-more n [] more = ap (λ m. texts_from text m more) (sym (add-zero n))
+  texts-more n (result ∷ results) more =
+      let count : (n + 1) + length results ≡ n + length (result ∷ results) = omega arith in
+      ap (λ rest. text n result ++ rest) (texts-more (n + 1) results more ∙ ap (λ m. texts_from text (n + 1) results ++ texts_from text m more) count)
+      ∙ sym (append_assoc (text n result) (texts_from text (n + 1) results) (texts_from text (n + length (result ∷ results)) more))
+
+  pub told_more : (old : Reporter W) (results : List K) (middle : Reporter W) (more : List K) (goes_on : Bool) (new : Reporter W) → TellsAll contents text status old results true middle → TellsAll contents text status middle more goes_on new → TellsAll contents text status old (results ++ more) goes_on new
+  told_more old results middle more goes_on new first last =
+      let (quiet, zeros) = first.on refl in
+      record {
+        stops = last.stops ∙ first.stops;
+        worst = last.worst ∙ ap (λ w. greatest_from status w more) first.worst ∙ sym (greatest-more old.worst results more);
+        low = λ low. last.low (first.low low);
+        written = λ none.
+            let (begun, next) = first.written quiet in
+            let (others, end) = last.written none in
+            let numbered : Appends (contents middle.out) (contents new.out) (texts_from text (old.next + length results) more) =
+            subst (λ n. Appends (contents middle.out) (contents new.out) (texts_from text n more)) next others in (
+              subst (Appends (contents old.out) (contents new.out)) (sym (texts-more old.next results more))
+                  (Appends-trans (contents old.out) (contents middle.out) (contents new.out) (texts_from text old.next results) (texts_from text (old.next + length results) more) begun numbered),
+              omega (arith, next, end, length-append results more),
+            );
+        on = λ on.
+            let (none, all) = last.on on in
+            (none, λ stops. All-append (λ r. status r ≡ 0) results more (zeros stops) (all (first.stops ∙ stops)));
+        off = λ off.
+            let (fault, cause) = last.off off in (
+              fault,
+              elim cause [
+                | inl some ↦ inl some
+                | inr stopped ↦ let stops : old.stops ≡ true = sym first.stops ∙ stopped.0 in inr (stops, refusal-more results more (zeros stops) stopped.1)
+              ],
+            );
+      }
+
+  -- ---- the end of a run
+
+  no_fault : {X : Type 0} (fault : Option X) → fault ≡ None → IsSome fault → ⊥
+  no_fault None same some = cc
+  no_fault (Some x) same some = cc
+
+  pub ends_told : (old : Reporter W) (results : List K) (goes_on : Bool) (ended : Result Bool RunFault) (new : Reporter W) → TellsAll contents text status old results goes_on new →
+      IfSome new.fault (λ fault. IsReportFault fault × (ended ≡ Err fault)) → ((flow : Bool) → ended ≡ Ok flow → (flow ≡ goes_on) × (new.fault ≡ None)) → EndsWith contents text status old results ended new
+  ends_told old results goes_on ended new told faulty flows = record {
+    stops = told.stops;
+    worst = told.worst;
+    low = told.low;
+    written = λ none. (told.written none).0;
+    faulty = faulty;
+    whole = λ is stops.
+        let on : goes_on ≡ true = sym (flows true is).0 in
+        (told.on on).1 stops;
+    stopped = λ is.
+        let (flow, quiet) = flows false is in
+        elim (told.off (sym flow)).1 [
+          | inl some ↦ absurd (no_fault new.fault quiet some)
+          | inr stopped ↦ stopped
+        ];
+  }
 
   -- ---- one result
 
@@ -89,13 +166,13 @@ module _ {W K : Type 0} (contents : W → Option (List ℕ)) (text : ℕ → K �
   low_of worst status new is low worst_low = rw is (omega (arith, low, worst_low))
 
   -- its records are written
-  pub tells_ok : (old new : Reporter W) (n : ℕ) (kept : K) (goes_on : Bool) → new.stops ≡ old.stops → new.worst ≡ max old.worst (status kept) → new.fault ≡ old.fault → status kept ≤ 3 →
-      Appends (contents old.out) (contents new.out) (text n kept) → goes_on ≡ (not old.stops || (status kept == 0)) → Tells contents text status old n kept goes_on new
-  tells_ok old new n kept goes_on stops worst fault low wrote flow = record {
+  pub tells_ok : (old new : Reporter W) (kept : K) (goes_on : Bool) → new.stops ≡ old.stops → new.worst ≡ max old.worst (status kept) → new.fault ≡ old.fault → status kept ≤ 3 →
+      Appends (contents old.out) (contents new.out) (text old.next kept) → new.next ≡ old.next + 1 → goes_on ≡ (not old.stops || (status kept == 0)) → Tells contents text status old kept goes_on new
+  tells_ok old new kept goes_on stops worst fault low wrote next flow = record {
     stops = stops;
     worst = worst;
     low = low_of old.worst (status kept) new.worst worst low;
-    written = λ none. wrote;
+    written = λ none. (wrote, next);
     on = λ on. (fault, λ stopping. eqb-true (status kept) 0 (flow_on old.stops (status kept == 0) (sym on ∙ flow) stopping));
     off = λ off quiet.
         let (stopping, refused) = flow_off old.stops (status kept == 0) (sym off ∙ flow) in
@@ -104,9 +181,9 @@ module _ {W K : Type 0} (contents : W → Option (List ℕ)) (text : ℕ → K �
   }
 
   -- they are not
-  pub tells_fault : (old new : Reporter W) (n : ℕ) (kept : K) (fault : RunFault) → new.stops ≡ old.stops → new.worst ≡ max old.worst (status kept) → new.fault ≡ Some fault → status kept ≤ 3 →
-      IsReportFault fault → Tells contents text status old n kept false new
-  tells_fault old new n kept fault stops worst is low may = record {
+  pub tells_fault : (old new : Reporter W) (kept : K) (fault : RunFault) → new.stops ≡ old.stops → new.worst ≡ max old.worst (status kept) → new.fault ≡ Some fault → status kept ≤ 3 →
+      IsReportFault fault → Tells contents text status old kept false new
+  tells_fault old new kept fault stops worst is low may = record {
     stops = stops;
     worst = worst;
     low = low_of old.worst (status kept) new.worst worst low;

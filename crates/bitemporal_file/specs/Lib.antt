@@ -1,2 +1,4 @@
 pub mod Reporting
 pub mod ScriptRuns
+pub mod Parts
+pub mod Sessions

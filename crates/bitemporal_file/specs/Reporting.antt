@@ -1,6 +1,7 @@
--- What a statement tells, and what a reporter becomes with it.
+-- What a statement tells, and what a reporter becomes with it and with several.
 use Rattle.std.specs.Prelude.{◌≡◌, ◌≢◌, ◌≤◌, ◌⊎◌, ◌+◌, ◌++◌, ◌∷◌, ℕ, Bool, List, [], Option, None}
-use Rattle.std.specs.Prelude.{Result, IfSome, IsSome, false, true, if◌then◌else◌, is_err, max}
+use Rattle.std.specs.Prelude.{Result, Ok, Err, All, IfSome, IsSome, false, true, if◌then◌else◌}
+use Rattle.std.specs.Prelude.{is_err, length, max}
 use Rattle.std.specs.Io.KnownBytes.{Appends}
 use Rattle.period_core.specs.declared.refusal.Refusal.{Refusal}
 use Rattle.script_engine.specs.declared.engine.outcome.Outcome.{Outcome}
@@ -22,17 +23,19 @@ entry_status entry = if fails_audit entry.audit then 3 else result_status entry.
 abbrev pub IsReportFault : RunFault → Type 0
 IsReportFault fault = (fault ≡ Memory) ⊎ (fault ≡ Write)
 
--- the reporter of a run that may stop at a refusal is handed a result of this number, and says
--- whether the run goes on
+-- the reporter of a run that may stop at a refusal is handed a result, and says whether the run
+-- goes on
 pub record Tells {W K : Type 0} (contents : W → Option (List ℕ)) (text : ℕ → K → List ℕ)
-    (status : K → ℕ) (old : Reporter W) (number : ℕ) (kept : K) (goes_on : Bool)
-    (new : Reporter W) : Type 0 where
+    (status : K → ℕ) (old : Reporter W) (kept : K) (goes_on : Bool) (new : Reporter W)
+    : Type 0 where
   pub stops : new.stops ≡ old.stops
   -- the greatest status so far
   pub worst : new.worst ≡ max old.worst (status kept)
   pub low : old.worst ≤ 3 → new.worst ≤ 3
-  -- without a fault its records are written, and nothing else
-  pub written : new.fault ≡ None → Appends (contents old.out) (contents new.out) (text number kept)
+  -- without a fault its records are written, numbered on, and nothing else
+  pub written : new.fault ≡ None
+      → Appends (contents old.out) (contents new.out) (text old.next kept)
+      × (new.next ≡ old.next + 1)
   -- it goes on where there is no fault, and with --stop only behind a statement that has status 0
   pub on : goes_on ≡ true
       → (new.fault ≡ old.fault) × (old.stops ≡ true → status kept ≡ 0)
@@ -57,3 +60,34 @@ EndsAtRefusal status [] = ⊥
 EndsAtRefusal status (result ∷ results) =
     ((status result ≢ 0) × (results ≡ []))
     ⊎ ((status result ≡ 0) × EndsAtRefusal status results)
+
+-- the reporter is handed results, one after the other
+pub record TellsAll {W K : Type 0} (contents : W → Option (List ℕ)) (text : ℕ → K → List ℕ)
+    (status : K → ℕ) (old : Reporter W) (results : List K) (goes_on : Bool) (new : Reporter W)
+    : Type 0 where
+  pub stops : new.stops ≡ old.stops
+  pub worst : new.worst ≡ greatest_from status old.worst results
+  pub low : old.worst ≤ 3 → new.worst ≤ 3
+  pub written : new.fault ≡ None
+      → Appends (contents old.out) (contents new.out) (texts_from text old.next results)
+      × (new.next ≡ old.next + length results)
+  pub on : goes_on ≡ true
+      → (new.fault ≡ None) × (old.stops ≡ true → All (λ result. status result ≡ 0) results)
+  pub off : goes_on ≡ false
+      → IfSome new.fault IsReportFault
+      × (IsSome new.fault ⊎ ((old.stops ≡ true) × EndsAtRefusal status results))
+
+-- how a run ends whose reporter was handed these results, before a fault or not
+pub record EndsWith {W K : Type 0} (contents : W → Option (List ℕ)) (text : ℕ → K → List ℕ)
+    (status : K → ℕ) (old : Reporter W) (results : List K) (ended : Result Bool RunFault)
+    (new : Reporter W) : Type 0 where
+  pub stops : new.stops ≡ old.stops
+  pub worst : new.worst ≡ greatest_from status old.worst results
+  pub low : old.worst ≤ 3 → new.worst ≤ 3
+  -- the output got the reports, and nothing else, unless the report was at fault
+  pub written : new.fault ≡ None
+      → Appends (contents old.out) (contents new.out) (texts_from text old.next results)
+  pub faulty : IfSome new.fault (λ fault. IsReportFault fault × (ended ≡ Err fault))
+  -- at its end, with --stop without a refusal; or at the first
+  pub whole : ended ≡ Ok true → old.stops ≡ true → All (λ result. status result ≡ 0) results
+  pub stopped : ended ≡ Ok false → (old.stops ≡ true) × EndsAtRefusal status results

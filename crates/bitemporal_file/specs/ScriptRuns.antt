@@ -1,7 +1,7 @@
 -- Scripts that are run one after the other, and their reports.
 use Rattle.std.specs.Prelude.{◌≡◌, ◌≤◌, ◌++◌, ◌∷◌, ℕ, Bool, List, [], Option, None, Result}
 use Rattle.std.specs.Prelude.{Ok, Err}
-use Rattle.std.specs.Prelude.{All, IfSome, false, length, map, true}
+use Rattle.std.specs.Prelude.{All, IfSome, false, length, true}
 use Rattle.std.specs.Io.KnownBytes.{Appends}
 use Rattle.sql_statements.specs.Lexemes.{Lexeme}
 use Rattle.history_model.specs.Histories.{History}
@@ -76,9 +76,3 @@ pub record Ends {W K : Type 0} (contents : W → Option (List ℕ)) (text : ℕ 
   pub stopped : ended ≡ Ok false → (old.stops ≡ true) × EndsAtRefusal status (results_of runs)
   pub refused : (refusal : Refusal) → ended ≡ Err (Script refusal)
       → MayRefuseNext readers runs refusal
-
--- what is known of the scripts that are named, or, where none is, of the one reader
-abbrev pub readers_of : (List ℕ → Option (List ℕ)) → Option (List ℕ) → List (List ℕ)
-    → List (Option (List ℕ))
-readers_of content input [] = input ∷ []
-readers_of content input (name ∷ names) = map content (name ∷ names)

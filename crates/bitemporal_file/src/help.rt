@@ -11,7 +11,8 @@ pub const ABOUT: &str =
 pub const STORE_HELP: &str = "The file of the store, which is made where it is not there";
 
 /// What FILE is.
-pub const FILE_HELP: &str = "The scripts, run in this order; without one, standard input is read";
+pub const FILE_HELP: &str =
+    "The scripts, run in this order; without one, a session of standard input";
 
 /// What `--audit` does.
 pub const AUDIT_HELP: &str = "Checks each answer day by day, and reports what that finds";
@@ -27,7 +28,7 @@ pub const TABLES_HELP: &str =
 pub const AFTER_HELP: &str = "\
 Examples:
   bitemporal_file pay.store monday.sql             runs a script over the store in pay.store
-  bitemporal_file pay.store < tuesday.sql          reads standard input, and finds what monday left
+  bitemporal_file pay.store < tuesday.sql          runs each statement as it is read
   bitemporal_file pay.store --stop a.sql b.sql     ends at the first statement that is refused
   bitemporal_file pay.store --tables               lists what is in it
 

@@ -1,18 +1,19 @@
 //! The program: what its command line asks for, over a store of the system.
 
-ghost use Rattle.std.specs.Prelude.{◌≤◌, IfOk};
+ghost use Rattle.std.specs.Prelude.{◌≡◌, ◌≤◌, IfOk, None, false};
 
 use crate::command::{Asked, command_line};
 use crate::listing::list_tables;
 use crate::reporter::{Reported, Reporter};
 use crate::runs::run_store;
+use crate::session::run_session;
 use crate::stores::{close_store, files_there, give_up, open_store};
 use command_arguments::CommandFault;
 use command_tool::{ProgramName, RunFault, Tracked, end_in, show};
 use period_core::Refusal;
 use script_engine::{Engine, Entry, Kept, Outcome};
-use sqlite::{File, FileStore};
-use std::io::{Read, Write};
+use sqlite::{Connection, File, FileStore};
+use std::io::{BufReader, Read, Write};
 
 const NAME: &str = "bitemporal_file";
 
@@ -25,7 +26,33 @@ pub fn is_called(words: &[String]) -> bool {
     }
 }
 
-// Runs the scripts over the store, and reports each statement. Gives the exit status.
+// How a run over a store in a file ended.
+type Ran = (Result<bool, RunFault>, Connection<FileStore<File>>);
+
+// Why a store in a file was not opened.
+type Unopened = (Refusal, Connection<FileStore<File>>);
+
+// Runs the scripts in files, or else a session of the input, and reports each statement.
+fn run_given<K: Kept<FileStore<File>> + Reported + Drop, R: Read, W: Write>(
+    rt: &HostRuntime,
+    connection: Connection<FileStore<File>>,
+    files: &[String],
+    input: &mut R,
+    reporter: &mut Reporter<W>,
+) -> Result<Ran, Unopened>
+    requires settled { connection.in_transaction ≡ false }
+    requires fresh { reporter.old.fault ≡ None }
+    ensures { reporter.old.worst ≤ 3 → reporter.new.worst ≤ 3 }
+{
+    let alloc = rt.alloc();
+    if files.is_empty() {
+        return run_session::<FileStore<File>, K, R, W>(alloc, connection, input, reporter);
+    }
+    run_store::<FileStore<File>, K, HostRuntime, W>(alloc, connection, rt, files, reporter)
+}
+
+// Runs what is asked for over the store. Gives the exit status. Where the store is new, and not
+// opened or no statement was run, no file of it stays.
 fn run_asked<K: Kept<FileStore<File>> + Reported + Drop, R: Read, W: Write>(
     rt: &HostRuntime,
     asked: &Asked,
@@ -34,20 +61,19 @@ fn run_asked<K: Kept<FileStore<File>> + Reported + Drop, R: Read, W: Write>(
 ) -> Result<u8, RunFault>
     ensures { IfOk result (λ status. status ≤ 3) }
 {
+    let Ok(mut input) = BufReader::new(rt.alloc(), input) else {
+        return Err(RunFault::Memory);
+    };
     let name = asked.store.as_str();
+    let files = asked.files.as_slice();
     let before = files_there(rt, name);
     let connection = open_store(rt, name, before)?;
     let mut reporter = Reporter::new(rt.alloc(), out, asked.stops);
-    let files = asked.files.as_slice();
-    let ran = run_store::<FileStore<File>, K, HostRuntime, R, &mut W>(
-        rt.alloc(),
-        connection,
-        rt,
-        files,
-        input,
-        &mut reporter,
-    );
-    match ran {
+    match run_given::<K, _, _>(rt, connection, files, &mut input, &mut reporter) {
+        Ok((Err(fault), connection)) if reporter.is_unused && !before.store => {
+            give_up(rt, name, before, connection);
+            Err(fault)
+        }
         Ok((ended, connection)) => {
             let closed = close_store(connection);
             ended?;
@@ -86,10 +112,10 @@ fn list_asked<W: Write>(rt: &HostRuntime, asked: &Asked, out: &mut W) -> Result<
     }
 }
 
-/// Does what the words ask for: runs scripts over the store in a file, those in files or that of
-/// `input`, and reports each statement on `out` as soon as it is done; or lists the store's tables;
-/// or shows help or the version. Gives the exit status: 0 to 3 as `bitemporal` does, for all
-/// scripts together. With 2 `err` gets a text that says why.
+/// Does what the words ask for: runs scripts over the store in a file, those in files or a session
+/// of `input`, and reports each statement on `out` as soon as it is done; or lists the store's
+/// tables; or shows help or the version. Gives the exit status: 0 to 3 as `bitemporal` does, for
+/// all scripts together. With 2 `err` gets a text that says why.
 pub fn run_file_program<R: Read, W: Write, E: Write>(
     rt: &HostRuntime,
     words: &[String],

@@ -1,7 +1,8 @@
 //! What writes the report of a run as it goes: the records of a statement as soon as it is done.
 
-ghost use Rattle.std.specs.Prelude.{◌≡◌, ◌≤◌, ℕ, IfErr, List, None, OnOk};
+ghost use Rattle.std.specs.Prelude.{◌≡◌, ◌≤◌, ◌+◌, ℕ, Err, IfErr, List, None, OnOk};
 ghost use Rattle.std.specs.Io.KnownBytes.{Appends};
+ghost use Rattle.period_core.specs.declared.refusal.Refusal.{Refusal};
 ghost use Rattle.script_engine.specs.report.AuditedReport.{entry_text};
 ghost use Rattle.script_engine.specs.report.Report.{text_of};
 ghost use Rattle.bitemporal_file.specs.Reporting.{IsReportFault, Tells, entry_status};
@@ -23,6 +24,9 @@ pub trait Reported {
     /// The exit status for its sake.
     ghost status_of: { Self → ℕ };
 
+    /// What a statement tells that is refused as it is read.
+    ghost refused: { Refusal → Self };
+
     /// Writes its records, as those of the statement of this number.
     fn write_records<W: Write>(
         &self,
@@ -38,12 +42,18 @@ pub trait Reported {
     fn status(&self) -> u8
         ensures value { result ≡ status_of self.now }
         ensures low { result ≤ 3 };
+
+    /// Of a statement that is refused as it is read.
+    fn of_refusal(refusal: Refusal) -> Self
+        ensures { result ≡ refused refusal };
 }
 
 impl Reported for Result<Outcome, Refusal> {
     ghost text = { text_of };
 
     ghost status_of = { result_status };
+
+    ghost refused = { λ refusal. Err refusal };
 
     fn write_records<W: Write>(
         &self,
@@ -57,12 +67,18 @@ impl Reported for Result<Outcome, Refusal> {
     fn status(&self) -> u8 {
         if self.is_err() { 1 } else { 0 }
     }
+
+    fn of_refusal(refusal: Refusal) -> Result<Outcome, Refusal> {
+        Err(refusal)
+    }
 }
 
 impl Reported for Entry {
     ghost text = { entry_text };
 
     ghost status_of = { entry_status };
+
+    ghost refused = { λ refusal. record { result = Err refusal; audit = None } };
 
     fn write_records<W: Write>(
         &self,
@@ -82,6 +98,13 @@ impl Reported for Entry {
             0
         }
     }
+
+    fn of_refusal(refusal: Refusal) -> Entry {
+        Entry {
+            result: Err(refusal),
+            audit: None,
+        }
+    }
 }
 
 /// A report that is written as the run goes, and what the run has come to.
@@ -91,17 +114,22 @@ pub struct Reporter<W> {
     pub(crate) out: W,
     /// The run ends behind a statement whose status is not 0.
     pub(crate) stops: bool,
+    /// The number of the statement that is reported next.
+    pub(crate) next: u64,
     /// The greatest of the statements' statuses.
     pub(crate) worst: u8,
     /// Why records were not written.
     pub(crate) fault: Option<RunFault>,
+    /// It was handed no result yet.
+    pub(crate) is_unused: bool,
 }
 
 impl<W> Reporter<W> {
-    /// A report of nothing yet.
+    /// A report of nothing yet, whose first statement has the number 1.
     pub fn new(alloc: Global, out: W, stops: bool) -> Reporter<W>
         ensures out { result.out ≡ out }
         ensures stops { result.stops ≡ stops }
+        ensures next { result.next ≡ 1 }
         ensures worst { result.worst ≡ 0 }
         ensures fault { result.fault ≡ None }
     {
@@ -109,35 +137,47 @@ impl<W> Reporter<W> {
             alloc,
             out,
             stops,
+            next: 1,
             worst: 0,
             fault: None,
+            is_unused: true,
         }
     }
 }
 
 impl<W: Write> Reporter<W> {
-    // Writes the records of a statement, and has them flushed.
-    fn put<K: Reported>(&mut self, number: u64, kept: &K) -> Result<(), RunFault>
+    // Writes the records of the next statement, and has them flushed. A report has no number for
+    // a statement behind 2 to the power of 64.
+    fn put<K: Reported>(&mut self, kept: &K) -> Result<(), RunFault>
         ensures written { OnOk result (Appends (W.contents self.old.out)
-            (W.contents self.new.out) (K.text number kept.now)) }
+            (W.contents self.new.out) (K.text self.old.next kept.now)) }
+        ensures next { OnOk result (self.new.next ≡ self.old.next + 1) }
         ensures fault { IfErr result IsReportFault }
-        ensures same { self.new ≡ record self.old { out = self.new.out } }
+        ensures same { self.new ≡ record self.old { out = self.new.out; next = self.new.next } }
     {
-        kept.write_records(self.alloc, &mut self.out, number)?;
+        let Some(next) = self.next.checked_add(1) else {
+            return Err(RunFault::Write);
+        };
+        kept.write_records(self.alloc, &mut self.out, self.next)?;
         match self.out.flush() {
-            Ok(()) => Ok(()),
+            Ok(()) => {
+                self.next = next;
+                Ok(())
+            }
             Err(_) => Err(RunFault::Write),
         }
     }
 }
 
 impl<W: Write, K: Reported + Drop> Listener<K> for Reporter<W> {
-    ghost hears = { Tells W.contents K.text K.status_of };
+    ghost hears = { λ old _ kept goes_on new.
+        Tells W.contents K.text K.status_of old kept goes_on new };
 
-    fn hear(&mut self, number: u64, kept: K) -> bool {
+    fn hear(&mut self, _number: u64, kept: K) -> bool {
+        self.is_unused = false;
         let status = kept.status();
         self.worst = self.worst.max(status);
-        let written = self.put(number, &kept);
+        let written = self.put(&kept);
         drop(kept);
         match written {
             Ok(()) => !self.stops || status == 0,

@@ -1,6 +1,6 @@
 //! Runs of scripts, one after the other, over one store.
 
-ghost use Rattle.std.specs.Prelude.{◌≡◌, ◌∷◌, [], List, None, map};
+ghost use Rattle.std.specs.Prelude.{◌≡◌, ◌≤◌, ◌∷◌, [], List, None, map};
 ghost use Rattle.std.specs.Prelude.{IfErr, IfOk, false};
 ghost use Rattle.std.specs.String.{string_bytes};
 ghost use Rattle.sqlite.specs.Held.{state};
@@ -10,8 +10,7 @@ ghost use Rattle.history_model.specs.Histories.{History};
 ghost use Rattle.period_core.specs.declared.refusal.Refusal.TheVariants.{BadStore};
 ghost use Rattle.script_engine.specs.engine.Stored.{DatabaseRepresents, EngineRepresents};
 ghost use Rattle.script_engine.specs.engine.Stored.{IsBadStore, RepresentsSome, WasUsable};
-ghost use Rattle.bitemporal_file.specs.ScriptRuns.{AreOfReaders, Ends, LeadsTo, readers_of};
-ghost use Rattle.bitemporal_file.specs.ScriptRuns.{ScriptRun};
+ghost use Rattle.bitemporal_file.specs.ScriptRuns.{AreOfReaders, Ends, LeadsTo, ScriptRun};
 
 use crate::reporter::{Reported, Reporter};
 use command_tool::{RunFault, Scripts, Tracked, read_script};
@@ -38,6 +37,7 @@ fn run_script<S: Alter, K: Kept<S> + Reported + Drop, R: Read, W: Write>(
         → RepresentsSome S.Store (LeadsTo K.is_step history runs) engine.new) }
     ensures usable { WasUsable S.Store engine.old.connection engine.new.connection }
 {
+    reporter.next = 1;
     let script = match read_script(alloc, input) {
         Ok(script) => script,
         Err(fault) => return Err(fault),
@@ -108,42 +108,14 @@ fn run_all<S: Alter, K: Kept<S> + Reported + Drop, Q: Scripts, W: Write>(
     Ok(true)
 }
 
-// Runs the scripts that are named, or else that of the reader.
-fn run_scripts<S: Alter, K: Kept<S> + Reported + Drop, Q: Scripts, R: Read, W: Write>(
-    alloc: Global,
-    engine: &mut Engine<S>,
-    scripts: &Q,
-    names: &[String],
-    input: &mut Tracked<R>,
-    reporter: &mut Reporter<W>,
-) -> Result<bool, RunFault>
-    requires { reporter.old.fault ≡ None }
-    ensures ran { let readers = readers_of (Q.content scripts.now)
-        (R.remaining input.old.inner) (map string_bytes names.now) in
-        (runs : List (ScriptRun K)) × AreOfReaders readers runs
-        × Ends W.contents K.text K.status_of readers reporter.old runs result reporter.new
-        × (IsUsable S.Store engine.new.connection
-        → (history : History) → EngineRepresents S.Store history engine.old
-        → RepresentsSome S.Store (LeadsTo K.is_step history runs) engine.new) }
-    ensures usable { WasUsable S.Store engine.old.connection engine.new.connection }
-{
-    if names.is_empty() {
-        run_script::<S, K, R, W>(alloc, engine, input, reporter)
-    } else {
-        run_all::<S, K, Q, W>(alloc, engine, scripts, names, reporter)
-    }
-}
-
-/// Runs the scripts that are named, or else that of the reader, one after the other, over the store
-/// of a connection, a new one where there is none, and reports each statement as soon as it is
-/// done. Gives the connection back. An `Err` says why the store is not opened: it changes nothing,
-/// and nothing is read.
-pub fn run_store<S: Alter, K: Kept<S> + Reported + Drop, Q: Scripts, R: Read, W: Write>(
+/// Runs the scripts that are named, one after the other, over the store of a connection, a new one
+/// where there is none, and reports each statement as soon as it is done. Gives the connection
+/// back. An `Err` says why the store is not opened: it changes nothing, and nothing is read.
+pub fn run_store<S: Alter, K: Kept<S> + Reported + Drop, Q: Scripts, W: Write>(
     alloc: Global,
     connection: Connection<S>,
     scripts: &Q,
     names: &[String],
-    input: &mut Tracked<R>,
     reporter: &mut Reporter<W>,
 ) -> Result<(Result<bool, RunFault>, Connection<S>), (Refusal, Connection<S>)>
     requires settled { connection.in_transaction ≡ false }
@@ -151,8 +123,8 @@ pub fn run_store<S: Alter, K: Kept<S> + Reported + Drop, Q: Scripts, R: Read, W:
 
     // Whatever history the database stood for, the scripts are run one after the other from it on,
     // and the database then stands for the history to which they led: so it is for the next call.
-    ensures ran { IfOk result (λ ended. let readers = readers_of (Q.content scripts.now)
-        (R.remaining input.old.inner) (map string_bytes names.now) in
+    ensures ran { IfOk result (λ ended. let readers =
+        map (Q.content scripts.now) (map string_bytes names.now) in
         (runs : List (ScriptRun K)) × AreOfReaders readers runs
         × Ends W.contents K.text K.status_of readers reporter.old runs ended.0 reporter.new
         × (IsUsable S.Store ended.1
@@ -160,6 +132,7 @@ pub fn run_store<S: Alter, K: Kept<S> + Reported + Drop, Q: Scripts, R: Read, W:
         → (last : History) × LeadsTo K.is_step history runs last
         × DatabaseRepresents last (state S.Store ended.1).now)) }
     ensures closed { IfOk result (λ ended. ended.1.in_transaction ≡ false) }
+    ensures low { reporter.old.worst ≤ 3 → reporter.new.worst ≤ 3 }
 
     ensures named { IfErr result (λ failed. IsOpenRefusal failed.0) }
     ensures bad { IfErr result (λ failed. IsUsable S.Store failed.1 → failed.0 ≡ BadStore
@@ -172,6 +145,6 @@ pub fn run_store<S: Alter, K: Kept<S> + Reported + Drop, Q: Scripts, R: Read, W:
         Ok(engine) => engine,
         Err(failed) => return Err(failed),
     };
-    let ended = run_scripts::<S, K, Q, R, W>(alloc, &mut engine, scripts, names, input, reporter);
+    let ended = run_all::<S, K, Q, W>(alloc, &mut engine, scripts, names, reporter);
     Ok((ended, engine.close()))
 }

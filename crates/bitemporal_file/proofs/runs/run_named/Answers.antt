@@ -18,6 +18,6 @@ pub returns-in-Err-clause-ran : goal.returns-in-Err-clause-ran
 returns-in-Err-clause-ran g c = (
   [],
   tt,
-  none_run g.W.Write.contents g.K.Reported.text g.K.Reported.status_of _ c.args.reporter.now _ c.requires (λ refusal is. let no : ⊥ = cc in absurd no),
+  none_run g.W.Write.contents g.K.Reported.text g.K.Reported.status_of _ c.args.reporter.now c.args.reporter.now.next _ c.requires (λ refusal is. let no : ⊥ = cc in absurd no),
   λ usable history stands. (history, refl, stands),
 )

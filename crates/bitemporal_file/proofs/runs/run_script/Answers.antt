@@ -1,4 +1,4 @@
-use Rattle.std.proofs.Common.{◌≡◌, ◌∙◌, [], ◌∷◌, ℕ, Err, List, refl, subst, sym}
+use Rattle.std.proofs.Common.{[], ◌∷◌, Err, refl, subst, sym}
 use Rattle.script_engine.specs.engine.Stored.{EngineRepresents}
 use Rattle.script_engine.specs.script.Script.{MayRefuseScript}
 use Rattle.command_tool.specs.declared.fault.RunFault.TheVariants.{Script}
@@ -11,7 +11,7 @@ pub returns-in-Err-clause-ran : goal.returns-in-Err-clause-ran
 returns-in-Err-clause-ran g c = (
   [],
   tt,
-  none_run g.W.Write.contents g.K.Reported.text g.K.Reported.status_of _ c.args.reporter.now c.in-Err.fault c.requires (λ refusal is. absurd (read_fault_is_plain _ c.in-Err.fault refusal c.in-Err.ensures.refused is)),
+  none_run g.W.Write.contents g.K.Reported.text g.K.Reported.status_of _ c.args.reporter.now 1 c.in-Err.fault c.requires (λ refusal is. absurd (read_fault_is_plain _ c.in-Err.fault refusal c.in-Err.ensures.refused is)),
   λ usable history stands. (history, refl, stands),
 )
 
@@ -19,7 +19,7 @@ pub returns-in-Some-clause-ran : goal.returns-in-Some-clause-ran
 returns-in-Some-clause-ran g c =
     let (results, heard, ran) = c.in-Ok-run_over.ensures.run in
     let script = c.as_slice.result.now in
-    let told = all_told g.W.Write.contents g.K.Reported.text g.K.Reported.status_of 1 c.args.reporter.now results c.in-Ok-run_over.goes_on c.run_over.new.listener c.requires heard in (
+    let told = all_told g.W.Write.contents g.K.Reported.text g.K.Reported.status_of 1 (record c.args.reporter.now { next = 1 }) results c.in-Ok-run_over.goes_on c.run_over.new.listener c.requires heard in (
       one g.W.Write.contents g.K.Reported.text g.K.Reported.status_of script results c.in-Ok-run_over.goes_on,
       (read_bytes (g.R.Read.remaining c.args.input.now.inner) script c.in-Ok.script.items c.as_slice.ensures.value c.in-Ok.ensures.bytes, tt),
       one_faulty g.W.Write.contents g.K.Reported.text g.K.Reported.status_of _ script c.args.reporter.now results c.in-Ok-run_over.goes_on c.run_over.new.listener c.in-Some.fault c.in-Some.is told,
@@ -30,7 +30,7 @@ pub returns-in-Ok-run_over-clause-ran : goal.returns-in-Ok-run_over-clause-ran
 returns-in-Ok-run_over-clause-ran g c =
     let (results, heard, ran) = c.in-Ok-run_over.ensures.run in
     let script = c.as_slice.result.now in
-    let told = all_told g.W.Write.contents g.K.Reported.text g.K.Reported.status_of 1 c.args.reporter.now results c.in-Ok-run_over.goes_on c.run_over.new.listener c.requires heard in (
+    let told = all_told g.W.Write.contents g.K.Reported.text g.K.Reported.status_of 1 (record c.args.reporter.now { next = 1 }) results c.in-Ok-run_over.goes_on c.run_over.new.listener c.requires heard in (
       one g.W.Write.contents g.K.Reported.text g.K.Reported.status_of script results c.in-Ok-run_over.goes_on,
       (read_bytes (g.R.Read.remaining c.args.input.now.inner) script c.in-Ok.script.items c.as_slice.ensures.value c.in-Ok.ensures.bytes, tt),
       one_ended g.W.Write.contents g.K.Reported.text g.K.Reported.status_of _ script c.args.reporter.now results c.in-Ok-run_over.goes_on c.run_over.new.listener c.in-None.is told,
@@ -41,7 +41,7 @@ pub returns-clause-ran : goal.returns-clause-ran
 returns-clause-ran g c =
     let refusal = c.in-Err-run_over.refusal in
     let (engine, reporter) = c.in-Err-run_over.ensures.none in
-    let whole = none_run g.W.Write.contents g.K.Reported.text g.K.Reported.status_of (g.R.Read.remaining c.args.input.now.inner ∷ []) c.args.reporter.now (Script refusal) c.requires
+    let whole = none_run g.W.Write.contents g.K.Reported.text g.K.Reported.status_of (g.R.Read.remaining c.args.input.now.inner ∷ []) c.args.reporter.now 1 (Script refusal) c.requires
     (λ other is. read_refusal (g.R.Read.remaining c.args.input.now.inner) c.as_slice.result.now c.in-Ok.script.items other c.as_slice.ensures.value c.in-Ok.ensures.bytes (subst (MayRefuseScript c.as_slice.result.now) (same_refusal refusal other is) c.in-Err-run_over.ensures.refused)) in (
       [],
       tt,

@@ -1,0 +1,61 @@
+-- Sessions: the parts of an input that are run one after the other, as they are read.
+use Rattle.std.specs.Prelude.{◌≡◌, ◌≢◌, ◌⊎◌, ◌+◌, ◌++◌, ◌∷◌, ℕ, Bool, List, [], Option, Result}
+use Rattle.std.specs.Prelude.{Ok, Err, length, true}
+use Rattle.std.specs.Io.KnownBytes.{Consumes, IsAtEnd}
+use Rattle.history_model.specs.Histories.{History}
+use Rattle.sql_statements.specs.Lexemes.{Lexeme}
+use Rattle.period_core.specs.declared.refusal.Refusal.{Refusal}
+use Rattle.period_core.specs.declared.refusal.Refusal.TheVariants.{BadToken, ScriptTooLarge}
+use Rattle.command_tool.specs.declared.fault.RunFault.{RunFault}
+use Rattle.command_tool.specs.declared.fault.RunFault.TheVariants.{Script}
+use Rattle.script_engine.specs.script.Listening.{IsFrontRunBy}
+use Rattle.script_engine.specs.script.Script.{MayRefuseScript}
+use Rattle.bitemporal_file.specs.Parts.{BeginsTooLarge, EndsAtSemicolon, IsPart}
+use Rattle.bitemporal_file.specs.ScriptRuns.{ScriptRun}
+
+-- the refusal of what begins at this byte: a bad token's place is counted from the beginning of all
+abbrev pub placed_at : ℕ → Refusal → Refusal
+placed_at start (BadToken offset) = BadToken (start + offset)
+placed_at start other = other
+
+-- a part that begins at this byte is run as a script of its own; or it is refused as a whole, which
+-- is its one result, and the history stays
+abbrev pub PartStep : {K : Type 0} → (History → List Lexeme → K → History → Type 0)
+    → (Refusal → K) → ℕ → History → ScriptRun K → History → Type 0
+PartStep IsStep refused start history run last =
+    ((made : IsFrontRunBy IsStep history run.script run.results run.is_whole)
+    × (last ≡ made.last))
+    ⊎ ((refusal : Refusal) × MayRefuseScript run.script refusal × (refusal ≢ ScriptTooLarge)
+    × (run.results ≡ refused (placed_at start refusal) ∷ []) × (last ≡ history))
+
+-- the results are those of the parts, each run from the history to which the one before it led, and
+-- the first of them begins at this byte
+abbrev pub LeadsThrough : {K : Type 0} → (History → List Lexeme → K → History → Type 0)
+    → (Refusal → K) → ℕ → History → List (ScriptRun K) → History → Type 0
+LeadsThrough IsStep refused start history [] last = last ≡ history
+LeadsThrough IsStep refused start history (run ∷ runs) last =
+    (middle : History) × PartStep IsStep refused start history run middle
+    × LeadsThrough IsStep refused (start + length run.script) middle runs last
+
+-- the bytes of the parts, one after the other
+abbrev pub bytes_of : {K : Type 0} → List (ScriptRun K) → List ℕ
+bytes_of [] = []
+bytes_of (run ∷ runs) = run.script ++ bytes_of runs
+
+-- each ends at its semicolon, but the last may end without one
+abbrev pub AreCut : {K : Type 0} → List (ScriptRun K) → Type 0
+AreCut [] = Unit {0}
+AreCut (run ∷ []) = IsPart run.script
+AreCut (run ∷ next ∷ runs) = EndsAtSemicolon run.script × AreCut (next ∷ runs)
+
+-- the known bytes of an input begin with those of the parts that were run
+pub record ArePartsOf {K : Type 0} (known : Option (List ℕ)) (runs : List (ScriptRun K))
+    (ended : Result Bool RunFault) : Type 0 where
+  pub cut : AreCut runs
+  pub left : Option (List ℕ)
+  pub taken : Consumes known left (bytes_of runs)
+  -- they are all of it, where the session came to its end
+  pub all : ended ≡ Ok true → IsAtEnd left
+  -- it is refused only for the next part, which is too large
+  pub refused : (refusal : Refusal) → ended ≡ Err (Script refusal)
+      → (refusal ≡ ScriptTooLarge) × BeginsTooLarge left

@@ -1,0 +1,153 @@
+//! A session: the parts of one input, each run as soon as it is read.
+
+ghost use Rattle.std.specs.Prelude.{◌≡◌, ◌<◌, ◌≤◌, List, None, IfErr, IfOk, IfSome, false};
+ghost use Rattle.std.specs.Prelude.{length};
+ghost use Rattle.sqlite.specs.Held.{state};
+ghost use Rattle.version_tables.specs.Steps.{IsAsBefore};
+ghost use Rattle.version_store.specs.StoreState.{IsOpenRefusal, IsUsable};
+ghost use Rattle.history_model.specs.Histories.{History};
+ghost use Rattle.command_tool.specs.declared.fault.RunFault.TheVariants.{Script};
+ghost use Rattle.period_core.specs.declared.refusal.Refusal.TheVariants.{BadStore, ScriptTooLarge};
+ghost use Rattle.script_engine.specs.engine.Stored.{DatabaseRepresents, EngineRepresents};
+ghost use Rattle.script_engine.specs.engine.Stored.{IsBadStore, RepresentsSome, WasUsable};
+ghost use Rattle.script_engine.specs.script.Script.{most_bytes};
+ghost use Rattle.bitemporal_file.specs.Reporting.{EndsWith, TellsAll};
+ghost use Rattle.bitemporal_file.specs.ScriptRuns.{ScriptRun, results_of};
+ghost use Rattle.bitemporal_file.specs.Sessions.{ArePartsOf, LeadsThrough, PartStep, placed_at};
+
+use crate::parts::read_part;
+use crate::reporter::{Reported, Reporter};
+use command_tool::RunFault;
+use period_core::Refusal;
+use script_engine::{Engine, Kept, Listener, run_over};
+use sqlite::{Alter, Connection};
+use std::alloc::Global;
+use std::io::{Read, Write};
+
+// The refusal of a part that begins at this byte of the session, where a bad token is counted from
+// the session's beginning. Nothing where it is not within 64 bits.
+fn placed(start: usize, refusal: Refusal) -> Option<Refusal>
+    ensures { IfSome result (λ placed. placed ≡ placed_at start refusal) }
+{
+    match refusal {
+        Refusal::BadToken(offset) => match start.checked_add(offset) {
+            Some(place) => Some(Refusal::BadToken(place)),
+            None => None,
+        },
+        other => Some(other),
+    }
+}
+
+// Runs a part as a script of its own, and reports it. Where it is refused as a whole, that is told
+// as the refusal of one statement; only a part that is too large ends the session.
+fn run_part<S: Alter, K: Kept<S> + Reported + Drop, W: Write>(
+    alloc: Global,
+    engine: &mut Engine<S>,
+    start: usize,
+    part: &[u8],
+    reporter: &mut Reporter<W>,
+) -> Result<bool, RunFault>
+    requires { reporter.old.fault ≡ None }
+    ensures ran { IfOk result (λ goes_on. (results : List K)
+        × TellsAll W.contents K.text K.status_of reporter.old results goes_on reporter.new
+        × (IsUsable S.Store engine.new.connection
+        → (history : History) → EngineRepresents S.Store history engine.old
+        → RepresentsSome S.Store (PartStep K.is_step K.refused start history
+        (record { script = part.now; results = results; is_whole = goes_on })) engine.new)) }
+    ensures none { IfErr result (λ fault. (reporter.new ≡ reporter.old)
+        × (engine.new ≡ engine.old)
+        × ((refusal : Refusal) → fault ≡ Script refusal
+        → (refusal ≡ ScriptTooLarge) × (most_bytes < length part.now))) }
+    ensures usable { WasUsable S.Store engine.old.connection engine.new.connection }
+{
+    match run_over::<S, K, Reporter<W>>(alloc, engine, part, reporter) {
+        Ok(goes_on) => Ok(goes_on),
+        Err(Refusal::ScriptTooLarge) => Err(RunFault::Script(Refusal::ScriptTooLarge)),
+        Err(refusal) => match placed(start, refusal) {
+            Some(refusal) => Ok(reporter.hear(1, K::of_refusal(refusal))),
+            None => Err(RunFault::Read),
+        },
+    }
+}
+
+// Runs the parts of an input, one after the other. Says whether the run came to the input's end.
+fn run_parts<S: Alter, K: Kept<S> + Reported + Drop, R: Read, W: Write>(
+    alloc: Global,
+    engine: &mut Engine<S>,
+    input: &mut R,
+    reporter: &mut Reporter<W>,
+) -> Result<bool, RunFault>
+    requires { reporter.old.fault ≡ None }
+    ensures ran { (runs : List (ScriptRun K)) × ArePartsOf (R.remaining input.old) runs result
+        × EndsWith W.contents K.text K.status_of reporter.old (results_of runs) result reporter.new
+        × (IsUsable S.Store engine.new.connection
+        → (history : History) → EngineRepresents S.Store history engine.old
+        → RepresentsSome S.Store
+        (LeadsThrough K.is_step K.refused 0 history runs) engine.new) }
+    ensures usable { WasUsable S.Store engine.old.connection engine.new.connection }
+{
+    let mut start: usize = 0;
+    // The input ends the loop. Its bound shows that it ends in any case.
+    'parts: for _ in 0..u64::MAX {
+        let part = match read_part(alloc, input) {
+            Ok(part) => part,
+            Err(fault) => return Err(fault),
+        };
+        let bytes = part.bytes.as_slice();
+        let goes_on = match run_part::<S, K, W>(alloc, engine, start, bytes, reporter) {
+            Ok(goes_on) => goes_on,
+            Err(fault) => return Err(fault),
+        };
+        if let Some(fault) = reporter.fault {
+            return Err(fault);
+        }
+        if part.is_last || !goes_on {
+            return Ok(goes_on);
+        }
+        start = match start.checked_add(part.bytes.len()) {
+            Some(end) => end,
+            None => return Err(RunFault::Read),
+        };
+    }
+    Err(RunFault::Read)
+}
+
+/// Runs a session over the store of a connection, a new one where there is none: each part of the
+/// input, up to its semicolon, is run as soon as it is read, and its statement is reported as soon
+/// as it is done. Gives the connection back. An `Err` says why the store is not opened: it changes
+/// nothing, and nothing is read.
+pub fn run_session<S: Alter, K: Kept<S> + Reported + Drop, R: Read, W: Write>(
+    alloc: Global,
+    connection: Connection<S>,
+    input: &mut R,
+    reporter: &mut Reporter<W>,
+) -> Result<(Result<bool, RunFault>, Connection<S>), (Refusal, Connection<S>)>
+    requires settled { connection.in_transaction ≡ false }
+    requires fresh { reporter.old.fault ≡ None }
+
+    // Whatever history the database stood for, the parts are run one after the other from it on,
+    // and the database then stands for the history to which they led: so it is for the next call.
+    ensures ran { IfOk result (λ ended. (runs : List (ScriptRun K))
+        × ArePartsOf (R.remaining input.old) runs ended.0
+        × EndsWith W.contents K.text K.status_of reporter.old (results_of runs) ended.0 reporter.new
+        × (IsUsable S.Store ended.1
+        → (history : History) → DatabaseRepresents history (state S.Store connection).now
+        → (last : History) × LeadsThrough K.is_step K.refused 0 history runs last
+        × DatabaseRepresents last (state S.Store ended.1).now)) }
+    ensures closed { IfOk result (λ ended. ended.1.in_transaction ≡ false) }
+    ensures low { reporter.old.worst ≤ 3 → reporter.new.worst ≤ 3 }
+
+    ensures named { IfErr result (λ failed. IsOpenRefusal failed.0) }
+    ensures bad { IfErr result (λ failed. IsUsable S.Store failed.1 → failed.0 ≡ BadStore
+        → IsBadStore (state S.Store connection).now) }
+    ensures none { IfErr result (λ failed. IsUsable S.Store failed.1
+        → IsAsBefore (state S.Store connection) (state S.Store failed.1)) }
+    ensures same { IfErr result (λ _. (reporter.new ≡ reporter.old) × (input.new ≡ input.old)) }
+{
+    let mut engine = match Engine::open(alloc, connection) {
+        Ok(engine) => engine,
+        Err(failed) => return Err(failed),
+    };
+    let ended = run_parts::<S, K, R, W>(alloc, &mut engine, input, reporter);
+    Ok((ended, engine.close()))
+}
