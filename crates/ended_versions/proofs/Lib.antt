@@ -1,4 +1,6 @@
 mod BoundFacts
-mod WalkFacts
+mod ChainFacts
 mod EntryFacts
+pub mod FoundFacts
+mod WalkFacts
 pub mod PackedFacts

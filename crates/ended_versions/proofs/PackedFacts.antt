@@ -20,7 +20,7 @@ of_parts : (v w : List Value) (p q : Period) (f g t u : ℤ) → v ≡ w → p �
     → (let a : VersionRow = record { values = v; period = p; from = f; to = t } in a) ≡ record { values = w; period = q; from = g; to = u }
 of_parts v w p q f g t u a b c d = cc
 
-same_version : (v w : VersionRow) → All IsColumnValue v.values → All IsColumnValue w.values → packed v ≡ packed w → v ≡ w
+pub same_version : (v w : VersionRow) → All IsColumnValue v.values → All IsColumnValue w.values → packed v ≡ packed w → v ≡ w
 same_version v w h g e =
     of_parts v.values w.values v.period w.period v.from w.from v.to w.to
     (reads_back v.values w.values h g (ap (λ (p : PackedVersion). p.bytes) e))

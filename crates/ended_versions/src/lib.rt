@@ -1,13 +1,19 @@
-//! The versions of a table that have ended, in memory, found by moment.
+//! The versions of a table that have ended, in memory, found by moment and by key.
 //!
 //! A change ends versions at the clock, and the clock never goes back. So a version that ends comes
 //! behind all that ended before it, and the list is in the order of its ends by itself. What a
 //! window may see are the versions of a last part of it, those that end late enough; and of these
-//! whole blocks are passed over that begin too late (`blocks`, `walk`). `list` keeps the versions,
-//! with their values as bytes; contracts see them as the list alone.
+//! whole blocks are passed over that begin too late (`blocks`, `walk`). `kept` keeps the versions,
+//! with their values as bytes.
+//!
+//! Versions of one key have the same hash (`hashes`), and each leads to the one before it of its
+//! hash (`chains`). `list` has both; contracts see the list of versions alone.
 #![tactic(auto)]
 
 mod blocks;
+mod chains;
+mod hashes;
+mod kept;
 mod list;
 mod walk;
 

@@ -1,50 +1,52 @@
-//! The list of the ended versions of a table.
+//! The ended versions of a table.
 
-ghost use Rattle.std.specs.Prelude.{◌≡◌, ◌++◌, ◌∷◌, [], IfOk, List, OnErr, OnOk, length, map};
-ghost use Rattle.std.specs.Prelude.{reverse, take};
+ghost use Rattle.std.specs.Prelude.{◌≡◌, ◌==◌, ◌++◌, ◌∷◌, [], IfOk, List, OnErr, OnOk, filter};
+ghost use Rattle.std.specs.Prelude.{length, map, reverse, take};
 ghost use Rattle.std.specs.List.{All};
 ghost use Rattle.period_core.specs.Encoding.{IsColumnValue};
 ghost use Rattle.period_core.specs.declared.version.VersionRow.{VersionRow as Version};
-ghost use Rattle.ended_versions.specs.Entries.{IsKept, packed_in};
+ghost use Rattle.ended_versions.specs.Hashes.{hash_at, shares_hash};
 ghost use Rattle.ended_versions.specs.Packed.{AreEndedBy, AreOfColumns, Hold, closed_at, ended_at};
 ghost use Rattle.ended_versions.specs.Packed.{packed, seen_through};
 
-use crate::blocks::{Entry, least_with};
-use crate::walk::last_seen;
-use period_core::{
-    DecodeFault, Memory, Moment, Values, VersionRow, Window, decode_values, encode_values,
-};
+use crate::chains::Chains;
+use crate::hashes::{hash_at, hash_of};
+use crate::kept::KeptVersions;
+use period_core::{Items, Memory, Moment, Value, VersionRow, Window};
 use std::alloc::Global;
 use std::marker::Model;
 
-/// The ended versions of a table, in the order in which they ended. Their values are kept as bytes,
-/// so a version of three numbers takes some 80 bytes. Contracts see the list, with the values so.
+/// The ended versions of a table, in the order in which they ended, and beside each the hash of its
+/// key: the versions of one key are chained, the last to end first. Contracts see the list, with
+/// the values as bytes.
 #[derive(Drop)]
 pub struct EndedVersions {
-    bytes: Vec<u8>,
-    entries: Vec<Entry>,
+    positions: Items<usize>,
+    versions: KeptVersions,
+    keys: Chains,
 }
 
 impl Model for EndedVersions {
-    ghost use Rattle.std.specs.Prelude.{List, map};
-    ghost use Rattle.ended_versions.specs.Entries.{AreEntries, packed_in};
+    ghost use Rattle.std.specs.Prelude.{List};
+    ghost use Rattle.ended_versions.specs.Found.{AreHashes};
     ghost use Rattle.ended_versions.specs.Packed.{PackedVersion};
 
     ghost Value = { List PackedVersion };
 
-    ghost view = { λ e. map (packed_in e.bytes.items) e.entries.items };
+    ghost view = { λ e. e.versions };
 
-    ghost invariant = { λ e. AreEntries e.bytes.items e.entries.items };
+    ghost invariant = { λ e. AreHashes e.positions e.versions e.keys };
 }
 
 impl EndedVersions {
-    /// No versions.
-    pub fn new(alloc: Global) -> EndedVersions
+    /// No versions, of a table whose key has the values at these positions.
+    pub fn new(alloc: Global, positions: Items<usize>) -> EndedVersions
         ensures { result ≡ [] }
     {
         EndedVersions {
-            bytes: Vec::new(alloc),
-            entries: Vec::new(alloc),
+            positions,
+            versions: KeptVersions::new(alloc),
+            keys: Chains::new(alloc),
         }
     }
 
@@ -52,7 +54,7 @@ impl EndedVersions {
     pub fn len(&self) -> usize
         ensures { result ≡ length self.now }
     {
-        self.entries.len()
+        self.versions.len()
     }
 
     /// Adds a version, ended at a moment: no other of the list ended later. An error changes
@@ -64,20 +66,12 @@ impl EndedVersions {
         ensures err { OnErr result (self.new ≡ self.old) }
         ensures ended { AreEndedBy end self.new }
     {
-        let values = encode_values(alloc, version.values.as_slice())?;
-        let start = self.bytes.len();
-        self.bytes.extend_from_slice(values.as_slice())?;
-        let entry = Entry {
-            start,
-            end: self.bytes.len(),
-            period: version.period,
-            from: version.from,
-            to: end,
-            least: least_with(self.entries.as_slice(), version.from),
-        };
-        if let Err(refused) = self.entries.push(entry) {
-            self.bytes.truncate(start);
-            return Err(refused.into());
+        let hash = hash_at(alloc, self.positions.as_slice(), version.values.as_slice())?;
+        let count = self.versions.len();
+        self.versions.add(alloc, version, end)?;
+        if let Err(refused) = self.keys.push(hash) {
+            self.versions.truncate(count);
+            return Err(refused);
         }
         Ok(())
     }
@@ -114,11 +108,8 @@ impl EndedVersions {
     pub fn truncate(&mut self, count: usize)
         ensures { self.new ≡ take count self.old }
     {
-        if count < self.entries.len() {
-            let start = self.entries[count].start;
-            self.bytes.truncate(start);
-            self.entries.truncate(count);
-        }
+        self.versions.truncate(count);
+        self.keys.truncate(count);
     }
 
     /// Those that a window sees, the last to end first.
@@ -126,31 +117,54 @@ impl EndedVersions {
         ensures { (versions : List Version) → Hold self.now versions
             → IfOk result (λ seen. seen.items ≡ reverse (seen_through window versions)) }
     {
-        let entries = self.entries.as_slice();
+        self.versions.seen(alloc, window)
+    }
+
+    /// Those of them that may have this key at these positions, the last to end first: all of the
+    /// key, and of others those with the same hash. Where the positions are those of the table's
+    /// key, only these are looked at.
+    pub fn seen_of_key(
+        &self,
+        alloc: Global,
+        window: Window,
+        positions: &[usize],
+        key: &[Value],
+    ) -> Result<Vec<VersionRow>, Memory>
+        ensures { (versions : List Version) → Hold self.now versions
+            → IfOk result (λ seen. seen.items
+            ≡ reverse (filter (shares_hash positions.now key.now) (seen_through window versions))) }
+    {
+        let hash = hash_of(alloc, key)?;
+        if positions.is_empty() || self.positions.as_slice() != positions {
+            return with_hash(alloc, self.versions.seen(alloc, window)?, positions, hash);
+        }
         let mut seen = Vec::new(alloc);
-        let mut before = entries.len();
-        while let Some(place) = last_seen(entries, &window, before) {
-            seen.push(unpacked(alloc, self.bytes.as_slice(), &entries[place])?)?;
-            before = place;
+        let mut next = self.keys.last(hash);
+        while let Some(place) = next {
+            if let Some(version) = self.versions.seen_at(alloc, window, place)? {
+                seen.push(version)?;
+            }
+            next = self.keys.before(place);
         }
         Ok(seen)
     }
 }
 
-/// The version of an entry.
-fn unpacked(alloc: Global, bytes: &[u8], entry: &Entry) -> Result<VersionRow, Memory>
-    requires { IsKept bytes.now entry.now }
-    ensures same { IfOk result (λ version. packed version ≡ packed_in bytes.now entry.now) }
-    ensures held { IfOk result (λ version. All IsColumnValue version.values) }
+/// Those of these versions whose values at the positions have the hash.
+fn with_hash(
+    alloc: Global,
+    versions: Vec<VersionRow>,
+    positions: &[usize],
+    hash: u32,
+) -> Result<Vec<VersionRow>, Memory>
+    ensures { IfOk result (λ found. found.items
+        ≡ filter (λ (v : Version). hash_at positions.now v == hash) versions.items) }
 {
-    match decode_values(alloc, &bytes[entry.start..entry.end]) {
-        Ok(values) => Ok(VersionRow {
-            values: Values::from_vec(values),
-            period: entry.period,
-            from: entry.from,
-            to: entry.to,
-        }),
-        Err(DecodeFault::Memory) => Err(Memory),
-        Err(DecodeFault::Malformed) => unreachable!(),
+    let mut found = Vec::new(alloc);
+    for version in versions {
+        if hash_at(alloc, positions, version.values.as_slice())? == hash {
+            found.push(version)?;
+        }
     }
+    Ok(found)
 }

@@ -23,6 +23,7 @@ mod ColumnFacts
 mod Contents
 mod CurrentAfter
 mod StoredShown
+mod KeyedShown
 mod Handed
 mod InMemory
 mod Loaded
@@ -36,6 +37,7 @@ mod LastState
 mod LeftSteps
 mod ListeningFacts
 mod Needed
+mod NeededPast
 mod NewStore
 mod Openings
 mod AuditCounts

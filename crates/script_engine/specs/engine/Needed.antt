@@ -1,14 +1,23 @@
 -- What a query needs of what its table references see: enough that it gives the same.
 use Rattle.std.specs.Prelude.{◌≡◌, ◌++◌, ◌+◌, ℕ, ℤ, List, [], ◌∷◌, length}
+use Rattle.std.specs.Option.{option_map_or}
 use Rattle.period_core.specs.declared.row.PeriodRow.{PeriodRow}
 use Rattle.period_core.specs.declared.value.Value.{Value}
+use Rattle.period_core.specs.declared.version.VersionRow.{VersionRow}
+use Rattle.period_keys.specs.Rows.{RowsByKey, rows_of_key}
 use Rattle.sql_statements.specs.declared.tree.Tree.{Tree}
 use Rattle.catalog_core.specs.declared.condition.CompareValues.{CompareValues}
 use Rattle.catalog_core.specs.declared.query.resolved.QueryReference.{QueryReference}
 use Rattle.catalog_core.specs.query.Queries.{Query, both, one}
+use Rattle.catalog_core.specs.table.TableWords.{table_of}
 use Rattle.history_model.specs.Histories.{History}
 use Rattle.history_model.specs.OrdinaryQuery.{HistorySights}
 use Rattle.sequenced_ops.specs.Planning.{IsPruned}
+
+-- the rows in memory of this key, of the table of a number; of a number without a table none
+abbrev pub keyed_rows_in : List RowsByKey → ℕ → List Value → List VersionRow
+keyed_rows_in tables number key =
+    option_map_or (λ (t : RowsByKey). rows_of_key t key) (table_of tables number) []
 
 -- all that the reference sees in the history has so many values
 abbrev pub SeesWidth : History → QueryReference → ℕ → Type 0

@@ -1,6 +1,6 @@
 -- Lists of versions: their columns, and which versions a stored query shows.
 use Rattle.std.specs.Prelude.{◌==◌, ℕ, List, IsPermutation, IsSorted, filter, length, map}
-use Rattle.std.specs.Prelude.{[], if◌then◌else◌, take}
+use Rattle.std.specs.Prelude.{if◌then◌else◌, take}
 use Rattle.std.specs.List.{enumerate_from}
 use Rattle.period_core.specs.declared.version.VersionRow.{VersionRow}
 use Rattle.catalog_core.specs.stored.StoredAnswers.{shown_versions}

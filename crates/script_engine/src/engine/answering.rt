@@ -2,11 +2,12 @@
 //! these rows. All versions are in memory, so no query reads the database.
 
 ghost use Rattle.std.specs.Prelude.{◌≡◌, ◌++◌, IfErr, IfOk, List, OnOk, map};
-ghost use Rattle.std.specs.Prelude.{reverse, true};
+ghost use Rattle.std.specs.Prelude.{filter, reverse, true};
 ghost use Rattle.catalog_core.specs.declared.query.AnswerColumn.{AnswerColumn as Item};
 ghost use Rattle.catalog_core.specs.declared.query.resolved.QueryReference.{QueryReference as Ref};
 ghost use Rattle.catalog_core.specs.query.Fitting.{fits};
 ghost use Rattle.catalog_core.specs.query.Queries.{plain_query, references_of};
+ghost use Rattle.ended_versions.specs.Hashes.{shares_hash};
 ghost use Rattle.ended_versions.specs.Packed.{Hold, seen_through};
 ghost use Rattle.history_model.specs.Histories.{History, catalog_of};
 ghost use Rattle.history_model.specs.OrdinaryQuery.{InAnswerOn, InAnswerOver};
@@ -21,6 +22,7 @@ ghost use Rattle.script_engine.specs.engine.Answering.{IsOfCatalog, columns_of};
 ghost use Rattle.script_engine.specs.engine.Audits.{HaveSeenRows};
 ghost use Rattle.script_engine.specs.engine.Ended.{ended_in};
 ghost use Rattle.script_engine.specs.engine.InMemory.{rows_in};
+ghost use Rattle.script_engine.specs.engine.Needed.{keyed_rows_in};
 ghost use Rattle.script_engine.specs.engine.Stored.{RowsRepresent};
 
 use crate::engine::indexed::rows_of_number;
@@ -28,8 +30,8 @@ use catalog_core::resolved::{Query, QueryReference, Tables};
 use catalog_core::{AnswerColumn, fits, of_number};
 use coalesce_core::{coalesce, witnesses};
 use ended_versions::EndedVersions;
-use period_core::{Answer, Items, Memory, PeriodRow, Refusal, Text, VersionRow, Window};
-use period_keys::{CurrentRows, TableIndex};
+use period_core::{Answer, Items, Memory, PeriodRow, Refusal, Text, Value, VersionRow, Window};
+use period_keys::{CurrentRows, Key, TableIndex};
 use sequenced_ops::run_query;
 use std::alloc::Global;
 
@@ -72,6 +74,19 @@ fn push_current_rows(
     Ok(())
 }
 
+/// Adds these versions, without their system time.
+fn push_rows(versions: Vec<VersionRow>, rows: &mut Vec<PeriodRow>) -> Result<(), Memory>
+    ensures { OnOk result (rows.new.items ≡ rows.old.items ++ map row_of versions.items) }
+{
+    for version in versions {
+        rows.push(PeriodRow {
+            values: version.values,
+            period: version.period,
+        })?;
+    }
+    Ok(())
+}
+
 /// Adds those that the window sees of the versions that have ended.
 fn push_ended(
     alloc: Global,
@@ -82,13 +97,8 @@ fn push_ended(
     ensures { (versions : List Version) → Hold ended.now versions → OnOk result (rows.new.items
         ≡ rows.old.items ++ map row_of (reverse (seen_through window.now versions))) }
 {
-    for version in ended.seen(alloc, *window)? {
-        rows.push(PeriodRow {
-            values: version.values,
-            period: version.period,
-        })?;
-    }
-    Ok(())
+    let seen = ended.seen(alloc, *window)?;
+    push_rows(seen, rows)
 }
 
 /// The same of the table of a number.
@@ -124,6 +134,46 @@ fn push_ended_of(
         Some(list) => push_ended(alloc, window, list, rows),
         None => Ok(()),
     }
+}
+
+/// Adds those that the window sees of the current rows of a key.
+pub fn push_current_of_key(
+    alloc: Global,
+    window: &Window,
+    tables: &[TableIndex],
+    number: u8,
+    key: &Key,
+    rows: &mut Vec<PeriodRow>,
+) -> Result<(), Memory>
+    ensures { OnOk result (rows.new.items ≡ rows.old.items ++ map row_of
+        (seen_through window.now (keyed_rows_in (map rows_by_key tables.now) number key.now))) }
+{
+    match rows_of_number(tables, number) {
+        Some(current) => push_current(alloc, window, current.of_key(key), rows),
+        None => Ok(()),
+    }
+}
+
+/// Adds those that the window sees of the versions that have ended and may have a key at these
+/// positions.
+pub fn push_ended_of_key(
+    alloc: Global,
+    window: &Window,
+    ended: &[EndedVersions],
+    number: u8,
+    positions: &[usize],
+    key: &[Value],
+    rows: &mut Vec<PeriodRow>,
+) -> Result<(), Memory>
+    ensures { (versions : List Version) → Hold (ended_in ended.now number) versions
+        → OnOk result (rows.new.items ≡ rows.old.items ++ map row_of (reverse
+        (filter (shares_hash positions.now key.now) (seen_through window.now versions)))) }
+{
+    let Some(list) = of_number(ended, number) else {
+        return Ok(());
+    };
+    let seen = list.seen_of_key(alloc, *window, positions, key)?;
+    push_rows(seen, rows)
 }
 
 /// What a table reference sees through its window, of the versions in memory. The rows may come in

@@ -27,8 +27,8 @@ ghost use Rattle.script_engine.specs.engine.Stored.{WasUsable};
 use crate::engine::indexed::{add_index, apply_plan, remove_last};
 use catalog_core::{Catalog, Plan, TableDef};
 use ended_versions::EndedVersions;
-use period_core::{Memory, Moment, Refusal, VersionRow};
-use period_keys::TableIndex;
+use period_core::{Items, Memory, Moment, Refusal, VersionRow};
+use period_keys::{TableIndex, positions_of};
 use sqlite_trees::store::Alter;
 use std::alloc::Global;
 use version_store::{OpenedStore, VersionStore};
@@ -84,6 +84,14 @@ pub fn apply_closing<S: Alter>(
 
 // ---- a table more
 
+/// No versions of a table, to be found by its key.
+fn no_versions(alloc: Global, table: &TableDef) -> Result<EndedVersions, Memory>
+    ensures { IfOk result (λ list. list ≡ []) }
+{
+    let positions = positions_of(alloc, table, table.key.as_slice())?;
+    Ok(EndedVersions::new(alloc, Items::from_vec(positions)))
+}
+
 /// Adds a table without versions, as `add_index` does. On an error no table is added, and those
 /// that are there have the same versions.
 pub fn add_versions(
@@ -106,7 +114,7 @@ pub fn add_versions(
     ensures closed { OnOk result (ended.new.items ≡ ended.old.items ++ [] ∷ []) }
     ensures open { OnErr result (ended.new.items ≡ ended.old.items) }
 {
-    ended.push(EndedVersions::new(alloc))?;
+    ended.push(no_versions(alloc, definition)?)?;
     match add_index(alloc, catalog, tables, definition) {
         Ok(()) => Ok(()),
         Err(refused) => {
@@ -150,18 +158,19 @@ fn in_order_of_ends(alloc: Global, versions: Vec<VersionRow>) -> Result<Vec<Vers
     Ok(ended)
 }
 
-/// The list of the versions that have ended, if all did so by a moment.
+/// The list, which has none yet, of the versions that have ended, if all did so by a moment.
 fn listed(
     alloc: Global,
+    mut list: EndedVersions,
     versions: Vec<VersionRow>,
     moment: Moment,
 ) -> Result<Option<EndedVersions>, Memory>
+    requires { list ≡ [] }
     ensures held { IfOk result (λ found. IfSome found (λ list. (ended : List Version)
         × Hold list ended × IsPermutation (filter has_ended versions.items) ended)) }
     ensures before { IfOk result (λ found. IfSome found (AreEndedBy moment)) }
 {
     let ended = in_order_of_ends(alloc, versions)?;
-    let mut list = EndedVersions::new(alloc);
     for version in &ended {
         if version.to > moment {
             return Ok(None);
@@ -177,7 +186,9 @@ fn load_table<S: Alter>(
     alloc: Global,
     store: &mut OpenedStore<S>,
     number: u8,
+    list: EndedVersions,
 ) -> Result<EndedVersions, Refusal>
+    requires { list ≡ [] }
     ensures ended { IsUsable S.Store store.new.store.connection
         → (c : Contents) → OpenedRepresents S.Store store.old c
         → IfOk result (HasEnded c number) }
@@ -189,7 +200,7 @@ fn load_table<S: Alter>(
         Ok(versions) => versions,
         Err(refusal) => return Err(refusal),
     };
-    match listed(alloc, versions, store.clock()) {
+    match listed(alloc, list, versions, store.clock()) {
         Ok(Some(list)) => Ok(list),
         Ok(None) => Err(Refusal::Store),
         Err(_) => Err(Refusal::Memory),
@@ -212,7 +223,10 @@ pub fn load_ended<S: Alter>(
 {
     let mut lists = Vec::new(alloc);
     for place in 0..store.catalog().len() {
-        let list = match load_table(alloc, store, place as u8 + 1) {
+        let Ok(list) = no_versions(alloc, &store.catalog().tables.as_slice()[place]) else {
+            return Err(Refusal::Memory);
+        };
+        let list = match load_table(alloc, store, place as u8 + 1, list) {
             Ok(list) => list,
             Err(refusal) => return Err(refusal),
         };

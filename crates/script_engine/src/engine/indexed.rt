@@ -43,6 +43,17 @@ pub fn rows_of_number(tables: &[TableIndex], number: u8) -> Option<&CurrentRows>
     }
 }
 
+/// The positions of its key among a row's values.
+pub fn positions_of_number(tables: &[TableIndex], number: u8) -> &[usize]
+    ensures { (rows : RowsByKey) → table_of (map rows_by_key tables.now) number ≡ Some rows
+        → result.now ≡ rows.positions }
+{
+    match rows_of_number(tables, number) {
+        Some(rows) => rows.positions(),
+        None => &[],
+    }
+}
+
 /// Adds a table without rows, of a definition that the catalog does not have yet, with the indexes
 /// that its references need. On an error no table is added, and those that are there have the same
 /// rows.

@@ -3,7 +3,8 @@
 //! fix a key looks at the rows of that key alone.
 
 ghost use Rattle.std.specs.Prelude.{◌≡◌, ◌++◌, IfErr, IfOk, List, OnOk, Some, length, map};
-ghost use Rattle.std.specs.Prelude.{Contains, true};
+ghost use Rattle.std.specs.Prelude.{Contains, ℕ, true};
+ghost use Rattle.catalog_core.specs.declared.condition.CompareValues.{CompareValues};
 ghost use Rattle.catalog_core.specs.declared.query.AnswerColumn.{AnswerColumn as Item};
 ghost use Rattle.catalog_core.specs.declared.table.TableDef.{TableDef as Definition};
 ghost use Rattle.catalog_core.specs.query.Queries.{plain_query};
@@ -15,23 +16,26 @@ ghost use Rattle.period_core.specs.declared.refusal.Refusal.TheVariants.{Memory 
 ghost use Rattle.period_core.specs.declared.row.PeriodRow.{PeriodRow as Row};
 ghost use Rattle.period_core.specs.declared.version.VersionRow.{VersionRow as Version};
 ghost use Rattle.period_keys.specs.Current.{rows_by_key};
+ghost use Rattle.period_keys.specs.FixedKeys.{FixesKeyWithin};
+ghost use Rattle.period_keys.specs.Rows.{RowsByKey};
 ghost use Rattle.sequenced_ops.specs.Planning.{IsPruned};
+ghost use Rattle.sql_statements.specs.declared.tree.Tree.{Tree};
 ghost use Rattle.temporal_model.specs.Snapshot.{InSnapshot};
 ghost use Rattle.version_store.specs.StoreState.{IsStoreRefusal};
 ghost use Rattle.script_engine.specs.Headline.{IsSequencedAnswer};
 ghost use Rattle.script_engine.specs.engine.Answering.{IsOfCatalog, columns_of};
 ghost use Rattle.script_engine.specs.engine.InMemory.{rows_in};
 ghost use Rattle.script_engine.specs.engine.Needed.{AddNeeded, IsNeeded, IsNeededBy};
-ghost use Rattle.script_engine.specs.engine.Needed.{SeeNeeded};
+ghost use Rattle.script_engine.specs.engine.Needed.{SeeNeeded, SeesWidth};
 ghost use Rattle.script_engine.specs.engine.Stored.{RowsRepresent};
 
-use crate::engine::answering::{answer_over, seen_by};
-use crate::engine::indexed::rows_of_number;
+use crate::engine::answering::{answer_over, push_current_of_key, push_ended_of_key, seen_by};
+use crate::engine::indexed::{positions_of_number, rows_of_number};
 use catalog_core::resolved::{Query, QueryReference, Select, Tables};
 use catalog_core::{Catalog, Cond, TableDef, fits, is_value_column};
 use ended_versions::EndedVersions;
 use period_core::{Answer, Items, Memory, PeriodRow, Refusal, VersionRow, Window};
-use period_keys::{CurrentRows, TableIndex, fixed_key_within};
+use period_keys::{CurrentRows, Key, TableIndex, fixed_key_within};
 use sequenced_ops::is_ruled_out;
 use std::alloc::Global;
 
@@ -148,9 +152,68 @@ fn needed_current(
 
 // ---- the references of a query
 
+/// What a table reference has to see through its window, where the conditions fix the key of its
+/// table at these positions: those rows that may have it.
+fn needed_of_key(
+    alloc: Global,
+    tables: &[TableIndex],
+    ended: &[EndedVersions],
+    reference: &QueryReference,
+    positions: &[usize],
+    key: Key,
+) -> Result<Items<PeriodRow>, Memory>
+    ensures { IfOk result (λ rows. (history : History)
+        → RowsRepresent history (map rows_by_key tables.now) ended.now
+        → ((t : RowsByKey) → table_of (map rows_by_key tables.now) reference.now.table ≡ Some t
+        → positions.now ≡ t.positions)
+        → (conjuncts : List (Tree CompareValues)) (start width : ℕ)
+        → SeesWidth history reference.now width
+        → FixesKeyWithin conjuncts start width positions.now key
+        → IsNeeded history conjuncts start reference.now rows) }
+{
+    let window = &reference.window;
+    let number = reference.table;
+    let mut rows = Vec::new(alloc);
+    push_current_of_key(alloc, window, tables, number, &key, &mut rows)?;
+    let key = key.into_values();
+    push_ended_of_key(
+        alloc,
+        window,
+        ended,
+        number,
+        positions,
+        key.as_slice(),
+        &mut rows,
+    )?;
+    Ok(Items::from_vec(rows))
+}
+
+/// What a table reference has to see through its window: all that it sees, or where the conditions
+/// fix its table's key those rows that may have it. Its rows have so many values.
+fn needed_through(
+    alloc: Global,
+    tables: &[TableIndex],
+    ended: &[EndedVersions],
+    conjuncts: &[Cond],
+    start: usize,
+    width: usize,
+    reference: &QueryReference,
+) -> Result<Items<PeriodRow>, Memory>
+    ensures { IfOk result (λ rows. (history : History)
+        → RowsRepresent history (map rows_by_key tables.now) ended.now
+        → SeesWidth history reference.now width
+        → IsNeeded history conjuncts.now start reference.now rows) }
+{
+    let positions = positions_of_number(tables, reference.table);
+    match fixed_key_within(alloc, conjuncts, start, width, positions)? {
+        Some(key) => needed_of_key(alloc, tables, ended, reference, positions, key),
+        None => seen_by(alloc, tables, ended, reference),
+    }
+}
+
 /// What a table reference has to see, where a combined row has the values of its row from a
-/// position on: the current rows that the conditions do not rule out; through a window all that it
-/// sees.
+/// position on: the current rows that the conditions do not rule out, or what it needs through its
+/// window.
 fn needed_by(
     alloc: Global,
     catalog: &Catalog,
@@ -164,13 +227,13 @@ fn needed_by(
         → RowsRepresent history (map rows_by_key tables.now) ended.now
         → IsNeeded history conjuncts.now start reference.now rows) }
 {
+    let width = width_of_number(catalog, reference.table);
     match reference.window {
         Window::Now => {
-            let width = width_of_number(catalog, reference.table);
             let rows = needed_current(alloc, tables, conjuncts, start, width, reference.table)?;
             Ok(Items::from_vec(rows))
         }
-        _ => seen_by(alloc, tables, ended, reference),
+        _ => needed_through(alloc, tables, ended, conjuncts, start, width, reference),
     }
 }
 

@@ -11,10 +11,10 @@ ghost use Rattle.script_engine.specs.engine.Ended.{HaveEnded, ended_in};
 ghost use Rattle.script_engine.specs.engine.InMemory.{HaveCurrentRows, rows_in};
 ghost use Rattle.script_engine.specs.engine.Shown.{AreShownIn};
 
-use crate::engine::indexed::rows_of_number;
+use crate::engine::indexed::{positions_of_number, rows_of_number};
 use catalog_core::{Stored, meets, of_number};
 use ended_versions::EndedVersions;
-use period_core::{Memory, VersionRow};
+use period_core::{Memory, VersionRow, Window};
 use period_keys::{CurrentRows, Key, TableIndex, fixed_key};
 use std::alloc::Global;
 
@@ -64,10 +64,37 @@ fn shown_of(alloc: Global, query: &Stored, current: &CurrentRows) -> Result<Vec<
     Ok(shown)
 }
 
-/// Adds those that the query shows of the versions that have ended.
+/// Those of the versions that have ended which the query may show: all that its window sees, or
+/// where its condition fixes the key at these positions those that may have it. A query without a
+/// window sees none of them, of any key.
+fn ended_seen(
+    alloc: Global,
+    query: &Stored,
+    positions: &[usize],
+    ended: &EndedVersions,
+) -> Result<Vec<VersionRow>, Memory>
+    ensures { (versions : List Version) → Hold ended.now versions
+        → IfOk result (λ seen. shown_versions query.now seen.items
+        ≡ shown_versions query.now (reverse (seen_through query.now.window versions))) }
+{
+    if query.window == Window::Now {
+        return ended.seen(alloc, query.window);
+    }
+    match key_of(alloc, query, positions)? {
+        Some(key) => {
+            let key = key.into_values();
+            ended.seen_of_key(alloc, query.window, positions, key.as_slice())
+        }
+        None => ended.seen(alloc, query.window),
+    }
+}
+
+/// Adds those that the query shows of the versions that have ended, of a table whose key is at
+/// these positions.
 fn push_ended(
     alloc: Global,
     query: &Stored,
+    positions: &[usize],
     ended: &EndedVersions,
     shown: &mut Vec<VersionRow>,
 ) -> Result<(), Memory>
@@ -75,7 +102,7 @@ fn push_ended(
         ≡ shown.old.items
         ++ shown_versions query.now (reverse (seen_through query.now.window versions))) }
 {
-    for version in ended.seen(alloc, query.window)? {
+    for version in ended_seen(alloc, query, positions, ended)? {
         if meets(query, &version) {
             shown.push(version)?;
         }
@@ -87,6 +114,7 @@ fn push_ended(
 fn push_ended_of(
     alloc: Global,
     query: &Stored,
+    positions: &[usize],
     ended: &[EndedVersions],
     shown: &mut Vec<VersionRow>,
 ) -> Result<(), Memory>
@@ -95,7 +123,7 @@ fn push_ended_of(
         ++ shown_versions query.now (reverse (seen_through query.now.window versions))) }
 {
     match of_number(ended, query.table) {
-        Some(list) => push_ended(alloc, query, list, shown),
+        Some(list) => push_ended(alloc, query, positions, list, shown),
         None => Ok(()),
     }
 }
@@ -128,7 +156,8 @@ pub fn shown_by(
         → AreShownIn c query.now rows.items) }
 {
     let mut shown = current_shown(alloc, tables, query)?;
-    push_ended_of(alloc, query, ended, &mut shown)?;
+    let positions = positions_of_number(tables, query.table);
+    push_ended_of(alloc, query, positions, ended, &mut shown)?;
     shown.sort()?;
     Ok(shown)
 }

@@ -1,9 +1,8 @@
-use Rattle.std.proofs.Common.{◌≡◌, ◌≤◌, ◌<◌, ◌+◌, ◌++◌, ◌∷◌, List, [], length, map, take, take_all, arith, false, refl, subst, true}
+use Rattle.std.proofs.Common.{◌≡◌, ◌<◌, ◌+◌, ◌++◌, ◌∷◌, List, [], length, map, take, take_all, arith, false, refl, subst, true}
 use Rattle.std.proofs.lemmas.List.{length_push}
 use Rattle.sql_statements.specs.Lexemes.{lexemes}
 use Rattle.sql_front.specs.Pieces.{spanned}
 use Rattle.sql_front.specs.declared.pieces.Span.{Span}
-use Rattle.script_engine.specs.engine.Stored.{RepresentsSome}
 use Rattle.script_engine.specs.script.Script.{StepPieces}
 use Rattle.script_engine.proofs.ListeningFacts.{front_of, hears_more, whole_front}
 use Rattle.script_engine.proofs.PieceSteps.{run_next}

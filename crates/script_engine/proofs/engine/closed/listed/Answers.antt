@@ -1,4 +1,4 @@
-use Rattle.std.proofs.Common.{◌≡◌, ◌≤ℤ◌, ◌≤◌, ◌+◌, ◌++◌, ◌∷◌, [], ◌∙◌, List, ap, map, subst, sym, take}
+use Rattle.std.proofs.Common.{◌≡◌, ◌≤ℤ◌, ◌+◌, ◌++◌, ◌∷◌, [], ◌∙◌, List, ap, map, subst, sym, take}
 use Rattle.std.specs.Prelude.{filter}
 use Rattle.std.specs.List.Sorted.{IsPermutation}
 use Rattle.std.proofs.lemmas.List.{map-append, take_more, take_all}
@@ -18,9 +18,9 @@ add-requires c =
 
 pub loop-version-init : goal.loop-version-init
 loop-version-init c = record {
-  made = c.new-list.ensures;
+  made = c.requires;
   held = All-nil OfColumns;
-  before = subst (AreEndedBy c.args.moment) (sym c.new-list.ensures) (All-nil (λ (v : PackedVersion). v.to ≤ℤ c.args.moment));
+  before = subst (AreEndedBy c.args.moment) (sym c.requires) (All-nil (λ (v : PackedVersion). v.to ≤ℤ c.args.moment));
 }
 
 pub loop-version-preserved : goal.loop-version-preserved

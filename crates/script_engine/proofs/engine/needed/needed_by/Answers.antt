@@ -2,10 +2,9 @@ use Rattle.std.proofs.Common.{◌∙◌, map, subst, sym}
 use Rattle.period_keys.specs.Current.{rows_by_key}
 use Rattle.period_keys.proofs.PlanParts.{if_ok}
 use Rattle.history_model.specs.Histories.{History}
-use Rattle.script_engine.specs.engine.Answering.{SeesRows}
-use Rattle.script_engine.specs.engine.Needed.{IsNeeded}
+use Rattle.script_engine.specs.engine.Needed.{IsNeeded, SeesWidth}
 use Rattle.script_engine.specs.engine.Stored.{RowsRepresent}
-use Rattle.script_engine.proofs.Needed.{IsWidth, current_needed, current_width, whole_needed}
+use Rattle.script_engine.proofs.Needed.{IsWidth, current_needed, current_width, sees_width}
 use Rattle.script_engine.proofs.engine.needed.needed_by.Goals as goal
 
 pub returns-in_ok-rows-in-Now : goal.returns-in_ok-rows-in-Now
@@ -22,5 +21,10 @@ returns-in_ok-rows-in-Now c history same kept =
 pub returns-in_default : goal.returns-in_default
 returns-in_default c =
     let reference = c.args.reference.now in
-    if_ok c.seen_by.result (λ rows. (history : History) → RowsRepresent history (map rows_by_key c.args.tables.now) c.args.ended.now → SeesRows history reference rows) _
-    (λ rows sees history same kept. whole_needed history c.args.conjuncts.now c.args.start reference rows (sees history kept)) c.seen_by.ensures
+    let conjuncts = c.args.conjuncts.now in
+    let width = c.width_of_number-width.result in
+    if_ok c.needed_through.result
+    (λ rows. (history : History) → RowsRepresent history (map rows_by_key c.args.tables.now) c.args.ended.now → SeesWidth history reference width → IsNeeded history conjuncts c.args.start reference rows) _
+    (λ rows needs history same kept.
+    let wide : IsWidth kept.contents.tables reference.table width = subst (λ tables. IsWidth tables reference.table width) (same ∙ sym kept.said.tables) c.width_of_number-width.ensures in
+    needs history kept (sees_width history kept.contents reference kept.said width wide)) c.needed_through.ensures

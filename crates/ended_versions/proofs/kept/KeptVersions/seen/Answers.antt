@@ -7,7 +7,7 @@ use Rattle.ended_versions.specs.Entries.{AreInOrder, is_seen, packed_in}
 use Rattle.ended_versions.specs.Packed.{AreOfColumns, Hold, PackedVersion, packed}
 use Rattle.ended_versions.specs.declared.blocks.Entry.{Entry}
 use Rattle.ended_versions.proofs.PackedFacts.{seen_is, seen_more}
-use Rattle.ended_versions.proofs.list.EndedVersions.seen.Goals as goal
+use Rattle.ended_versions.proofs.kept.KeptVersions.seen.Goals as goal
 
 pub last_seen-requires-clause-ordered : goal.last_seen-requires-clause-ordered
 last_seen-requires-clause-ordered c = subst AreInOrder (sym c.as_slice-entries.ensures.value) c.self.invariant.ordered

@@ -2,7 +2,7 @@ use Rattle.std.proofs.Common.{◌≡◌, ◌≤◌, ◌++◌, length, map, rever
 use Rattle.std.specs.List.{filter}
 use Rattle.ended_versions.specs.Entries.{is_seen, packed_in}
 use Rattle.ended_versions.specs.Packed.{AreOfColumns, packed}
-use Rattle.ended_versions.proofs.list.EndedVersions.seen.Given as goal
+use Rattle.ended_versions.proofs.kept.KeptVersions.seen.Given as goal
 
 abbrev pub invariant-loop-place : goal.invariant-loop-place
 invariant-loop-place l = record {

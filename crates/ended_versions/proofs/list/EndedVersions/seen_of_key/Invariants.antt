@@ -1,0 +1,18 @@
+use Rattle.std.proofs.Common.{◌≡◌, ◌≤◌, ◌++◌, ℕ, List, Some, length, reverse, take}
+use Rattle.std.specs.List.{filter}
+use Rattle.std.specs.Prelude.{slice_index_or}
+use Rattle.period_core.specs.declared.version.VersionRow.{VersionRow}
+use Rattle.ended_versions.specs.Chains.{behind}
+use Rattle.ended_versions.specs.Packed.{Hold}
+use Rattle.ended_versions.proofs.FoundFacts.{FoundTo}
+use Rattle.ended_versions.proofs.list.EndedVersions.seen_of_key.Given as goal
+
+abbrev pub invariant-loop-next : goal.invariant-loop-next
+invariant-loop-next l = record {
+  within : behind l.next ≤ length l.self-inside.keys;
+  hashed : (place d : ℕ) → l.next ≡ Some place → slice_index_or l.self-inside.keys place d ≡ l.hash;
+  found : (versions : List VersionRow) → Hold l.self versions → FoundTo l.self-inside.positions l.window l.key versions l.next l.seen.items;
+}
+
+abbrev pub decreases-loop-next : goal.decreases-loop-next
+decreases-loop-next l = behind l.next

@@ -1,0 +1,146 @@
+//! Ended versions, kept with their values as bytes.
+
+ghost use Rattle.std.specs.Prelude.{◌≡◌, ◌++◌, ◌∷◌, ◌<◌, [], IfOk, List, OnErr, OnOk, length};
+ghost use Rattle.std.specs.Prelude.{reverse, slice_index_or, take};
+ghost use Rattle.std.specs.List.{All};
+ghost use Rattle.period_core.specs.Encoding.{IsColumnValue};
+ghost use Rattle.period_core.specs.declared.version.VersionRow.{VersionRow as Version};
+ghost use Rattle.ended_versions.specs.Entries.{IsKept, packed_in};
+ghost use Rattle.ended_versions.specs.Found.{IsVersionIfSeen};
+ghost use Rattle.ended_versions.specs.Packed.{AreEndedBy, Hold, ended_at, packed, seen_through};
+
+use crate::blocks::{Entry, least_with};
+use crate::walk::last_seen;
+use period_core::{
+    DecodeFault, Memory, Moment, Values, VersionRow, Window, decode_values, encode_values,
+};
+use std::alloc::Global;
+use std::marker::Model;
+
+/// Ended versions, in the order in which they ended. Their values are kept as bytes, so a version
+/// of three numbers takes some 80 bytes. Contracts see the list, with the values so.
+#[derive(Drop)]
+pub struct KeptVersions {
+    bytes: Vec<u8>,
+    entries: Vec<Entry>,
+}
+
+impl Model for KeptVersions {
+    ghost use Rattle.std.specs.Prelude.{List, map};
+    ghost use Rattle.ended_versions.specs.Entries.{AreEntries, packed_in};
+    ghost use Rattle.ended_versions.specs.Packed.{PackedVersion};
+
+    ghost Value = { List PackedVersion };
+
+    ghost view = { λ e. map (packed_in e.bytes.items) e.entries.items };
+
+    ghost invariant = { λ e. AreEntries e.bytes.items e.entries.items };
+}
+
+impl KeptVersions {
+    /// No versions.
+    pub fn new(alloc: Global) -> KeptVersions
+        ensures { result ≡ [] }
+    {
+        KeptVersions {
+            bytes: Vec::new(alloc),
+            entries: Vec::new(alloc),
+        }
+    }
+
+    /// How many there are.
+    pub fn len(&self) -> usize
+        ensures { result ≡ length self.now }
+    {
+        self.entries.len()
+    }
+
+    /// Adds a version, ended at a moment: no other of the list ended later. An error changes
+    /// nothing.
+    pub fn add(&mut self, alloc: Global, version: &VersionRow, end: Moment) -> Result<(), Memory>
+        requires { AreEndedBy end self.old }
+        ensures ok { OnOk result (self.new ≡ self.old ++ packed (ended_at end version.now) ∷ []) }
+        ensures held { OnOk result (All IsColumnValue version.now.values) }
+        ensures err { OnErr result (self.new ≡ self.old) }
+        ensures ended { AreEndedBy end self.new }
+    {
+        let values = encode_values(alloc, version.values.as_slice())?;
+        let start = self.bytes.len();
+        self.bytes.extend_from_slice(values.as_slice())?;
+        let entry = Entry {
+            start,
+            end: self.bytes.len(),
+            period: version.period,
+            from: version.from,
+            to: end,
+            least: least_with(self.entries.as_slice(), version.from),
+        };
+        if let Err(refused) = self.entries.push(entry) {
+            self.bytes.truncate(start);
+            return Err(refused.into());
+        }
+        Ok(())
+    }
+
+    /// Takes back all but the first so many. It takes no memory.
+    pub fn truncate(&mut self, count: usize)
+        ensures { self.new ≡ take count self.old }
+    {
+        if count < self.entries.len() {
+            let start = self.entries[count].start;
+            self.bytes.truncate(start);
+            self.entries.truncate(count);
+        }
+    }
+
+    /// Those that a window sees, the last to end first.
+    pub fn seen(&self, alloc: Global, window: Window) -> Result<Vec<VersionRow>, Memory>
+        ensures { (versions : List Version) → Hold self.now versions
+            → IfOk result (λ seen. seen.items ≡ reverse (seen_through window versions)) }
+    {
+        let entries = self.entries.as_slice();
+        let mut seen = Vec::new(alloc);
+        let mut before = entries.len();
+        while let Some(place) = last_seen(entries, &window, before) {
+            seen.push(unpacked(alloc, self.bytes.as_slice(), &entries[place])?)?;
+            before = place;
+        }
+        Ok(seen)
+    }
+
+    /// The version at a place, if the window sees it.
+    pub fn seen_at(
+        &self,
+        alloc: Global,
+        window: Window,
+        place: usize,
+    ) -> Result<Option<VersionRow>, Memory>
+        requires { place < length self.now }
+        ensures { (versions : List Version) (d : Version) → Hold self.now versions
+            → IfOk result (IsVersionIfSeen window (slice_index_or versions place d)) }
+    {
+        let entry = &self.entries[place];
+        if !window.sees(entry.from, entry.to) {
+            return Ok(None);
+        }
+        Ok(Some(unpacked(alloc, self.bytes.as_slice(), entry)?))
+    }
+}
+
+/// The version of an entry.
+fn unpacked(alloc: Global, bytes: &[u8], entry: &Entry) -> Result<VersionRow, Memory>
+    requires { IsKept bytes.now entry.now }
+    ensures same { IfOk result (λ version. packed version ≡ packed_in bytes.now entry.now) }
+    ensures held { IfOk result (λ version. All IsColumnValue version.values) }
+{
+    match decode_values(alloc, &bytes[entry.start..entry.end]) {
+        Ok(values) => Ok(VersionRow {
+            values: Values::from_vec(values),
+            period: entry.period,
+            from: entry.from,
+            to: entry.to,
+        }),
+        Err(DecodeFault::Memory) => Err(Memory),
+        Err(DecodeFault::Malformed) => unreachable!(),
+    }
+}
