@@ -33,9 +33,9 @@ alike : (database : Database) (c : Contents) (table : ℕ)
 alike database c table all =
     let rows = versions_in database table in
     let ours : IsPermutation (map (version_of Seconds) (of_table table c.versions)) (map (version_of Seconds) (map (version_in table) rows)) =
-      IsPermutation-map (version_of Seconds) (of_table table c.versions) (map (version_in table) rows) all in
+    IsPermutation-map (version_of Seconds) (of_table table c.versions) (map (version_in table) rows) all in
     let there : map (version_of Seconds) (map (version_in table) rows) ≡ map (version_in table) (versions_in (moved database) table) =
-      moved_alike table rows ∙ sym (ap (map (version_in table)) (rows_moved database table)) in
+    moved_alike table rows ∙ sym (ap (map (version_in table)) (rows_moved database table)) in
     subst (λ (l : List TableVersion). IsPermutation l (map (version_in table) (versions_in (moved database) table)))
     (sym (filter-map (λ (v : TableVersion). v.table == table) (version_of Seconds) c.versions))
     (subst (IsPermutation (map (version_of Seconds) (of_table table c.versions))) there ours)
