@@ -15,8 +15,8 @@ SPACES = '\u00a0\u1680\u2000-\u200a\u202f\u205f\u3000'
 Oddity = collections.namedtuple('Oddity', 'pattern cause mend')
 A_COMMAND = '{0} is a command of a shell.'
 NO_COMMAND = 'Leave it out: a script has SQL statements alone.'
-ROWS_OF_A_FILE = ('Leave it out, and put the rows into INSERTs: tools/load makes these of a CSV file,'
-                  f' as {recipe("Load an export with corrections")} shows.')
+ROWS_OF_A_FILE = ('Leave it out, and put the rows into INSERTs: tools/load makes these of a CSV'
+                  f' file, as {recipe("Load an export with corrections")} shows.')
 NO_PARAMETERS = 'Write the value itself: a script has no parameters.'
 ODDITIES = [Oddity(re.compile(pattern), cause, mend) for pattern, cause, mend in (
     (r'!=', 'No token begins with !.', 'Write <> for !=.'),

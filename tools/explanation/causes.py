@@ -22,8 +22,8 @@ WHAT_TO_DO = {
     13: "Write nineteen characters with one space, or these, a point and one to six digits, and no"
         " time zone: TIMESTAMP '2024-01-01 00:00:00', TIMESTAMP '2024-01-01 00:00:00.25'. After AT"
         f" and AS OF name an earlier moment than {FOREVER}.",
-    14: f"Write a number from {LEAST_NUMBER} to {GREATEST_NUMBER}, or keep its digits as a text in a"
-        " VARCHAR column.",
+    14: f"Write a number from {LEAST_NUMBER} to {GREATEST_NUMBER}, or keep its digits as a text in"
+        " a VARCHAR column.",
     21: "Split the statement: a long INSERT into several of fewer rows (999 rows of one number and"
         " two dates are the most).",
     22: "Choose another name, or leave out this CREATE TABLE. Names ignore case: emp and EMP are"

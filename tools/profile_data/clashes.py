@@ -23,8 +23,8 @@ class Clashes:
     def hint(self, unused):
         """What might be meant. `unused` are the headers of columns that nothing reads."""
         if self.wanted.always:
-            return 'with --always each row holds on all days, so the key has to have the columns in' \
-                   ' which rows differ: --guess --always makes such a table'
+            return 'with --always each row holds on all days, so the key has to have the columns' \
+                   ' in which rows differ: --guess --always makes such a table'
         if self.wanted.recorded:
             return 'of two lines of one moment --later-line-wins takes the later one'
         named = f'; {", ".join(unused)} is not read so far' if unused else ''

@@ -116,8 +116,8 @@ class Scope:
             new_names = [name for name, table in self.tables if table.name == column.qualifier]
             joins = [name for name in new_names if name in NO_JOINS]
             if joins:
-                why = f'{joins[0]} {IS_NEW_NAME} {column.qualifier}: there are no such joins. Leave' \
-                      f' out {joins[0]}.'
+                why = f'{joins[0]} {IS_NEW_NAME} {column.qualifier}: there are no such joins.' \
+                      f' Leave out {joins[0]}.'
             elif new_names:
                 why = f'{column.qualifier} goes by its new name {new_names[-1]} here: write' \
                       f' {new_names[-1]}.{column.name}.'
