@@ -1,7 +1,7 @@
 mod Examples
 pub mod Logs
 pub mod Opened
-pub mod Seen
+pub mod Snapshots
 pub mod Shaped
-pub mod Stands
+pub mod ContentStates
 pub mod Views

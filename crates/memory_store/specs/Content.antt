@@ -1,4 +1,4 @@
--- What a content shows: its trees and its version.
+-- The snapshot of a content: its trees and its version.
 use Rattle.std.specs.Prelude.{◌≡◌, ◌≢◌, [], ◌<◌, List, ℕ}
 use Rattle.std.specs.Prelude.{fold, length, map, slice_index_or, slice_set}
 use Rattle.sqlite_value.specs.Order.{Row}
@@ -11,21 +11,23 @@ use Rattle.sqlite_trees.specs.Objects.{catalog_tree, relisted, set_at}
 use Rattle.sqlite_trees.specs.Tree.{Trees, with_tree}
 use Rattle.sqlite_trees.specs.View.{Snapshot}
 use Rattle.memory_store.specs.declared.content.Content.{Content}
-use Rattle.memory_store.specs.declared.tree.Tree.{Tree}
+use Rattle.memory_store.specs.declared.tree.StoredTree.{StoredTree}
 
-abbrev pub heading : Tree → Heading
+-- its shape, its REAL columns and its description
+abbrev pub heading : StoredTree → Heading
 heading t = (t.shape, t.reals, t.described)
 
 -- the rows at each number
-abbrev pub rows_of : List Tree → Trees
+abbrev pub rows_of : List StoredTree → Trees
 rows_of trees t = slice_index_or (map (λ tree. tree.rows) trees) t []
 
 -- the trees with the list of them and with the version, their shapes and their REAL columns
-abbrev pub seen_in : List Tree → ℕ → Snapshot
-seen_in trees version = snapshot_of (map heading trees) (rows_of trees) version
+abbrev pub snapshot_in : List StoredTree → ℕ → Snapshot
+snapshot_in trees version = snapshot_of (map heading trees) (rows_of trees) version
 
-abbrev pub seen : Content → Snapshot
-seen c = seen_in c.trees.items c.version
+-- the same of a content
+abbrev pub snapshot : Content → Snapshot
+snapshot c = snapshot_in c.trees.items c.version
 
 -- one tree is edited
 abbrev pub with_edit : Snapshot → ℕ → (List Row → List Row) → Snapshot
@@ -52,9 +54,9 @@ pub record MayList (s : Snapshot) (change : ℕ × Object) : Type 0 where
   pub present : change.1.shape ≢ Absent
 
 -- there is room for the number, and the tree is there
-pub record HasPlaced (old new : Content) (tree : ℕ) (it : Tree) : Type 0 where
-  pub room : List Tree
-  pub same : seen_in room old.version ≡ seen old
+pub record HasPlaced (old new : Content) (tree : ℕ) (it : StoredTree) : Type 0 where
+  pub room : List StoredTree
+  pub same : snapshot_in room old.version ≡ snapshot old
   pub within : tree < length room
   pub is : new.trees.items ≡ slice_set room tree it
   pub version : new.version ≡ old.version

@@ -10,19 +10,20 @@ use Rattle.sqlite_trees.specs.Props.{IsShaped-prop}
 use Rattle.sqlite_trees.specs.View.{IsOrdered, IsShaped}
 use Rattle.memory_store.specs.declared.content.Content.{Content}
 use Rattle.memory_store.specs.declared.store.MemoryStore.{MemoryStore}
-use Rattle.memory_store.specs.declared.tree.Tree.{Tree}
-use Rattle.memory_store.specs.Content.{heading, rows_of, seen}
-use Rattle.memory_store.specs.History.{base}
+use Rattle.memory_store.specs.declared.tree.StoredTree.{StoredTree}
+use Rattle.memory_store.specs.Content.{heading, rows_of, snapshot}
+use Rattle.memory_store.specs.LoggedContents.{base}
 use Rattle.memory_store.specs.Memory.{memory_view}
 
-pub rows_are_ordered : (trees : List Tree)
+-- the rows of each tree have its shape
+pub rows_are_ordered : (trees : List StoredTree)
     → IsOrdered (shape_in (map heading trees)) (rows_of trees)
 rows_are_ordered [] t = refl
 rows_are_ordered (x ∷ trees) zero = ∥∥₁_elim x.ordered (IsShaped-prop x.shape x.rows) (λ h. h)
 rows_are_ordered (x ∷ trees) (suc t) = rows_are_ordered trees t
 
 -- so are the list of objects and the version, which are trees too
-content_is_ordered : (c : Content) → IsOrdered (seen c).shape (seen c).trees
+content_is_ordered : (c : Content) → IsOrdered (snapshot c).shape (snapshot c).trees
 content_is_ordered c t =
     let hs = map heading c.trees.items in
     let rows = rows_of c.trees.items t in
@@ -40,15 +41,17 @@ content_is_ordered c t =
     [ true ↦ ((tt, tt), (refl, tt)) | false ↦ below ]
 
 content_is_listed : (c : Content)
-    → IsListed ((seen c).trees catalog_tree) (seen c).shape (seen c).reals
+    → IsListed ((snapshot c).trees catalog_tree) (snapshot c).shape (snapshot c).reals
 content_is_listed c = objects_are_listed (map heading c.trees.items)
 
+-- so have those of each tree of a store in memory
 pub memory_is_ordered : (s : MemoryStore) → IsOrdered (memory_view s).shape (memory_view s).trees
-memory_is_ordered s = content_is_ordered s.history.content
+memory_is_ordered s = content_is_ordered s.logged.content
 
+-- and its list of objects is that of its trees
 pub memory_is_listed : (s : MemoryStore)
     → IsListed ((memory_view s).trees catalog_tree) (memory_view s).shape (memory_view s).reals
-memory_is_listed s = content_is_listed s.history.content
+memory_is_listed s = content_is_listed s.logged.content
 
 -- one list gives the shapes and the REAL columns
 pub memory_is_unaltered : (s : MemoryStore)
@@ -58,4 +61,4 @@ pub memory_is_unaltered : (s : MemoryStore)
 memory_is_unaltered s same =
     let now = subst (λ objects. IsListed objects (memory_view s).shape (memory_view s).reals)
     same (memory_is_listed s) in
-    listed_once _ _ _ _ _ now (objects_are_listed (base s.history).headings)
+    listed_once _ _ _ _ _ now (objects_are_listed (base s.logged).headings)

@@ -1,7 +1,7 @@
 pub mod Edit
 pub mod Content
-pub mod Stands
-pub mod History
+pub mod ContentStates
+pub mod LoggedContents
 pub mod Memory
 pub mod Laws
 pub mod Connected

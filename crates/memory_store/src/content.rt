@@ -9,29 +9,29 @@ ghost use Rattle.sqlite_trees.specs.View.{Finds};
 ghost use Rattle.ordered_rows.specs.Cursors.{Gives, left};
 
 use crate::edit::Edit;
-use crate::tree::Tree;
-use crate::undo::Undo;
+use crate::log_entry::LogEntry;
+use crate::tree::StoredTree;
 use ordered_rows::{OrderedRows, RowCursor, Undo as RowsUndo};
 use sqlite_trees::store::{Direction, Shape};
 use sqlite_value::row::Row;
 use std::alloc::{AllocError, Global};
 use std::mem;
 
-/// A tree has the place of its number. Contracts see `seen` of it: the trees with the list of them,
-/// their shapes and their REAL columns.
+/// A tree has the place of its number. Contracts see the `snapshot` of it: the trees with the list
+/// of them, their shapes and their REAL columns.
 #[derive(Drop)]
 pub(crate) struct Content {
-    pub trees: Vec<Tree>,
+    pub trees: Vec<StoredTree>,
     pub version: u32,
 }
 
 impl Content {
     ghost use Rattle.memory_store.specs.Edit.{Fits, edited};
-    ghost use Rattle.memory_store.specs.Content.{MayList, seen, with_edit, with_listed};
-    ghost use Rattle.memory_store.specs.Stands.{IsShapely, before, stand};
+    ghost use Rattle.memory_store.specs.Content.{MayList, snapshot, with_edit, with_listed};
+    ghost use Rattle.memory_store.specs.ContentStates.{RowsFitShapes, before, state_of};
 
     pub(crate) fn shape(&self, tree: u32) -> Shape
-        ensures { result ≡ (seen self.now).shape tree }
+        ensures { result ≡ (snapshot self.now).shape tree }
     {
         match self.trees.get(tree as usize) {
             Some(found) => found.shape,
@@ -40,7 +40,7 @@ impl Content {
     }
 
     pub(crate) fn reals(&self, tree: u32) -> u64
-        ensures { result ≡ (seen self.now).reals tree }
+        ensures { result ≡ (snapshot self.now).reals tree }
     {
         match self.trees.get(tree as usize) {
             Some(found) if found.shape != Shape::Absent => found.reals,
@@ -51,8 +51,8 @@ impl Content {
     /// No number from this one on names an index, and the one below it names a tree.
     pub(crate) fn count(&self) -> u64
         ensures past { (t : ℕ) → result ≤ t → t < 2 ^ 32
-            → ¬ IsIndexShape ((seen self.now).shape t) }
-        ensures tight { (result ≡ 0) ⊎ ((seen self.now).shape (result - 1) ≢ Shape.Absent) }
+            → ¬ IsIndexShape ((snapshot self.now).shape t) }
+        ensures tight { (result ≡ 0) ⊎ ((snapshot self.now).shape (result - 1) ≢ Shape.Absent) }
         ensures fits { result ≤ 2 ^ 32 }
     {
         let mut count = (self.trees.len() as u64).min(1 << 32);
@@ -70,9 +70,9 @@ impl Content {
         key: &Row,
         direction: Direction,
     ) -> Result<RowCursor, AllocError>
-        ensures { IfOk result (λ cursor. left cursor ((seen self.now).trees tree)
-            ≡ sought (order_of ((seen self.now).shape tree)) direction key.now
-            ((seen self.now).trees tree)) }
+        ensures { IfOk result (λ cursor. left cursor ((snapshot self.now).trees tree)
+            ≡ sought (order_of ((snapshot self.now).shape tree)) direction key.now
+            ((snapshot self.now).trees tree)) }
     {
         match self.trees.get(tree as usize) {
             Some(found) => found.rows.seek(found.shape, key, direction),
@@ -88,8 +88,8 @@ impl Content {
         cursor: &mut RowCursor,
         row: &mut Row,
     ) -> Result<bool, AllocError>
-        ensures { IfOk result (Gives (left cursor.old ((seen self.now).trees tree))
-            (left cursor.new ((seen self.now).trees tree)) row.new) }
+        ensures { IfOk result (Gives (left cursor.old ((snapshot self.now).trees tree))
+            (left cursor.new ((snapshot self.now).trees tree)) row.new) }
     {
         match self.trees.get(tree as usize) {
             Some(found) => found.rows.next(cursor, row),
@@ -99,29 +99,30 @@ impl Content {
 
     /// Writes the row that has the rowid over `row`, or answers false.
     pub(crate) fn get(&self, table: u32, id: i64, row: &mut Row) -> Result<bool, AllocError>
-        requires { (seen self.now).shape table ≡ Shape.Table }
-        ensures { IfOk result (Finds ((seen self.now).trees table) id row.new) }
+        requires { (snapshot self.now).shape table ≡ Shape.Table }
+        ensures { IfOk result (Finds ((snapshot self.now).trees table) id row.new) }
     {
         self.trees[table as usize].rows.get(id, row)
     }
 
     /// The edit is made, or on an error nothing is changed.
     pub(crate) fn edit(&mut self, tree: u32, edit: Edit<'_>) -> Result<RowsUndo, AllocError>
-        requires { Fits edit ((seen self.old).shape tree) }
-        ensures ok { IfOk result (λ undo. (seen self.new
-            ≡ with_edit (seen self.old) tree (edited edit.entry))
-            × (before (Undo.Rows tree undo) (stand self.new) ≡ stand self.old)) }
-        ensures err { OnErr result (stand self.new ≡ stand self.old) }
+        requires { Fits edit ((snapshot self.old).shape tree) }
+        ensures ok { IfOk result (λ undo. (snapshot self.new
+            ≡ with_edit (snapshot self.old) tree (edited edit.entry))
+            × (before (LogEntry.Rows tree undo) (state_of self.new) ≡ state_of self.old)) }
+        ensures err { OnErr result (state_of self.new ≡ state_of self.old) }
     {
         self.trees[tree as usize].apply(edit)
     }
 
     /// Another tree with this number, and the one that had it.
-    pub(crate) fn replace(&mut self, tree: u32, new: Tree) -> Tree
+    pub(crate) fn replace(&mut self, tree: u32, new: StoredTree) -> StoredTree
         requires { tree < length self.old.trees.items }
         ensures trees { self.new.trees.items ≡ slice_set self.old.trees.items tree new }
         ensures version { self.new.version ≡ self.old.version }
-        ensures undo { before (Undo.Tree tree result) (stand self.new) ≡ stand self.old }
+        ensures undo { before (LogEntry.Replaced tree result) (state_of self.new)
+            ≡ state_of self.old }
     {
         mem::replace(&mut self.trees[tree as usize], new)
     }
@@ -130,13 +131,13 @@ impl Content {
     /// had.
     pub(crate) fn relist(&mut self, tree: u32, described: Row, reals: u64) -> (Row, u64)
         requires { tree < length self.old.trees.items }
-        ensures stand { stand self.new
-            ≡ before (Undo.Listed tree described reals) (stand self.old) }
-        ensures seen { (o : Object) → described ≡ description o → reals ≡ o.reals
-            → MayList (seen self.old) (tree, o)
-            → seen self.new ≡ with_listed (seen self.old) ((tree, o) ∷ []) }
-        ensures undo { before (Undo.Listed tree result.0 result.1) (stand self.new)
-            ≡ stand self.old }
+        ensures state { state_of self.new
+            ≡ before (LogEntry.Relisted tree described reals) (state_of self.old) }
+        ensures snapshot { (o : Object) → described ≡ description o → reals ≡ o.reals
+            → MayList (snapshot self.old) (tree, o)
+            → snapshot self.new ≡ with_listed (snapshot self.old) ((tree, o) ∷ []) }
+        ensures undo { before (LogEntry.Relisted tree result.0 result.1) (state_of self.new)
+            ≡ state_of self.old }
     {
         let found = &mut self.trees[tree as usize];
         let described = mem::replace(&mut found.described, described);
@@ -145,33 +146,33 @@ impl Content {
     }
 
     /// A change is undone, if no other came after it.
-    pub(crate) fn undo(&mut self, undo: Undo)
-        requires { ∥ IsShapely (before undo (stand self.old)) ∥₁ }
-        ensures { stand self.new ≡ before undo (stand self.old) }
+    pub(crate) fn undo(&mut self, undo: LogEntry)
+        requires { ∥ RowsFitShapes (before undo (state_of self.old)) ∥₁ }
+        ensures { state_of self.new ≡ before undo (state_of self.old) }
     {
         match undo {
-            Undo::Nothing | Undo::Mark => {}
-            Undo::Rows(tree, undo) => self.undo_rows(tree, undo),
-            Undo::Grown => {
+            LogEntry::Released | LogEntry::Savepoint => {}
+            LogEntry::Rows(tree, undo) => self.undo_rows(tree, undo),
+            LogEntry::SlotAdded => {
                 self.trees.pop();
             }
-            Undo::Tree(tree, old) => {
+            LogEntry::Replaced(tree, old) => {
                 if (tree as usize) < self.trees.len() {
                     self.replace(tree, old);
                 }
             }
-            Undo::Listed(tree, described, reals) => {
+            LogEntry::Relisted(tree, described, reals) => {
                 if (tree as usize) < self.trees.len() {
                     self.relist(tree, described, reals);
                 }
             }
-            Undo::Version(version) => self.version = version,
+            LogEntry::Version(version) => self.version = version,
         }
     }
 
     fn undo_rows(&mut self, tree: u32, undo: RowsUndo)
-        requires { ∥ IsShapely (before (Undo.Rows tree undo) (stand self.old)) ∥₁ }
-        ensures { stand self.new ≡ before (Undo.Rows tree undo) (stand self.old) }
+        requires { ∥ RowsFitShapes (before (LogEntry.Rows tree undo) (state_of self.old)) ∥₁ }
+        ensures { state_of self.new ≡ before (LogEntry.Rows tree undo) (state_of self.old) }
     {
         if (tree as usize) < self.trees.len() {
             self.trees[tree as usize].undo(undo);
@@ -181,7 +182,7 @@ impl Content {
     /// For each tree its rowid in `sqlite_schema`, type, name, table and SQL text.
     pub(crate) fn objects(&self, alloc: Global) -> Result<Vec<Row>, AllocError>
         ensures { IfOk result (λ rows.
-            rows.items ≡ map (take 5) ((seen self.now).trees catalog_tree)) }
+            rows.items ≡ map (take 5) ((snapshot self.now).trees catalog_tree)) }
     {
         let trees = self.trees.as_slice();
         let mut rows = Vec::new(alloc);

@@ -10,11 +10,11 @@
 
 mod content;
 mod edit;
-mod history;
+mod log_entry;
+mod logged_content;
 mod opening;
 mod store;
 mod tree;
-mod undo;
 
 pub use opening::open_in_memory;
 pub use store::MemoryStore;

@@ -7,7 +7,7 @@ ghost use Rattle.sqlite_trees.specs.Objects.{catalog_tree};
 
 use crate::content::Content;
 use crate::edit::Edit;
-use crate::history::History;
+use crate::logged_content::LoggedContent;
 use ordered_rows::RowCursor;
 use sqlite_trees::error::StoreError;
 use sqlite_trees::schema::Object;
@@ -27,15 +27,15 @@ pub(crate) struct Cursor {
 #[derive(Drop)]
 pub struct MemoryStore {
     alloc: Global,
-    history: History,
+    logged: LoggedContent,
     cursors: Vec<Option<Cursor>>,
 }
 
 impl MemoryStore {
     ghost use Rattle.sqlite_trees.specs.View.{SetsTree};
-    ghost use Rattle.memory_store.specs.Content.{seen, with_listed};
+    ghost use Rattle.memory_store.specs.Content.{snapshot, with_listed};
     ghost use Rattle.memory_store.specs.Edit.{Fits, edited};
-    ghost use Rattle.memory_store.specs.History.{Keeps};
+    ghost use Rattle.memory_store.specs.LoggedContents.{Keeps};
     ghost use Rattle.memory_store.specs.Memory.{memory_view};
 
     /// A store with no tree.
@@ -46,15 +46,15 @@ impl MemoryStore {
     {
         MemoryStore {
             alloc,
-            history: History::new(alloc),
+            logged: LoggedContent::new(alloc),
             cursors: Vec::new(alloc),
         }
     }
 
     fn content(&self) -> &Content
-        ensures { result.now ≡ self.now.history.content }
+        ensures { result.now ≡ self.now.logged.content }
     {
-        &self.history.content
+        &self.logged.content
     }
 
     fn write(&mut self, tree: u32, edit: Edit<'_>) -> Result<(), AllocError>
@@ -65,7 +65,7 @@ impl MemoryStore {
             ≡ record (memory_view self.old) { cursors = (memory_view self.new).cursors }) }
     {
         self.cursors.clear();
-        self.history.edit(tree, edit)
+        self.logged.edit(tree, edit)
     }
 
     fn set_cursor(
@@ -146,11 +146,7 @@ impl Store for MemoryStore {
 
     fn next(&mut self, cursor: u16, row: &mut Row) -> Result<bool, StoreError> {
         match &mut self.cursors[usize::from(cursor)] {
-            Some(found) => Ok(
-                self.history
-                    .content
-                    .next(found.tree, &mut found.place, row)?,
-            ),
+            Some(found) => Ok(self.logged.content.next(found.tree, &mut found.place, row)?),
             None => Ok(false),
         }
     }
@@ -184,26 +180,26 @@ impl Store for MemoryStore {
     }
 
     fn commit(&mut self) -> Result<(), StoreError> {
-        self.history.commit();
+        self.logged.commit();
         Ok(())
     }
 
     fn rollback(&mut self) {
-        self.history.roll_back();
+        self.logged.rollback();
         self.cursors.clear();
     }
 
     fn savepoint(&mut self) -> Result<(), StoreError> {
-        Ok(self.history.mark()?)
+        Ok(self.logged.savepoint()?)
     }
 
     fn release(&mut self) -> Result<(), StoreError> {
-        self.history.release();
+        self.logged.release();
         Ok(())
     }
 
     fn rollback_to(&mut self) -> Result<(), StoreError> {
-        if self.history.go_back() {
+        if self.logged.rollback_to() {
             self.cursors.clear();
         }
         Ok(())
@@ -221,17 +217,17 @@ impl Alter for MemoryStore {
 
     fn create(&mut self, tree: u32, object: &Object<'_>) -> Result<(), StoreError> {
         self.cursors.clear();
-        Ok(self.history.create(self.alloc, tree, object)?)
+        Ok(self.logged.create(self.alloc, tree, object)?)
     }
 
     fn destroy(&mut self, tree: u32) -> Result<(), StoreError> {
         self.cursors.clear();
-        Ok(self.history.destroy(self.alloc, tree)?)
+        Ok(self.logged.destroy(self.alloc, tree)?)
     }
 
     fn relist(&mut self, changes: &[(u32, Object<'_>)]) -> Result<(), StoreError> {
         self.cursors.clear();
-        Ok(self.history.relist_all(self.alloc, changes)?)
+        Ok(self.logged.relist_all(self.alloc, changes)?)
     }
 
     fn version(&self) -> u32 {
@@ -240,6 +236,6 @@ impl Alter for MemoryStore {
 
     fn set_version(&mut self, version: u32) -> Result<(), StoreError> {
         self.cursors.clear();
-        Ok(self.history.set_version(version)?)
+        Ok(self.logged.set_version(version)?)
     }
 }

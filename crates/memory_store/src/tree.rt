@@ -15,7 +15,7 @@ use std::alloc::{AllocError, Global};
 
 /// Its shape, its REAL columns and its description are its heading. The rows have that shape.
 #[derive(Drop)]
-pub(crate) struct Tree {
+pub(crate) struct StoredTree {
     pub shape: Shape,
     pub reals: u64,
     pub described: Row,
@@ -23,17 +23,17 @@ pub(crate) struct Tree {
     pub ghost ordered: { ∥ IsShaped shape rows ∥₁ },
 }
 
-impl Tree {
+impl StoredTree {
     ghost use Rattle.memory_store.specs.Edit.{Fits, edited};
     ghost use Rattle.memory_store.specs.Content.{heading};
 
     /// The empty tree of an object.
-    pub(crate) fn new(alloc: Global, object: &Object<'_>) -> Result<Tree, AllocError>
+    pub(crate) fn new(alloc: Global, object: &Object<'_>) -> Result<StoredTree, AllocError>
         ensures heading { IfOk result (λ tree. heading tree
             ≡ (object.now.shape, object.now.reals, description object.now)) }
         ensures rows { IfOk result (λ tree. tree.rows ≡ []) }
     {
-        Ok(Tree {
+        Ok(StoredTree {
             shape: object.shape,
             reals: object.reals,
             described: object.describe(alloc)?,
@@ -41,12 +41,12 @@ impl Tree {
         })
     }
 
-    /// What stands at a number that names no tree.
-    pub(crate) fn absent(alloc: Global) -> Tree
+    /// What a number has that names no tree.
+    pub(crate) fn absent(alloc: Global) -> StoredTree
         ensures heading { heading result ≡ (Shape.Absent, 0, []) }
         ensures rows { result.rows ≡ [] }
     {
-        Tree {
+        StoredTree {
             shape: Shape::Absent,
             reals: 0,
             described: Row::new(alloc),

@@ -3,7 +3,7 @@ use Rattle.std.proofs.Common.{◌≡◌, ◌∷◌, [], ℤ, pos, true, false, a
 use Rattle.sqlite_value.specs.declared.value.Value.TheVariants.{Int}
 use Rattle.sqlite_value.specs.Order.{Row}
 use Rattle.sqlite_trees.specs.declared.store.Direction.TheVariants.{Forward, Backward}
-use Rattle.ordered_rows.specs.declared.undo.Change.TheVariants.{Out, Over}
+use Rattle.ordered_rows.specs.declared.undo.InverseEdit.TheVariants.{Out, Over}
 use Rattle.ordered_rows.specs.declared.undo.Undo.{Undo}
 use Rattle.ordered_rows.specs.Cursors.{Gives, left_from}
 use Rattle.ordered_rows.specs.Edits.{inserted, with_new}
@@ -53,16 +53,16 @@ gives-none : (row : Row) → Gives [] [] row false
 gives-none row = (refl, refl)
 
 -- 5 was put in, and is taken out
-undo-out : (undo : Undo) → undo.change ≡ Out 1 → Undoes (two ∷ nine ∷ []) (two ∷ five ∷ nine ∷ []) (inserted 1 five) undo
+undo-out : (undo : Undo) → undo.inverse ≡ Out 1 → Undoes (two ∷ nine ∷ []) (two ∷ five ∷ nine ∷ []) (inserted 1 five) undo
 undo-out undo is = (refl, rw is refl)
 
 -- another row was put over 5, and 5 is put over it
-undo-over : (undo : Undo) → undo.change ≡ Over 1 five
+undo-over : (undo : Undo) → undo.inverse ≡ Over 1 five
     → Undoes (two ∷ five ∷ nine ∷ []) (two ∷ other_five ∷ nine ∷ []) (with_new side_of_five true other_five) undo
 undo-over undo is = (refl, rw is refl)
 
 -- 9 is taken out in the place of 5
-undo-wrong : (undo : Undo) → undo.change ≡ Out 2 → Undoes (two ∷ nine ∷ []) (two ∷ five ∷ nine ∷ []) (inserted 1 five) undo → ⊥
+undo-wrong : (undo : Undo) → undo.inverse ≡ Out 2 → Undoes (two ∷ nine ∷ []) (two ∷ five ∷ nine ∷ []) (inserted 1 five) undo → ⊥
 undo-wrong undo is h =
     let same : two ∷ five ∷ [] ≡ two ∷ nine ∷ [] = rw is at h.1 in
     cc

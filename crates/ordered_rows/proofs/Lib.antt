@@ -2,7 +2,7 @@ pub mod Cuts
 mod Examples
 pub mod Forked
 pub mod Given
-pub mod Heads
+pub mod AbbreviatedKeys
 pub mod Heights
 pub mod Numbers
 pub mod Orders

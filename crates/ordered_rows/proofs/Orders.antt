@@ -14,8 +14,8 @@ use Rattle.sqlite_trees.specs.Tree.{IsIndex, IsTable, insert_entry, order_of, pu
 use Rattle.sqlite_trees.specs.View.{IsShaped}
 use Rattle.sqlite_trees.proofs.ListLemmas.{ascending_weaker}
 use Rattle.sqlite_trees.proofs.TreeLemmas.{AtMost, above, prefix_cmp_follows, sorted_shape}
-use Rattle.ordered_rows.specs.declared.place.Place.TheVariants.{Rowid}
-use Rattle.ordered_rows.specs.Places.{side}
+use Rattle.ordered_rows.specs.declared.target.Target.TheVariants.{Rowid}
+use Rattle.ordered_rows.specs.Targets.{side}
 use Rattle.ordered_rows.specs.Edits.{IsCut, with_new, without}
 use Rattle.ordered_rows.specs.Seeks.{IsSeekable}
 

@@ -5,6 +5,7 @@ use Rattle.sqlite_trees.specs.declared.store.Direction.{Direction}
 use Rattle.sqlite_trees.specs.declared.store.Direction.TheVariants.{Forward, Backward}
 use Rattle.ordered_rows.specs.declared.cursor.RowCursor.{RowCursor}
 
+-- the rows that are left from a number on, in a direction
 abbrev pub left_from : Direction → ℕ → List Row → List Row
 left_from Forward at rows = drop at rows
 left_from Backward at rows = reverse (take at rows)

@@ -1,4 +1,4 @@
--- Edits of a list in order, at the place that a comparison tells of each row, and by number.
+-- Edits of a list in order, at the place that a comparison gives, and by number.
 use Rattle.std.specs.Prelude.{◌≡◌, ◌+◌, ◌++◌, ℕ, Bool, true, false, not, if◌then◌else◌}
 use Rattle.std.specs.Prelude.{List, [], ◌∷◌, drop, filter, length, take}
 use Rattle.std.specs.declared.cmp.Ordering.{Ordering}
@@ -32,7 +32,7 @@ abbrev pub IsHere : (Row → Ordering) → List Row → Bool → Type 0
 IsHere side [] found = found ≡ false
 IsHere side (r ∷ rs) found = (found ≡ true) × (side r ≡ Equal) × (rs ≡ [])
 
--- so many rows are below the place, then there is one at it or none, and the others are above it
+-- `at` rows are below the place, then there is one at it or none, and the others are above it
 pub record IsPlaced (side : Row → Ordering) (rows : List Row) (at : ℕ) (found : Bool) : Type 0 where
   pub below : List Row
   pub here : List Row

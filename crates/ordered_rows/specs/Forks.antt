@@ -13,11 +13,12 @@ fork_tree f = record {
   height = max f.left.height f.right.height + 1;
 }
 
+-- the rows and the height of a link
 abbrev pub tree_of : Link → RowTree
 tree_of Leaf = record { rows = []; height = 0 }
 tree_of (Fork height count f) = fork_tree f.value
 
--- the greatest number of rows that can be told
+-- the greatest number of rows that is counted
 abbrev pub most : ℕ
 most = 2 ^ 32 - 1
 
@@ -28,6 +29,7 @@ pub record IsBalanced (height count : ℕ) (f : ForkOf) : Type 0 where
   pub balanced : DifferByAtMost 1 f.left.height f.right.height
   pub low : IsLow (fork_tree f).height (length (fork_tree f).rows)
 
+-- what is kept beside a fork is right, and the fork is balanced
 abbrev pub IsSound : Link → Type 0
 IsSound Leaf = ⊤
 IsSound (Fork height count f) = IsBalanced height count f.value

@@ -1,11 +1,11 @@
 pub mod Cursors
-pub mod Heads
+pub mod AbbreviatedKeys
 pub mod Heights
 pub mod RowTrees
 pub mod Forks
 pub mod ForkDepths
-pub mod Lows
-pub mod Places
+pub mod Countable
+pub mod Targets
 pub mod Edits
 pub mod Undos
 pub mod Seeks

@@ -3,12 +3,12 @@
 //! what takes it back, and taking it back needs no memory.
 #![tactic(auto)]
 
+mod abbreviated_key;
 mod cursor;
-mod head;
-mod kept;
 pub mod laws;
-mod place;
 mod rows;
+mod stored_row;
+mod target;
 mod tree;
 mod undo;
 

@@ -7,14 +7,14 @@ ghost use Rattle.sqlite_trees.specs.View.{Finds, IsShaped, is_int};
 ghost use Rattle.ordered_rows.specs.Cursors.{Gives, left};
 ghost use Rattle.ordered_rows.specs.Edits.{IsCut, IsPlaced, inserted, removed};
 ghost use Rattle.ordered_rows.specs.Forks.{most};
-ghost use Rattle.ordered_rows.specs.Places.{side};
+ghost use Rattle.ordered_rows.specs.Targets.{side};
 ghost use Rattle.ordered_rows.specs.Undos.{Undoes, undone};
 
 use crate::cursor::RowCursor;
-use crate::kept::KeptRow;
-use crate::place::{Place, Sought};
-use crate::tree::{Fork, Tree};
-use crate::undo::{Change, Undo};
+use crate::stored_row::StoredRow;
+use crate::target::{Probe, Target};
+use crate::tree::{BalancedTree, Fork};
+use crate::undo::{InverseEdit, Undo};
 use sqlite_trees::store::{Direction, Shape};
 use sqlite_value::keys::Order;
 use sqlite_value::row::Row;
@@ -26,7 +26,7 @@ use std::marker::Model;
 #[derive(Drop)]
 pub struct OrderedRows {
     alloc: Global,
-    tree: Tree,
+    tree: BalancedTree,
 }
 
 impl Model for OrderedRows {
@@ -49,7 +49,7 @@ impl OrderedRows {
     {
         OrderedRows {
             alloc,
-            tree: Tree::empty(),
+            tree: BalancedTree::empty(),
         }
     }
 
@@ -58,7 +58,7 @@ impl OrderedRows {
         requires { IsShaped Shape.Table self.now }
         ensures { IfOk result (Finds self.now id row.new) }
     {
-        self.tree.find(Place::Rowid(id), row)
+        self.tree.find(Target::Rowid(id), row)
     }
 
     /// Inserts the row, or replaces the one that has its rowid.
@@ -71,8 +71,8 @@ impl OrderedRows {
         let ValueRef::Int(id) = row.get(0) else {
             unreachable!()
         };
-        let (at, found) = self.placed(Place::Rowid(id))?;
-        let new = KeptRow::new(self.alloc, row)?;
+        let (at, found) = self.placed(Target::Rowid(id))?;
+        let new = StoredRow::new(self.alloc, row)?;
         if found {
             Ok(self.replace(at, new))
         } else {
@@ -86,7 +86,7 @@ impl OrderedRows {
         ensures ok { IfOk result (Undoes self.old self.new (without_rowid id)) }
         ensures err { OnErr result ((self.new ≡ self.old) × (most ≤ length self.old)) }
     {
-        let (at, found) = self.placed(Place::Rowid(id))?;
+        let (at, found) = self.placed(Target::Rowid(id))?;
         if found {
             Ok(self.take_out(at))
         } else {
@@ -100,12 +100,12 @@ impl OrderedRows {
         ensures ok { IfOk result (Undoes self.old self.new (insert_entry order entry.now)) }
         ensures err { OnErr result (self.new ≡ self.old) }
     {
-        let sought = Sought::new(order, entry);
-        let (at, found) = self.placed(Place::Entry(&sought))?;
+        let probe = Probe::new(order, entry);
+        let (at, found) = self.placed(Target::Entry(&probe))?;
         if found {
             Ok(Undo::nothing())
         } else {
-            let new = KeptRow::new(self.alloc, entry)?;
+            let new = StoredRow::new(self.alloc, entry)?;
             self.add(at, new)
         }
     }
@@ -116,8 +116,8 @@ impl OrderedRows {
         ensures ok { IfOk result (Undoes self.old self.new (remove_entry order entry.now)) }
         ensures err { OnErr result ((self.new ≡ self.old) × (most ≤ length self.old)) }
     {
-        let sought = Sought::new(order, entry);
-        let (at, found) = self.placed(Place::Entry(&sought))?;
+        let probe = Probe::new(order, entry);
+        let (at, found) = self.placed(Target::Entry(&probe))?;
         if found {
             Ok(self.take_out(at))
         } else {
@@ -129,16 +129,16 @@ impl OrderedRows {
     pub fn undo(&mut self, undo: Undo)
         ensures { self.new ≡ undone undo self.old }
     {
-        let Undo { change } = undo;
-        match change {
-            Change::Nothing => {}
-            Change::Out(at) => {
+        let Undo { inverse } = undo;
+        match inverse {
+            InverseEdit::Nothing => {}
+            InverseEdit::Out(at) => {
                 self.take_out(at);
             }
-            Change::In(at, fork) => {
+            InverseEdit::In(at, fork) => {
                 self.tree = self.tree.take().inserted(at, fork);
             }
-            Change::Over(at, row) => {
+            InverseEdit::Over(at, row) => {
                 self.replace(at, row);
             }
         }
@@ -156,10 +156,10 @@ impl OrderedRows {
             ≡ sought (order_of shape) direction key.now self.now) }
         ensures err { OnErr result (most ≤ length self.now) }
     {
-        let sought = Sought::new(key_order(shape), key);
+        let probe = Probe::new(key_order(shape), key);
         let at = match direction {
-            Direction::Forward => self.tree.rank_from(&sought),
-            Direction::Backward => self.tree.rank_up_to(&sought),
+            Direction::Forward => self.tree.rank_from(&probe),
+            Direction::Backward => self.tree.rank_up_to(&probe),
         };
         if at == u32::MAX {
             return Err(AllocError);
@@ -195,14 +195,15 @@ impl OrderedRows {
         Ok(true)
     }
 
-    // The number of the rows below the place, which can be told, and whether there is one at it.
-    fn placed(&self, place: Place<'_>) -> Result<(u32, bool), AllocError>
-        requires { IsCut (side place) self.now }
+    // The rank of the target, and whether a row is there. It fails where the rank does not fit 32
+    // bits.
+    fn placed(&self, target: Target<'_>) -> Result<(u32, bool), AllocError>
+        requires { IsCut (side target) self.now }
         ensures ok { IfOk result (λ found. (found.0 < most)
-            × IsPlaced (side place.entry) self.now found.0 found.1) }
+            × IsPlaced (side target.entry) self.now found.0 found.1) }
         ensures err { OnErr result (most ≤ length self.now) }
     {
-        let (at, found) = self.tree.rank(place);
+        let (at, found) = self.tree.rank(target);
         if at == u32::MAX {
             return Err(AllocError);
         }
@@ -210,13 +211,13 @@ impl OrderedRows {
     }
 
     // A new row before the one with this number.
-    fn add(&mut self, at: u32, new: KeptRow) -> Result<Undo, AllocError>
+    fn add(&mut self, at: u32, new: StoredRow) -> Result<Undo, AllocError>
         requires low { at < most }
         requires within { at ≤ length self.old }
         ensures ok { IfOk result (Undoes self.old self.new (inserted at new)) }
         ensures err { OnErr result (self.new ≡ self.old) }
     {
-        let (left, right) = (Tree::empty(), Tree::empty());
+        let (left, right) = (BalancedTree::empty(), BalancedTree::empty());
         let fork = Box::new(
             self.alloc,
             Fork {
@@ -227,12 +228,12 @@ impl OrderedRows {
         )?;
         self.tree = self.tree.take().inserted(at, fork);
         Ok(Undo {
-            change: Change::Out(at),
+            inverse: InverseEdit::Out(at),
         })
     }
 
     // A new row over the one with this number.
-    fn replace(&mut self, at: u32, new: KeptRow) -> Undo
+    fn replace(&mut self, at: u32, new: StoredRow) -> Undo
         requires { at < most }
         ensures { Undoes self.old self.new (λ rows. slice_set rows at new) result }
     {
@@ -240,7 +241,7 @@ impl OrderedRows {
         self.tree = tree;
         match taken {
             Some(old) => Undo {
-                change: Change::Over(at, old),
+                inverse: InverseEdit::Over(at, old),
             },
             None => Undo::nothing(),
         }
@@ -255,7 +256,7 @@ impl OrderedRows {
         self.tree = tree;
         match taken {
             Some(fork) => Undo {
-                change: Change::In(at, fork),
+                inverse: InverseEdit::In(at, fork),
             },
             None => Undo::nothing(),
         }

@@ -4,17 +4,17 @@ ghost use Rattle.std.specs.Prelude.{◌≡◌, ◌↔◌, ◌+◌, ◌%◌, ◌<
 ghost use Rattle.ordered_rows.specs.Forks.{fork_tree, most};
 ghost use Rattle.ordered_rows.specs.Heights.{DifferByAtMost, IsLow};
 
-use crate::kept::KeptRow;
+use crate::stored_row::StoredRow;
 use std::marker::Model;
 use std::mem;
 
 mod balance;
 mod numbered;
-mod places;
+mod ranks;
 
 #[cycle(tree)]
 #[derive(Drop)]
-pub(crate) struct Tree {
+pub(crate) struct BalancedTree {
     root: Link,
 }
 
@@ -32,12 +32,12 @@ pub(crate) enum Link {
 #[cycle(tree)]
 #[derive(Drop)]
 pub(crate) struct Fork {
-    pub left: Tree,
-    pub right: Tree,
-    pub row: KeptRow,
+    pub left: BalancedTree,
+    pub right: BalancedTree,
+    pub row: StoredRow,
 }
 
-impl Model for Tree {
+impl Model for BalancedTree {
     ghost use Rattle.std.specs.Prelude.{length};
     ghost use Rattle.ordered_rows.specs.RowTrees.{RowTree, row_tree_code};
 
@@ -58,21 +58,21 @@ impl Model for Tree {
     ghost size_decreases = { λ t h. depth_le_length t.root };
 }
 
-impl Tree {
-    pub(crate) fn empty() -> Tree
+impl BalancedTree {
+    pub(crate) fn empty() -> BalancedTree
         ensures rows { result.rows ≡ [] }
         ensures height { result.height ≡ 0 }
     {
-        Tree { root: Link::Leaf }
+        BalancedTree { root: Link::Leaf }
     }
 
     /// The tree, which leaves an empty one.
-    pub(crate) fn take(&mut self) -> Tree
+    pub(crate) fn take(&mut self) -> BalancedTree
         ensures taken { result ≡ self.old }
         ensures rows { self.new.rows ≡ [] }
         ensures height { self.new.height ≡ 0 }
     {
-        mem::replace(self, Tree::empty())
+        mem::replace(self, BalancedTree::empty())
     }
 
     /// The height modulo 256. It is low for the number of rows.
@@ -87,7 +87,7 @@ impl Tree {
     }
 
     /// Whether the tree is higher than the other by so much. They differ by two at most.
-    fn is_higher(&self, other: &Tree, by: u8) -> bool
+    fn is_higher(&self, other: &BalancedTree, by: u8) -> bool
         requires near { DifferByAtMost 2 self.now.height other.now.height }
         requires within { by < 3 }
         ensures { IsTrue result ↔ (self.now.height ≡ other.now.height + by) }
@@ -106,7 +106,7 @@ impl Tree {
     }
 
     /// A fork as a tree.
-    fn joined(fork: Box<Fork>) -> Tree
+    fn joined(fork: Box<Fork>) -> BalancedTree
         requires { DifferByAtMost 1 fork.value.left.height fork.value.right.height }
         ensures { result ≡ fork_tree fork.value }
     {
@@ -119,7 +119,7 @@ impl Tree {
         };
         let height = higher.wrapping_add(1);
         let count = left.count().saturating_add(right.count()).saturating_add(1);
-        Tree {
+        BalancedTree {
             root: Link::Fork(height, count, fork),
         }
     }

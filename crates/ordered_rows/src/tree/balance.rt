@@ -4,46 +4,46 @@ ghost use Rattle.std.specs.Prelude.{◌≡◌, ◌+◌, ◌≤◌, ◌∷◌, �
 ghost use Rattle.ordered_rows.specs.Forks.{fork_tree};
 ghost use Rattle.ordered_rows.specs.Heights.{DifferByAtMost, GrowsByAtMostOne, IsSettled};
 
-use super::{Fork, Link, Tree};
+use super::{BalancedTree, Fork, Link};
 
-impl Tree {
+impl BalancedTree {
     /// A fork as a tree, with a new left side.
-    pub(super) fn with_left(mut fork: Box<Fork>, left: Tree) -> Tree
+    pub(super) fn with_left(mut fork: Box<Fork>, left: BalancedTree) -> BalancedTree
         requires { DifferByAtMost 2 left.height fork.value.right.height }
         ensures rows { result.rows ≡ left.rows ++ fork.value.row ∷ fork.value.right.rows }
         ensures height { IsSettled left.height fork.value.right.height result.height }
     {
         fork.left = left;
-        Tree::balanced(fork)
+        BalancedTree::balanced(fork)
     }
 
     /// The same on the right.
-    pub(super) fn with_right(mut fork: Box<Fork>, right: Tree) -> Tree
+    pub(super) fn with_right(mut fork: Box<Fork>, right: BalancedTree) -> BalancedTree
         requires { DifferByAtMost 2 fork.value.left.height right.height }
         ensures rows { result.rows ≡ fork.value.left.rows ++ fork.value.row ∷ right.rows }
         ensures height { IsSettled fork.value.left.height right.height result.height }
     {
         fork.right = right;
-        Tree::balanced(fork)
+        BalancedTree::balanced(fork)
     }
 
     /// A fork as a tree.
-    fn balanced(fork: Box<Fork>) -> Tree
+    fn balanced(fork: Box<Fork>) -> BalancedTree
         requires { DifferByAtMost 2 fork.value.left.height fork.value.right.height }
         ensures rows { result.rows ≡ (fork_tree fork.value).rows }
         ensures height { IsSettled fork.value.left.height fork.value.right.height result.height }
     {
         if fork.left.is_higher(&fork.right, 2) {
-            Tree::turned_right(fork)
+            BalancedTree::rotated_right(fork)
         } else if fork.right.is_higher(&fork.left, 2) {
-            Tree::turned_left(fork)
+            BalancedTree::rotated_left(fork)
         } else {
-            Tree::joined(fork)
+            BalancedTree::joined(fork)
         }
     }
 
     /// The same where the left side is higher by two.
-    fn turned_right(mut lower: Box<Fork>) -> Tree
+    fn rotated_right(mut lower: Box<Fork>) -> BalancedTree
         requires { lower.value.left.height ≡ lower.value.right.height + 2 }
         ensures rows { result.rows ≡ (fork_tree lower.value).rows }
         ensures height { GrowsByAtMostOne lower.value.left.height result.height }
@@ -52,14 +52,14 @@ impl Tree {
         let Link::Fork(_, _, upper) = left.root else {
             unreachable!()
         };
-        let mut upper = Tree::leaning_left(upper);
+        let mut upper = BalancedTree::leaning_left(upper);
         lower.left = upper.right.take();
-        upper.right = Tree::joined(lower);
-        Tree::joined(upper)
+        upper.right = BalancedTree::joined(lower);
+        BalancedTree::joined(upper)
     }
 
     /// The same where the right side is higher by two.
-    fn turned_left(mut lower: Box<Fork>) -> Tree
+    fn rotated_left(mut lower: Box<Fork>) -> BalancedTree
         requires { lower.value.right.height ≡ lower.value.left.height + 2 }
         ensures rows { result.rows ≡ (fork_tree lower.value).rows }
         ensures height { GrowsByAtMostOne lower.value.right.height result.height }
@@ -68,10 +68,10 @@ impl Tree {
         let Link::Fork(_, _, upper) = right.root else {
             unreachable!()
         };
-        let mut upper = Tree::leaning_right(upper);
+        let mut upper = BalancedTree::leaning_right(upper);
         lower.right = upper.left.take();
-        upper.left = Tree::joined(lower);
-        Tree::joined(upper)
+        upper.left = BalancedTree::joined(lower);
+        BalancedTree::joined(upper)
     }
 
     // The fork, or where its right side is the higher, the fork of that above it.
@@ -91,7 +91,7 @@ impl Tree {
             unreachable!()
         };
         upper.right = middle.left.take();
-        middle.left = Tree::joined(upper);
+        middle.left = BalancedTree::joined(upper);
         middle
     }
 
@@ -112,7 +112,7 @@ impl Tree {
             unreachable!()
         };
         upper.left = middle.right.take();
-        middle.right = Tree::joined(upper);
+        middle.right = BalancedTree::joined(upper);
         middle
     }
 }

@@ -6,14 +6,14 @@ ghost use Rattle.ordered_rows.specs.Edits.{inserted, removed};
 ghost use Rattle.ordered_rows.specs.Forks.{most};
 ghost use Rattle.ordered_rows.specs.Heights.{DifferByAtMost, GrowsByAtMostOne};
 
-use super::{Fork, Link, Tree};
-use crate::kept::KeptRow;
+use super::{BalancedTree, Fork, Link};
+use crate::stored_row::StoredRow;
 use std::cmp::Ordering;
 use std::mem;
 
-impl Tree {
+impl BalancedTree {
     /// The row with this number, if there is one.
-    pub(crate) fn nth(&self, at: u32) -> Option<&KeptRow>
+    pub(crate) fn nth(&self, at: u32) -> Option<&StoredRow>
         requires { at < most }
         ensures { MatchOption result (length self.now.rows ≤ at)
             (λ row. drop at self.now.rows ≡ row.now ∷ drop (at + 1) self.now.rows) }
@@ -31,28 +31,28 @@ impl Tree {
     }
 
     /// The row of a fork before the row with this number. The fork becomes one of the tree's.
-    pub(crate) fn inserted(self, at: u32, mut new: Box<Fork>) -> Tree
+    pub(crate) fn inserted(self, at: u32, mut new: Box<Fork>) -> BalancedTree
         requires { at < most }
         ensures rows { result.rows ≡ inserted at new.value.row self.rows }
         ensures height { GrowsByAtMostOne self.height result.height }
     {
         let Link::Fork(_, _, mut fork) = self.root else {
-            new.left = Tree::empty();
-            new.right = Tree::empty();
-            return Tree::joined(new);
+            new.left = BalancedTree::empty();
+            new.right = BalancedTree::empty();
+            return BalancedTree::joined(new);
         };
         let left = fork.left.count();
         if at <= left {
             let side = fork.left.take().inserted(at, new);
-            Tree::with_left(fork, side)
+            BalancedTree::with_left(fork, side)
         } else {
             let side = fork.right.take().inserted(at - left - 1, new);
-            Tree::with_right(fork, side)
+            BalancedTree::with_right(fork, side)
         }
     }
 
     /// The tree without the row with this number, and the fork of that, if there is one.
-    pub(crate) fn removed(self, at: u32) -> (Tree, Option<Box<Fork>>)
+    pub(crate) fn removed(self, at: u32) -> (BalancedTree, Option<Box<Fork>>)
         requires { at < most }
         ensures rest { result.0.rows ≡ removed at self.rows }
         ensures height { GrowsByAtMostOne result.0.height self.height }
@@ -60,28 +60,28 @@ impl Tree {
             (λ fork. drop at self.rows ≡ fork.value.row ∷ drop (at + 1) self.rows) }
     {
         let Link::Fork(_, _, mut fork) = self.root else {
-            return (Tree::empty(), None);
+            return (BalancedTree::empty(), None);
         };
         let left = fork.left.count();
         match at.cmp(&left) {
             Ordering::Less => {
                 let (rest, taken) = fork.left.take().removed(at);
-                (Tree::with_left(fork, rest), taken)
+                (BalancedTree::with_left(fork, rest), taken)
             }
             Ordering::Equal => {
                 let left = fork.left.take();
                 let right = fork.right.take();
-                (Tree::merged(left, right), Some(fork))
+                (BalancedTree::merged(left, right), Some(fork))
             }
             Ordering::Greater => {
                 let (rest, taken) = fork.right.take().removed(at - left - 1);
-                (Tree::with_right(fork, rest), taken)
+                (BalancedTree::with_right(fork, rest), taken)
             }
         }
     }
 
     /// One tree after another.
-    fn merged(left: Tree, right: Tree) -> Tree
+    fn merged(left: BalancedTree, right: BalancedTree) -> BalancedTree
         requires { DifferByAtMost 1 left.height right.height }
         ensures rows { result.rows ≡ left.rows ++ right.rows }
         ensures height { GrowsByAtMostOne (max left.height right.height) result.height }
@@ -90,13 +90,13 @@ impl Tree {
             None => left,
             Some((mut first, others)) => {
                 first.left = left;
-                Tree::with_right(first, others)
+                BalancedTree::with_right(first, others)
             }
         }
     }
 
     /// The fork of the first row, and the tree of the others.
-    fn split_first(self) -> Option<(Box<Fork>, Tree)>
+    fn split_first(self) -> Option<(Box<Fork>, BalancedTree)>
         ensures rows { MatchOption result (self.rows ≡ [])
             (λ parts. self.rows ≡ parts.0.value.row ∷ parts.1.rows) }
         ensures height { MatchOption result (self.height ≡ 0)
@@ -110,12 +110,12 @@ impl Tree {
                 let right = fork.right.take();
                 Some((fork, right))
             }
-            Some((first, others)) => Some((first, Tree::with_left(fork, others))),
+            Some((first, others)) => Some((first, BalancedTree::with_left(fork, others))),
         }
     }
 
     /// The tree with a new row over the one with this number, and the old one, if there is one.
-    pub(crate) fn replaced(self, at: u32, new: KeptRow) -> (Tree, Option<KeptRow>)
+    pub(crate) fn replaced(self, at: u32, new: StoredRow) -> (BalancedTree, Option<StoredRow>)
         requires { at < most }
         ensures after { result.0.rows ≡ slice_set self.rows at new }
         ensures height { result.0.height ≡ self.height }
@@ -123,21 +123,21 @@ impl Tree {
             (λ row. drop at self.rows ≡ row ∷ drop (at + 1) self.rows) }
     {
         let Link::Fork(_, _, mut fork) = self.root else {
-            return (Tree::empty(), None);
+            return (BalancedTree::empty(), None);
         };
         let left = fork.left.count();
         match at.cmp(&left) {
             Ordering::Less => {
                 let (side, taken) = fork.left.take().replaced(at, new);
-                (Tree::with_left(fork, side), taken)
+                (BalancedTree::with_left(fork, side), taken)
             }
             Ordering::Equal => {
                 let old = mem::replace(&mut fork.row, new);
-                (Tree::joined(fork), Some(old))
+                (BalancedTree::joined(fork), Some(old))
             }
             Ordering::Greater => {
                 let (side, taken) = fork.right.take().replaced(at - left - 1, new);
-                (Tree::with_right(fork, side), taken)
+                (BalancedTree::with_right(fork, side), taken)
             }
         }
     }

@@ -1,6 +1,6 @@
 use Rattle.std.proofs.Common.{◌≡◌, ◌∙◌, ap, arith, sym}
 use Rattle.sqlite_trees.specs.declared.store.Shape.TheVariants.{Table}
-use Rattle.memory_store.proofs.Seen.{place_of, shape_at, within_by_shape}
+use Rattle.memory_store.proofs.Snapshots.{place_of, shape_at, within_by_shape}
 use Rattle.memory_store.proofs.Shaped.{shaped}
 use Rattle.memory_store.proofs.content.Content.get.Goals as goal
 

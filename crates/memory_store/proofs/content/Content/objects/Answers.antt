@@ -3,7 +3,7 @@ use Rattle.std.proofs.lemmas.List.{length-map}
 use Rattle.sqlite_trees.specs.declared.store.Shape.TheVariants.{Absent}
 use Rattle.sqlite_trees.proofs.StoreLemmas.{listed_unless_absent, objects_step}
 use Rattle.memory_store.specs.Content.{heading}
-use Rattle.memory_store.proofs.Seen.{place_of}
+use Rattle.memory_store.proofs.Snapshots.{place_of}
 use Rattle.memory_store.proofs.content.Content.objects.Goals.{else-ne, then-ne+in_ok-listing+in_ok-push}
 use Rattle.memory_store.proofs.content.Content.objects.Goals as goal
 

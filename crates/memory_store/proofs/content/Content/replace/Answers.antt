@@ -1,6 +1,6 @@
 use Rattle.std.proofs.Common.{◌≡◌, arith, get_or}
 use Rattle.std.proofs.lemmas.Grind.{common_steps}
-use Rattle.memory_store.proofs.Stands.{set_unset}
+use Rattle.memory_store.proofs.ContentStates.{set_unset}
 use Rattle.memory_store.proofs.content.Content.replace.Goals as goal
 
 pub returns-clause-undo : goal.returns-clause-undo

@@ -1,6 +1,6 @@
 use Rattle.std.proofs.Common.{◌∙◌, ap, sym}
-use Rattle.memory_store.specs.Stands.{before, stand, stand_in}
-use Rattle.memory_store.proofs.Stands.{stand_set}
+use Rattle.memory_store.specs.ContentStates.{before, state_of, state_in}
+use Rattle.memory_store.proofs.ContentStates.{state_set}
 use Rattle.memory_store.proofs.content.Content.undo.Goals as goal
 
 pub undo_rows-requires : goal.undo_rows-requires
@@ -9,6 +9,6 @@ undo_rows-requires c = rw c.in-Rows.is at c.requires
 pub returns-then-tree-len : goal.returns-then-tree-len
 returns-then-tree-len c =
     let s = c.args.self.now in
-    (λ i. stand_in (c.replace.ensures.trees i) (c.replace.ensures.version i))
-    ∙ stand_set s.trees.items s.version c.in-Tree.tree c.in-Tree.old
-    ∙ ap (λ undo. before undo (stand s)) (sym c.in-Tree.is)
+    (λ i. state_in (c.replace.ensures.trees i) (c.replace.ensures.version i))
+    ∙ state_set s.trees.items s.version c.in-Replaced.tree c.in-Replaced.old
+    ∙ ap (λ undo. before undo (state_of s)) (sym c.in-Replaced.is)

@@ -1,6 +1,6 @@
 use Rattle.std.proofs.Common.{◌<◌, length, rules}
 use Rattle.std.proofs.Math.Logic.{∥∥₁_map}
-use Rattle.memory_store.proofs.Stands.{rows_undone, shaped_at}
+use Rattle.memory_store.proofs.ContentStates.{rows_undone, shaped_at}
 use Rattle.memory_store.proofs.content.Content.undo_rows.Goals as goal
 
 pub undo-requires : goal.undo-requires

@@ -6,7 +6,7 @@ use Rattle.memory_store.proofs.store.MemoryStoreStore.rollback.Goals as goal
 pub returns-clause-undone : goal.returns-clause-undone
 returns-clause-undone c =
     let s = c.args.self.now in
-    let is = rolled_back s (record s { history = c.roll_back.new.self; cursors = c.clear.new.self }) c.roll_back.ensures.content c.roll_back.ensures.log in
+    let is = rolled_back s (record s { logged = c.rollback.new.self; cursors = c.clear.new.self }) c.rollback.ensures.content c.rollback.ensures.log in
     record {
       kept = λ clean. record {
         shape = ap (λ (v : View). v.shape) is;
@@ -29,7 +29,7 @@ returns-clause-undone c =
 pub returns-clause-quiet : goal.returns-clause-quiet
 returns-clause-quiet c =
     let s = c.args.self.now in
-    let is = rolled_back s (record s { history = c.roll_back.new.self; cursors = c.clear.new.self }) c.roll_back.ensures.content c.roll_back.ensures.log in
+    let is = rolled_back s (record s { logged = c.rollback.new.self; cursors = c.clear.new.self }) c.rollback.ensures.content c.rollback.ensures.log in
     record {
       shield = λ u. u;
       clean = omega arith;

@@ -1,6 +1,6 @@
 use Rattle.std.proofs.Common.{ap, ◌∙◌}
 use Rattle.std.proofs.lemmas.Int.{to_z-of_z}
-use Rattle.ordered_rows.specs.Undos.{changed}
+use Rattle.ordered_rows.specs.Undos.{edited}
 use Rattle.ordered_rows.proofs.Orders.{rowid_removed, table_cut}
 use Rattle.ordered_rows.proofs.Placed.{none_removed, one_removed}
 use Rattle.ordered_rows.proofs.rows.OrderedRows.delete.Goals as goal
@@ -16,4 +16,4 @@ returns-then-found-clause-ok c =
 pub returns-else-found-clause-ok : goal.returns-else-found-clause-ok
 returns-else-found-clause-ok c =
     let placed = rw c.if-found.false at c.in_ok-at.ensures.ok.1 in
-    (rowid_removed c.args.self.now c.args.id _ (to_z-of_z _ c.args.id c.ranges.id) (none_removed _ _ _ placed), ap (λ change. changed change c.args.self.now) c.nothing.ensures)
+    (rowid_removed c.args.self.now c.args.id _ (to_z-of_z _ c.args.id c.ranges.id) (none_removed _ _ _ placed), ap (λ inverse. edited inverse c.args.self.now) c.nothing.ensures)

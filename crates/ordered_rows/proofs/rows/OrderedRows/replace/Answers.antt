@@ -1,6 +1,6 @@
 use Rattle.std.proofs.Common.{◌≡◌, ◌≤◌, ◌+◌, ◌∷◌, ap, drop, length, rules, set, ◌∙◌}
 use Rattle.std.proofs.lemmas.List.{set_past}
-use Rattle.ordered_rows.specs.Undos.{changed}
+use Rattle.ordered_rows.specs.Undos.{edited}
 use Rattle.ordered_rows.proofs.Undone.{written_back}
 use Rattle.ordered_rows.proofs.rows.OrderedRows.replace.Goals.{in-None, in-Some}
 use Rattle.ordered_rows.proofs.rows.OrderedRows.replace.Goals as goal
@@ -16,6 +16,6 @@ returns c =
             rw w.result-is (ap (λ l. set l c.args.at w.in-Some.old) made ∙ written_back rows c.args.at c.args.new w.in-Some.old found)
         | in-None w ↦
             let none : length rows ≤ c.args.at = search rules in
-            rw w.result-is (ap (λ change. changed change c.replaced-tree.result.0.rows) w.nothing.ensures ∙ made ∙ set_past rows c.args.at c.args.new none)
+            rw w.result-is (ap (λ inverse. edited inverse c.replaced-tree.result.0.rows) w.nothing.ensures ∙ made ∙ set_past rows c.args.at c.args.new none)
       ],
     )
