@@ -27,7 +27,7 @@ MEMORY_OF_A_PROCESS = 2_500_000_000
 class Room:
     """A crate that is being proved."""
 
-    def __init__(self, crates, name, jobs):
+    def __init__(self, crates, name, jobs, is_first):
         self.name, self.jobs, self.begun = name, jobs, time.monotonic()
         self.folder = ROOMS / name
         self.out = self.folder / 'crates' / name / 'out'
@@ -37,10 +37,12 @@ class Room:
         words = ['rt', 'run' if is_program else 'lib', '--jobs', str(jobs)]
         words += ['--', '--help'] if is_program else []
         with open(self.folder / 'said', 'wb') as said:
-            # (a group of its own, so that a proof that is interrupted ends whole)
+            # (a group of its own, so that a proof that is interrupted ends whole; but no session of
+            # its own, since a system may give each session the same share of the processors)
             self.process = subprocess.Popen(
-                words, cwd=self.folder / 'crates' / name, stdin=subprocess.DEVNULL,
-                stdout=said, stderr=said, start_new_session=True)
+                words if is_first else ['nice', '-n', '10', *words],
+                cwd=self.folder / 'crates' / name, stdin=subprocess.DEVNULL,
+                stdout=said, stderr=said, preexec_fn=os.setpgrp)
 
     def fill(self, crates):
         needed = sums.crates_below(crates, self.name) | {self.name}
@@ -98,23 +100,26 @@ def link(source, target):
 
 
 def processes_at_once():
-    """How many processes the processors and the free memory allow."""
+    """How many processes there may be: two for each processor, since one alone reads a crate before
+    several prove it, but no more than the free memory allows."""
     free = MEMORY_OF_A_PROCESS
     with open('/proc/meminfo', encoding='utf-8') as file:
         for line in file:
             if line.startswith('MemAvailable:'):
                 free = 1024 * int(line.split()[1])
-    return max(1, min(len(os.sched_getaffinity(0)), free // MEMORY_OF_A_PROCESS))
+    return max(1, min(2 * len(os.sched_getaffinity(0)), free // MEMORY_OF_A_PROCESS))
 
 
-def jobs_of(place, ready, idle):
-    """How many processes the crate at this place of the ready ones gets, where so many are idle.
+def jobs_of(name, is_first, is_alone, most):
+    """How many processes a crate gets, of so many at most.
 
     Two prove a crate in two thirds of the time of one, four in half of it or a little less, with a
     seventh and two fifths more of a processor's time. So the first, which has the longest chain of
-    crates above it, gets two at least, and the others one while there are more of them.
+    crates above it, gets more. Of a program there is next to nothing to prove: a second process
+    would load all libraries again.
     """
-    return min(4, max(idle // (ready - place), 2 if place == 0 else 1))
+    jobs = 1 if name == sums.PROGRAM else 4 if is_alone else 3 if is_first else 2
+    return min(jobs, most)
 
 
 def lines_of(name):
@@ -155,18 +160,16 @@ def build(tell):
 
 def prove(crates, waiting, tell):
     begun, total, done, running = time.monotonic(), len(waiting), set(), []
-    most = processes_at_once()
+    most, order = processes_at_once(), {name: place for place, name in enumerate(waiting)}
     try:
         while waiting or running:
             ready = [it for it in waiting if sums.crates_below(crates, it) <= done]
-            for place, name in enumerate(ready):
-                idle = most - sum(room.jobs for room in running)
-                if idle > 0:
-                    # (Of a program there is next to nothing to prove: a second process would
-                    # load all libraries again.)
-                    jobs = jobs_of(place, len(ready), idle) if name != sums.PROGRAM else 1
+            for name in ready:
+                is_first = all(order[name] < order[room.name] for room in running)
+                jobs = jobs_of(name, is_first, ready == [name] and not running, most)
+                if sum(room.jobs for room in running) + jobs <= most:
                     waiting.remove(name)
-                    running.append(Room(crates, name, jobs))
+                    running.append(Room(crates, name, jobs, is_first))
             time.sleep(0.2)
             for room in [it for it in running if it.has_ended()]:
                 running.remove(room)
