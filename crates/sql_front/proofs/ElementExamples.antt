@@ -54,13 +54,10 @@ a_table = record {
   } ∷ [];
 }
 
-table_read : whole_read create_read (first_elements ++ last_element) ≡ Some a_table
-unfolding create_read created_table_read elements_read element_read column_element_read type_read timestamp_read length_read not_null_read generated_read row_end_read key_element_read key_list_read all_and_last_read without_overlaps_read reference_element_read parent_read reference_list_read last_period_read leading_names_read more_names_read one_more_name versioning_read some_period_read period_element_read system_element_read pair_read bounded_read name_read number_read is_plain_word is_reserved
-table_read = refl
-
 -- the grammar has this statement, each kind of element in its list
 table_spelled : IsCreate (first_elements ++ last_element) a_table
-table_spelled = whole_found reads_create (first_elements ++ last_element) a_table table_read
+unfolding create_read created_table_read elements_read element_read column_element_read type_read timestamp_read length_read not_null_read generated_read row_end_read key_element_read key_list_read all_and_last_read without_overlaps_read reference_element_read parent_read reference_list_read last_period_read leading_names_read more_names_read one_more_name versioning_read some_period_read period_element_read system_element_read pair_read bounded_read name_read number_read is_plain_word is_reserved
+table_spelled = whole_found reads_create (first_elements ++ last_element) a_table refl
 
 -- this table has an element
 table_has_element : HasElement a_table

@@ -20,20 +20,6 @@ no_end : StopsAt (codes "N 'ab''") 2
 unfolding first_lexeme quoted_size
 no_end = lexis.StopsFrom.token Word 1 refl (lexis.StopsFrom.blank 1 refl (lexis.StopsFrom.here refl))
 
--- the longer symbol first
-longer_symbol : first_lexeme (codes "<>=") ≡ front.Lexeme Symbol 2
-unfolding first_lexeme
-longer_symbol = refl
-
--- a mark is passed over at the start alone
-mark_at_start : byte_order_mark_size (239 ∷ 187 ∷ 191 ∷ 65 ∷ []) ≡ 3
-mark_at_start = refl
-
--- reserved words, in any case
-reserved_word : is_reserved (codes "Intersect") ≡ true
-unfolding is_reserved
-reserved_word = refl
-
 semicolon : Lexeme
 semicolon = record { kind = Symbol; text = codes ";"; start = 0; end = 1 }
 

@@ -57,13 +57,9 @@ state = stored_from (as_of earlier)
 abbrev state_tree : Statement
 state_tree = stored_in (AsOf (pos 1_704_067_200_000_000))
 
-state_is_read : whole_read (statement_read 0) state ≡ Some state_tree
+state_spelled : IsStatement state state_tree
 unfolding statement_read later_statement_read query_statement_read stored_read stored_table_read for_window_read window_read two_moments_read clock_moment_read clock_value clock_of_token moment_of_token moment_of_text date_at time_at fraction_at date_parts_of time_parts_of is_date is_time where_read name_read is_plain_word is_reserved
-state_is_read = refl
-
-pub state_spelled : IsStatement state state_tree
-unfolding clock_of_token moment_of_token moment_of_text date_at time_at fraction_at date_parts_of time_parts_of is_date is_time
-state_spelled = spelled_if_read 0 state state_tree state_is_read refl refl refl
+state_spelled = spelled_if_read 0 state state_tree refl refl refl refl
 
 -- ---- the window of a reference, before its new name
 
@@ -80,10 +76,6 @@ several_tree = selected_from (
     ∷ record { first = record { table = codes "U"; window = Some (Between (pos 1_704_067_200_000_000) (pos 1_704_285_015_000_000)); new_name = None }; joins = [] }
     ∷ [])
 
-several_is_read : whole_read (statement_read 0) several ≡ Some several_tree
+several_spelled : IsStatement several several_tree
 unfolding statement_read later_statement_read query_statement_read sequenced_read query_read term_read intersections_read primary_read steps_read step_read select_read selected_read from_read item_read chain_read joins_read reference_read new_name_read for_window_read window_read two_moments_read moment_read moment_value moment_of_token moment_of_text date_at time_at fraction_at date_parts_of time_parts_of is_date is_time where_read column_read name_read bounded_read is_plain_word is_reserved
-several_is_read = refl
-
-pub several_spelled : IsStatement several several_tree
-unfolding moment_of_token moment_of_text date_at time_at fraction_at date_parts_of time_parts_of is_date is_time
-several_spelled = spelled_if_read 0 several several_tree several_is_read refl refl refl
+several_spelled = spelled_if_read 0 several several_tree refl refl refl refl

@@ -55,15 +55,12 @@ record Refusals : Type 0 where
   accepted : refusal DEP (Some (overlaps (period (codes "DP")) (Dates (pos 1) (pos 2)))) ≡ None
   -- a column in the place of a period
   column_as_period : refusal DEP (Some (overlaps (period (codes "S")) (Dates (pos 1) (pos 2)))) ≡ Some UnknownColumn
-  -- a constructor without a day, beside a comparison of two kinds
-  mixed_first : refusal DEP (Some (any (conditions_of (overlaps (Dates (pos 2) (pos 2)) (period (codes "DP")) ∷ equal (codes "DNO") (Text []) ∷ [])))) ≡ Some TypeMismatch
 
 refusals : Refusals
 unfolding is_flawed_stored is_flawed_test is_flawed_compare is_flawed_column is_flawed_period lacks_named is_matching find_among matches_among differ same_kind kind_of_column def_kind is_value_column number_of table_of_name
 refusals = record {
   accepted = refl;
   column_as_period = refl;
-  mixed_first = refl;
 }
 
 -- ---- what is shown
@@ -90,14 +87,10 @@ number comparison n = test (Values (record { left = comparand.Position 0; compar
 
 record Meets : Type 0 where
   not_equal : holds_of_it (negated (number compared.Equal 5)) ≡ false
-  either : holds_of_it (any (conditions_of (number compared.Greater 6 ∷ number compared.NotEqual 4 ∷ []))) ≡ true
-  meets_next : holds_of_it (test (Periods Row Precedes (Days (period_over (pos 20) (pos 30) refl)))) ≡ true
   its_end : holds_of_it (test (ContainsDay Row (pos 20))) ≡ false
 
 meets : Meets
 meets = record {
   not_equal = refl;
-  either = refl;
-  meets_next = refl;
   its_end = refl;
 }
