@@ -1,14 +1,12 @@
 -- Worked rows of the lexis and of pieces.
-use Rattle.std.proofs.Common.{◌≡◌, [], ◌∷◌, true, refl}
+use Rattle.std.proofs.Common.{[], ◌∷◌, refl}
 use Rattle.std.specs.Prelude.{codes}
 use Rattle.sql_statements.specs.declared.token.TokenKind.TheVariants.{Word, Number, Symbol}
-use Rattle.sql_statements.specs.declared.lexeme.Front.TheVariants as front
 use Rattle.sql_statements.specs.Lexemes.{Lexeme}
 use Rattle.sql_statements.specs.Lexis as lexis
 use Rattle.sql_statements.specs.Lexis.{first_lexeme, quoted_size, TokensOf, StopsAt, byte_order_mark_size}
 use Rattle.sql_front.specs.Pieces as pieces
 use Rattle.sql_front.specs.Pieces.{HasPieces}
-use Rattle.sql_statements.specs.Words.{is_reserved}
 
 -- a number and a word
 number_and_word : TokensOf (codes "12a") (record { kind = Number; text = codes "12"; start = 0; end = 2 } ∷ record { kind = Word; text = codes "a"; start = 2; end = 3 } ∷ [])

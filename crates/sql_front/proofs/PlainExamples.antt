@@ -12,9 +12,9 @@ use Rattle.sql_statements.specs.declared.tree.Tree as trees
 use Rattle.sql_statements.specs.declared.tree.Tree.TheFolds.{fold-roll-Tree}
 use Rattle.sql_statements.specs.declared.tree.Tree.TheOpen as layer
 use Rattle.sql_statements.specs.declared.tree.Tree.TheVariants as rolls
-use Rattle.sql_statements.specs.Trees.{Condition, Query, Statement, all, any, combined, conditions_of, delete, last, negated, sequenced, simple, step, test}
+use Rattle.sql_statements.specs.Trees.{Condition, Query, Statement, any, combined, conditions_of, delete, last, negated, sequenced, simple, step, test}
 use Rattle.sql_statements.specs.Plain.{condition_layer, plain, plain_condition, plain_query, plain_select}
-use Rattle.sql_front.proofs.ConditionViews.{and_view, or_view, test_view}
+use Rattle.sql_front.proofs.ConditionViews.{or_view, test_view}
 use Rattle.sql_statements.proofs.QueryViews.{combined_view, simple_view}
 
 -- wherever in memory the parts lie

@@ -1,5 +1,5 @@
 -- Worked rows of period predicates, in the conditions of stored queries.
-use Rattle.std.proofs.Common.{◌≡◌, pos, List, [], ◌∷◌, Some, None, codes, refl}
+use Rattle.std.proofs.Common.{pos, List, [], ◌∷◌, Some, None, codes, refl}
 use Rattle.period_core.specs.TextReading.{date_at, date_parts_of, day_of_text, is_date}
 use Rattle.period_core.specs.declared.value.Value.TheVariants as value
 use Rattle.sql_statements.specs.declared.statement.Comparison.TheVariants.{Equal}
@@ -20,7 +20,7 @@ use Rattle.sql_front.specs.reading.ConditionReaders.{column_read, compare_read, 
 use Rattle.sql_front.specs.reading.PredicateReaders.{begins_contains_date, period_operand_read, predicate_ahead, predicate_read, relation_behind_column, relation_read, relation_word, stored_test_read, dates_read}
 use Rattle.sql_front.specs.reading.WindowReaders.{for_window_read}
 use Rattle.sql_front.specs.reading.StatementReaders.{statement_read, stored_read, stored_table_read, later_statement_read, query_statement_read}
-use Rattle.sql_front.specs.reading.Reading.{bounded_read, whole_read}
+use Rattle.sql_front.specs.reading.Reading.{bounded_read}
 use Rattle.sql_front.proofs.Spelling.{spelled_if_read}
 use Rattle.sql_front.proofs.StatementExamples.{digits, quoted_text, sign, word}
 use Rattle.sql_front.proofs.QueryExamples.{column, column_of, condition_of}

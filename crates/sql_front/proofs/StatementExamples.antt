@@ -1,5 +1,5 @@
 -- Worked rows of statements.
-use Rattle.std.proofs.Common.{◌≡◌, ℕ, pos, neg_ℤ, List, [], ◌∷◌, ◌++◌, Some, None, codes, refl}
+use Rattle.std.proofs.Common.{ℕ, pos, neg_ℤ, List, [], ◌∷◌, ◌++◌, Some, None, codes, refl}
 use Rattle.period_core.specs.declared.value.Value.TheVariants as value
 use Rattle.sql_statements.specs.declared.statement.Compare.{Compare}
 use Rattle.sql_statements.specs.declared.statement.Comparison.TheVariants.{Equal}
@@ -20,7 +20,7 @@ use Rattle.sql_front.specs.reading.WindowReaders.{for_window_read}
 use Rattle.sql_front.specs.reading.QueryReaders.{chain_read, inner_query_read, item_read, joins_read, new_name_read, operator_read, primary_read, query_read, reference_read, select_read, sequenced_read, step_read, steps_read, selected_read, from_read, intersection_read, intersections_read, term_read}
 use Rattle.sql_front.specs.reading.ChangeReaders.{assignment_read, columns_read, delete_read, in_portion_read, insert_read, portion_read, update_read, named_portion_read, bounds_read, inserted_read, values_read, deleted_read, set_read}
 use Rattle.sql_front.specs.reading.StatementReaders.{statement_read, later_statement_read, query_statement_read}
-use Rattle.sql_front.specs.reading.Reading.{bounded_read, whole_read}
+use Rattle.sql_front.specs.reading.Reading.{bounded_read}
 use Rattle.sql_front.proofs.Spelling.{none_if_unread, spelled_if_read}
 
 -- ---- tokens

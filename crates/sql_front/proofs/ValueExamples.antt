@@ -1,18 +1,17 @@
 -- Worked rows: the values of names, numbers, texts, dates and moments, and what is wrong with literals.
-use Rattle.std.proofs.Common.{◌≡◌, ℕ, ℤ, ◌≤◌, pos, neg_ℤ, true, false, List, [], ◌∷◌, None, Some, codes, refl, sym, ◌∙◌, subst, arith, lit≤}
+use Rattle.std.proofs.Common.{◌≡◌, ℕ, ℤ, ◌≤◌, pos, neg_ℤ, true, false, List, [], ◌∷◌, codes, refl, subst, arith, lit≤}
 use Rattle.sql_statements.specs.declared.token.TokenKind.TheVariants.{Word, Text}
 use Rattle.sql_statements.specs.Lexemes.{Lexeme}
 use Rattle.sql_statements.specs.Names.{is_name, is_plain_word}
 use Rattle.sql_statements.specs.Words.{is_reserved}
-use Rattle.sql_front.specs.LiteralValues.{IsDateToken, NamesClockMoment, NamesDay, NamesNegative, NamesNumber, text_value}
+use Rattle.sql_front.specs.LiteralValues.{IsDateToken, NamesClockMoment, NamesDay, NamesNegative, NamesNumber}
 use Rattle.period_core.specs.Encoding.{greatest_number}
 use Rattle.period_core.specs.TextReading.{date_at, date_parts_of, day_of_text, fraction_at, is_date, is_time, moment_of_text, six_of, time_at, time_parts_of}
 use Rattle.sql_front.specs.reading.LeafValues.{clock_of_token, day_of_token, moment_of_token}
-use Rattle.sql_front.specs.LiteralFaults.{HasBadDate, HasBadMoment}
-use Rattle.sql_front.specs.LiteralTests.{is_bad_date, is_bad_moment, somewhere}
+use Rattle.sql_front.specs.LiteralFaults.{HasBadDate}
 use Rattle.sql_front.proofs.LeafFacts.{clock_found, day_found, day_shown}
 use Rattle.period_core.proofs.OptionFacts.{none_some}
-use Rattle.sql_front.proofs.LiteralFaultFacts.{bad_date_somewhere, bad_moment_somewhere}
+use Rattle.sql_front.proofs.LiteralFaultFacts.{bad_date_somewhere}
 
 -- ---- names, numbers and texts
 

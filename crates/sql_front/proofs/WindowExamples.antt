@@ -1,5 +1,5 @@
 -- Worked rows of system-time windows: AS OF, FROM and TO, BETWEEN and AND, of a stored query's table and of a reference.
-use Rattle.std.proofs.Common.{◌≡◌, pos, List, [], ◌∷◌, ◌++◌, Some, None, codes, refl}
+use Rattle.std.proofs.Common.{pos, List, [], ◌∷◌, ◌++◌, Some, None, codes, refl}
 use Rattle.period_core.specs.TextReading.{date_at, date_parts_of, fraction_at, is_date, is_time, moment_of_text, time_at, time_parts_of}
 use Rattle.sql_statements.specs.declared.statement.SystemTime.{SystemTime}
 use Rattle.sql_statements.specs.declared.statement.SystemTime.TheVariants.{AsOf, Between, FromTo}
@@ -14,7 +14,7 @@ use Rattle.sql_front.specs.reading.ConditionReaders.{column_read, where_read}
 use Rattle.sql_front.specs.reading.WindowReaders.{for_window_read, window_read, two_moments_read}
 use Rattle.sql_front.specs.reading.QueryReaders.{chain_read, item_read, joins_read, new_name_read, primary_read, query_read, reference_read, select_read, sequenced_read, step_read, steps_read, selected_read, from_read, intersections_read, term_read}
 use Rattle.sql_front.specs.reading.StatementReaders.{statement_read, stored_read, stored_table_read, later_statement_read, query_statement_read}
-use Rattle.sql_front.specs.reading.Reading.{bounded_read, whole_read}
+use Rattle.sql_front.specs.reading.Reading.{bounded_read}
 use Rattle.sql_front.proofs.Spelling.{spelled_if_read}
 use Rattle.sql_front.proofs.StatementExamples.{quoted_text, sign, word}
 use Rattle.sql_front.proofs.QueryExamples.{select_from, selected_from}

@@ -2,8 +2,7 @@
 use Rattle.std.proofs.Common.{◌≡◌, ◌∷◌, ℕ, List, [], Option, Some, None, map, refl}
 use Rattle.std.specs.Prelude.{codes}
 use Rattle.period_core.specs.declared.refusal.Refusal.{Refusal}
-use Rattle.period_core.specs.declared.refusal.Refusal.TheVariants.{AmbiguousColumn, TypeMismatch, UnknownColumn}
-use Rattle.period_core.specs.declared.window.Window.TheVariants as window
+use Rattle.period_core.specs.declared.refusal.Refusal.TheVariants.{TypeMismatch, UnknownColumn}
 use Rattle.sql_statements.specs.Trees as written
 use Rattle.sql_statements.specs.Trees.{Condition, JoinChain, Query, all, combined, conditions_of, last, simple, step, test}
 use Rattle.sql_statements.specs.declared.statement.ColumnReference.{ColumnReference}
@@ -13,8 +12,7 @@ use Rattle.sql_statements.specs.declared.statement.Operand.{Operand}
 use Rattle.sql_statements.specs.declared.statement.Operand.TheVariants as operand
 use Rattle.sql_statements.specs.declared.statement.SelectItem.{SelectItem}
 use Rattle.sql_statements.specs.declared.statement.TableReference.{TableReference}
-use Rattle.sql_statements.specs.declared.tree.SetOperator.{SetOperator}
-use Rattle.sql_statements.specs.declared.tree.SetOperator.TheVariants.{Union, Except, Intersect}
+use Rattle.sql_statements.specs.declared.tree.SetOperator.TheVariants.{Union, Except}
 use Rattle.catalog_core.proofs.lemmas.examples.Tables.{dep}
 use Rattle.catalog_core.specs.Judged.{first_holding}
 use Rattle.catalog_core.specs.table.Kinds.{differ, kind_of_column, same_kind}
@@ -23,10 +21,9 @@ use Rattle.catalog_core.specs.table.Naming.{Name, matches_among, repeats}
 use Rattle.catalog_core.specs.table.TableWords.{is_value_column, number_of, table_of_name}
 use Rattle.catalog_core.specs.query.Queries.{both, one}
 use Rattle.catalog_core.specs.query.Refusals.{compares_kinds, have_other_count, have_other_kinds, is_too_long, lacks_table, names_period, names_twice, refusals_of, some_column_matches}
-use Rattle.catalog_core.specs.query.Resolving.{ResolvesSelect, Placed, ResolvesTree, written_item, written_conjuncts, written_reference}
+use Rattle.catalog_core.specs.query.Resolving.{ResolvesSelect, Placed, ResolvesTree, written_item, written_conjuncts}
 use Rattle.catalog_core.specs.declared.condition.Comparand.TheVariants.{Position}
 use Rattle.catalog_core.specs.declared.query.resolved.Select.{Select}
-use Rattle.catalog_core.specs.declared.table.ValueKind.TheVariants as kind
 use Rattle.catalog_core.specs.declared.table.TableDef.{TableDef}
 
 abbrev DEP : Name

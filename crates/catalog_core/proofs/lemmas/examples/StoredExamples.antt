@@ -3,19 +3,19 @@ use Rattle.std.proofs.Common.{◌≡◌, ◌∷◌, ℕ, pos, Bool, true, false,
 use Rattle.std.specs.Prelude.{codes}
 use Rattle.period_core.proofs.Periods.{period_over}
 use Rattle.period_core.specs.declared.refusal.Refusal.{Refusal}
-use Rattle.period_core.specs.declared.refusal.Refusal.TheVariants.{UnknownColumn, TypeMismatch}
+use Rattle.period_core.specs.declared.refusal.Refusal.TheVariants.{UnknownColumn}
 use Rattle.period_core.specs.declared.value.Value.{Value}
-use Rattle.period_core.specs.declared.value.Value.TheVariants.{Int, Text}
+use Rattle.period_core.specs.declared.value.Value.TheVariants.{Int}
 use Rattle.period_core.specs.declared.version.VersionRow.{VersionRow}
 use Rattle.period_core.specs.declared.window.Window.{Window}
 use Rattle.period_core.specs.declared.window.Window.TheVariants as window
-use Rattle.sql_statements.specs.Trees.{Condition, any, conditions_of, negated, test}
+use Rattle.sql_statements.specs.Trees.{Condition, negated, test}
 use Rattle.sql_statements.specs.declared.statement.Comparison.{Comparison}
 use Rattle.sql_statements.specs.declared.statement.Comparison.TheVariants as compared
 use Rattle.sql_statements.specs.declared.statement.Operand.TheVariants.{Column, Literal}
 use Rattle.sql_statements.specs.declared.statement.PeriodOperand.{PeriodOperand}
 use Rattle.sql_statements.specs.declared.statement.PeriodOperand.TheVariants.{Named, Dates}
-use Rattle.sql_statements.specs.declared.statement.PeriodPredicate.TheVariants.{Overlaps, Precedes}
+use Rattle.sql_statements.specs.declared.statement.PeriodPredicate.TheVariants.{Overlaps}
 use Rattle.sql_statements.specs.declared.statement.StoredTest.{StoredTest}
 use Rattle.sql_statements.specs.declared.statement.StoredTest.TheVariants as asked
 use Rattle.catalog_core.proofs.lemmas.examples.Tables.{dep}
@@ -30,9 +30,9 @@ use Rattle.catalog_core.specs.table.Matches.{is_matching}
 use Rattle.catalog_core.specs.table.Naming.{Name, find_among, matches_among}
 use Rattle.catalog_core.specs.table.TableWords.{def_kind, is_value_column, number_of, table_of_name}
 use Rattle.catalog_core.specs.declared.condition.Comparand.TheVariants as comparand
-use Rattle.catalog_core.specs.declared.stored.PeriodSide.TheVariants.{Row, Days}
+use Rattle.catalog_core.specs.declared.stored.PeriodSide.TheVariants.{Row}
 use Rattle.catalog_core.specs.declared.stored.VersionTest.{VersionTest}
-use Rattle.catalog_core.specs.declared.stored.VersionTest.TheVariants.{ContainsDay, Periods, Values}
+use Rattle.catalog_core.specs.declared.stored.VersionTest.TheVariants.{ContainsDay, Values}
 
 -- ---- refusals
 

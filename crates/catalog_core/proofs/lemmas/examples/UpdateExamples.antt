@@ -3,7 +3,7 @@ use Rattle.std.proofs.Common.{◌≡◌, ◌∷◌, ℕ, pos, List, [], Option, 
 use Rattle.std.specs.Prelude.{codes}
 use Rattle.std.specs.Str.{chars}
 use Rattle.period_core.specs.declared.refusal.Refusal.{Refusal}
-use Rattle.period_core.specs.declared.refusal.Refusal.TheVariants.{UnknownColumn, PeriodColumn, TextTooLong}
+use Rattle.period_core.specs.declared.refusal.Refusal.TheVariants.{UnknownColumn}
 use Rattle.period_core.specs.declared.value.Value.{Value}
 use Rattle.period_core.specs.declared.value.Value.TheVariants.{Int, Text}
 use Rattle.sql_statements.specs.Trees.{Condition, Update, test, negated}
