@@ -10,7 +10,7 @@ use period_core::Items;
 use std::marker::Model;
 
 /// A column's type. A number is that of its token, not yet checked.
-#[derive(Clone, Copy, PartialEq, Eq)]
+#[derive(Clone, Copy)]
 pub enum TypeName {
     Integer,
     Date,
@@ -19,7 +19,7 @@ pub enum TypeName {
 }
 
 /// GENERATED ALWAYS AS ROW START or END.
-#[derive(Clone, Copy, PartialEq, Eq)]
+#[derive(Clone, Copy)]
 pub enum Generated {
     Start,
     End,

@@ -19,7 +19,7 @@ pub struct ColumnReference {
 }
 
 /// How two values are compared.
-#[derive(Clone, Copy, Debug, PartialEq, Eq)]
+#[derive(Clone, Copy, Debug)]
 pub enum Comparison {
     Equal,
     NotEqual,
@@ -45,7 +45,7 @@ pub struct Compare {
 }
 
 /// The period predicates of ISO/IEC 9075-2:2011, but for those on a day.
-#[derive(Clone, Copy, PartialEq, Eq)]
+#[derive(Clone, Copy)]
 pub enum PeriodPredicate {
     Overlaps,
     Equals,

@@ -13,7 +13,7 @@ pub enum Tree<T> {
 }
 
 /// What a set operator does with the rows of its two sides. Each gives a row once.
-#[derive(Clone, Copy, PartialEq, Eq)]
+#[derive(Clone, Copy)]
 pub enum SetOperator {
     /// The rows of either side.
     Union,
