@@ -21,9 +21,7 @@ fn text_behind<'a>(word: &str, first: &Token<'_>, after: &[Token<'a>]) -> Option
         ≡ tests.text_behind word.now (lexeme first.now) (lexemes after.now) }
 {
     match after {
-        [token, ..]
-            if is_mark(first, Mark::Keyword(word)) && token.kind == TokenKind::Text =>
-        {
+        [token, ..] if is_mark(first, Mark::Keyword(word)) && token.kind == TokenKind::Text => {
             Some(token.text)
         }
         _ => None,
