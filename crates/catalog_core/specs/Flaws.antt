@@ -57,6 +57,7 @@ is_set_again assignments a =
     is_matching Several
     (count_by (λ (other : Assignment). bytes_eq a.column other.column) assignments)
 
+-- some column is set more than once
 unfoldable pub sets_twice : List Assignment → Bool
 sets_twice assignments = list_any (λ (a : Assignment). is_set_again assignments a) assignments
 
@@ -70,6 +71,7 @@ is_flawed_portion _ t _ = false
 
 -- ==== comparisons ====
 
+-- a side of a comparison has the flaw: a literal has none
 abbrev pub is_flawed_side : Flaw → TableDef → Operand → Bool
 is_flawed_side flaw t (Column r) = is_flawed_column flaw t r
 is_flawed_side flaw t (Literal value) = false
@@ -84,6 +86,7 @@ abbrev pub is_of_two_kinds : Flaw → TableDef → Compare → Bool
 is_of_two_kinds OtherKind t c = differ (side_kind t c.left) (side_kind t c.right)
 is_of_two_kinds _ t c = false
 
+-- a comparison has the flaw: one of its sides, or the two together
 unfoldable pub is_flawed_compare : Flaw → TableDef → Compare → Bool
 is_flawed_compare flaw t c =
     is_flawed_side flaw t c.left || (is_flawed_side flaw t c.right || is_of_two_kinds flaw t c)

@@ -48,6 +48,7 @@ compare_by place c =
 abbrev pub numbered_side : TableDef → Operand → Option Comparand
 numbered_side t side = side_by (λ (r : ColumnReference). value_position t r.name) side
 
+-- a comparison in a row of a table
 abbrev pub numbered_compare : TableDef → Compare → Option CompareValues
 numbered_compare t c = compare_by (λ (r : ColumnReference). value_position t r.name) c
 
@@ -62,6 +63,7 @@ abbrev pub ResolvesTests
 ResolvesTests numbered c resolved =
     map_condition numbered c ≡ map_condition (λ leaf. Some leaf) (plain_condition resolved)
 
+-- the same for a WHERE: both are absent, or the two conditions are the same
 abbrev pub ResolvesWhere
     : {T R : Type 0} → (T → Option R) → Option (Condition T) → Option (Tree R) → Type 0
 ResolvesWhere numbered None None = Unit {0}
@@ -72,5 +74,6 @@ ResolvesWhere numbered _ _ = ⊥
 abbrev pub portion_days : Option Portion → Option (ℤ × ℤ)
 portion_days portion = option_map (λ (p : Portion). (p.from, p.to)) portion
 
+-- the start and the end of a resolved portion
 abbrev pub period_days : Option Period → Option (ℤ × ℤ)
 period_days period = option_map (λ (p : Period). (p.start, p.end)) period

@@ -11,6 +11,7 @@ use Rattle.catalog_core.specs.declared.condition.Comparand.TheVariants.{Position
 use Rattle.catalog_core.specs.declared.condition.CompareValues.{CompareValues}
 use Rattle.catalog_core.specs.declared.table.TableDef.{TableDef}
 
+-- the position, or 0 where there is none
 abbrev pub or_zero : Option ℕ → ℕ
 or_zero None = 0
 or_zero (Some n) = n
@@ -20,6 +21,7 @@ abbrev pub place_side : (ColumnReference → ℕ) → Operand → Comparand
 place_side place (operand.Column r) = Position (place r)
 place_side place (operand.Literal value) = Literal value
 
+-- a comparison by the places of columns
 abbrev pub place_compare : (ColumnReference → ℕ) → Compare → CompareValues
 place_compare place c =
     record {
@@ -32,8 +34,10 @@ place_compare place c =
 abbrev pub table_place : TableDef → ColumnReference → ℕ
 table_place t r = or_zero (value_position t r.name)
 
+-- a side in a row of a table
 abbrev pub placed_side : TableDef → Operand → Comparand
 placed_side t side = place_side (table_place t) side
 
+-- a comparison in a row of a table
 abbrev pub placed_compare : TableDef → Compare → CompareValues
 placed_compare t c = place_compare (table_place t) c

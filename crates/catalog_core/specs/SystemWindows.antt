@@ -5,6 +5,7 @@ use Rattle.period_core.specs.declared.window.Window.TheVariants as window
 use Rattle.sql_statements.specs.declared.statement.SystemTime.{SystemTime}
 use Rattle.sql_statements.specs.declared.statement.SystemTime.TheVariants.{AsOf, FromTo, Between}
 
+-- what the words ask for, with the same moments
 abbrev pub window_of : Option SystemTime → Window
 window_of None = window.Now
 window_of (Some (AsOf moment)) = window.AsOf moment

@@ -13,7 +13,7 @@ use period_core::{Day, Items, Period, PeriodRow, Value, Values, VersionRow};
 
 /// A row of INSERT: its values in the order of the value columns, and the start and the end of its
 /// period. Its end may be at or before its start: then the change is refused.
-#[derive(Drop, Debug)]
+#[derive(Drop)]
 pub struct GivenRow {
     pub values: Values,
     pub start: Day,
@@ -21,14 +21,14 @@ pub struct GivenRow {
 }
 
 /// A position among a row's values, and the value that is set there.
-#[derive(Drop, Debug)]
+#[derive(Drop)]
 pub struct Assignment {
     pub position: usize,
     pub value: Value,
 }
 
 /// What a change does. Without a portion it acts on every day, without a condition on every row.
-#[derive(Drop, Debug)]
+#[derive(Drop)]
 pub enum Action {
     /// Adds the rows.
     Insert(Items<GivenRow>),
@@ -39,14 +39,14 @@ pub enum Action {
 }
 
 /// A change of a table, by its number.
-#[derive(Drop, Debug)]
+#[derive(Drop)]
 pub struct Change {
     pub table: u8,
     pub action: Action,
 }
 
 /// What a change does to the rows of a table.
-#[derive(Drop, Debug)]
+#[derive(Drop)]
 pub struct Plan {
     /// The rows that end: each is told by its values, period start and system start.
     pub ended: Items<VersionRow>,

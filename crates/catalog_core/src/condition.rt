@@ -9,14 +9,14 @@ use sql_statements::{Comparison, Tree};
 use std::cmp::Ordering;
 
 /// A side of a comparison: the row's value at a position, or a literal.
-#[derive(Drop, Debug)]
+#[derive(Drop)]
 pub enum Comparand {
     Position(usize),
     Literal(Value),
 }
 
 /// Two sides compared.
-#[derive(Drop, Debug)]
+#[derive(Drop)]
 pub struct CompareValues {
     pub left: Comparand,
     pub comparison: Comparison,

@@ -14,14 +14,14 @@ use period_core::{Day, Period, VersionRow, Window};
 use sql_statements::{PeriodPredicate, Tree};
 
 /// A side of a period predicate: the version's own period, or that of a literal.
-#[derive(Clone, Copy, Debug)]
+#[derive(Clone, Copy)]
 pub enum PeriodSide {
     Row,
     Days(Period),
 }
 
 /// A test of a version.
-#[derive(Drop, Debug)]
+#[derive(Drop)]
 pub enum VersionTest {
     Values(CompareValues),
     Periods(PeriodSide, PeriodPredicate, PeriodSide),
@@ -30,7 +30,7 @@ pub enum VersionTest {
 
 /// A query of the versions of a table, by its number: those that the window sees and that meet the
 /// condition, if there is one.
-#[derive(Drop, Debug)]
+#[derive(Drop)]
 pub struct Stored {
     pub table: u8,
     pub window: Window,

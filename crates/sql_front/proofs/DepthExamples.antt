@@ -18,14 +18,6 @@ word = record { kind = Word; text = codes "a"; start = 0; end = 1 }
 abbrev quoted : Lexeme
 quoted = record { kind = Text; text = codes "("; start = 0; end = 1 }
 
--- ( is deeper than 0, and not deeper than 1
-one-deeper_than_0 : IsDeeper 0 (opening ∷ [])
-one-deeper_than_0 = (opening ∷ [], [], refl, omega arith)
-
-one-not_deeper_than_1 : IsDeeper 1 (opening ∷ []) → ⊥
-unfolding room
-one-not_deeper_than_1 = some_shallow 1 (opening ∷ []) 0 refl
-
 -- ( a ( ) ) is deeper than 1 by its first three tokens, whatever closes after them
 closed_again-deeper_than_1 : IsDeeper 1 (opening ∷ word ∷ opening ∷ closing ∷ closing ∷ [])
 closed_again-deeper_than_1 = (opening ∷ word ∷ opening ∷ [], closing ∷ closing ∷ [], refl, omega arith)

@@ -1,5 +1,5 @@
 -- Worked rows of CREATE TABLE's elements.
-use Rattle.std.proofs.Common.{◌≡◌, ℕ, List, [], ◌∷◌, ◌++◌, Some, None, codes, refl, arith}
+use Rattle.std.proofs.Common.{ℕ, List, [], ◌∷◌, ◌++◌, None, codes, refl, arith}
 use Rattle.sql_statements.specs.declared.create.TypeName.TheVariants.{Integer, Date}
 use Rattle.sql_statements.specs.declared.token.TokenKind.TheVariants.{Word, Symbol}
 use Rattle.sql_statements.specs.Lexemes.{Lexeme}
@@ -8,7 +8,7 @@ use Rattle.sql_statements.specs.Words.{is_reserved}
 use Rattle.sql_statements.specs.Elements.{HasElement}
 use Rattle.sql_front.specs.reading.Leaves.{name_read, number_read}
 use Rattle.sql_front.specs.reading.ElementReaders.{create_read, elements_read, element_read, column_element_read, not_null_read, key_element_read, reference_element_read, reference_list_read, versioning_read, without_overlaps_read, all_and_last_read, type_read, length_read, generated_read, row_end_read, one_more_name, leading_names_read, more_names_read, pair_read, some_period_read, period_element_read, system_element_read, created_table_read, key_list_read, last_period_read, parent_read, timestamp_read}
-use Rattle.sql_front.specs.reading.Reading.{bounded_read, whole_read}
+use Rattle.sql_front.specs.reading.Reading.{bounded_read}
 use Rattle.sql_front.specs.Builders.{table_of}
 use Rattle.sql_front.proofs.ReadGrammar.{IsCreate}
 use Rattle.sql_statements.specs.declared.create.CreateTable.{CreateTable}
@@ -54,13 +54,10 @@ a_table = record {
   } ∷ [];
 }
 
-table_read : whole_read create_read (first_elements ++ last_element) ≡ Some a_table
-unfolding create_read created_table_read elements_read element_read column_element_read type_read timestamp_read length_read not_null_read generated_read row_end_read key_element_read key_list_read all_and_last_read without_overlaps_read reference_element_read parent_read reference_list_read last_period_read leading_names_read more_names_read one_more_name versioning_read some_period_read period_element_read system_element_read pair_read bounded_read name_read number_read is_plain_word is_reserved
-table_read = refl
-
 -- the grammar has this statement, each kind of element in its list
 table_spelled : IsCreate (first_elements ++ last_element) a_table
-table_spelled = whole_found reads_create (first_elements ++ last_element) a_table table_read
+unfolding create_read created_table_read elements_read element_read column_element_read type_read timestamp_read length_read not_null_read generated_read row_end_read key_element_read key_list_read all_and_last_read without_overlaps_read reference_element_read parent_read reference_list_read last_period_read leading_names_read more_names_read one_more_name versioning_read some_period_read period_element_read system_element_read pair_read bounded_read name_read number_read is_plain_word is_reserved
+table_spelled = whole_found reads_create (first_elements ++ last_element) a_table refl
 
 -- this table has an element
 table_has_element : HasElement a_table

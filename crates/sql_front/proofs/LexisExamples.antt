@@ -1,14 +1,12 @@
 -- Worked rows of the lexis and of pieces.
-use Rattle.std.proofs.Common.{◌≡◌, [], ◌∷◌, true, refl}
+use Rattle.std.proofs.Common.{[], ◌∷◌, refl}
 use Rattle.std.specs.Prelude.{codes}
 use Rattle.sql_statements.specs.declared.token.TokenKind.TheVariants.{Word, Number, Symbol}
-use Rattle.sql_statements.specs.declared.lexeme.Front.TheVariants as front
 use Rattle.sql_statements.specs.Lexemes.{Lexeme}
 use Rattle.sql_statements.specs.Lexis as lexis
 use Rattle.sql_statements.specs.Lexis.{first_lexeme, quoted_size, TokensOf, StopsAt, byte_order_mark_size}
 use Rattle.sql_front.specs.Pieces as pieces
 use Rattle.sql_front.specs.Pieces.{HasPieces}
-use Rattle.sql_statements.specs.Words.{is_reserved}
 
 -- a number and a word
 number_and_word : TokensOf (codes "12a") (record { kind = Number; text = codes "12"; start = 0; end = 2 } ∷ record { kind = Word; text = codes "a"; start = 2; end = 3 } ∷ [])
@@ -19,20 +17,6 @@ number_and_word = lexis.TokensFrom.token Number 2 refl (lexis.TokensFrom.token W
 no_end : StopsAt (codes "N 'ab''") 2
 unfolding first_lexeme quoted_size
 no_end = lexis.StopsFrom.token Word 1 refl (lexis.StopsFrom.blank 1 refl (lexis.StopsFrom.here refl))
-
--- the longer symbol first
-longer_symbol : first_lexeme (codes "<>=") ≡ front.Lexeme Symbol 2
-unfolding first_lexeme
-longer_symbol = refl
-
--- a mark is passed over at the start alone
-mark_at_start : byte_order_mark_size (239 ∷ 187 ∷ 191 ∷ 65 ∷ []) ≡ 3
-mark_at_start = refl
-
--- reserved words, in any case
-reserved_word : is_reserved (codes "Intersect") ≡ true
-unfolding is_reserved
-reserved_word = refl
 
 semicolon : Lexeme
 semicolon = record { kind = Symbol; text = codes ";"; start = 0; end = 1 }

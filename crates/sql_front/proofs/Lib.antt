@@ -2,7 +2,6 @@ pub mod ByteOrderMark
 pub mod ChangeLevels
 pub mod ChangesRead
 pub mod ColumnElementsRead
-pub mod ComparisonExamples
 pub mod ConditionLevels
 pub mod ConditionsRead
 pub mod ConditionViews

@@ -54,19 +54,24 @@ absent_if : (o : Option ℤ) (P : Type 0) → IsSome o ↔ P → (P → ⊥) →
 absent_if (Some n) P i never = absurd (never (i.0 (search rules)))
 absent_if None P i never = refl
 
+text_unread : (read : List ℕ → Option ℤ) (b : Bool) (token : List ℕ) → names_none read (cond b (Some token) None) ≡ (b && is_none (read token))
+text_unread read true token = refl
+text_unread read false token = refl
+
 -- a word and a text behind it that names nothing
 unread_found : (word : List ℕ) (read : List ℕ → Option ℤ) (Named : List ℕ → Type 0) → ((x : List ℕ) → IsSome (read x) ↔ Named x) → (t : Lexeme) (rest : List Lexeme) → is_unread word read t rest ≡ true
     → (u : Lexeme) × (more : List Lexeme) × (rest ≡ u ∷ more) × (keyword word t ≡ true) × (text u ≡ true) × (Named u.text → ⊥)
 unread_found word read Named there t [] e = absurd cc
 unread_found word read Named there t (u ∷ more) e =
-    let p = and_parts (keyword word t) (names_none read u) e in
-    let q = and_parts (text u) (is_none (read u.text)) p.1 in
-    (u, more, refl, p.0, q.0, absent (read u.text) (Named u.text) (there u.text) q.1)
+    let p = and_parts (keyword word t && text u) (is_none (read u.text)) (sym (text_unread read (keyword word t && text u) u.text) ∙ e) in
+    let q = and_parts (keyword word t) (text u) p.0 in
+    (u, more, refl, q.0, q.1, absent (read u.text) (Named u.text) (there u.text) p.1)
 
 unread_here : (word : List ℕ) (read : List ℕ → Option ℤ) (Named : List ℕ → Type 0) → ((x : List ℕ) → IsSome (read x) ↔ Named x) → (t u : Lexeme) (more : List Lexeme)
     → keyword word t ≡ true → text u ≡ true → (Named u.text → ⊥) → is_unread word read t (u ∷ more) ≡ true
 unread_here word read Named there t u more k x never =
-    both (keyword word t) (names_none read u) k (both (text u) (is_none (read u.text)) x (absent_if (read u.text) (Named u.text) (there u.text) never))
+    text_unread read (keyword word t && text u) u.text
+    ∙ both (keyword word t && text u) (is_none (read u.text)) (both (keyword word t) (text u) k x) (absent_if (read u.text) (Named u.text) (there u.text) never)
 
 -- ---- dates
 

@@ -12,18 +12,15 @@ use Rattle.sql_statements.specs.declared.tree.Tree as trees
 use Rattle.sql_statements.specs.declared.tree.Tree.TheFolds.{fold-roll-Tree}
 use Rattle.sql_statements.specs.declared.tree.Tree.TheOpen as layer
 use Rattle.sql_statements.specs.declared.tree.Tree.TheVariants as rolls
-use Rattle.sql_statements.specs.Trees.{Condition, Query, Statement, all, any, combined, conditions_of, delete, last, negated, sequenced, simple, step, test}
+use Rattle.sql_statements.specs.Trees.{Condition, Query, Statement, any, combined, conditions_of, delete, last, negated, sequenced, simple, step, test}
 use Rattle.sql_statements.specs.Plain.{condition_layer, plain, plain_condition, plain_query, plain_select}
-use Rattle.sql_front.proofs.ConditionViews.{and_view, or_view, test_view}
+use Rattle.sql_front.proofs.ConditionViews.{or_view, test_view}
 use Rattle.sql_statements.proofs.QueryViews.{combined_view, simple_view}
 
 -- wherever in memory the parts lie
 module _ (place : Ptr) (global : Global) where
   abbrev boxed : {T : Type 0} → T → Box T
   boxed value = record { ptr = place; alloc = global; value = value }
-
-  abbrev no_others : {T : Type 0} → Vec T
-  no_others = record { ptr = place; len = 0; cap = 0; alloc = global; items = []; ok = (refl, lit≤ tt); small = lit≤ tt }
 
   abbrev one_other : {T : Type 0} → T → Vec T
   one_other other = record { ptr = place; len = 1; cap = 1; alloc = global; items = other ∷ []; ok = (refl, lit≤ tt); small = lit≤ tt }
@@ -33,17 +30,7 @@ module _ (place : Ptr) (global : Global) where
 
   -- ---- conditions
 
-  module _ {T : Type 0} (a b c : T) where
-    -- a
-    abbrev one : trees.Tree T
-    one = trees.And (boxed (trees.Test a)) no_others
-
-    abbrev one_tree : Condition T
-    one_tree = all (conditions_of (test a ∷ []))
-
-    one_stands : plain_condition one ≡ one_tree
-    one_stands = and_view (boxed (trees.Test a)) no_others ∙ ap (λ (t : Condition T). all (conditions_of (t ∷ []))) (test_view a)
-
+  module _ {T : Type 0} (b c : T) where
     -- NOT c
     abbrev inverse : trees.Tree T
     inverse = trees.Not (boxed (trees.Test c))
@@ -54,62 +41,40 @@ module _ (place : Ptr) (global : Global) where
         ∙ fold-roll-Tree T (Condition T) condition_layer (layer.Not (boxed (trees.Test c)))
         ∙ ap negated (test_view c)
 
-    -- b AND NOT c
-    abbrev both : trees.Tree T
-    both = trees.And (boxed (trees.Test b)) (one_other inverse)
-
-    abbrev both_tree : Condition T
-    both_tree = all (conditions_of (test b ∷ negated (test c) ∷ []))
-
-    both_stands : plain_condition both ≡ both_tree
-    both_stands =
-        and_view (boxed (trees.Test b)) (one_other inverse)
-        ∙ ap₂ (λ (t u : Condition T). all (conditions_of (t ∷ u ∷ []))) (test_view b) inverse_stands
-
-    -- a OR b AND NOT c
+    -- b OR NOT c
     abbrev either : trees.Tree T
-    either = trees.Or (boxed one) (one_other both)
+    either = trees.Or (boxed (trees.Test b)) (one_other inverse)
 
     abbrev either_tree : Condition T
-    either_tree = any (conditions_of (one_tree ∷ both_tree ∷ []))
+    either_tree = any (conditions_of (test b ∷ negated (test c) ∷ []))
 
     either_stands : plain_condition either ≡ either_tree
-    either_stands = or_view (boxed one) (one_other both) ∙ ap₂ (λ (t u : Condition T). any (conditions_of (t ∷ u ∷ []))) one_stands both_stands
+    either_stands =
+        or_view (boxed (trees.Test b)) (one_other inverse)
+        ∙ ap₂ (λ (t u : Condition T). any (conditions_of (t ∷ u ∷ []))) (test_view b) inverse_stands
 
   -- ---- changes
 
-  -- DELETE FROM T WHERE a OR b AND NOT c
-  abbrev deletion : Compare → Compare → Compare → statements.Statement
-  deletion a b c = record { form = variant.Delete (record { table = codes "T"; portion = None; condition = Some (either a b c) }) }
+  -- DELETE FROM T WHERE b OR NOT c
+  abbrev deletion : Compare → Compare → statements.Statement
+  deletion b c = record { form = variant.Delete (record { table = codes "T"; portion = None; condition = Some (either b c) }) }
 
   abbrev deleted : Condition Compare → Statement
   deleted condition = delete (record { table = codes "T"; portion = None; condition = Some condition })
 
-  pub deletion_stands : (a b c : Compare) → plain (deletion a b c) ≡ deleted (either_tree a b c)
-  deletion_stands a b c = ap deleted (either_stands a b c)
+  deletion_stands : (b c : Compare) → plain (deletion b c) ≡ deleted (either_tree b c)
+  deletion_stands b c = ap deleted (either_stands b c)
 
   -- ---- queries
 
   module _ (s t u : SelectDistinct) where
-    -- t UNION u
-    abbrev union : queries.QueryTree SelectDistinct
-    union = queries.Combined (boxed (queries.Select t)) (one_other (Union, queries.Select u))
-
-    abbrev union_tree : Query
-    union_tree = combined (simple (plain_select t)) (step Union (simple (plain_select u)) last)
-
-    union_stands : plain_query union ≡ union_tree
-    union_stands =
-        combined_view (boxed (queries.Select t)) (one_other (Union, queries.Select u))
-        ∙ ap₂ (λ (q r : Query). combined q (step Union r last)) (simple_view t) (simple_view u)
-
-    -- VALIDTIME s EXCEPT ( t UNION u ) UNION t
+    -- VALIDTIME s EXCEPT t UNION u
     abbrev question : statements.Statement
-    question = record { form = variant.Sequenced (queries.Combined (boxed (queries.Select s)) (two_others (Except, union) (Union, queries.Select t))) }
+    question = record { form = variant.Sequenced (queries.Combined (boxed (queries.Select s)) (two_others (Except, queries.Select t) (Union, queries.Select u))) }
 
-    -- the operators keep their order, and the query in parentheses is the right side of EXCEPT
-    pub question_stands : plain question ≡ sequenced (combined (simple (plain_select s)) (step Except union_tree (step Union (simple (plain_select t)) last)))
+    -- the operators keep their order
+    question_stands : plain question ≡ sequenced (combined (simple (plain_select s)) (step Except (simple (plain_select t)) (step Union (simple (plain_select u)) last)))
     question_stands =
-        ap sequenced (combined_view (boxed (queries.Select s)) (two_others (Except, union) (Union, queries.Select t))
-        ∙ ap (λ (q : Query). combined q (step Except (plain_query union) (step Union (plain_query (queries.Select t)) last))) (simple_view s)
-        ∙ ap₂ (λ (q r : Query). combined (simple (plain_select s)) (step Except q (step Union r last))) union_stands (simple_view t))
+        ap sequenced (combined_view (boxed (queries.Select s)) (two_others (Except, queries.Select t) (Union, queries.Select u))
+        ∙ ap (λ (q : Query). combined q (step Except (plain_query (queries.Select t)) (step Union (plain_query (queries.Select u)) last))) (simple_view s)
+        ∙ ap₂ (λ (q r : Query). combined (simple (plain_select s)) (step Except q (step Union r last))) (simple_view t) (simple_view u))

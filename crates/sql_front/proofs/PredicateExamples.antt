@@ -1,5 +1,5 @@
 -- Worked rows of period predicates, in the conditions of stored queries.
-use Rattle.std.proofs.Common.{◌≡◌, pos, List, [], ◌∷◌, Some, None, codes, refl}
+use Rattle.std.proofs.Common.{pos, List, [], ◌∷◌, Some, None, codes, refl}
 use Rattle.period_core.specs.TextReading.{date_at, date_parts_of, day_of_text, is_date}
 use Rattle.period_core.specs.declared.value.Value.TheVariants as value
 use Rattle.sql_statements.specs.declared.statement.Comparison.TheVariants.{Equal}
@@ -20,7 +20,7 @@ use Rattle.sql_front.specs.reading.ConditionReaders.{column_read, compare_read, 
 use Rattle.sql_front.specs.reading.PredicateReaders.{begins_contains_date, period_operand_read, predicate_ahead, predicate_read, relation_behind_column, relation_read, relation_word, stored_test_read, dates_read}
 use Rattle.sql_front.specs.reading.WindowReaders.{for_window_read}
 use Rattle.sql_front.specs.reading.StatementReaders.{statement_read, stored_read, stored_table_read, later_statement_read, query_statement_read}
-use Rattle.sql_front.specs.reading.Reading.{bounded_read, whole_read}
+use Rattle.sql_front.specs.reading.Reading.{bounded_read}
 use Rattle.sql_front.proofs.Spelling.{spelled_if_read}
 use Rattle.sql_front.proofs.StatementExamples.{digits, quoted_text, sign, word}
 use Rattle.sql_front.proofs.QueryExamples.{column, column_of, condition_of}
@@ -52,13 +52,9 @@ holding = asking (word (codes "T") ∷ sign (codes ".") ∷ word (codes "P") ∷
 abbrev holding_tree : Statement
 holding_tree = asked (condition_of (ContainsDay t_p (pos 15_008)))
 
-holding_is_read : whole_read (statement_read 0) holding ≡ Some holding_tree
+holding_spelled : IsStatement holding holding_tree
 unfolding statement_read later_statement_read query_statement_read stored_read stored_table_read for_window_read where_read condition_read conjunction_read factor_read test_read stored_test_read predicate_ahead relation_behind_column relation_word predicate_read period_operand_read dates_read begins_contains_date column_read date_read day_value day_of_token day_of_text date_at date_parts_of is_date name_read bounded_read is_plain_word is_reserved
-holding_is_read = refl
-
-pub holding_spelled : IsStatement holding holding_tree
-unfolding day_of_token day_of_text date_at date_parts_of is_date
-holding_spelled = spelled_if_read 0 holding holding_tree holding_is_read refl refl refl
+holding_spelled = spelled_if_read 0 holding holding_tree refl refl refl refl
 
 -- ---- predicates beside comparisons
 
@@ -79,9 +75,6 @@ grouped = any (conditions_of (
 abbrev mixed_tree : Statement
 mixed_tree = asked (any (conditions_of (all (conditions_of (negated (test (Periods p Overlaps q)) ∷ grouped ∷ [])) ∷ [])))
 
-mixed_is_read : whole_read (statement_read 1) mixed ≡ Some mixed_tree
+mixed_spelled : IsStatement mixed mixed_tree
 unfolding statement_read later_statement_read query_statement_read stored_read stored_table_read for_window_read where_read condition_read conjunction_read factor_read test_read inner_read stored_test_read predicate_ahead relation_behind_column relation_word predicate_read period_operand_read dates_read begins_contains_date relation_read compare_read operand_read comparison_read column_read literal_read unsigned_read number_read name_read bounded_read is_plain_word is_reserved
-mixed_is_read = refl
-
-pub mixed_spelled : IsStatement mixed mixed_tree
-mixed_spelled = spelled_if_read 1 mixed mixed_tree mixed_is_read refl refl refl
+mixed_spelled = spelled_if_read 1 mixed mixed_tree refl refl refl refl

@@ -1,5 +1,5 @@
 -- Worked rows of AT and of sequenced queries: items, new names, joins and chains.
-use Rattle.std.proofs.Common.{◌≡◌, ℕ, pos, List, [], ◌∷◌, Option, Some, None, codes, refl}
+use Rattle.std.proofs.Common.{ℕ, pos, List, [], ◌∷◌, Option, Some, None, codes, refl}
 use Rattle.period_core.specs.TextReading.{date_at, date_parts_of, fraction_at, is_date, is_time, moment_of_text, six_of, time_at, time_parts_of}
 use Rattle.sql_statements.specs.declared.statement.ColumnReference.{ColumnReference}
 use Rattle.sql_statements.specs.declared.statement.Compare.{Compare}
@@ -20,7 +20,7 @@ use Rattle.sql_front.specs.reading.WindowReaders.{for_window_read}
 use Rattle.sql_front.specs.reading.QueryReaders.{chain_read, item_read, join_read, joins_read, new_name_read, primary_read, query_read, reference_read, select_read, sequenced_read, step_read, steps_read, selected_read, from_read, joined_read, intersections_read, term_read}
 use Rattle.sql_front.specs.reading.ChangeReaders.{at_read}
 use Rattle.sql_front.specs.reading.StatementReaders.{statement_read, later_statement_read, query_statement_read}
-use Rattle.sql_front.specs.reading.Reading.{bounded_read, whole_read}
+use Rattle.sql_front.specs.reading.Reading.{bounded_read}
 use Rattle.sql_front.proofs.Spelling.{spelled_if_read}
 use Rattle.sql_front.proofs.StatementExamples.{quoted_text, sign, word}
 
@@ -33,13 +33,9 @@ clock = word (codes "AT") ∷ word (codes "TIMESTAMP") ∷ quoted_text (codes "'
 abbrev clocked : Statement
 clocked = at (pos 1_293_937_445_250_000)
 
-clock_is_read : whole_read (statement_read 0) clock ≡ Some clocked
+clock_spelled : IsStatement clock clocked
 unfolding statement_read later_statement_read query_statement_read at_read clock_moment_read clock_value clock_of_token moment_of_token moment_of_text date_at time_at fraction_at date_parts_of time_parts_of six_of is_date is_time
-clock_is_read = refl
-
-pub clock_spelled : IsStatement clock clocked
-unfolding clock_of_token moment_of_token moment_of_text date_at time_at fraction_at date_parts_of time_parts_of six_of is_date is_time
-clock_spelled = spelled_if_read 0 clock clocked clock_is_read refl refl refl
+clock_spelled = spelled_if_read 0 clock clocked refl refl refl refl
 
 -- ---- columns and new names
 
@@ -57,30 +53,6 @@ table name new_name = record { table = name; window = None; new_name = new_name 
 -- SELECT DISTINCT of these items
 abbrev selecting : List SelectItem → List JoinChain → Option (Condition Compare) → Statement
 selecting items chains condition = sequenced (combined (simple (record { items = items; chains = chains; condition = condition })) last)
-
--- VALIDTIME SELECT DISTINCT T.A AS B, C D FROM T
-abbrev renaming : List Lexeme
-renaming =
-    word (codes "VALIDTIME") ∷ word (codes "SELECT") ∷ word (codes "DISTINCT")
-    ∷ word (codes "T") ∷ sign (codes ".") ∷ word (codes "A") ∷ word (codes "AS") ∷ word (codes "B") ∷ sign (codes ",")
-    ∷ word (codes "C") ∷ word (codes "D") ∷ word (codes "FROM") ∷ word (codes "T") ∷ []
-
--- the first name of two is the table's, and a new name stands with AS or without
-abbrev renamed : Statement
-renamed =
-    selecting (
-    record { column = column_of (codes "T") (codes "A"); new_name = Some (codes "B") }
-    ∷ record { column = column (codes "C"); new_name = Some (codes "D") }
-    ∷ [])
-    (record { first = table (codes "T") None; joins = [] } ∷ [])
-    None
-
-renaming_is_read : whole_read (statement_read 0) renaming ≡ Some renamed
-unfolding statement_read later_statement_read query_statement_read sequenced_read query_read term_read intersections_read primary_read steps_read step_read select_read selected_read from_read item_read chain_read joins_read reference_read new_name_read for_window_read where_read column_read name_read bounded_read is_plain_word is_reserved
-renaming_is_read = refl
-
-pub renaming_spelled : IsStatement renaming renamed
-renaming_spelled = spelled_if_read 0 renaming renamed renaming_is_read refl refl refl
 
 -- ---- tables
 
@@ -122,9 +94,6 @@ listed = selected_from (
     ∷ record { first = table (codes "W") (Some (codes "Z")); joins = [] }
     ∷ [])
 
-listing_is_read : whole_read (statement_read 0) listing ≡ Some listed
+listing_spelled : IsStatement listing listed
 unfolding statement_read later_statement_read query_statement_read sequenced_read query_read term_read intersections_read primary_read steps_read step_read select_read selected_read from_read item_read chain_read join_read joined_read joins_read reference_read new_name_read for_window_read where_read condition_read conjunction_read factor_read test_read compare_read operand_read comparison_read column_read name_read bounded_read is_plain_word is_reserved
-listing_is_read = refl
-
-pub listing_spelled : IsStatement listing listed
-listing_spelled = spelled_if_read 0 listing listed listing_is_read refl refl refl
+listing_spelled = spelled_if_read 0 listing listed refl refl refl refl

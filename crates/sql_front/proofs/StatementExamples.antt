@@ -1,5 +1,5 @@
 -- Worked rows of statements.
-use Rattle.std.proofs.Common.{◌≡◌, ℕ, pos, neg_ℤ, List, [], ◌∷◌, ◌++◌, Some, None, codes, refl}
+use Rattle.std.proofs.Common.{ℕ, pos, neg_ℤ, List, [], ◌∷◌, ◌++◌, Some, None, codes, refl}
 use Rattle.period_core.specs.declared.value.Value.TheVariants as value
 use Rattle.sql_statements.specs.declared.statement.Compare.{Compare}
 use Rattle.sql_statements.specs.declared.statement.Comparison.TheVariants.{Equal}
@@ -20,7 +20,7 @@ use Rattle.sql_front.specs.reading.WindowReaders.{for_window_read}
 use Rattle.sql_front.specs.reading.QueryReaders.{chain_read, inner_query_read, item_read, joins_read, new_name_read, operator_read, primary_read, query_read, reference_read, select_read, sequenced_read, step_read, steps_read, selected_read, from_read, intersection_read, intersections_read, term_read}
 use Rattle.sql_front.specs.reading.ChangeReaders.{assignment_read, columns_read, delete_read, in_portion_read, insert_read, portion_read, update_read, named_portion_read, bounds_read, inserted_read, values_read, deleted_read, set_read}
 use Rattle.sql_front.specs.reading.StatementReaders.{statement_read, later_statement_read, query_statement_read}
-use Rattle.sql_front.specs.reading.Reading.{bounded_read, whole_read}
+use Rattle.sql_front.specs.reading.Reading.{bounded_read}
 use Rattle.sql_front.proofs.Spelling.{none_if_unread, spelled_if_read}
 
 -- ---- tokens
@@ -54,34 +54,13 @@ selected column table = record {
 abbrev undistinct : List Lexeme
 undistinct = word (codes "VALIDTIME") ∷ word (codes "SELECT") ∷ word (codes "ENO") ∷ word (codes "FROM") ∷ word (codes "EMP") ∷ []
 
-undistinct_is_not_read : whole_read (statement_read 5) undistinct ≡ None
+undistinct_spells_none : SpellsNone undistinct
 unfolding statement_read later_statement_read query_statement_read sequenced_read query_read term_read primary_read select_read selected_read from_read
-undistinct_is_not_read = refl
-
-pub undistinct_spells_none : SpellsNone undistinct
-undistinct_spells_none = none_if_unread undistinct undistinct_is_not_read
+undistinct_spells_none = none_if_unread undistinct refl
 
 -- ---- set operators
 
--- UNION DISTINCT and EXCEPT are of one strength, and apply from left to right
-abbrev chain : List Lexeme
-chain =
-    word (codes "VALIDTIME") ∷ select (codes "A") (codes "T") ++ word (codes "EXCEPT") ∷ select (codes "A") (codes "U")
-    ++ word (codes "UNION") ∷ word (codes "DISTINCT") ∷ select (codes "A") (codes "V")
-
-abbrev chained : Query
-chained =
-    combined (simple (selected (codes "A") (codes "T")))
-    (step Except (simple (selected (codes "A") (codes "U"))) (step Union (simple (selected (codes "A") (codes "V"))) last))
-
-chain_is_read : whole_read (statement_read 0) chain ≡ Some (sequenced chained)
-unfolding statement_read later_statement_read query_statement_read sequenced_read query_read term_read intersections_read primary_read operator_read steps_read step_read select_read selected_read from_read item_read chain_read joins_read reference_read new_name_read for_window_read where_read column_read name_read bounded_read is_plain_word is_reserved
-chain_is_read = refl
-
-pub operators_apply_from_left_to_right : IsStatement chain (sequenced chained)
-operators_apply_from_left_to_right = spelled_if_read 0 chain (sequenced chained) chain_is_read refl refl refl
-
--- parentheses make another query of it
+-- parentheses make UNION, which else comes after EXCEPT, its right side
 abbrev grouped : List Lexeme
 grouped =
     word (codes "VALIDTIME") ∷ select (codes "A") (codes "T") ++ word (codes "EXCEPT") ∷ sign (codes "(") ∷ select (codes "A") (codes "U")
@@ -92,12 +71,9 @@ grouping =
     combined (simple (selected (codes "A") (codes "T")))
     (step Except (combined (simple (selected (codes "A") (codes "U"))) (step Union (simple (selected (codes "A") (codes "V"))) last)) last)
 
-grouped_is_read : whole_read (statement_read 1) grouped ≡ Some (sequenced grouping)
+parentheses_group : IsStatement grouped (sequenced grouping)
 unfolding statement_read later_statement_read query_statement_read sequenced_read query_read inner_query_read term_read intersections_read primary_read operator_read steps_read step_read select_read selected_read from_read item_read chain_read joins_read reference_read new_name_read for_window_read where_read column_read name_read bounded_read is_plain_word is_reserved
-grouped_is_read = refl
-
-pub parentheses_group : IsStatement grouped (sequenced grouping)
-parentheses_group = spelled_if_read 1 grouped (sequenced grouping) grouped_is_read refl refl refl
+parentheses_group = spelled_if_read 1 grouped (sequenced grouping) refl refl refl refl
 
 -- INTERSECT binds tighter than EXCEPT, which stands before it
 abbrev tighter : List Lexeme
@@ -111,31 +87,9 @@ tied =
     combined (simple (selected (codes "A") (codes "T")))
     (step Except (combined (simple (selected (codes "A") (codes "U"))) (step Intersect (simple (selected (codes "A") (codes "V"))) last)) last)
 
-tighter_is_read : whole_read (statement_read 0) tighter ≡ Some (sequenced tied)
+intersect_binds_tighter : IsStatement tighter (sequenced tied)
 unfolding statement_read later_statement_read query_statement_read sequenced_read query_read term_read intersections_read intersection_read primary_read operator_read steps_read step_read select_read selected_read from_read item_read chain_read joins_read reference_read new_name_read for_window_read where_read column_read name_read bounded_read is_plain_word is_reserved
-tighter_is_read = refl
-
-pub intersect_binds_tighter : IsStatement tighter (sequenced tied)
-intersect_binds_tighter = spelled_if_read 0 tighter (sequenced tied) tighter_is_read refl refl refl
-
--- one INTERSECT after another, from left to right, and UNION after both
-abbrev intersections : List Lexeme
-intersections =
-    word (codes "VALIDTIME") ∷ select (codes "A") (codes "T") ++ word (codes "INTERSECT") ∷ select (codes "A") (codes "U")
-    ++ word (codes "intersect") ∷ word (codes "DISTINCT") ∷ select (codes "A") (codes "V") ++ word (codes "UNION") ∷ select (codes "A") (codes "W")
-
-abbrev intersected : Query
-intersected =
-    combined
-    (combined (simple (selected (codes "A") (codes "T"))) (step Intersect (simple (selected (codes "A") (codes "U"))) (step Intersect (simple (selected (codes "A") (codes "V"))) last)))
-    (step Union (simple (selected (codes "A") (codes "W"))) last)
-
-intersections_are_read : whole_read (statement_read 0) intersections ≡ Some (sequenced intersected)
-unfolding statement_read later_statement_read query_statement_read sequenced_read query_read term_read intersections_read intersection_read primary_read operator_read steps_read step_read select_read selected_read from_read item_read chain_read joins_read reference_read new_name_read for_window_read where_read column_read name_read bounded_read is_plain_word is_reserved
-intersections_are_read = refl
-
-pub intersections_apply_from_left_to_right : IsStatement intersections (sequenced intersected)
-intersections_apply_from_left_to_right = spelled_if_read 0 intersections (sequenced intersected) intersections_are_read refl refl refl
+intersect_binds_tighter = spelled_if_read 0 tighter (sequenced tied) refl refl refl refl
 
 -- ---- conditions
 
@@ -163,12 +117,9 @@ deleted = delete (record {
       ∷ [])));
 })
 
-deletion_is_read : whole_read (statement_read 0) deletion ≡ Some deleted
+and_binds_tighter_than_or : IsStatement deletion deleted
 unfolding statement_read later_statement_read query_statement_read delete_read deleted_read portion_read where_read condition_read conjunction_read factor_read test_read compare_read operand_read comparison_read column_read literal_read unsigned_read number_read name_read bounded_read is_plain_word is_reserved
-deletion_is_read = refl
-
-pub and_binds_tighter_than_or : IsStatement deletion deleted
-and_binds_tighter_than_or = spelled_if_read 0 deletion deleted deletion_is_read refl refl refl
+and_binds_tighter_than_or = spelled_if_read 0 deletion deleted refl refl refl refl
 
 -- ---- changes
 
@@ -187,13 +138,9 @@ inserted = insert (record {
   rows = (value.Int (pos 22217) ∷ value.Int (neg_ℤ (pos 3)) ∷ value.Text (codes "it's") ∷ value.Date (pos 14_610) ∷ []) ∷ [];
 })
 
-insertion_is_read : whole_read (statement_read 0) insertion ≡ Some inserted
+insertion_spelled : IsStatement insertion inserted
 unfolding statement_read later_statement_read query_statement_read insert_read inserted_read values_read columns_read name_read tuple_read literal_read unsigned_read number_read date_read day_value day_of_token day_of_text date_at date_parts_of is_date bounded_read is_plain_word is_reserved
-insertion_is_read = refl
-
-pub insertion_spelled : IsStatement insertion inserted
-unfolding day_of_token day_of_text date_at date_parts_of is_date
-insertion_spelled = spelled_if_read 0 insertion inserted insertion_is_read refl refl refl
+insertion_spelled = spelled_if_read 0 insertion inserted refl refl refl refl
 
 -- UPDATE EMP FOR PORTION OF EMP_PERIOD FROM DATE '2010-01-01' TO DATE '2011-01-01' SET DNO = 4
 abbrev change : List Lexeme
@@ -211,10 +158,6 @@ changed = update (record {
   condition = None;
 })
 
-change_is_read : whole_read (statement_read 0) change ≡ Some changed
+change_spelled : IsStatement change changed
 unfolding statement_read later_statement_read query_statement_read update_read set_read portion_read in_portion_read named_portion_read bounds_read assignment_read where_read name_read literal_read unsigned_read number_read date_read day_value day_of_token day_of_text date_at date_parts_of is_date bounded_read is_plain_word is_reserved
-change_is_read = refl
-
-pub change_spelled : IsStatement change changed
-unfolding day_of_token day_of_text date_at date_parts_of is_date
-change_spelled = spelled_if_read 0 change changed change_is_read refl refl refl
+change_spelled = spelled_if_read 0 change changed refl refl refl refl

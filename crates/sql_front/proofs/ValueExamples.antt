@@ -1,18 +1,17 @@
 -- Worked rows: the values of names, numbers, texts, dates and moments, and what is wrong with literals.
-use Rattle.std.proofs.Common.{◌≡◌, ℕ, ℤ, ◌≤◌, pos, neg_ℤ, true, false, List, [], ◌∷◌, None, Some, codes, refl, sym, ◌∙◌, subst, arith, lit≤}
+use Rattle.std.proofs.Common.{◌≡◌, ℕ, ℤ, ◌≤◌, pos, neg_ℤ, true, false, List, [], ◌∷◌, codes, refl, subst, arith, lit≤}
 use Rattle.sql_statements.specs.declared.token.TokenKind.TheVariants.{Word, Text}
 use Rattle.sql_statements.specs.Lexemes.{Lexeme}
 use Rattle.sql_statements.specs.Names.{is_name, is_plain_word}
 use Rattle.sql_statements.specs.Words.{is_reserved}
-use Rattle.sql_front.specs.LiteralValues.{IsDateToken, NamesClockMoment, NamesDay, NamesNegative, NamesNumber, text_value}
+use Rattle.sql_front.specs.LiteralValues.{IsDateToken, NamesClockMoment, NamesDay, NamesNegative, NamesNumber}
 use Rattle.period_core.specs.Encoding.{greatest_number}
 use Rattle.period_core.specs.TextReading.{date_at, date_parts_of, day_of_text, fraction_at, is_date, is_time, moment_of_text, six_of, time_at, time_parts_of}
 use Rattle.sql_front.specs.reading.LeafValues.{clock_of_token, day_of_token, moment_of_token}
-use Rattle.sql_front.specs.LiteralFaults.{HasBadDate, HasBadMoment}
-use Rattle.sql_front.specs.LiteralTests.{is_bad_date, is_bad_moment, somewhere}
+use Rattle.sql_front.specs.LiteralFaults.{HasBadDate}
 use Rattle.sql_front.proofs.LeafFacts.{clock_found, day_found, day_shown}
 use Rattle.period_core.proofs.OptionFacts.{none_some}
-use Rattle.sql_front.proofs.LiteralFaultFacts.{bad_date_somewhere, bad_moment_somewhere}
+use Rattle.sql_front.proofs.LiteralFaultFacts.{bad_date_somewhere}
 
 -- ---- names, numbers and texts
 
@@ -30,17 +29,11 @@ above_the_greatest_is_none n h = let low : 9_223_372_036_854_775_808 ≤ greates
 the_least : NamesNegative (codes "9223372036854775808") (neg_ℤ (pos 9_223_372_036_854_775_808))
 the_least = (refl, lit≤ tt)
 
-a_text : text_value (codes "'it''s'") ≡ codes "it's"
-a_text = refl
-
 -- ---- days
 
-no_day : day_of_token (codes "'2011-02-30'") ≡ None
-unfolding day_of_token day_of_text date_at date_parts_of is_date
-no_day = refl
-
 bad_date_is_none : IsDateToken (codes "'2011-02-30'") → ⊥
-bad_date_is_none h = none_some h.0 (sym no_day ∙ day_found (codes "'2011-02-30'") h.0 h.1)
+unfolding day_of_token day_of_text date_at date_parts_of is_date
+bad_date_is_none h = none_some h.0 (day_found (codes "'2011-02-30'") h.0 h.1)
 
 it_is_named : NamesDay (codes "'2010-01-01'") (pos 14_610)
 unfolding day_of_token day_of_text date_at date_parts_of is_date
@@ -48,17 +41,9 @@ it_is_named = day_shown (codes "'2010-01-01'") (pos 14_610) refl
 
 -- ---- moments
 
-the_open_end_is_no_clock_moment : clock_of_token (codes "'9999-12-31 23:59:59.999999'") ≡ None
-unfolding clock_of_token moment_of_token moment_of_text date_at time_at fraction_at date_parts_of time_parts_of six_of is_date is_time
-the_open_end_is_no_clock_moment = refl
-
 the_open_end_names_none : (m : ℤ) → NamesClockMoment (codes "'9999-12-31 23:59:59.999999'") m → ⊥
-the_open_end_names_none m h = none_some m (sym the_open_end_is_no_clock_moment ∙ clock_found (codes "'9999-12-31 23:59:59.999999'") m h)
-
--- the last whole second is a moment like any other
-the_last_second_is_named : clock_of_token (codes "'9999-12-31 23:59:59'") ≡ Some (pos 253_402_300_799_000_000)
-unfolding clock_of_token moment_of_token moment_of_text date_at time_at fraction_at date_parts_of time_parts_of is_date is_time
-the_last_second_is_named = refl
+unfolding clock_of_token moment_of_token moment_of_text date_at time_at fraction_at date_parts_of time_parts_of six_of is_date is_time
+the_open_end_names_none m h = none_some m (clock_found (codes "'9999-12-31 23:59:59.999999'") m h)
 
 -- ---- tokens
 
@@ -74,20 +59,6 @@ quoted text = record { kind = Text; text = text; start = 0; end = 0 }
 abbrev a_bad_date : List Lexeme
 a_bad_date = word (codes "DATE") ∷ quoted (codes "'2011-02-30'") ∷ []
 
-a_bad_date_tested : somewhere is_bad_date a_bad_date ≡ true
-unfolding day_of_token day_of_text date_at date_parts_of is_date
-a_bad_date_tested = refl
-
 it_is_bad : HasBadDate a_bad_date
-it_is_bad = (bad_date_somewhere a_bad_date).0 a_bad_date_tested
-
--- AT TIMESTAMP '9999-12-31 23:59:59.999999'
-abbrev at_open_end : List Lexeme
-at_open_end = word (codes "AT") ∷ word (codes "TIMESTAMP") ∷ quoted (codes "'9999-12-31 23:59:59.999999'") ∷ []
-
-at_open_end_tested : somewhere is_bad_moment at_open_end ≡ true
-unfolding clock_of_token moment_of_token moment_of_text date_at time_at fraction_at date_parts_of time_parts_of six_of is_date is_time
-at_open_end_tested = refl
-
-at_open_end_is_bad : HasBadMoment at_open_end
-at_open_end_is_bad = (bad_moment_somewhere at_open_end).0 at_open_end_tested
+unfolding day_of_token day_of_text date_at date_parts_of is_date
+it_is_bad = (bad_date_somewhere a_bad_date).0 refl

@@ -1,5 +1,5 @@
 -- Worked rows of system-time windows: AS OF, FROM and TO, BETWEEN and AND, of a stored query's table and of a reference.
-use Rattle.std.proofs.Common.{◌≡◌, pos, List, [], ◌∷◌, ◌++◌, Some, None, codes, refl}
+use Rattle.std.proofs.Common.{pos, List, [], ◌∷◌, ◌++◌, Some, None, codes, refl}
 use Rattle.period_core.specs.TextReading.{date_at, date_parts_of, fraction_at, is_date, is_time, moment_of_text, time_at, time_parts_of}
 use Rattle.sql_statements.specs.declared.statement.SystemTime.{SystemTime}
 use Rattle.sql_statements.specs.declared.statement.SystemTime.TheVariants.{AsOf, Between, FromTo}
@@ -14,7 +14,7 @@ use Rattle.sql_front.specs.reading.ConditionReaders.{column_read, where_read}
 use Rattle.sql_front.specs.reading.WindowReaders.{for_window_read, window_read, two_moments_read}
 use Rattle.sql_front.specs.reading.QueryReaders.{chain_read, item_read, joins_read, new_name_read, primary_read, query_read, reference_read, select_read, sequenced_read, step_read, steps_read, selected_read, from_read, intersections_read, term_read}
 use Rattle.sql_front.specs.reading.StatementReaders.{statement_read, stored_read, stored_table_read, later_statement_read, query_statement_read}
-use Rattle.sql_front.specs.reading.Reading.{bounded_read, whole_read}
+use Rattle.sql_front.specs.reading.Reading.{bounded_read}
 use Rattle.sql_front.proofs.Spelling.{spelled_if_read}
 use Rattle.sql_front.proofs.StatementExamples.{quoted_text, sign, word}
 use Rattle.sql_front.proofs.QueryExamples.{select_from, selected_from}
@@ -57,13 +57,9 @@ state = stored_from (as_of earlier)
 abbrev state_tree : Statement
 state_tree = stored_in (AsOf (pos 1_704_067_200_000_000))
 
-state_is_read : whole_read (statement_read 0) state ≡ Some state_tree
+state_spelled : IsStatement state state_tree
 unfolding statement_read later_statement_read query_statement_read stored_read stored_table_read for_window_read window_read two_moments_read clock_moment_read clock_value clock_of_token moment_of_token moment_of_text date_at time_at fraction_at date_parts_of time_parts_of is_date is_time where_read name_read is_plain_word is_reserved
-state_is_read = refl
-
-pub state_spelled : IsStatement state state_tree
-unfolding clock_of_token moment_of_token moment_of_text date_at time_at fraction_at date_parts_of time_parts_of is_date is_time
-state_spelled = spelled_if_read 0 state state_tree state_is_read refl refl refl
+state_spelled = spelled_if_read 0 state state_tree refl refl refl refl
 
 -- ---- the window of a reference, before its new name
 
@@ -80,10 +76,6 @@ several_tree = selected_from (
     ∷ record { first = record { table = codes "U"; window = Some (Between (pos 1_704_067_200_000_000) (pos 1_704_285_015_000_000)); new_name = None }; joins = [] }
     ∷ [])
 
-several_is_read : whole_read (statement_read 0) several ≡ Some several_tree
+several_spelled : IsStatement several several_tree
 unfolding statement_read later_statement_read query_statement_read sequenced_read query_read term_read intersections_read primary_read steps_read step_read select_read selected_read from_read item_read chain_read joins_read reference_read new_name_read for_window_read window_read two_moments_read moment_read moment_value moment_of_token moment_of_text date_at time_at fraction_at date_parts_of time_parts_of is_date is_time where_read column_read name_read bounded_read is_plain_word is_reserved
-several_is_read = refl
-
-pub several_spelled : IsStatement several several_tree
-unfolding moment_of_token moment_of_text date_at time_at fraction_at date_parts_of time_parts_of is_date is_time
-several_spelled = spelled_if_read 0 several several_tree several_is_read refl refl refl
+several_spelled = spelled_if_read 0 several several_tree refl refl refl refl

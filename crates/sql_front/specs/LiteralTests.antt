@@ -1,6 +1,6 @@
 -- The tests for what is wrong with literals, over the tokens from each place on.
 use Rattle.std.specs.Prelude.{◌||◌, ◌&&◌, ◌+◌, ℕ, ℤ, Bool, false, cond, nat_lt, is_none, List, []}
-use Rattle.std.specs.Prelude.{◌∷◌, Option, codes}
+use Rattle.std.specs.Prelude.{◌∷◌, Option, Some, None, codes}
 use Rattle.sql_statements.specs.Lexemes.{Lexeme}
 use Rattle.sql_front.specs.Language.{keyword, symbol, number, text, or_test}
 use Rattle.sql_front.specs.LiteralValues.{number_of_digits}
@@ -12,14 +12,19 @@ abbrev pub somewhere : (Lexeme → List Lexeme → Bool) → List Lexeme → Boo
 somewhere test [] = false
 somewhere test (t ∷ rest) = test t rest || somewhere test rest
 
--- a text of which nothing is read
-abbrev pub names_none : (List ℕ → Option ℤ) → Lexeme → Bool
-names_none read t = text t && is_none (read t.text)
+-- the text behind this word
+abbrev pub text_behind : List ℕ → Lexeme → List Lexeme → Option (List ℕ)
+text_behind word t [] = None
+text_behind word t (u ∷ rest) = cond (keyword word t && text u) (Some u.text) None
+
+-- there is a text, and nothing is read of it
+abbrev pub names_none : (List ℕ → Option ℤ) → Option (List ℕ) → Bool
+names_none read None = false
+names_none read (Some token) = is_none (read token)
 
 -- this word, then a text of which nothing is read
 abbrev pub is_unread : List ℕ → (List ℕ → Option ℤ) → Lexeme → List Lexeme → Bool
-is_unread word read t [] = false
-is_unread word read t (u ∷ rest) = keyword word t && names_none read u
+is_unread word read t rest = names_none read (text_behind word t rest)
 
 -- DATE, then a text that names no day
 abbrev pub is_bad_date : Lexeme → List Lexeme → Bool

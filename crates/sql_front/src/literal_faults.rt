@@ -1,6 +1,6 @@
 //! What is wrong with the literals of a piece: dates, moments and numbers.
 
-ghost use Rattle.std.specs.Prelude.{◌≡◌, ◌↔◌, false, IsTrue, IfSome, IfNone, codes};
+ghost use Rattle.std.specs.Prelude.{◌≡◌, ◌↔◌, false, IsTrue, IfSome, IfNone, codes, option_copied};
 ghost use Rattle.period_core.specs.Leasts.{IsLeast, NoneApplies};
 ghost use Rattle.sql_front.specs.reading.LeafValues.{clock_of_token};
 ghost use Rattle.sql_statements.specs.Lexemes.{lexeme, lexemes};
@@ -15,29 +15,34 @@ use crate::mark::{Mark, is_mark};
 use period_core::{GREATEST_NUMBER, Refusal};
 use sql_statements::token::{Token, TokenKind};
 
+/// The text behind this keyword, if the token behind it is one.
+fn text_behind<'a>(word: &str, first: &Token<'_>, after: &[Token<'a>]) -> Option<&'a str>
+    ensures { option_copied result
+        ≡ tests.text_behind word.now (lexeme first.now) (lexemes after.now) }
+{
+    match after {
+        [token, ..] if is_mark(first, Mark::Keyword(word)) && token.kind == TokenKind::Text => {
+            Some(token.text)
+        }
+        _ => None,
+    }
+}
+
 fn is_bad_date(first: &Token<'_>, after: &[Token<'_>]) -> bool
     ensures { result ≡ tests.is_bad_date (lexeme first.now) (lexemes after.now) }
 {
-    match after {
-        [] => false,
-        [token, ..] => {
-            is_mark(first, Mark::Keyword("DATE"))
-                && token.kind == TokenKind::Text
-                && day_of_token(token.text).is_none()
-        }
+    match text_behind("DATE", first, after) {
+        Some(token) => day_of_token(token).is_none(),
+        None => false,
     }
 }
 
 fn is_no_moment(first: &Token<'_>, after: &[Token<'_>]) -> bool
     ensures { result ≡ tests.is_no_moment (lexeme first.now) (lexemes after.now) }
 {
-    match after {
-        [] => false,
-        [token, ..] => {
-            is_mark(first, Mark::Keyword("TIMESTAMP"))
-                && token.kind == TokenKind::Text
-                && moment_of_token(token.text).is_none()
-        }
+    match text_behind("TIMESTAMP", first, after) {
+        Some(token) => moment_of_token(token).is_none(),
+        None => false,
     }
 }
 
@@ -45,13 +50,9 @@ fn is_no_clock_moment(first: &Token<'_>, after: &[Token<'_>]) -> bool
     ensures { result ≡ tests.is_unread (codes "TIMESTAMP") clock_of_token
         (lexeme first.now) (lexemes after.now) }
 {
-    match after {
-        [] => false,
-        [token, ..] => {
-            is_mark(first, Mark::Keyword("TIMESTAMP"))
-                && token.kind == TokenKind::Text
-                && clock_moment_of_token(token.text).is_none()
-        }
+    match text_behind("TIMESTAMP", first, after) {
+        Some(token) => clock_moment_of_token(token).is_none(),
+        None => false,
     }
 }
 

@@ -10,7 +10,7 @@ use sql_statements::token::Token;
 use std::alloc::Global;
 
 /// A run of tokens: from one index on and before another.
-#[derive(Clone, Copy, Debug, PartialEq, Eq)]
+#[derive(Clone, Copy, PartialEq, Eq)]
 pub struct Span {
     pub start: usize,
     pub end: usize,

@@ -6,7 +6,7 @@ ghost use Rattle.sql_front.specs.declared.unread.Unread.TheVariants.{Memory};
 use std::alloc::{AllocError, AllocFailed};
 
 /// Why no value was read.
-#[derive(Clone, Copy, Debug)]
+#[derive(Clone, Copy)]
 pub enum Unread {
     /// Memory ran out.
     Memory,

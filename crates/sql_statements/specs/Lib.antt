@@ -1,7 +1,6 @@
 pub mod Lexemes
 pub mod Lexis
 pub mod Words
-pub mod WordGroups
 pub mod Names
 pub mod Trees
 pub mod Elements

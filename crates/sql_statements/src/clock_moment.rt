@@ -7,7 +7,7 @@ use period_core::Moment;
 use std::marker::Model;
 
 /// A moment before the open end of system time: one that AT hands in, or that AS OF looks back to.
-#[derive(Clone, Copy, PartialEq, Eq, PartialOrd, Ord, Debug)]
+#[derive(Clone, Copy)]
 pub struct ClockMoment {
     moment: Moment,
 }

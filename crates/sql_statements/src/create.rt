@@ -10,7 +10,7 @@ use period_core::Items;
 use std::marker::Model;
 
 /// A column's type. A number is that of its token, not yet checked.
-#[derive(Clone, Copy, Debug, PartialEq, Eq)]
+#[derive(Clone, Copy)]
 pub enum TypeName {
     Integer,
     Date,
@@ -19,14 +19,14 @@ pub enum TypeName {
 }
 
 /// GENERATED ALWAYS AS ROW START or END.
-#[derive(Clone, Copy, Debug, PartialEq, Eq)]
+#[derive(Clone, Copy)]
 pub enum Generated {
     Start,
     End,
 }
 
 /// A column, with its type, and for a system column with the end that it holds.
-#[derive(Drop, Debug)]
+#[derive(Drop)]
 pub struct ColumnElement {
     pub name: Name,
     pub kind: TypeName,
@@ -34,7 +34,7 @@ pub struct ColumnElement {
 }
 
 /// PERIOD FOR a name, with its two columns.
-#[derive(Drop, Debug)]
+#[derive(Drop)]
 pub struct PeriodElement {
     pub name: Name,
     pub start: Name,
@@ -42,21 +42,21 @@ pub struct PeriodElement {
 }
 
 /// PERIOD FOR SYSTEM_TIME, with its two columns.
-#[derive(Drop, Debug)]
+#[derive(Drop)]
 pub struct SystemElement {
     pub start: Name,
     pub end: Name,
 }
 
 /// PRIMARY KEY: its columns, and its period WITHOUT OVERLAPS.
-#[derive(Drop, Debug)]
+#[derive(Drop)]
 pub struct KeyElement {
     pub columns: NonEmpty<Name>,
     pub period: Name,
 }
 
 /// FOREIGN KEY: the child's columns and period, and the parent's.
-#[derive(Drop, Debug)]
+#[derive(Drop)]
 pub struct ReferenceElement {
     pub columns: NonEmpty<Name>,
     pub period: Name,
@@ -66,7 +66,7 @@ pub struct ReferenceElement {
 }
 
 /// CREATE TABLE of a name with these elements.
-#[derive(Drop, Debug)]
+#[derive(Drop)]
 pub struct CreateTable {
     pub name: Name,
     pub columns: Items<ColumnElement>,
@@ -77,7 +77,7 @@ pub struct CreateTable {
 }
 
 /// CREATE TABLE of one element or more, of whatever kind, which contracts see as the table.
-#[derive(Drop, Debug)]
+#[derive(Drop)]
 pub struct CreateStatement {
     table: CreateTable,
 }

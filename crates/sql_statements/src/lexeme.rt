@@ -11,7 +11,7 @@ use crate::scan::{
 use crate::token::TokenKind;
 
 /// What comes first, and how many bytes it takes.
-#[derive(Clone, Copy, Debug)]
+#[derive(Clone, Copy)]
 pub enum Front {
     /// White space or a comment.
     Blank(usize),

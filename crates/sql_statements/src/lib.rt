@@ -2,8 +2,8 @@
 //! statements use this one alone; `sql_front` reads statements from text.
 //!
 //! To add a form of statement: its variant in `StatementForm`, and its plain tree in `specs/Trees`
-//! and in `plain_form` of `specs/Plain`. A new keyword that is no name: `specs/Words`, and its
-//! group in `specs/WordGroups` and in `words`. What reads the statement is listed in `sql_front`.
+//! and in `plain_form` of `specs/Plain`. A new keyword that is no name: `specs/Words` and `words`.
+//! What reads the statement is listed in `sql_front`.
 #![tactic(auto)]
 
 pub mod clock_moment;

@@ -12,7 +12,7 @@ use std::alloc::Global;
 use std::marker::Model;
 
 /// A name: a word that is not reserved, in upper case.
-#[derive(Drop, Debug)]
+#[derive(Drop)]
 pub struct Name {
     text: Text,
 }

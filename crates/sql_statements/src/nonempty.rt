@@ -6,7 +6,7 @@ use period_core::Items;
 use std::marker::Model;
 
 /// A list of one element or more, which contracts see as its elements.
-#[derive(Drop, Debug)]
+#[derive(Drop)]
 pub struct NonEmpty<T> {
     items: Items<T>,
 }

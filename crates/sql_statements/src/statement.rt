@@ -12,14 +12,14 @@ use crate::tree::{QueryTree, Tree};
 use period_core::{Day, Items, Moment, Value};
 
 /// A column, with the name of its table reference before it or without.
-#[derive(Drop, Debug)]
+#[derive(Drop)]
 pub struct ColumnReference {
     pub qualifier: Option<Name>,
     pub name: Name,
 }
 
 /// How two values are compared.
-#[derive(Clone, Copy, Debug, PartialEq, Eq)]
+#[derive(Clone, Copy, Debug)]
 pub enum Comparison {
     Equal,
     NotEqual,
@@ -30,14 +30,14 @@ pub enum Comparison {
 }
 
 /// A side of a comparison.
-#[derive(Drop, Debug)]
+#[derive(Drop)]
 pub enum Operand {
     Column(ColumnReference),
     Literal(Value),
 }
 
 /// Two operands compared.
-#[derive(Drop, Debug)]
+#[derive(Drop)]
 pub struct Compare {
     pub left: Operand,
     pub comparison: Comparison,
@@ -45,7 +45,7 @@ pub struct Compare {
 }
 
 /// The period predicates of ISO/IEC 9075-2:2011, but for those on a day.
-#[derive(Clone, Copy, Debug, PartialEq, Eq)]
+#[derive(Clone, Copy)]
 pub enum PeriodPredicate {
     Overlaps,
     Equals,
@@ -57,14 +57,14 @@ pub enum PeriodPredicate {
 }
 
 /// A side of a period predicate: a period by its name, or PERIOD with its start and its end.
-#[derive(Drop, Debug)]
+#[derive(Drop)]
 pub enum PeriodOperand {
     Named(ColumnReference),
     Dates(Day, Day),
 }
 
 /// A test in the condition of a stored query.
-#[derive(Drop, Debug)]
+#[derive(Drop)]
 pub enum StoredTest {
     Values(Compare),
     Periods(PeriodOperand, PeriodPredicate, PeriodOperand),
@@ -72,7 +72,7 @@ pub enum StoredTest {
 }
 
 /// FOR PORTION OF a period, from a day on and before another.
-#[derive(Drop, Debug)]
+#[derive(Drop)]
 pub struct Portion {
     pub period: Name,
     pub from: Day,
@@ -80,7 +80,7 @@ pub struct Portion {
 }
 
 /// The system-time window of a table reference. AS OF names a moment that the clock may have.
-#[derive(Clone, Copy, Debug)]
+#[derive(Clone, Copy)]
 pub enum SystemTime {
     AsOf(ClockMoment),
     FromTo(Moment, Moment),
@@ -88,7 +88,7 @@ pub enum SystemTime {
 }
 
 /// A table in FROM, with its system-time window and its new name.
-#[derive(Drop, Debug)]
+#[derive(Drop)]
 pub struct TableReference {
     pub table: Name,
     pub window: Option<SystemTime>,
@@ -96,28 +96,28 @@ pub struct TableReference {
 }
 
 /// JOIN of a table, with its condition.
-#[derive(Drop, Debug)]
+#[derive(Drop)]
 pub struct Join {
     pub reference: TableReference,
     pub condition: Tree<Compare>,
 }
 
 /// Tables that are joined from left to right.
-#[derive(Drop, Debug)]
+#[derive(Drop)]
 pub struct JoinChain {
     pub first: TableReference,
     pub joins: Items<Join>,
 }
 
 /// A column of the select list, with its new name.
-#[derive(Drop, Debug)]
+#[derive(Drop)]
 pub struct SelectItem {
     pub column: ColumnReference,
     pub new_name: Option<Name>,
 }
 
 /// SELECT DISTINCT: each row once.
-#[derive(Drop, Debug)]
+#[derive(Drop)]
 pub struct SelectDistinct {
     pub items: NonEmpty<SelectItem>,
     pub chains: NonEmpty<JoinChain>,
@@ -126,7 +126,7 @@ pub struct SelectDistinct {
 
 /// INSERT of rows, for the columns that are listed, or else for all but the system columns, in
 /// declared order. Whether each row has a value for each of them is judged against the table.
-#[derive(Drop, Debug)]
+#[derive(Drop)]
 pub struct InsertRows {
     pub table: Name,
     pub columns: Option<NonEmpty<Name>>,
@@ -134,14 +134,14 @@ pub struct InsertRows {
 }
 
 /// `column = literal` in SET.
-#[derive(Drop, Debug)]
+#[derive(Drop)]
 pub struct Assignment {
     pub column: Name,
     pub value: Value,
 }
 
 /// UPDATE of the rows that meet a condition, of each the part in the portion.
-#[derive(Drop, Debug)]
+#[derive(Drop)]
 pub struct UpdateRows {
     pub table: Name,
     pub portion: Option<Portion>,
@@ -150,7 +150,7 @@ pub struct UpdateRows {
 }
 
 /// DELETE of the rows that meet a condition, of each the part in the portion.
-#[derive(Drop, Debug)]
+#[derive(Drop)]
 pub struct DeleteRows {
     pub table: Name,
     pub portion: Option<Portion>,
@@ -158,7 +158,7 @@ pub struct DeleteRows {
 }
 
 /// SELECT * of the versions of a table.
-#[derive(Drop, Debug)]
+#[derive(Drop)]
 pub struct StoredQuery {
     pub table: Name,
     pub window: Option<SystemTime>,
@@ -166,7 +166,7 @@ pub struct StoredQuery {
 }
 
 /// What a statement says.
-#[derive(Drop, Debug)]
+#[derive(Drop)]
 pub enum StatementForm {
     /// AT: the moment of the statements that follow.
     At(ClockMoment),
@@ -180,7 +180,7 @@ pub enum StatementForm {
 }
 
 /// A statement of the language, as `parse` makes it.
-#[derive(Drop, Debug)]
+#[derive(Drop)]
 pub struct Statement {
     form: StatementForm,
 }

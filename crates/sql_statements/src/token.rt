@@ -14,7 +14,7 @@ pub enum TokenKind {
 }
 
 /// A token: the slice of the script from one byte on and before another.
-#[derive(Clone, Copy, Debug)]
+#[derive(Clone, Copy)]
 pub struct Token<'a> {
     pub kind: TokenKind,
     pub text: &'a str,

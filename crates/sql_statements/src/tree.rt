@@ -2,7 +2,7 @@
 //! a tree is, is bounded by the parentheses of its text.
 
 /// A condition over tests.
-#[derive(Drop, Debug)]
+#[derive(Drop)]
 pub enum Tree<T> {
     /// A chain of OR: its first part, and the others in their order.
     Or(Box<Tree<T>>, Vec<Tree<T>>),
@@ -13,7 +13,7 @@ pub enum Tree<T> {
 }
 
 /// What a set operator does with the rows of its two sides. Each gives a row once.
-#[derive(Clone, Copy, Debug, PartialEq, Eq)]
+#[derive(Clone, Copy)]
 pub enum SetOperator {
     /// The rows of either side.
     Union,
@@ -24,7 +24,7 @@ pub enum SetOperator {
 }
 
 /// A query over selects.
-#[derive(Drop, Debug)]
+#[derive(Drop)]
 pub enum QueryTree<S> {
     Select(S),
     /// A query, and the set operators that apply after it, from left to right.

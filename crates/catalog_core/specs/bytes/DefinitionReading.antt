@@ -24,6 +24,7 @@ HasNoFront {A} fits written values =
 abbrev pub is_any : ℕ → Bool
 is_any n = true
 
+-- a number below the limit
 abbrev pub is_below : ℕ → ℕ → Bool
 is_below limit n = nat_lt n limit
 
@@ -31,6 +32,7 @@ is_below limit n = nat_lt n limit
 abbrev pub are_so_many : {X : Type 0} → ℕ → (X → Bool) → List X → Bool
 are_so_many count test xs = length xs == count && list_all test xs
 
+-- a name as one value
 abbrev pub name_values : List ℕ → List Value
 name_values name = Text name ∷ []
 
@@ -38,8 +40,10 @@ name_values name = Text name ∷ []
 abbrev pub is_column : Column → Bool
 is_column c = is_name c.name && is_kind c.kind
 
+-- a period of a table with so many columns, whose name is one
 abbrev pub is_named_period : ℕ → PeriodColumns → Bool
 is_named_period count p = is_name p.name && is_period count p
 
+-- a reference of a table with so many columns, whose parent's number is one of a table
 abbrev pub is_small_reference : ℕ → Reference → Bool
 is_small_reference count r = nat_lt r.parent table_number_limit && is_reference count r

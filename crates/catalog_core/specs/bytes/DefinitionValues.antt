@@ -15,6 +15,7 @@ use Rattle.catalog_core.specs.declared.table.TableDef.{TableDef}
 abbrev pub number : ℕ → Value
 number n = Int (pos n)
 
+-- a place as one value
 abbrev pub place_values : ℕ → List Value
 place_values place = number place ∷ []
 
@@ -31,6 +32,7 @@ kind_values Date = number 3 ∷ number 0 ∷ []
 kind_values (RowStart p) = number 4 ∷ Int (written_precision p) ∷ []
 kind_values (RowEnd p) = number 5 ∷ Int (written_precision p) ∷ []
 
+-- the column's name, then what it holds
 abbrev pub column_values : Column → List Value
 column_values c = Text c.name ∷ kind_values c.kind
 

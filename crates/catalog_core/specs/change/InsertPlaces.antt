@@ -30,10 +30,12 @@ unfoldable pub is_wrong_at : Wrong → List Column → ℕ × Value → Bool
 is_wrong_at way columns given =
     passes (λ (x : Column). is_wrong_for way x.kind given.1) (slice_get columns given.0)
 
+-- a value of the row is wrong for the column at its place
 unfoldable pub gives_wrong_at : Wrong → List Column → List ℕ → List Value → Bool
 gives_wrong_at way columns places row =
     list_any (λ (given : ℕ × Value). is_wrong_at way columns given) (zip places row)
 
+-- some row gives such a value
 unfoldable pub has_wrong_at : Wrong → List Column → List ℕ → List (List Value) → Bool
 has_wrong_at way columns places rows =
     list_any (λ (row : List Value). gives_wrong_at way columns places row) rows
@@ -57,6 +59,7 @@ row_at t places row =
 abbrev pub HasValue : List ℕ → List Value → ℕ → Type 0
 HasValue places row place = (value : Value) × (value_at places row place ≡ Some value)
 
+-- the row gives the column at the place a date
 abbrev pub HasDate : List ℕ → List Value → ℕ → Type 0
 HasDate places row place = (day : ℤ) × (value_at places row place ≡ Some (Date day))
 

@@ -56,6 +56,7 @@ lacks_table catalog i = is_none (table_of_name catalog i.table)
 unfoldable pub lists_unknown : TableDef → InsertRows → Bool
 lists_unknown t i = passes (some_def_match t Nothing) i.columns
 
+-- 25: a name in the list that several columns match
 unfoldable pub lists_ambiguous : TableDef → InsertRows → Bool
 lists_ambiguous t i = passes (some_def_match t Several) i.columns
 
@@ -68,9 +69,11 @@ unfoldable pub is_system_name : TableDef → Name → Bool
 is_system_name t name =
     list_any (λ (x : Column). bytes_eq name x.name && is_system x.kind) t.columns
 
+-- one of the names is that of a system column
 unfoldable pub some_system_name : TableDef → List Name → Bool
 some_system_name t names = list_any (λ name. is_system_name t name) names
 
+-- 27: the list has such a name
 unfoldable pub lists_system : TableDef → InsertRows → Bool
 lists_system t i = passes (some_system_name t) i.columns
 
@@ -79,9 +82,11 @@ unfoldable pub lacks_some : TableDef → List Name → Bool
 lacks_some t names =
     list_any (λ (x : Column). not (is_system x.kind) && match_count names x.name == 0) t.columns
 
+-- some row has another number of values
 unfoldable pub some_other_length : ℕ → List (List Value) → Bool
 some_other_length count rows = list_any (λ (row : List Value). not (length row == count)) rows
 
+-- 29: the list lacks a column, or a row has another number of values
 unfoldable pub has_other_count : TableDef → InsertRows → Bool
 has_other_count t i =
     passes (lacks_some t) i.columns
@@ -96,6 +101,7 @@ unfoldable pub is_longer : ColumnKind → Value → Bool
 is_longer (kind.Varchar n) (Text t) = nat_lt n (length (chars t))
 is_longer _ _ = false
 
+-- a text that is too long for the column of the value's name
 unfoldable pub is_too_long : TableDef → Name × Value → Bool
 is_too_long t given =
     list_any (λ (x : Column). bytes_eq given.0 x.name && is_longer x.kind given.1) t.columns
@@ -105,10 +111,12 @@ unfoldable pub is_wrong : Wrong → TableDef → Name × Value → Bool
 is_wrong wrong.Kind t given = is_of_other_kind t given
 is_wrong wrong.Length t given = is_too_long t given
 
+-- a value of the row is wrong so
 unfoldable pub gives_wrong : Wrong → TableDef → Option (List Name) → List Value → Bool
 gives_wrong way t list row =
     list_any (λ (given : Name × Value). is_wrong way t given) (given_values t list row)
 
+-- 30 and 31: some row gives such a value
 unfoldable pub has_wrong : Wrong → TableDef → InsertRows → Bool
 has_wrong way t i = list_any (λ (row : List Value). gives_wrong way t i.columns row) i.rows
 
@@ -123,14 +131,17 @@ unfoldable pub value_for : TableDef → Option (List Name) → List Value → �
 value_for t list row place =
     option_and_then (λ (x : Column). given_value t list row x.name) (slice_get t.columns place)
 
+-- two dates, of which the second is not after the first
 unfoldable pub is_no_period : Option Value → Option Value → Bool
 is_no_period (Some (Date start)) (Some (Date end)) = int_le end start
 is_no_period _ _ = false
 
+-- the row gives such dates for the start and the end of its period
 unfoldable pub gives_no_period : TableDef → Option (List Name) → List Value → Bool
 gives_no_period t list row =
     is_no_period (value_for t list row t.period.start) (value_for t list row t.period.end)
 
+-- 41: some row gives such dates
 unfoldable pub has_no_period : TableDef → InsertRows → Bool
 has_no_period t i = list_any (λ (row : List Value). gives_no_period t i.columns row) i.rows
 

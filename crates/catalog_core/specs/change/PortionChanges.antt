@@ -32,6 +32,7 @@ use Rattle.catalog_core.specs.declared.table.TableDef.{TableDef}
 unfoldable pub lacks_named : List TableDef → Name → Bool
 lacks_named catalog name = is_none (table_of_name catalog name)
 
+-- the table of this name passes the test, if it is there
 abbrev pub of_named : (TableDef → Bool) → List TableDef → Name → Bool
 of_named asked catalog name = passes asked (table_of_name catalog name)
 
@@ -42,6 +43,7 @@ is_flawed_update flaw u t =
     || (list_any (λ (a : written.Assignment). is_flawed_set flaw t a) u.assignments
     || has_test (is_flawed_compare flaw t) u.condition)
 
+-- some part of a DELETE has the flaw
 unfoldable pub is_flawed_delete : Flaw → Delete → TableDef → Bool
 is_flawed_delete flaw d t =
     is_flawed_portion flaw t d.portion || has_test (is_flawed_compare flaw t) d.condition
@@ -58,6 +60,7 @@ update_faults t u =
     ∷ (EmptyPeriod, is_flawed_update Empty u t)
     ∷ []
 
+-- 24 to 30 and 41 for a DELETE over the table that is there
 abbrev pub delete_faults : TableDef → Delete → List Judged
 delete_faults t d =
     (UnknownColumn, is_flawed_delete Unknown d t)
@@ -100,6 +103,7 @@ pub record IsUpdateOf (t : TableDef) (u : Update) (portion : Option Period)
   pub sets : map (numbered_set t) u.assignments ≡ map (λ a. Some a) assignments
   pub rows : ResolvesWhere (numbered_compare t) u.condition condition
 
+-- the action is the same UPDATE
 abbrev pub UpdatesAs : TableDef → Update → Action → Type 0
 UpdatesAs t u (action.Update portion assignments condition) =
     IsUpdateOf t u portion assignments condition
@@ -111,6 +115,7 @@ pub record IsDeleteOf (t : TableDef) (d : Delete) (portion : Option Period)
   pub days : portion_days d.portion ≡ period_days portion
   pub rows : ResolvesWhere (numbered_compare t) d.condition condition
 
+-- the action is the same DELETE
 abbrev pub DeletesAs : TableDef → Delete → Action → Type 0
 DeletesAs t d (action.Delete portion condition) = IsDeleteOf t d portion condition
 DeletesAs t d _ = ⊥
@@ -123,6 +128,7 @@ pub record ResolvesUpdate (catalog : List TableDef) (u : Update) (change : Chang
     pub table : table_of catalog change.table ≡ Some definition
     pub action : UpdatesAs definition u change.action
 
+-- the same DELETE of the table that it names
 pub record ResolvesDelete (catalog : List TableDef) (d : Delete) (change : Change) : Type 0
   where
     pub definition : TableDef

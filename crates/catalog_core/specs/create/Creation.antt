@@ -44,6 +44,7 @@ use Rattle.catalog_core.specs.declared.table.TableDef.{TableDef}
 abbrev pub own_matches : CreateTable → Name → ℕ
 own_matches c name = matches_among (λ (x : ColumnElement). x.name) c.columns name
 
+-- how many of the statement's application periods have the name
 unfoldable pub period_matches : CreateTable → Name → ℕ
 period_matches c name = count_by (λ (x : PeriodElement). bytes_eq name x.name) c.periods
 
@@ -76,6 +77,7 @@ unfoldable pub has_sort : CreateTable → ColumnSort → Name → Bool
 has_sort c sort name =
     list_any (λ (x : ColumnElement). bytes_eq name x.name && is_of_sort sort x) c.columns
 
+-- how many columns are of the sort
 unfoldable pub sort_count : CreateTable → ColumnSort → ℕ
 sort_count c sort = count_by (λ (x : ColumnElement). is_of_sort sort x) c.columns
 
@@ -102,6 +104,7 @@ unfoldable pub names_other_period : List TableDef → ReferenceElement → Bool
 names_other_period catalog x =
     passes (λ (t : TableDef). not (bytes_eq x.parent_period t.period.name)) (parent_of catalog x)
 
+-- a key or a reference names a period that isn't there, of its own table or of the parent
 unfoldable pub lacks_period : List TableDef → CreateTable → Bool
 lacks_period catalog c =
     list_any (λ (x : KeyElement). is_matching Nothing (period_matches c x.period)) c.keys
@@ -121,6 +124,7 @@ is_ambiguous catalog c = some_match catalog c Several
 unfoldable pub is_shared : CreateTable → Name → Bool
 is_shared c name = is_matching Several (own_matches c name + period_matches c name)
 
+-- some name is shared so, or repeated in a list
 unfoldable pub repeats_name : CreateTable → Bool
 repeats_name c =
     list_any (λ (x : ColumnElement). is_shared c x.name) c.columns
@@ -138,9 +142,11 @@ is_no_value_column c name =
     c.system_periods
     || has_sort c System name
 
+-- one of the names is that of a period or system column
 unfoldable pub some_no_value : CreateTable → List Name → Bool
 some_no_value c names = list_any (λ name. is_no_value_column c name) names
 
+-- 27: a key or a reference has such a name among its own columns
 unfoldable pub keys_period_column : CreateTable → Bool
 keys_period_column c =
     list_any (λ (x : KeyElement). some_no_value c x.columns) c.keys
@@ -182,6 +188,7 @@ is_bad_type (Varchar n) generated = generated || nat_lt n 1 || nat_lt most_code_
 is_bad_type (Timestamp None) generated = not generated
 is_bad_type (Timestamp (Some p)) generated = not generated || nat_lt greatest_precision p
 
+-- a column has such a type
 unfoldable pub has_bad_column : CreateTable → Bool
 has_bad_column c =
     list_any (λ (x : ColumnElement). is_bad_type x.kind (is_some x.generated)) c.columns
@@ -192,6 +199,7 @@ is_used_otherwise c period =
     list_any (λ (x : KeyElement). not (bytes_eq x.period period)) c.keys
     || list_any (λ (x : ReferenceElement). not (bytes_eq x.period period)) c.references
 
+-- some key or reference is over another period than its table's
 unfoldable pub has_other_period : List TableDef → CreateTable → Bool
 has_other_period catalog c =
     list_any (λ (x : PeriodElement). is_used_otherwise c x.name) c.periods
@@ -202,20 +210,25 @@ has_other_period catalog c =
 unfoldable pub is_at : TableDef → ℕ → Name → Bool
 is_at t place name = passes (λ (x : Column). bytes_eq name x.name) (slice_get t.columns place)
 
+-- the name is that of a key column
 unfoldable pub is_key_name : TableDef → Name → Bool
 is_key_name t name = list_any (λ place. is_at t place name) t.key
 
+-- one of the names is that of the column at a place
 unfoldable pub is_named : TableDef → List Name → ℕ → Bool
 is_named t names place = list_any (λ name. is_at t place name) names
 
+-- each name is a key column, and each key column is named
 unfoldable pub are_key : TableDef → List Name → Bool
 are_key t names =
     list_all (λ name. is_key_name t name) names && list_all (λ place. is_named t names place) t.key
 
+-- a reference names other columns than its parent's key
 unfoldable pub names_no_key : List TableDef → ReferenceElement → Bool
 names_no_key catalog x =
     passes (λ (t : TableDef). not (are_key t x.parent_columns)) (parent_of catalog x)
 
+-- some reference does
 unfoldable pub references_no_key : List TableDef → CreateTable → Bool
 references_no_key catalog c =
     list_any (λ (x : ReferenceElement). names_no_key catalog x) c.references
@@ -242,14 +255,17 @@ own_kind c name =
     option_map (λ (x : ColumnElement). kind_of_type x.kind)
     (find_among (λ (x : ColumnElement). x.name) c.columns name)
 
+-- columns at the same place of two lists of names are of two kinds
 unfoldable pub have_other_kinds : CreateTable → TableDef → List Name → List Name → Bool
 have_other_kinds c t own others =
     list_any (λ (p : Name × Name). differ (own_kind c p.0) (def_kind t p.1)) (zip own others)
 
+-- a reference has such columns
 unfoldable pub names_other_kind : List TableDef → CreateTable → ReferenceElement → Bool
 names_other_kind catalog c x =
     passes (λ (t : TableDef). have_other_kinds c t x.columns x.parent_columns) (parent_of catalog x)
 
+-- 30: some reference has
 unfoldable pub references_other_kind : List TableDef → CreateTable → Bool
 references_other_kind catalog c =
     list_any (λ (x : ReferenceElement). names_other_kind catalog c x) c.references

@@ -34,6 +34,7 @@ is_row_start Date = false
 is_row_start (RowStart p) = true
 is_row_start (RowEnd p) = false
 
+-- a ROW END column
 abbrev pub is_row_end : ColumnKind → Bool
 is_row_end Integer = false
 is_row_end (Varchar n) = false

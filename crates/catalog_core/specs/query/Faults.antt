@@ -94,6 +94,7 @@ abbrev pub side_faults : List SeenColumn → Operand → Faults
 side_faults columns (operand.Column column) = match_faults (matches_among columns column)
 side_faults columns (operand.Literal value) = no_faults
 
+-- the kind of a side: its column's, or its literal's
 abbrev pub side_kind : List SeenColumn → Operand → Option ValueKind
 side_kind columns (operand.Column column) = match_kind (matches_among columns column)
 side_kind columns (operand.Literal value) = Some (kind_of_value value)
@@ -155,6 +156,7 @@ select_faults_over catalog columns select =
     (either (where_faults columns select.condition)
     (faults_among (item_faults columns) select.items))
 
+-- of a select, by the columns that its tables have
 unfoldable pub select_faults : List TableDef → Select → Faults
 select_faults catalog select =
     select_faults_over catalog (seen_columns catalog (tables_of select)) select

@@ -37,6 +37,7 @@ abbrev pub placed_members : (ColumnReference → ℕ) → Condition Compare → 
 placed_members place condition =
     map (map_condition (λ leaf. Some (place_compare place leaf))) (members condition)
 
+-- the members of a condition of a select, by what it sees
 abbrev pub scoped_members : List TableDef → ScopedCondition → List Placed
 scoped_members catalog c = placed_members (scope_place catalog c.0) c.1
 

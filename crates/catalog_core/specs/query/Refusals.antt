@@ -46,9 +46,11 @@ some_column condition catalog select =
     list_any (λ (c : Scope × ColumnReference). condition (matches_of catalog c.0 c.1))
     (columns_in select)
 
+-- so many columns match
 abbrev pub are_matching : Matching → List SeenColumn → Bool
 are_matching wanted matches = is_matching wanted (length matches)
 
+-- one that matches is a period or system column, so that rows have no value for it
 abbrev pub are_of_period : List SeenColumn → Bool
 are_of_period matches = list_any (λ seen. not (has_value seen)) matches
 
@@ -79,6 +81,7 @@ compares_kinds catalog select =
 unfoldable pub have_other_count : Select × Select → Bool
 have_other_count (left, right) = not (length left.items == length right.items)
 
+-- the kinds of a select's items
 abbrev pub item_kinds : List TableDef → Select → List (Option ValueKind)
 item_kinds catalog select =
     map (λ (item : SelectItem). column_kind catalog (whole_scope select) item.column) select.items

@@ -47,6 +47,7 @@ column_position catalog scope reference =
 
 -- ---- conditions
 
+-- the parts of an AND or an OR as a list
 abbrev pub list_of : {T : Type 0} → Conditions T → List (Condition T)
 list_of none = []
 list_of (more part parts) = part ∷ list_of parts
@@ -86,6 +87,7 @@ value_kinds table = map (λ (c : ℕ × Column). kind_of_column c.1.kind) (value
 abbrev pub ReferenceParts : Type 0
 ReferenceParts = Option ℕ × Window × Option (List ValueKind)
 
+-- of a table reference as it is written
 abbrev pub written_reference : List TableDef → TableReference → ReferenceParts
 written_reference catalog r = (
   number_of catalog r.table,

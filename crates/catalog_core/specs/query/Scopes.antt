@@ -25,6 +25,7 @@ use Rattle.catalog_core.specs.declared.table.ValueKind.{ValueKind}
 abbrev pub chain_tables : JoinChain → List TableReference
 chain_tables chain = chain.first ∷ map (λ (join : Join). join.reference) chain.joins
 
+-- the tables of a select, chain by chain
 abbrev pub tables_of : Select → List TableReference
 tables_of select = flat_map chain_tables select.chains
 
@@ -58,12 +59,14 @@ chain_conditions before seen (join ∷ joins) =
     (record { before = before; seen = seen ++ join.reference ∷ [] }, join.condition)
     ∷ chain_conditions before (seen ++ join.reference ∷ []) joins
 
+-- the conditions of ON of these chains, which come after other tables
 abbrev pub on_conditions : List TableReference → List JoinChain → List ScopedCondition
 on_conditions before [] = []
 on_conditions before (chain ∷ chains) =
     chain_conditions before (chain.first ∷ []) chain.joins
     ++ on_conditions (before ++ chain_tables chain) chains
 
+-- the condition of WHERE, if there is one
 abbrev pub where_conditions : Scope → Option (Condition Compare) → List ScopedCondition
 where_conditions scope None = []
 where_conditions scope (Some condition) = (scope, condition) ∷ []
@@ -93,10 +96,12 @@ tests_in select =
     flat_map (λ (c : ScopedCondition). map (λ (t : Compare). (c.0, t)) (tests_of c.1))
     (conditions_in select)
 
+-- the column that a side of a comparison names, if it is no literal
 abbrev pub side_columns : Operand → List ColumnReference
 side_columns (operand.Column column) = column ∷ []
 side_columns (operand.Literal value) = []
 
+-- the columns of both sides
 abbrev pub test_columns : Compare → List ColumnReference
 test_columns t = side_columns t.left ++ side_columns t.right
 

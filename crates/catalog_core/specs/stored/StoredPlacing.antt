@@ -11,10 +11,12 @@ use Rattle.catalog_core.specs.stored.StoredQueries.{PlainSide, PlainTest, RowPer
 use Rattle.catalog_core.specs.stored.StoredQueries.{Compared, Related, HasDay}
 use Rattle.catalog_core.specs.declared.table.TableDef.{TableDef}
 
+-- a side of a period predicate: the row's period, or one of two days
 abbrev pub placed_days : PeriodOperand → PlainSide
 placed_days (Named name) = RowPeriod
 placed_days (Dates start end) = if int_lt start end then FromTo start end else RowPeriod
 
+-- a test, with positions for its columns
 abbrev pub placed_test : TableDef → StoredTest → PlainTest
 placed_test t (Values c) = Compared (placed_compare t c)
 placed_test t (Periods left predicate right) =

@@ -86,6 +86,7 @@ abbrev pub written_side : PeriodOperand → PlainSide
 written_side (Named name) = RowPeriod
 written_side (Dates start end) = FromTo start end
 
+-- a test as it is written, where its columns have positions
 abbrev pub written_parts : TableDef → StoredTest → Option PlainTest
 written_parts t (written_test.Values c) = option_map (λ n. Compared n) (numbered_compare t c)
 written_parts t (written_test.Periods left predicate right) =
@@ -97,6 +98,7 @@ abbrev pub side_parts : PeriodSide → PlainSide
 side_parts Row = RowPeriod
 side_parts (Days period) = FromTo period.start period.end
 
+-- a test of a version as these parts
 abbrev pub test_parts : VersionTest → PlainTest
 test_parts (Values c) = Compared c
 test_parts (Periods left predicate right) =

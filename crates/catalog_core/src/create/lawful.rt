@@ -1,17 +1,15 @@
 //! Whether some CREATE gives a definition: what a store asks of each definition that it reads. The
 //! definition is judged by its names and places, and no test takes memory.
 
-ghost use Rattle.std.specs.Prelude.{◌≡◌, ◌↔◌, IsTrue, count_by};
+ghost use Rattle.std.specs.Prelude.{◌≡◌, ◌↔◌, IsTrue};
 ghost use Rattle.std.specs.List.{list_all};
 ghost use Rattle.catalog_core.specs.create.Lawful.{IsLawful};
 ghost use Rattle.catalog_core.specs.create.PlacedTests.{are_key_places, are_value_places};
 ghost use Rattle.catalog_core.specs.create.PlacedTests.{has_place, has_system_columns};
 ghost use Rattle.catalog_core.specs.create.PlacedTests.{have_two_kinds, is_first_named};
-ghost use Rattle.catalog_core.specs.create.PlacedTests.{is_placed_reference, is_row_end};
-ghost use Rattle.catalog_core.specs.create.PlacedTests.{is_row_start, is_value_place};
+ghost use Rattle.catalog_core.specs.create.PlacedTests.{is_placed_reference, is_value_place};
 ghost use Rattle.catalog_core.specs.create.PlacedTests.{is_within_limits, kind_at, passes_all};
 ghost use Rattle.catalog_core.specs.create.PlacedTests.{place_count, refers_to, repeats_place};
-ghost use Rattle.catalog_core.specs.declared.table.Column.{Column as AnyColumn};
 
 use crate::create::names::is_there;
 use crate::limits::{MOST_COLUMNS, MOST_REFERENCES, MOST_TABLES};
@@ -19,7 +17,7 @@ use crate::table::catalog::Catalog;
 use crate::table::columns::is_value_column;
 use crate::table::kinds::{differ, kind_of_column};
 use crate::table::matching::{Matching, def_matches};
-use crate::table::{Column, ColumnKind, Reference, TableDef, ValueKind};
+use crate::table::{ColumnKind, Reference, TableDef, ValueKind};
 
 /// Whether there is room for one table more, and its columns and references are not too many.
 #[tactic(auto, unfolding(crate::specs::create::PlacedTests::is_within_limits))]
@@ -31,41 +29,20 @@ fn is_within_limits(catalog: &Catalog, definition: &TableDef) -> bool
         && definition.references.len() <= MOST_REFERENCES
 }
 
-/// Whether it is a ROW START column's.
-fn is_row_start(kind: ColumnKind) -> bool
-    ensures { result ≡ is_row_start kind }
-{
-    matches!(kind, ColumnKind::RowStart(_))
-}
-
-/// Whether it is a ROW END column's.
-fn is_row_end(kind: ColumnKind) -> bool
-    ensures { result ≡ is_row_end kind }
-{
-    matches!(kind, ColumnKind::RowEnd(_))
-}
-
-/// How many ROW START columns there are.
-fn row_starts(columns: &[Column]) -> usize
-    ensures { result ≡ count_by (λ (x : AnyColumn). is_row_start x.kind) columns.now }
-{
-    columns.iter().filter(|x| is_row_start(x.kind)).count()
-}
-
-/// How many ROW END columns there are.
-fn row_ends(columns: &[Column]) -> usize
-    ensures { result ≡ count_by (λ (x : AnyColumn). is_row_end x.kind) columns.now }
-{
-    columns.iter().filter(|x| is_row_end(x.kind)).count()
-}
-
 /// Whether there is one ROW START column and one ROW END column.
 #[tactic(auto, unfolding(crate::specs::create::PlacedTests::has_system_columns))]
 fn has_system_columns(definition: &TableDef) -> bool
     ensures { result ≡ has_system_columns definition.now }
 {
-    let columns = definition.columns.as_slice();
-    row_starts(columns) == 1 && row_ends(columns) == 1
+    let (mut starts, mut ends) = (0_usize, 0_usize);
+    for column in definition.columns.as_slice() {
+        match column.kind {
+            ColumnKind::RowStart(_) => starts += 1,
+            ColumnKind::RowEnd(_) => ends += 1,
+            _ => {}
+        }
+    }
+    starts == 1 && ends == 1
 }
 
 /// How often a place is in a list.
@@ -88,7 +65,7 @@ fn repeats_place(places: &[usize]) -> bool
 fn has_place(places: &[usize], place: usize) -> bool
     ensures { result ≡ has_place places.now place }
 {
-    places.iter().any(|other| *other == place)
+    places.contains(&place)
 }
 
 /// Whether the column at a place is a value column.

@@ -11,7 +11,7 @@ use sql_statements::{NonEmpty, SetOperator};
 use std::marker::Model;
 
 /// A table in FROM, by the table's number.
-#[derive(Drop, Debug)]
+#[derive(Drop)]
 pub struct QueryReference {
     /// Its place among all table references of the query, in the order of the text, from 0.
     pub place: usize,
@@ -25,7 +25,7 @@ pub struct QueryReference {
 
 /// A select. A combined row has the values of a row of each reference, one after the other;
 /// conditions and items name its values by their positions.
-#[derive(Drop, Debug)]
+#[derive(Drop)]
 pub struct Select {
     /// The tables in FROM, in the order of the text.
     pub references: NonEmpty<QueryReference>,
@@ -37,14 +37,14 @@ pub struct Select {
 }
 
 /// A sequenced query: a tree of set operators over selects.
-#[derive(Drop, Debug)]
+#[derive(Drop)]
 pub enum Query {
     Select(Select),
     Combined(SetOperator, Box<Query>, Box<Query>),
 }
 
 /// For each table reference of a query, in the order of the text, the period rows that it sees.
-#[derive(Drop, Debug)]
+#[derive(Drop)]
 pub struct Tables {
     lists: Items<Items<PeriodRow>>,
 }

@@ -14,7 +14,7 @@ use std::alloc::Global;
 
 /// The tables in the order of their creation, numbered from 1. The application period of each is
 /// over two different DATE columns, and no two columns of a table share a name.
-#[derive(Drop, Debug)]
+#[derive(Drop)]
 pub struct Catalog {
     pub tables: Items<TableDef>,
     pub ghost few: { length tables ≤ most_tables },

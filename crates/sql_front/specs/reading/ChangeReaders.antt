@@ -15,6 +15,7 @@ use Rattle.sql_front.specs.reading.Leaves.{clock_moment_read, date_read, literal
 use Rattle.sql_front.specs.reading.Leaves.{names_read, tuple_read}
 use Rattle.sql_front.specs.reading.ConditionReaders.{compare_read, where_read}
 
+-- AT moment
 unfoldable pub at_read : Reader ℤ
 at_read = preceded_read (keyword (codes "AT")) clock_moment_read
 
@@ -31,6 +32,7 @@ unfoldable pub inserted_read : Reader InsertRows
 inserted_read =
     built_read rows_of (sequence_read name_read (sequence_read columns_read values_read))
 
+-- INSERT INTO, and what comes after it
 unfoldable pub insert_read : Reader InsertRows
 insert_read =
     preceded_read (keyword (codes "INSERT")) (preceded_read (keyword (codes "INTO")) inserted_read)
@@ -55,6 +57,7 @@ in_portion_read =
 unfoldable pub portion_read : Reader (Option Portion)
 portion_read = optional_read (keyword (codes "FOR")) in_portion_read
 
+-- name '=' literal
 unfoldable pub assignment_read : Reader Assignment
 assignment_read =
     built_read assignment_of (sequence_read name_read
@@ -66,6 +69,7 @@ set_read n =
     preceded_read (keyword (codes "SET"))
     (sequence_read (separated_read comma assignment_read) (where_read compare_read n))
 
+-- UPDATE name [ FOR PORTION OF .. ] SET .., with parentheses at most n deep
 unfoldable pub update_read : ℕ → Reader Update
 update_read n =
     preceded_read (keyword (codes "UPDATE"))
@@ -77,6 +81,7 @@ deleted_read n =
     built_read delete_of (sequence_read name_read
     (sequence_read portion_read (where_read compare_read n)))
 
+-- DELETE FROM, and what comes after it
 unfoldable pub delete_read : ℕ → Reader Delete
 delete_read n =
     preceded_read (keyword (codes "DELETE"))

@@ -17,16 +17,19 @@ use Rattle.sql_front.specs.reading.Reading.{optional_read, preceded_read, separa
 use Rattle.sql_front.specs.reading.Reading.{enclosed_read, stands_read}
 use Rattle.sql_front.specs.reading.Leaves.{name_read, literal_read}
 
+-- name [ '.' name ]
 unfoldable pub column_read : Reader ColumnReference
 column_read =
     built_read column_reference_of
     (sequence_read name_read (optional_read (symbol (codes "."))
     (preceded_read (symbol (codes ".")) name_read)))
 
+-- a column, where a name comes first, or else a literal
 unfoldable pub operand_read : Reader Operand
 operand_read =
     choice_read (begins name) (built_read Column column_read) (built_read Literal literal_read)
 
+-- '=' | '<>' | '<' | '<=' | '>' | '>='
 unfoldable pub comparison_read : Reader Comparison
 comparison_read =
     choice_read (begins (symbol (codes "="))) (stands_read Equal (symbol (codes "=")))
@@ -36,24 +39,29 @@ comparison_read =
     (choice_read (begins (symbol (codes ">"))) (stands_read Greater (symbol (codes ">")))
     (stands_read GreaterOrEqual (symbol (codes ">=")))))))
 
+-- operand comparison operand
 unfoldable pub compare_read : Reader Compare
 compare_read =
     built_read compare_of (sequence_read operand_read (sequence_read comparison_read operand_read))
 
 -- ---- trees over tests that are read so
 
+-- a test, or a condition in parentheses
 abbrev pub test_with : {T : Type 0} → Reader T → Reader (Condition T) → Reader (Condition T)
 test_with p inner =
     choice_read (begins (symbol (codes "("))) (enclosed_read inner) (built_read test p)
 
+-- [ NOT ] test
 abbrev pub factor_with : {T : Type 0} → Reader (Condition T) → Reader (Condition T)
 factor_with p =
     choice_read (begins (keyword (codes "NOT")))
     (built_read negated (preceded_read (keyword (codes "NOT")) p)) p
 
+-- factor { AND factor }
 abbrev pub conjunction_with : {T : Type 0} → Reader (Condition T) → Reader (Condition T)
 conjunction_with p = built_read all_of (separated_read (keyword (codes "AND")) p)
 
+-- conjunction { OR conjunction }
 abbrev pub condition_with : {T : Type 0} → Reader (Condition T) → Reader (Condition T)
 condition_with p = built_read any_of (separated_read (keyword (codes "OR")) p)
 
@@ -63,15 +71,19 @@ inner_read p zero ts = None
 inner_read p (suc n) ts =
     condition_with (conjunction_with (factor_with (test_with p (inner_read p n)))) ts
 
+-- a test, or in parentheses a condition that nests less than n deep
 unfoldable pub test_read : {T : Type 0} → Reader T → ℕ → Reader (Condition T)
 test_read p n = test_with p (inner_read p n)
 
+-- a factor over such tests
 unfoldable pub factor_read : {T : Type 0} → Reader T → ℕ → Reader (Condition T)
 factor_read p n = factor_with (test_read p n)
 
+-- a conjunction of such factors
 unfoldable pub conjunction_read : {T : Type 0} → Reader T → ℕ → Reader (Condition T)
 conjunction_read p n = conjunction_with (factor_read p n)
 
+-- a condition whose parentheses nest at most n deep
 unfoldable pub condition_read : {T : Type 0} → Reader T → ℕ → Reader (Condition T)
 condition_read p n = condition_with (conjunction_read p n)
 

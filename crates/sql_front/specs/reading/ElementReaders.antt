@@ -74,6 +74,7 @@ timestamp_read =
     built_read Timestamp (preceded_read (keyword (codes "TIMESTAMP"))
     (optional_read (symbol (codes "(")) length_read))
 
+-- INTEGER | DATE | VARCHAR '(' num ')' | CHARACTER VARYING '(' num ')' | TIMESTAMP ..
 unfoldable pub type_read : Reader TypeName
 type_read =
     choice_read (begins (keyword (codes "INTEGER")))
@@ -115,11 +116,13 @@ column_element_read =
 unfoldable pub pair_read : Reader (List ℕ × List ℕ)
 pair_read = enclosed_read (sequence_read name_read (preceded_read comma name_read))
 
+-- PERIOD FOR name, and its two columns
 unfoldable pub period_element_read : Reader PeriodElement
 period_element_read =
     preceded_read (keyword (codes "PERIOD")) (preceded_read (keyword (codes "FOR"))
     (built_read period_of (sequence_read name_read pair_read)))
 
+-- PERIOD FOR SYSTEM_TIME, and its two columns
 unfoldable pub system_element_read : Reader SystemElement
 system_element_read =
     preceded_read (keyword (codes "PERIOD")) (preceded_read (keyword (codes "FOR"))
@@ -141,6 +144,7 @@ unfoldable pub key_list_read : Reader KeyElement
 key_list_read =
     enclosed_read (built_read key_of (sequence_read key_names_read without_overlaps_read))
 
+-- PRIMARY KEY, and its list
 unfoldable pub key_element_read : Reader KeyElement
 key_element_read =
     preceded_read (keyword (codes "PRIMARY")) (preceded_read (keyword (codes "KEY")) key_list_read)
@@ -158,6 +162,7 @@ unfoldable pub parent_read : Reader (List ℕ × (List (List ℕ) × List ℕ))
 parent_read =
     preceded_read (keyword (codes "REFERENCES")) (sequence_read name_read reference_list_read)
 
+-- FOREIGN KEY list REFERENCES name list
 unfoldable pub reference_element_read : Reader ReferenceElement
 reference_element_read =
     preceded_read (keyword (codes "FOREIGN")) (preceded_read (keyword (codes "KEY"))
@@ -172,6 +177,7 @@ some_period_read =
     (built_read system_element system_element_read)
     (built_read period_element period_element_read)
 
+-- a column where a name comes first, or else by its keyword: a period, a key, a reference
 unfoldable pub element_read : Reader Element
 element_read =
     choice_read (begins name) (built_read column_element column_element_read)
@@ -194,6 +200,7 @@ unfoldable pub created_table_read : Reader CreateTable
 created_table_read =
     built_read table_of (sequence_read name_read (sequence_read elements_read versioning_read))
 
+-- CREATE TABLE, and what comes after it
 unfoldable pub create_read : Reader CreateTable
 create_read =
     preceded_read (keyword (codes "CREATE"))

@@ -24,12 +24,14 @@ use Rattle.sql_front.specs.reading.ConditionReaders.{column_read, compare_read}
 unfoldable pub dates_read : Reader (ℤ × ℤ)
 dates_read = enclosed_read (sequence_read date_read (preceded_read comma date_read))
 
+-- PERIOD '(' date ',' date ')', or else a period's name
 unfoldable pub period_operand_read : Reader PeriodOperand
 period_operand_read =
     choice_read (begins (keyword (codes "PERIOD")))
     (built_read dates_of (preceded_read (keyword (codes "PERIOD")) dates_read))
     (built_read Named column_read)
 
+-- OVERLAPS | EQUALS | CONTAINS | [ IMMEDIATELY ] PRECEDES | [ IMMEDIATELY ] SUCCEEDS
 unfoldable pub relation_read : Reader PeriodPredicate
 relation_read =
     choice_read (begins (keyword (codes "OVERLAPS")))
@@ -59,16 +61,19 @@ pub data Said : Type 0 where
   contains_day : ℤ → Said
   related : PeriodPredicate × PeriodOperand → Said
 
+-- the test that says this of a period
 abbrev pub said_of : PeriodOperand × Said → StoredTest
 said_of (period, contains_day day) = ContainsDay period day
 said_of (period, related other) = Periods period other.0 other.1
 
+-- CONTAINS date, or a relation and a period
 abbrev pub said_read : Reader Said
 said_read =
     choice_read begins_contains_date
     (built_read contains_day (preceded_read (keyword (codes "CONTAINS")) date_read))
     (built_read related (sequence_read relation_read period_operand_read))
 
+-- a period, and what is said of it
 unfoldable pub predicate_read : Reader StoredTest
 predicate_read = built_read said_of (sequence_read period_operand_read said_read)
 
@@ -94,5 +99,6 @@ predicate_ahead tokens =
     begins (keyword (codes "PERIOD")) tokens
     || (begins name tokens && relation_behind_column tokens)
 
+-- a predicate where one begins, or else a comparison
 unfoldable pub stored_test_read : Reader StoredTest
 stored_test_read = choice_read predicate_ahead predicate_read (built_read Values compare_read)

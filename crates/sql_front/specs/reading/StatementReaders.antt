@@ -20,6 +20,7 @@ stored_table_read n =
     built_read stored_of (sequence_read name_read
     (sequence_read for_window_read (where_read stored_test_read n)))
 
+-- SELECT * FROM, and what comes after it
 unfoldable pub stored_read : ℕ → Reader Stored
 stored_read n =
     preceded_read (keyword (codes "SELECT")) (preceded_read (symbol (codes "*"))
@@ -27,6 +28,7 @@ stored_read n =
 
 -- ---- a statement, by its first keyword
 
+-- a query: VALIDTIME, or else a stored one
 unfoldable pub query_statement_read : ℕ → Reader Statement
 query_statement_read n =
     choice_read (begins (keyword (codes "VALIDTIME"))) (built_read sequenced (sequenced_read n))
@@ -40,6 +42,7 @@ later_statement_read n =
     (choice_read (begins (keyword (codes "DELETE"))) (built_read delete (delete_read n))
     (query_statement_read n)))
 
+-- a statement whose parentheses nest at most n deep
 unfoldable pub statement_read : ℕ → Reader Statement
 statement_read n =
     choice_read (begins (keyword (codes "AT"))) (built_read at at_read)

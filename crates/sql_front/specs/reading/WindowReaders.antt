@@ -13,6 +13,7 @@ use Rattle.sql_front.specs.reading.Leaves.{moment_read, clock_moment_read}
 unfoldable pub two_moments_read : (Lexeme → Bool) → Reader (ℤ × ℤ)
 two_moments_read between = sequence_read moment_read (preceded_read between moment_read)
 
+-- AS OF moment | FROM moment TO moment | BETWEEN moment AND moment
 unfoldable pub window_read : Reader SystemTime
 window_read =
     choice_read (begins (keyword (codes "AS")))

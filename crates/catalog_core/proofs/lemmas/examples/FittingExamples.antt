@@ -32,16 +32,12 @@ abbrev whole : List PeriodRow
 whole = row (Int (pos 3) ∷ Text (codes "A") ∷ []) ∷ []
 
 record Fit : Type 0 where
-  as_many : fits pair (whole ∷ [] ∷ []) ≡ true
-  too_few : fits pair (whole ∷ []) ≡ false
   other_kind : fits pair ([] ∷ (row (Int (pos 3) ∷ Int (pos 3) ∷ []) ∷ []) ∷ []) ≡ false
   of_both_sides : fits (both Union pair (one (over 2 3))) (whole ∷ [] ∷ whole ∷ [] ∷ []) ≡ true
 
 fit : Fit
 unfolding same_kind
 fit = record {
-  as_many = refl;
-  too_few = refl;
   other_kind = refl;
   of_both_sides = refl;
 }

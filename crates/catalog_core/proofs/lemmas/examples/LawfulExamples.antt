@@ -1,17 +1,15 @@
 -- Worked examples: how a definition is spelled as a CREATE, and which definitions a CREATE gives.
 use Rattle.std.proofs.Common.{◌∷◌, [], None, Some, inl, inr, lit≤, refl}
 use Rattle.std.specs.Prelude.{codes}
-use Rattle.period_core.specs.Leasts.{NoneApplies}
 use Rattle.period_core.specs.declared.refusal.Refusal.TheVariants.{UnknownTable}
 use Rattle.sql_statements.specs.declared.create.CreateTable.{CreateTable}
 use Rattle.catalog_core.proofs.lemmas.create.Spelled.{spelled_given}
 use Rattle.catalog_core.proofs.lemmas.examples.Tables.{dep}
 use Rattle.catalog_core.proofs.lemmas.judged.Least.{none_first}
 use Rattle.catalog_core.specs.create.Creation.{create_conditions, period_matches, some_parent_match, some_match, has_sort, sort_count, exceeds_limits, is_there, lacks_parent, names_other_period, lacks_period, lacks_name, is_ambiguous, is_shared, repeats_name, is_no_value_column, some_no_value, keys_period_column, lacks_one_of_each, has_bad_period, has_bad_system_period, is_bad_type, has_bad_column, is_used_otherwise, has_other_period, is_at, is_key_name, is_named, are_key, names_no_key, references_no_key, is_bad_definition, has_unequal_lists, own_kind, have_other_kinds, names_other_kind, references_other_kind}
-use Rattle.catalog_core.specs.create.Definition.{Defines, declared_kind, declared_reference}
+use Rattle.catalog_core.specs.create.Definition.{declared_kind, declared_reference}
 use Rattle.catalog_core.specs.create.Lawful.{IsLawful}
 use Rattle.catalog_core.proofs.lemmas.create.Spelling.{create_of}
-use Rattle.catalog_core.specs.Judged.{Holds}
 use Rattle.catalog_core.specs.table.Kinds.{kind_of_type, kind_of_column, same_kind, differ}
 use Rattle.catalog_core.specs.table.Matches.{is_matching, is_of_sort}
 use Rattle.catalog_core.specs.table.Naming.{find_among, matches_among, place_among, repeats, some_match_among}
@@ -41,18 +39,14 @@ emp =
 abbrev create : CreateTable
 create = create_of (dep ∷ []) emp
 
--- it is accepted
-accepted : NoneApplies (Holds (create_conditions (dep ∷ []) create))
-unfolding matches_among period_matches some_match_among some_parent_match some_match has_sort sort_count exceeds_limits is_there lacks_parent names_other_period lacks_period lacks_name is_ambiguous is_shared repeats repeats_name is_no_value_column some_no_value keys_period_column lacks_one_of_each has_bad_period has_bad_system_period is_bad_type has_bad_column is_used_otherwise has_other_period is_at is_key_name is_named are_key names_no_key references_no_key is_bad_definition has_unequal_lists own_kind def_kind have_other_kinds names_other_kind references_other_kind is_matching is_of_sort number_of table_of_name kind_of_type kind_of_column same_kind differ find_among
-accepted = none_first (create_conditions (dep ∷ []) create) (lit≤ tt, (lit≤ tt, (lit≤ tt, (lit≤ tt, (lit≤ tt, (lit≤ tt, (lit≤ tt, (lit≤ tt, (lit≤ tt, (lit≤ tt, tt)))))))))) refl
-
--- and gives the definition
-defined : Defines (dep ∷ []) create emp
-unfolding place_among declared_reference declared_kind number_of table_of_name is_of_sort
-defined = record { name = refl; columns = refl; period = refl; key = refl; references = refl }
-
+-- it is accepted, and gives the definition
 lawful : IsLawful (dep ∷ []) emp
-lawful = (create, accepted, defined)
+unfolding place_among declared_reference declared_kind matches_among period_matches some_match_among some_parent_match some_match has_sort sort_count exceeds_limits is_there lacks_parent names_other_period lacks_period lacks_name is_ambiguous is_shared repeats repeats_name is_no_value_column some_no_value keys_period_column lacks_one_of_each has_bad_period has_bad_system_period is_bad_type has_bad_column is_used_otherwise has_other_period is_at is_key_name is_named are_key names_no_key references_no_key is_bad_definition has_unequal_lists own_kind def_kind have_other_kinds names_other_kind references_other_kind is_matching is_of_sort number_of table_of_name kind_of_type kind_of_column same_kind differ find_among
+lawful = (
+  create,
+  none_first (create_conditions (dep ∷ []) create) (lit≤ tt, (lit≤ tt, (lit≤ tt, (lit≤ tt, (lit≤ tt, (lit≤ tt, (lit≤ tt, (lit≤ tt, (lit≤ tt, (lit≤ tt, tt)))))))))) refl,
+  record { name = refl; columns = refl; period = refl; key = refl; references = refl },
+)
 
 -- nor EMP where its parent is not there
 without_parent : IsLawful [] emp → ⊥

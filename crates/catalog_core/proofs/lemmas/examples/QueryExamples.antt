@@ -2,8 +2,7 @@
 use Rattle.std.proofs.Common.{◌≡◌, ◌∷◌, ℕ, List, [], Option, Some, None, map, refl}
 use Rattle.std.specs.Prelude.{codes}
 use Rattle.period_core.specs.declared.refusal.Refusal.{Refusal}
-use Rattle.period_core.specs.declared.refusal.Refusal.TheVariants.{AmbiguousColumn, TypeMismatch, UnknownColumn}
-use Rattle.period_core.specs.declared.window.Window.TheVariants as window
+use Rattle.period_core.specs.declared.refusal.Refusal.TheVariants.{TypeMismatch, UnknownColumn}
 use Rattle.sql_statements.specs.Trees as written
 use Rattle.sql_statements.specs.Trees.{Condition, JoinChain, Query, all, combined, conditions_of, last, simple, step, test}
 use Rattle.sql_statements.specs.declared.statement.ColumnReference.{ColumnReference}
@@ -13,8 +12,7 @@ use Rattle.sql_statements.specs.declared.statement.Operand.{Operand}
 use Rattle.sql_statements.specs.declared.statement.Operand.TheVariants as operand
 use Rattle.sql_statements.specs.declared.statement.SelectItem.{SelectItem}
 use Rattle.sql_statements.specs.declared.statement.TableReference.{TableReference}
-use Rattle.sql_statements.specs.declared.tree.SetOperator.{SetOperator}
-use Rattle.sql_statements.specs.declared.tree.SetOperator.TheVariants.{Union, Except, Intersect}
+use Rattle.sql_statements.specs.declared.tree.SetOperator.TheVariants.{Union, Except}
 use Rattle.catalog_core.proofs.lemmas.examples.Tables.{dep}
 use Rattle.catalog_core.specs.Judged.{first_holding}
 use Rattle.catalog_core.specs.table.Kinds.{differ, kind_of_column, same_kind}
@@ -23,10 +21,9 @@ use Rattle.catalog_core.specs.table.Naming.{Name, matches_among, repeats}
 use Rattle.catalog_core.specs.table.TableWords.{is_value_column, number_of, table_of_name}
 use Rattle.catalog_core.specs.query.Queries.{both, one}
 use Rattle.catalog_core.specs.query.Refusals.{compares_kinds, have_other_count, have_other_kinds, is_too_long, lacks_table, names_period, names_twice, refusals_of, some_column_matches}
-use Rattle.catalog_core.specs.query.Resolving.{ResolvesSelect, Placed, ResolvesTree, written_item, written_conjuncts, written_reference}
+use Rattle.catalog_core.specs.query.Resolving.{ResolvesSelect, Placed, ResolvesTree, written_item, written_conjuncts}
 use Rattle.catalog_core.specs.declared.condition.Comparand.TheVariants.{Position}
 use Rattle.catalog_core.specs.declared.query.resolved.Select.{Select}
-use Rattle.catalog_core.specs.declared.table.ValueKind.TheVariants as kind
 use Rattle.catalog_core.specs.declared.table.TableDef.{TableDef}
 
 abbrev DEP : Name
@@ -100,9 +97,6 @@ record Refused : Type 0 where
   accepted : refusal (simple (three (same (of X DNO) (of Y DNO)) (Some (same (of Z DNO) (of Y DNO))))) ≡ None
   -- ON does not see an earlier chain
   other_chain : refusal (simple (three (same (of Z DNO) (of Y DNO)) None)) ≡ Some UnknownColumn
-  ambiguous : refusal (simple (select (column DNO ∷ []) (alone (known_as X) ∷ alone (known_as Y) ∷ []) None)) ≡ Some AmbiguousColumn
-  -- a new name hides the table's
-  hidden : refusal (simple (select (of DEP DNO ∷ []) (alone (known_as X) ∷ []) None)) ≡ Some UnknownColumn
   other_kind : refusal (combined (simple numbers) (step Except (simple names) last)) ≡ Some TypeMismatch
 
 refused : Refused
@@ -110,8 +104,6 @@ unfolding is_too_long lacks_table some_column_matches names_twice names_period c
 refused = record {
   accepted = refl;
   other_chain = refl;
-  ambiguous = refl;
-  hidden = refl;
   other_kind = refl;
 }
 
@@ -123,18 +115,12 @@ record Positions : Type 0 where
   conjuncts : written_conjuncts catalog (three (same (of X DNO) (of Y DNO)) (Some (all (conditions_of (same (of Z DNO) (of Y DNO) ∷ same (of X NAME) (of Z NAME) ∷ [])))))
       ≡ at 2 4 ∷ at 0 4 ∷ at 3 1 ∷ []
   items : map (written_item catalog (three (same (of X DNO) (of Y DNO)) None)) (map item (of Y NAME ∷ of Z NAME ∷ [])) ≡ (Some 5, NAME) ∷ (Some 1, NAME) ∷ []
-  reference : written_reference catalog (known_as X) ≡ (Some 1, window.Now, Some (kind.Integer ∷ kind.Text ∷ []))
 
 positions : Positions
 unfolding number_of table_of_name is_value_column kind_of_column
-positions = record { conjuncts = refl; items = refl; reference = refl }
+positions = record { conjuncts = refl; items = refl }
 
 -- set operators apply from left to right: a EXCEPT b UNION c is the union of c with what EXCEPT leaves
 from_left : (a b c : written.Select) (x y z : Select) → ResolvesSelect catalog a x → ResolvesSelect catalog b y → ResolvesSelect catalog c z
     → ResolvesTree catalog (combined (simple a) (step Except (simple b) (step Union (simple c) last))) (both Union (both Except (one x) (one y)) (one z))
 from_left a b c x y z at_a at_b at_c = (one x, at_a, (one y, at_b, (one z, at_c, refl)))
-
--- INTERSECT before EXCEPT: a EXCEPT b INTERSECT c is a without the intersection of b and c
-intersected_first : (a b c : written.Select) (x y z : Select) → ResolvesSelect catalog a x → ResolvesSelect catalog b y → ResolvesSelect catalog c z
-    → ResolvesTree catalog (combined (simple a) (step Except (combined (simple b) (step Intersect (simple c) last)) last)) (both Except (one x) (both Intersect (one y) (one z)))
-intersected_first a b c x y z at_a at_b at_c = (one x, at_a, (both Intersect (one y) (one z), (one y, at_b, (one z, at_c, refl)), refl))

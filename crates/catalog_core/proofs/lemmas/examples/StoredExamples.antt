@@ -3,19 +3,19 @@ use Rattle.std.proofs.Common.{◌≡◌, ◌∷◌, ℕ, pos, Bool, true, false,
 use Rattle.std.specs.Prelude.{codes}
 use Rattle.period_core.proofs.Periods.{period_over}
 use Rattle.period_core.specs.declared.refusal.Refusal.{Refusal}
-use Rattle.period_core.specs.declared.refusal.Refusal.TheVariants.{UnknownColumn, TypeMismatch}
+use Rattle.period_core.specs.declared.refusal.Refusal.TheVariants.{UnknownColumn}
 use Rattle.period_core.specs.declared.value.Value.{Value}
-use Rattle.period_core.specs.declared.value.Value.TheVariants.{Int, Text}
+use Rattle.period_core.specs.declared.value.Value.TheVariants.{Int}
 use Rattle.period_core.specs.declared.version.VersionRow.{VersionRow}
 use Rattle.period_core.specs.declared.window.Window.{Window}
 use Rattle.period_core.specs.declared.window.Window.TheVariants as window
-use Rattle.sql_statements.specs.Trees.{Condition, any, conditions_of, negated, test}
+use Rattle.sql_statements.specs.Trees.{Condition, negated, test}
 use Rattle.sql_statements.specs.declared.statement.Comparison.{Comparison}
 use Rattle.sql_statements.specs.declared.statement.Comparison.TheVariants as compared
 use Rattle.sql_statements.specs.declared.statement.Operand.TheVariants.{Column, Literal}
 use Rattle.sql_statements.specs.declared.statement.PeriodOperand.{PeriodOperand}
 use Rattle.sql_statements.specs.declared.statement.PeriodOperand.TheVariants.{Named, Dates}
-use Rattle.sql_statements.specs.declared.statement.PeriodPredicate.TheVariants.{Overlaps, Precedes}
+use Rattle.sql_statements.specs.declared.statement.PeriodPredicate.TheVariants.{Overlaps}
 use Rattle.sql_statements.specs.declared.statement.StoredTest.{StoredTest}
 use Rattle.sql_statements.specs.declared.statement.StoredTest.TheVariants as asked
 use Rattle.catalog_core.proofs.lemmas.examples.Tables.{dep}
@@ -30,9 +30,9 @@ use Rattle.catalog_core.specs.table.Matches.{is_matching}
 use Rattle.catalog_core.specs.table.Naming.{Name, find_among, matches_among}
 use Rattle.catalog_core.specs.table.TableWords.{def_kind, is_value_column, number_of, table_of_name}
 use Rattle.catalog_core.specs.declared.condition.Comparand.TheVariants as comparand
-use Rattle.catalog_core.specs.declared.stored.PeriodSide.TheVariants.{Row, Days}
+use Rattle.catalog_core.specs.declared.stored.PeriodSide.TheVariants.{Row}
 use Rattle.catalog_core.specs.declared.stored.VersionTest.{VersionTest}
-use Rattle.catalog_core.specs.declared.stored.VersionTest.TheVariants.{ContainsDay, Periods, Values}
+use Rattle.catalog_core.specs.declared.stored.VersionTest.TheVariants.{ContainsDay, Values}
 
 -- ---- refusals
 
@@ -55,15 +55,12 @@ record Refusals : Type 0 where
   accepted : refusal DEP (Some (overlaps (period (codes "DP")) (Dates (pos 1) (pos 2)))) ≡ None
   -- a column in the place of a period
   column_as_period : refusal DEP (Some (overlaps (period (codes "S")) (Dates (pos 1) (pos 2)))) ≡ Some UnknownColumn
-  -- a constructor without a day, beside a comparison of two kinds
-  mixed_first : refusal DEP (Some (any (conditions_of (overlaps (Dates (pos 2) (pos 2)) (period (codes "DP")) ∷ equal (codes "DNO") (Text []) ∷ [])))) ≡ Some TypeMismatch
 
 refusals : Refusals
 unfolding is_flawed_stored is_flawed_test is_flawed_compare is_flawed_column is_flawed_period lacks_named is_matching find_among matches_among differ same_kind kind_of_column def_kind is_value_column number_of table_of_name
 refusals = record {
   accepted = refl;
   column_as_period = refl;
-  mixed_first = refl;
 }
 
 -- ---- what is shown
@@ -90,14 +87,10 @@ number comparison n = test (Values (record { left = comparand.Position 0; compar
 
 record Meets : Type 0 where
   not_equal : holds_of_it (negated (number compared.Equal 5)) ≡ false
-  either : holds_of_it (any (conditions_of (number compared.Greater 6 ∷ number compared.NotEqual 4 ∷ []))) ≡ true
-  meets_next : holds_of_it (test (Periods Row Precedes (Days (period_over (pos 20) (pos 30) refl)))) ≡ true
   its_end : holds_of_it (test (ContainsDay Row (pos 20))) ≡ false
 
 meets : Meets
 meets = record {
   not_equal = refl;
-  either = refl;
-  meets_next = refl;
   its_end = refl;
 }

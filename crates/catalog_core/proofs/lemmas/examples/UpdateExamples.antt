@@ -3,7 +3,7 @@ use Rattle.std.proofs.Common.{◌≡◌, ◌∷◌, ℕ, pos, List, [], Option, 
 use Rattle.std.specs.Prelude.{codes}
 use Rattle.std.specs.Str.{chars}
 use Rattle.period_core.specs.declared.refusal.Refusal.{Refusal}
-use Rattle.period_core.specs.declared.refusal.Refusal.TheVariants.{UnknownColumn, PeriodColumn, TextTooLong}
+use Rattle.period_core.specs.declared.refusal.Refusal.TheVariants.{UnknownColumn}
 use Rattle.period_core.specs.declared.value.Value.{Value}
 use Rattle.period_core.specs.declared.value.Value.TheVariants.{Int, Text}
 use Rattle.sql_statements.specs.Trees.{Condition, Update, test, negated}
@@ -48,16 +48,10 @@ record Updates : Type 0 where
   accepted : refusal (of_dep (named ∷ []) (Some (equal (Some (codes "DEP")) (codes "DNO") (Int (pos 5))))) ≡ None
   -- a qualifier that is not the table's name, under NOT
   other_qualifier : refusal (of_dep (named ∷ []) (Some (negated (equal (Some (codes "D")) (codes "DNO") (Int (pos 5)))))) ≡ Some UnknownColumn
-  -- a column of the period in a condition, before its kind
-  start_compared : refusal (of_dep (named ∷ []) (Some (equal None (codes "S") (Int (pos 5))))) ≡ Some PeriodColumn
-  -- a text is too long where it is set
-  long_set : refusal (of_dep (set (codes "NAME") (Text (codes "ABC")) ∷ []) None) ≡ Some TextTooLong
 
 updates : Updates
 unfolding is_flawed_column is_flawed_compare is_flawed_portion is_flawed_set is_set_again sets_twice is_longer is_of_other_kind is_too_long kind_of_column same_kind differ is_matching is_flawed_update lacks_named names_no_value def_kind find_among matches_among is_value_column number_of table_of_name chars
 updates = record {
   accepted = refl;
   other_qualifier = refl;
-  start_compared = refl;
-  long_set = refl;
 }
