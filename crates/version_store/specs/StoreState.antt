@@ -13,7 +13,7 @@ use Rattle.sqlite_trees.specs.declared.memory.MemStore.{MemStore}
 use Rattle.sqlite.specs.Schema.{Schema}
 use Rattle.version_tables.specs.Presence.{AreAllThere}
 use Rattle.version_tables.specs.Steps.{HasFault, IsAsBefore, KeepsFaults}
-use Rattle.version_tables.specs.Tables.{store_schema}
+use Rattle.version_tables.specs.Tables.{HasStoreTables}
 use Rattle.version_tables.specs.contracts.form.Form.{the_row as a_form}
 use Rattle.version_tables.specs.declared.form.Form.{Form}
 use Rattle.version_store.specs.Contents.{AreDated, Contents}
@@ -113,7 +113,7 @@ IsFailure g old new refusal = (refusal ≡ Memory) ⊎ HasFault (state g old) (s
 abbrev pub IsOpenRefusal : Refusal → Type 0
 IsOpenRefusal refusal = (refusal ≡ BadStore) ⊎ IsStoreRefusal refusal
 
--- the three tables, where all of them are there, are as the store makes them, and no other is
--- beside them
+-- the three tables, where all of them are there, are as the store makes them; those of others are
+-- behind them
 abbrev pub IsOurs : Schema → Type 0
-IsOurs schema = AreAllThere schema → schema ≡ store_schema
+IsOurs schema = AreAllThere schema → HasStoreTables schema
