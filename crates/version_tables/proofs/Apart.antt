@@ -1,5 +1,5 @@
 -- No foreign key of a table of others acts where a row of one of the three goes.
-use Rattle.std.proofs.Common.{◌≡◌, ℕ, ◌≤◌, ◌<◌, ◌==◌, ◌||◌, ◌++◌, length, List, [], ◌∷◌, codes, cond, Bool, true, false, Some, None, Ok, refl, sym, ap, subst, ◌∙◌, arith}
+use Rattle.std.proofs.Common.{◌≡◌, ℕ, ◌≤◌, ◌<◌, ◌==◌, ◌||◌, length, List, [], ◌∷◌, codes, cond, Bool, true, false, Some, None, Ok, refl, arith}
 use Rattle.std.specs.Prelude.{Option, IfSome, option_and_then, option_map}
 use Rattle.std.specs.List.{AllByRecursion, filter_map, find, flat_map}
 use Rattle.std.proofs.lemmas.Bool.{or_parts}
@@ -14,7 +14,6 @@ use Rattle.sqlite_schema.specs.Names.{same_name}
 use Rattle.sqlite_schema.specs.Rules.{ParentKey, declared_order, key_in, key_places, parent_key}
 use Rattle.sqlite_schema.specs.declared.schema.Keys.{Keys}
 use Rattle.sqlite_schema.specs.declared.schema.Reference.{Reference}
-use Rattle.sqlite_schema.specs.declared.schema.Schema.{Schema}
 use Rattle.sqlite_schema.specs.declared.schema.Table.{Table}
 use Rattle.sqlite_value.specs.declared.keys.Order.{Order}
 use Rattle.version_tables.specs.Tables.{IsApart, Others, is_own_name, schema_with}

@@ -1,10 +1,8 @@
 -- Where a table stands that is made behind others.
-use Rattle.std.proofs.Common.{◌≡◌, ℕ, zero, suc, ◌+◌, ◌<◌, ◌++◌, ◌||◌, ◌&&◌, not, length, List, [], ◌∷◌, cond, codes, Bool, true, false, Some, None, append_assoc, true≢false, inl, inr, refl, sym, ap, subst, ◌∙◌, arith}
+use Rattle.std.proofs.Common.{◌≡◌, ℕ, zero, suc, ◌+◌, ◌++◌, ◌||◌, ◌&&◌, not, length, List, [], ◌∷◌, cond, codes, Bool, true, false, Some, None, true≢false, inl, inr, refl, sym, ap, ◌∙◌, arith}
 use Rattle.std.specs.Prelude.{Option, is_some, option_and_then, slice_get}
 use Rattle.std.specs.List.{AllByRecursion, list_any, position_from}
-use Rattle.std.proofs.lemmas.Bool.{cases_Bool}
 use Rattle.sqlite.specs.Change.{created}
-use Rattle.sqlite.specs.Does.{lacks_sequence}
 use Rattle.sqlite.specs.Rows.{sequence}
 use Rattle.sqlite.specs.Schema.{Schema}
 use Rattle.sqlite.specs.Table.{Table}

@@ -1,5 +1,5 @@
 -- What a CREATE or an INSERT means over any schema.
-use Rattle.std.proofs.Common.{◌≡◌, ℕ, ◌+◌, List, [], ◌∷◌, codes, Some, None, Ok, Err, inl, inr, refl, sym, ap, subst, ◌∙◌, false, true, true≢false, Bool, Option, cond}
+use Rattle.std.proofs.Common.{◌≡◌, ℕ, ◌+◌, List, [], Some, None, Ok, Err, inl, inr, refl, sym, ap, subst, ◌∙◌, false, true, true≢false, Bool}
 use Rattle.std.specs.Prelude.{◌&&◌, ◌==◌, if◌then◌else◌, is_some, length, not, slice_get, slice_range}
 use Rattle.std.specs.Option.{option_or}
 use Rattle.std.proofs.lemmas.Bool.{cases_Bool}
@@ -60,10 +60,10 @@ makes_by s formats base (written.CreateTable def) fresh c h =
     elim (cases_Bool (is_attached s def.name)) [
       | inl kept ↦ absurd (let e = rw kept at h in cc)
       | inr free ↦
-        let new = through (creates def.if_missing def.name same other) _ c (rw free at h) in
-        let is : new.0 ≡ true = only_new (is_reserved def.name) (is_some other) (is_some same) def.if_missing new.0 fresh new.1 in
-        let made = through (define.table formats def) (λ t. if length t.computed == length t.stamps.places && not def.resolves then Ok CreateTable else Err Unsupported) c (rw is at new.2) in
-        only_table (length made.0.computed == length made.0.stamps.places && not def.resolves) c made.2
+          let new = through (creates def.if_missing def.name same other) _ c (rw free at h) in
+          let is : new.0 ≡ true = only_new (is_reserved def.name) (is_some other) (is_some same) def.if_missing new.0 fresh new.1 in
+          let made = through (define.table formats def) (λ t. if length t.computed == length t.stamps.places && not def.resolves then Ok CreateTable else Err Unsupported) c (rw is at new.2) in
+          only_table (length made.0.computed == length made.0.stamps.places && not def.resolves) c made.2
     ]
 makes_by s formats base _ none c h = absurd none
 

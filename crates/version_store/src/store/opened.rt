@@ -145,13 +145,13 @@ impl<S: Alter> OpenedStore<S> {
 
 impl<S: Alter> VersionStore<S> {
     /// Opens a store, which is then still to be accepted. In a database that has none of the three
-    /// tables they are made, as by `create`, behind what others have there. Where all three are there, the store is opened exactly
-    /// if it is a good one but for its keys and references; what it holds is then as it was closed,
-    /// of form 1 in microseconds.
-    /// Others may have tables, indexes and views behind the three, which do not count.
-    /// Of three tables that are not as the store makes them, or stand behind tables of others, no
-    /// more is said than that a refusal changes nothing. On `Err` nothing is changed, the
-    /// connection is handed back, and no transaction is open on it.
+    /// tables they are made, as by `create`, behind what others have there. Where all three are
+    /// there, the store is opened exactly if it is a good one but for its keys and references; what
+    /// it holds is then as it was closed, of form 1 in microseconds. Tables, indexes and views that
+    /// others have behind the three do not count. Of three tables that are not as the store makes
+    /// them, or stand behind tables of others, no more is said than that a refusal changes nothing.
+    /// On `Err` nothing is changed, the connection is handed back, and no transaction is open on
+    /// it.
     pub fn open(
         alloc: Global,
         mut connection: Connection<S>,
