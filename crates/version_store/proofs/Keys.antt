@@ -25,7 +25,7 @@ use Rattle.sqlite.specs.Collation.TheVariants.{Binary}
 use Rattle.version_tables.proofs.Goes.{tied_turned, untied_along}
 use Rattle.version_tables.proofs.Shows.{pos_eq}
 use Rattle.version_tables.specs.Represents.{AreUntied, Version, same_key, stored, tied, version_shown}
-use Rattle.version_tables.specs.Tables.{store_schema, version_index}
+use Rattle.version_tables.specs.Tables.{HasStoreTables, schema_with, version_index}
 use Rattle.version_store.proofs.Opens.{KeepsKeys, stored_version, twice}
 use Rattle.version_store.proofs.Sweeps.{same_bytes}
 use Rattle.version_store.specs.Contents.{Contents, HaveColumnValues, TableVersion, same_version}
@@ -110,16 +110,16 @@ versions_apart (v ∷ vs) held apart = (go vs held.1 apart.0, versions_apart vs 
 abbrev Apart : List Row → Type 0
 Apart rows = AllByRecursion (λ r. AllByRecursion (λ s. rivals s r ≡ false) rows) rows
 
-unique_rows : (db : Database) → db.schema ≡ store_schema → IsDatabase db → Apart (db.trees 2)
+unique_rows : (db : Database) → HasStoreTables db.schema → IsDatabase db → Apart (db.trees 2)
 unique_rows db has sound =
-    let keeps : Keeps Unique store_schema db.trees = subst (λ s. Keeps Unique s db.trees) has (sound.obeys.rules Unique) in
-    all_weaker _ (λ r. AllByRecursion (λ s. rivals s r ≡ false) (db.trees 2)) (λ r passed. none_any (λ s. rivals s r) (db.trees 2) (not_true _ passed)) (db.trees 2) keeps.1.1.0
+    let keeps : Keeps Unique (schema_with has.others) db.trees = subst (λ s. Keeps Unique s db.trees) has.schema_is (sound.obeys.rules Unique) in
+    all_weaker _ (λ r. AllByRecursion (λ s. rivals s r ≡ false) (db.trees 2)) (λ r passed. none_any (λ s. rivals s r) (db.trees 2) (not_true _ _ passed)) (db.trees 2) keeps.1.1.0
   where
-    not_true : (b : Bool) → (not b && true) ≡ true → b ≡ false
-    not_true true h = absurd cc
-    not_true false h = refl
+    not_true : (b rest : Bool) → (not b && rest) ≡ true → b ≡ false
+    not_true true rest h = absurd cc
+    not_true false rest h = refl
 
-pub keys_kept : (db : Database) → db.schema ≡ store_schema → IsDatabase db → AreUntied (db.trees 2) → AllByRecursion (λ r. is_int (rowid r) ≡ true) (db.trees 2) → KeepsKeys db
+pub keys_kept : (db : Database) → HasStoreTables db.schema → IsDatabase db → AreUntied (db.trees 2) → AllByRecursion (λ r. is_int (rowid r) ≡ true) (db.trees 2) → KeepsKeys db
 keys_kept db has sound untied ints vs held same =
     let rows = db.trees 2 in
     let back = pull_back version_shown (map version_shown rows) (map stored_version vs) (IsPermutation-sym _ _ same) rows refl in

@@ -23,7 +23,7 @@ use Rattle.period_core.specs.Moments.{IsMomentNumber}
 use Rattle.version_tables.specs.Good.{AreDays, SayClock}
 use Rattle.version_tables.specs.Rows.{InOrder, by_rowid}
 use Rattle.version_tables.specs.Represents.{AreUntied, defined, meta_shown, stored, table_shown, version_shown}
-use Rattle.version_tables.specs.Tables.{store_schema}
+use Rattle.version_tables.specs.Tables.{HasStoreTables}
 use Rattle.version_store.proofs.Dated.{good_is_dated}
 use Rattle.version_tables.specs.Forms.{end_in, moment_in}
 use Rattle.version_tables.specs.declared.form.Form.{Form}
@@ -90,7 +90,7 @@ abbrev pub KeepsKeys : Database → Type 0
 KeepsKeys db = (vs : List TableVersion) → HaveColumnValues vs → IsPermutation (map stored_version vs) (map version_shown (db.trees 2)) → IsAscending (λ (a b : TableVersion). same_version a b ≡ false) vs
 
 module _ (db : Database) (metas tables versions : List Row) (pm : IsPermutation (map meta_shown (db.trees 0)) metas) (pt : InOrder table_shown by_rowid (db.trees 1) tables) (pv : IsPermutation (map version_shown (db.trees 2)) versions) where
-  pub points_hold : db.schema ≡ store_schema → KeepsKeys db → (known : List TableDef) (form : Form) (clock : ℤ) → SayRows metas tables versions known form clock
+  pub points_hold : HasStoreTables db.schema → KeepsKeys db → (known : List TableDef) (form : Form) (clock : ℤ) → SayRows metas tables versions known form clock
       → (good : IsGoodStore NothingMore db) × (good.contents.tables ≡ known) × (good.form ≡ form) × (good.contents.clock ≡ clock)
   points_hold there keys known form clock says =
       let all = all-permutation (SaysVersion form known clock) _ _ (IsPermutation-sym _ _ pv) says.each in
@@ -135,7 +135,7 @@ module _ (db : Database) (metas tables versions : List Row) (pm : IsPermutation 
         each = all-permutation says _ _ pv shown;
       })
 
-  pub judged_good : db.schema ≡ store_schema → KeepsKeys db → (r : Result (Catalog × Form × ℤ) OpenFault) → IfOk r (λ found. SayRows metas tables versions found.0.tables found.1 found.2)
+  pub judged_good : HasStoreTables db.schema → KeepsKeys db → (r : Result (Catalog × Form × ℤ) OpenFault) → IfOk r (λ found. SayRows metas tables versions found.0.tables found.1 found.2)
       → IfOk r (λ found. (good : IsGoodStore NothingMore db) × (good.contents.tables ≡ found.0.tables) × (good.form ≡ found.1) × (good.contents.clock ≡ found.2))
   judged_good there keys (Err e) says = tt
   judged_good there keys (Ok found) says = points_hold there keys found.0.tables found.1 found.2 says

@@ -12,7 +12,7 @@ use Rattle.sqlite.specs.Tree.{IsAscending}
 use Rattle.sqlite.specs.declared.types.Value.TheVariants.{Int, Blob}
 use Rattle.version_tables.specs.Good.{AreDays, AreMoments, IsClock, SayClock}
 use Rattle.version_tables.specs.Represents.{Says, stored}
-use Rattle.version_tables.specs.Tables.{store_schema}
+use Rattle.version_tables.specs.Tables.{HasStoreTables}
 use Rattle.version_tables.specs.declared.form.Form.{Form}
 use Rattle.version_tables.specs.declared.form.Form.TheVariants.{Microseconds}
 use Rattle.version_store.specs.Contents.{Contents, TableVersion, same_version}
@@ -53,8 +53,8 @@ pub record IsGoodStore (Constrained : Contents → Type 0) (db : Database) : Typ
   pub form : Form
   pub contents : Contents
   pub says : Says db (written_in form contents)
-  -- 1: the three tables are there, as the store makes them and with no other beside them
-  pub tables_there : db.schema ≡ store_schema
+  -- 1: the three tables are there, as the store makes them; those of others are behind them
+  pub tables_there : HasStoreTables db.schema
   -- 2: the one row of bt_meta has form 1 or 2, as `written_in` says, and a clock
   pub clock : IsClock form contents.clock
   -- 3: the definitions are numbered from 1, as `written_in` says; they are at most 64, can be read,

@@ -3,19 +3,23 @@ use Rattle.std.specs.Prelude.{◌≡◌, ◌⊎◌, ℤ, IsTrue, OnErr, OnOk, Re
 use Rattle.std.specs.Coded.{Coded, code_by, coded×, coded_ℤ}
 use Rattle.catalog_core.specs.contracts.table.catalog.Catalog.{the_row}
 use Rattle.catalog_core.specs.declared.table.catalog.Catalog.{Catalog}
+use Rattle.period_core.specs.Moments.{first_moment}
 use Rattle.period_core.specs.declared.refusal.Refusal.{Refusal}
 use Rattle.period_core.specs.declared.refusal.Refusal.TheVariants.{BadStore, Memory, Store}
 use Rattle.sqlite.specs.Store.{Ghosts}
-use Rattle.sqlite.specs.State.{HasCleanDisk}
+use Rattle.sqlite.specs.State.{HasCleanDisk, State}
 use Rattle.sqlite.specs.Held.{Held, held_code, state}
 use Rattle.sqlite.specs.Steps.{over_memory}
 use Rattle.sqlite_trees.specs.declared.memory.MemStore.{MemStore}
 use Rattle.sqlite.specs.Schema.{Schema}
+use Rattle.version_tables.specs.Forms.{form_number}
+use Rattle.version_tables.specs.Making.{IsBegunIn}
 use Rattle.version_tables.specs.Presence.{AreAllThere}
 use Rattle.version_tables.specs.Steps.{HasFault, IsAsBefore, KeepsFaults}
-use Rattle.version_tables.specs.Tables.{store_schema}
+use Rattle.version_tables.specs.Tables.{HasStoreTables}
 use Rattle.version_tables.specs.contracts.form.Form.{the_row as a_form}
 use Rattle.version_tables.specs.declared.form.Form.{Form}
+use Rattle.version_tables.specs.declared.form.Form.TheVariants.{Microseconds}
 use Rattle.version_store.specs.Contents.{AreDated, Contents}
 use Rattle.version_store.specs.Units.{in_microseconds}
 use Rattle.version_store.specs.Written.{Has, HasIn}
@@ -104,6 +108,13 @@ IsOpenedRead g old new = IsOnlyRead g old.store new.store × (new.form ≡ old.f
 abbrev pub IsStoreRefusal : Refusal → Type 0
 IsStoreRefusal refusal = (refusal ≡ Memory) ⊎ (refusal ≡ Store)
 
+-- a new store was made behind what others have, whose tables have the rows that they had; and that
+-- is committed
+abbrev pub IsMadeBehind : State → State → Type 0
+IsMadeBehind old new =
+    IsBegunIn (form_number Microseconds) first_moment old.now new.now
+    × (new.committed ≡ new.now)
+
 -- why a call fails that reads what can be read: it is out of memory, or there was a fault of the
 -- database
 abbrev pub IsFailure : {S : Type 0} → Ghosts S → Held S → Held S → Refusal → Type 0
@@ -113,7 +124,7 @@ IsFailure g old new refusal = (refusal ≡ Memory) ⊎ HasFault (state g old) (s
 abbrev pub IsOpenRefusal : Refusal → Type 0
 IsOpenRefusal refusal = (refusal ≡ BadStore) ⊎ IsStoreRefusal refusal
 
--- the three tables, where all of them are there, are as the store makes them, and no other is
--- beside them
+-- the three tables, where all of them are there, are as the store makes them; those of others are
+-- behind them
 abbrev pub IsOurs : Schema → Type 0
-IsOurs schema = AreAllThere schema → schema ≡ store_schema
+IsOurs schema = AreAllThere schema → HasStoreTables schema

@@ -5,7 +5,7 @@ ghost use Rattle.sqlite.specs.Held.{state};
 ghost use Rattle.sqlite.specs.State.{HasCleanDisk};
 ghost use Rattle.version_tables.specs.Good.{IsClock};
 ghost use Rattle.version_tables.specs.Steps.{Keeps};
-ghost use Rattle.version_tables.specs.Tables.{store_schema};
+ghost use Rattle.version_tables.specs.Tables.{HasStoreTables};
 ghost use Rattle.version_store.specs.GoodStore.{AreLawful, IsGoodStore, NothingMore};
 ghost use Rattle.version_store.specs.Written.{HasIn};
 ghost use Rattle.version_store.specs.declared.fault.OpenFault.TheVariants.{BadStore};
@@ -30,7 +30,7 @@ pub(crate) fn inspect<S: Alter>(
     requires { connection.old.in_transaction ≡ false }
     ensures good { HasCleanDisk (state S.Store connection.new)
         → IsTrue (state S.Store connection.new).is_open
-        → (state S.Store connection.old).now.schema ≡ store_schema
+        → HasStoreTables (state S.Store connection.old).now.schema
         → IfOk result (λ found.
         (good : IsGoodStore NothingMore (state S.Store connection.old).now)
         × HasIn good.form (state S.Store connection.old).now good.contents
@@ -38,7 +38,7 @@ pub(crate) fn inspect<S: Alter>(
         × (good.contents.clock ≡ found.2)) }
     ensures bad { HasCleanDisk (state S.Store connection.new)
         → IsTrue (state S.Store connection.new).is_open
-        → (state S.Store connection.old).now.schema ≡ store_schema
+        → HasStoreTables (state S.Store connection.old).now.schema
         → IfErr result (λ fault. fault ≡ BadStore
         → ¬ IsGoodStore NothingMore (state S.Store connection.old).now) }
     ensures lawful { IfOk result (λ found. AreLawful [] found.0.tables) }

@@ -7,14 +7,16 @@ ghost use Rattle.catalog_core.specs.table.TableWords.{has_date_period, has_disti
 ghost use Rattle.catalog_core.specs.declared.table.TableDef.{TableDef};
 ghost use Rattle.period_core.specs.Moments.{forever};
 ghost use Rattle.sqlite.specs.Held.{state};
+ghost use Rattle.version_tables.specs.Making.{HasCounters};
+ghost use Rattle.version_tables.specs.Presence.{IsNoneThere};
 ghost use Rattle.version_tables.specs.Steps.{IsAsBefore};
 ghost use Rattle.version_tables.specs.Tables.{no_schema};
 ghost use Rattle.version_store.specs.Changed.{planned, with_clock, with_table};
 ghost use Rattle.version_store.specs.Contents.{AreRowsOf, Contents, empty_contents};
 ghost use Rattle.version_store.specs.DistinctKeys.{HaveDistinctKeys};
 ghost use Rattle.version_store.specs.Scans.{AnswersRefusal, IsOwnRefusal, Visits, is_empty};
-ghost use Rattle.version_store.specs.StoreState.{Changes, IsFailure, IsOnlyRead, IsStoreRefusal};
-ghost use Rattle.version_store.specs.StoreState.{IsUsable, StoreRepresents};
+ghost use Rattle.version_store.specs.StoreState.{Changes, IsFailure, IsMadeBehind, IsOnlyRead};
+ghost use Rattle.version_store.specs.StoreState.{IsStoreRefusal, IsUsable, StoreRepresents};
 
 use crate::fault::refusal_of;
 use crate::scanning::{scan_rows, table_rows};
@@ -66,8 +68,9 @@ fn take_last(alloc: Global, catalog: &mut Catalog)
 
 impl<S: Alter> VersionStore<S> {
     /// Makes the store's tables in a database that has none of them, in one transaction: a store
-    /// without tables, whose clock is the first moment. On `Err` nothing is changed, the connection
-    /// is handed back, and no transaction is open on it.
+    /// without tables, whose clock is the first moment. They stand behind the tables of others,
+    /// which are left as they are. On `Err` nothing is changed, the connection is handed back, and
+    /// no transaction is open on it.
     pub fn create(
         alloc: Global,
         mut connection: Connection<S>,
@@ -76,6 +79,10 @@ impl<S: Alter> VersionStore<S> {
         ensures fresh { IfOk result (λ store. IsUsable S.Store store.connection
             → (state S.Store connection).now.schema ≡ no_schema
             → StoreRepresents S.Store store empty_contents) }
+        ensures beside { IfOk result (λ store. IsUsable S.Store store.connection
+            → IsNoneThere (state S.Store connection).now.schema
+            → HasCounters (state S.Store connection).now.schema
+            → IsMadeBehind (state S.Store connection) (state S.Store store.connection)) }
         ensures empty { IfOk result (λ store. store.catalog.tables ≡ []) }
         ensures none { IfErr result (λ failed. IsUsable S.Store failed.1
             → IsAsBefore (state S.Store connection) (state S.Store failed.1)) }

@@ -20,13 +20,14 @@ use Rattle.sqlite.specs.declared.error.Error.{Error}
 use Rattle.sqlite.specs.Listing.{understood}
 use Rattle.sqlite.specs.Effect.{Database, value_rows}
 use Rattle.sqlite.specs.State.{State, mode_of, Executes, ExecutesInside}
-use Rattle.sqlite.proofs.Callers.{statement_of, runs_as, one_step}
+use Rattle.sqlite.proofs.Callers.{statement_of, runs_as}
 use Rattle.version_tables.specs.declared.place.NewRow.{NewRow}
 use Rattle.version_tables.specs.Adding.{IsBatch, cells, given_rows}
 use Rattle.version_tables.specs.Represents.{Version, Records, Represents, all_added, defined, meta_shown, new_version, stored, table_shown, version_shown}
-use Rattle.version_tables.specs.Tables.{store_schema, version_table}
+use Rattle.version_tables.specs.Tables.{Others, schema_with, version_table}
 use Rattle.version_tables.specs.Texts.{eight_text, four_text, one_text, two_text}
 use Rattle.version_tables.proofs.Rows.{cast_int, cast_null, permuted, same_value, went}
+use Rattle.version_tables.proofs.Apart.{one_step_with}
 use Rattle.version_tables.proofs.Texts.{Adds, batch_terms, eight_is, four_is, one_is, two_is}
 use Rattle.version_tables.proofs.Updates.{put_fresh, put_keyed, put_table}
 
@@ -62,7 +63,7 @@ shows : (rows : List Row) (vs : List Version) → map version_shown (numbered Ch
 shows rows [] = refl
 shows rows (v ∷ vs) = ap (λ l. stored v ∷ l) (shows (put_row (Int (next_rowid rows) ∷ stored v) rows) vs)
 
-module _ (text : List ℕ) (table : ℕ) (from to : ℤ) (rows : List NewRow) (is : Adds (length rows) text) (cuts : IsCut (length rows)) where
+module _ (text : List ℕ) (table : ℕ) (from to : ℤ) (rows : List NewRow) (is : (others : Others) → Adds others (length rows) text) (cuts : IsCut (length rows)) where
   abbrev vs : List Version
   vs = map (new_version table from to) rows
 
@@ -71,25 +72,26 @@ module _ (text : List ℕ) (table : ℕ) (from to : ℤ) (rows : List NewRow) (i
 
   adds : (old new : State) (count : ℕ) (m : Records) → Represents old.now m → Executes text params old new (Ok count) → Represents new.now (all_added vs m)
   adds old new count m was h =
-      let has = was.schema in
+      let others = was.schema.others in
+      let has = was.schema.schema_is in
       let db = old.now.trees in
       let command = Insert 2 (Values (batch_terms 3 (length rows)) 7) in
-      let w = runs_as text params old new store_schema has command is.0 is.1 count h in
-      let done = went (subst (λ s. Does old.step_limit (mode_of old) params (record old.now { schema = s }) (statement_of text (understood store_schema text)) None command (Ok (w.tally, new.now))) has w.changed) in
+      let w = runs_as text params old new (schema_with others) has command (is others).0 (is others).1 count h in
+      let done = went (subst (λ s. Does old.step_limit (mode_of old) params (record old.now { schema = s }) (statement_of text (understood (schema_with others) text)) None command (Ok (w.tally, new.now))) has w.changed) in
       let now = ap (λ (p : Tally × Database). p.1) (same_value (went (went done.2).2).2) in
       let given = went done.1 in
       let written = went (went given.2).2 in
       let counted = went written.2 in
       let trees : done.0.trees ≡ written.0 = ap (λ (it : Written). it.trees) (same_value counted.2) ∙ same_value counted.1 in
       let edit = edit_of db (version_table 2) [] Chosen 0 given.0 in
-      let applied = one_step store_schema _ db written.0 edit refl written.1 in
+      let applied = one_step_with others was.schema.apart _ db written.0 edit (let low : 2 < 4 = omega arith in low) written.1 in
       let after : (t : ℕ) → new.now.trees t ≡ written.0 t = λ t. ap (λ (d : Database). d.trees t) now ∙ ap (λ (all : Trees). all t) trees in
       let laid : given.0 ≡ map unnumbered vs = given.1.1 ∙ ap (λ p. value_rows p 7 (length (batch_terms 3 (length rows)) / 7) (batch_terms 3 (length rows))) (append-nil params) ∙ ap (λ n. value_rows params 7 n (batch_terms 3 (length rows))) cuts ∙ gives table from to params refl refl refl rows 3 refl in
       let news : edit.news ≡ numbered Chosen (db 2) (map unnumbered vs) = ap (λ all. (edit_of db (version_table 2) [] Chosen 0 all).news) laid ∙ ap (numbered Chosen (db 2)) (casts vs) in
       let seen : map version_shown edit.news ≡ map stored vs = ap (map version_shown) news ∙ shows (db 2) vs in
       let put : new.now.trees 2 ≡ put_all (db 2) edit.news = after 2 ∙ applied.rows in
       record {
-        schema = ap (λ (d : Database). d.schema) now;
+        schema = record { others = others; schema_is = ap (λ (d : Database). d.schema) now; apart = was.schema.apart };
         says = record {
           meta = ap (map meta_shown) (after 0 ∙ applied.tables.0 (λ e. absurd (omega (arith, e)))) ∙ was.says.meta;
           tables = subst (λ rows. IsPermutation (defined 1 m.tables) (map table_shown rows)) (sym (after 1 ∙ applied.tables.1.0 (λ e. absurd (omega (arith, e))))) was.says.tables;
@@ -111,11 +113,11 @@ module _ (text : List ℕ) (table : ℕ) (from to : ℤ) (rows : List NewRow) (i
 
 -- a text of one, two, four or eight rows
 pub batches : (rows : List NewRow) (text : List ℕ) → IsBatch (length rows) → (length rows ≡ 1 → text ≡ one_text) → (length rows ≡ 2 → text ≡ two_text)
-    → (length rows ≡ 4 → text ≡ four_text) → (length rows ≡ 8 → text ≡ eight_text) → Adds (length rows) text × IsCut (length rows)
-batches rows text (inl e) one two four eight = (subst₂ Adds (sym e) (sym (one e)) one_is, subst IsCut (sym e) refl)
-batches rows text (inr (inl e)) one two four eight = (subst₂ Adds (sym e) (sym (two e)) two_is, subst IsCut (sym e) refl)
-batches rows text (inr (inr (inl e))) one two four eight = (subst₂ Adds (sym e) (sym (four e)) four_is, subst IsCut (sym e) refl)
-batches rows text (inr (inr (inr e))) one two four eight = (subst₂ Adds (sym e) (sym (eight e)) eight_is, subst IsCut (sym e) refl)
+    → (length rows ≡ 4 → text ≡ four_text) → (length rows ≡ 8 → text ≡ eight_text) → ((others : Others) → Adds others (length rows) text) × IsCut (length rows)
+batches rows text (inl e) one two four eight = (λ others. subst₂ (Adds others) (sym e) (sym (one e)) (one_is others), subst IsCut (sym e) refl)
+batches rows text (inr (inl e)) one two four eight = (λ others. subst₂ (Adds others) (sym e) (sym (two e)) (two_is others), subst IsCut (sym e) refl)
+batches rows text (inr (inr (inl e))) one two four eight = (λ others. subst₂ (Adds others) (sym e) (sym (four e)) (four_is others), subst IsCut (sym e) refl)
+batches rows text (inr (inr (inr e))) one two four eight = (λ others. subst₂ (Adds others) (sym e) (sym (eight e)) (eight_is others), subst IsCut (sym e) refl)
 
 -- ---- one row or one batch further
 

@@ -21,7 +21,7 @@ use Rattle.version_tables.specs.Represents.{Records, Represents}
 use Rattle.version_tables.specs.Giving.{AreFirst, GivesNext, HasGivenRows, IsLeft, IsNotBegun, TellsWhy}
 use Rattle.version_tables.specs.Steps.{HasReason, Keeps, KeepsFaults}
 use Rattle.version_tables.proofs.Reasons.{fails_with_reason}
-use Rattle.version_tables.specs.Tables.{store_schema}
+use Rattle.version_tables.specs.Tables.{schema_with}
 use Rattle.version_tables.proofs.Selects.{failed_keeps, select_reads, understood_none}
 use Rattle.version_tables.proofs.Shows.{reads}
 use Rattle.version_tables.proofs.Texts.{select_is}
@@ -34,8 +34,9 @@ never_returns selection schema (Err e) is some = some
 ends_alone : (selection : Selection) (s : State) (m : Records) → Represents s.now m → (c : Compiled) → understood s.now.schema (select_text selection) ≡ Ok c → (db : Database) (params : Row) → EndsIn c.command db params
 ends_alone selection s m stands c is db params =
     let text = select_text selection in
-    let known : command_of (understood store_schema text) ≡ c.command = ap (λ schema. command_of (understood schema text)) (sym stands.schema) ∙ ap command_of is in
-    subst (λ command. EndsIn command db params) (sym (select_is selection).0 ∙ known) tt
+    let others = stands.schema.others in
+    let known : command_of (understood (schema_with others) text) ≡ c.command = ap (λ schema. command_of (understood schema text)) (sym stands.schema.schema_is) ∙ ap command_of is in
+    subst (λ command. EndsIn command db params) (sym (select_is others selection).0 ∙ known) tt
 
 as_it_was : {a b : State} → IsUnchanged a b → Keeps a b
 as_it_was same = record { was_open = λ _. same.0.was_open; now = λ _. same.0.now_is; committed = λ _. same.0.committed_is }

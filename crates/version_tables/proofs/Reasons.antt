@@ -20,7 +20,7 @@ use Rattle.sqlite_tied.specs.Compute.{everything}
 use Rattle.version_tables.specs.Represents.{Records, Represents}
 use Rattle.version_tables.specs.Selections.{select_given, select_text}
 use Rattle.version_tables.specs.Steps.{HasReason}
-use Rattle.version_tables.specs.Tables.{store_schema}
+use Rattle.version_tables.specs.Tables.{Others, schema_with}
 use Rattle.version_tables.specs.declared.selection.Selection.{Selection}
 use Rattle.version_tables.specs.declared.selection.Selection.TheVariants.{Whole, EndingAt, Overlapping}
 use Rattle.version_tables.proofs.Texts.{select_is, select_query}
@@ -36,22 +36,22 @@ count_given Whole = 1
 count_given (EndingAt end) = 2
 count_given (Overlapping start end) = 3
 
-whole_one : IsOne (select_text Whole) 1 (understood store_schema (select_text Whole))
+whole_one : (others : Others) → IsOne (select_text Whole) 1 (understood (schema_with others) (select_text Whole))
 unfolding understood everything
-whole_one = (refl, refl)
+whole_one others = (refl, refl)
 
-ending_one : (end : _) → IsOne (select_text (EndingAt end)) 2 (understood store_schema (select_text (EndingAt end)))
+ending_one : (others : Others) (end : _) → IsOne (select_text (EndingAt end)) 2 (understood (schema_with others) (select_text (EndingAt end)))
 unfolding understood everything
-ending_one end = (refl, refl)
+ending_one others end = (refl, refl)
 
-overlapping_one : (start end : _) → IsOne (select_text (Overlapping start end)) 3 (understood store_schema (select_text (Overlapping start end)))
+overlapping_one : (others : Others) (start end : _) → IsOne (select_text (Overlapping start end)) 3 (understood (schema_with others) (select_text (Overlapping start end)))
 unfolding understood everything
-overlapping_one start end = (refl, refl)
+overlapping_one others start end = (refl, refl)
 
-is_one : (selection : Selection) → IsOne (select_text selection) (count_given selection) (understood store_schema (select_text selection))
-is_one Whole = whole_one
-is_one (EndingAt end) = ending_one end
-is_one (Overlapping start end) = overlapping_one start end
+is_one : (others : Others) (selection : Selection) → IsOne (select_text selection) (count_given selection) (understood (schema_with others) (select_text selection))
+is_one others Whole = whole_one others
+is_one others (EndingAt end) = ending_one others end
+is_one others (Overlapping start end) = overlapping_one others start end
 
 given_long : (table : ℕ) (selection : Selection) → length (select_given table selection) ≡ count_given selection
 given_long table Whole = refl
@@ -64,10 +64,10 @@ shown_names = codes "vals" ∷ codes "s" ∷ codes "e" ∷ codes "ss" ∷ codes 
 
 -- ---- it is typed, and sums nothing
 
-typed : (table : ℕ) (selection : Selection) → accepts_program store_schema [] (select_query selection) (select_given table selection) ≡ true
-typed table Whole = refl
-typed table (EndingAt end) = refl
-typed table (Overlapping start end) = refl
+typed : (others : Others) (table : ℕ) (selection : Selection) → accepts_program (schema_with others) [] (select_query selection) (select_given table selection) ≡ true
+typed others table Whole = refl
+typed others table (EndingAt end) = refl
+typed others table (Overlapping start end) = refl
 
 none_of : {A : Type 0} (xs : List A) → Any (λ (x : A). ⊥) xs → ⊥
 none_of xs any = any.4
@@ -97,23 +97,26 @@ module _ (old new : State) where
     abbrev params : Row
     params = select_given table selection
 
-    known : (r : Result Compiled CompileError) → understood old.now.schema text ≡ r → understood store_schema text ≡ r
-    known r is = ap (λ schema. understood schema text) (sym stands.schema) ∙ is
+    abbrev others : Others
+    others = stands.schema.others
+
+    known : (r : Result Compiled CompileError) → understood old.now.schema text ≡ r → understood (schema_with others) text ≡ r
+    known r is = ap (λ schema. understood schema text) (sym stands.schema.schema_is) ∙ is
 
     not_refused : (e : Error) → IsNoStatement old text params e → ⊥
-    not_refused e (inl (fault, is, _)) = subst (IsOne text (count_given selection)) (known (Err fault) is) (is_one selection)
+    not_refused e (inl (fault, is, _)) = subst (IsOne text (count_given selection)) (known (Err fault) is) (is_one others selection)
     not_refused e (inr (c, is, inl (long, _))) =
-        let one = subst (IsOne text (count_given selection)) (known (Ok c) is) (is_one selection) in
+        let one = subst (IsOne text (count_given selection)) (known (Ok c) is) (is_one others selection) in
         let fits = one.0 in
         long (grind (arith, nat_tests, fits))
     not_refused e (inr (c, is, inr (inl (other, _)))) =
-        let one = subst (IsOne text (count_given selection)) (known (Ok c) is) (is_one selection) in
+        let one = subst (IsOne text (count_given selection)) (known (Ok c) is) (is_one others selection) in
         other (given_long table selection ∙ one.1)
     not_refused e (inr (c, is, inr (inr (clock, _)))) =
-        clock (subst IsPlain (known (Ok c) is) (select_is selection).2).1
+        clock (subst IsPlain (known (Ok c) is) (select_is others selection).2).1
 
     reads_with_reason : (e : Error) (names : List (List ℕ)) → RefusesToRead old.step_limit (Select (record { lets = []; body = select_query selection }) names) old.now params e → HasReason old new e
-    reads_with_reason e names (inl (is, untyped)) = absurd (true≢false (sym (ap (λ schema. accepts_program schema [] (select_query selection) params) stands.schema ∙ typed table selection) ∙ untyped))
+    reads_with_reason e names (inl (is, untyped)) = absurd (true≢false (sym (ap (λ schema. accepts_program schema [] (select_query selection) params) stands.schema.schema_is ∙ typed others table selection) ∙ untyped))
     reads_with_reason e names (inr (inl (is, over))) = absurd (never_overflows old.now params selection over)
     reads_with_reason e names (inr (inr (is, some))) = λ on. inr (inr some)
 
@@ -123,8 +126,8 @@ module _ (old new : State) where
     fails_with_reason e (inl (inr failed)) = by_failure e failed
     fails_with_reason e (inr h) =
         let is = known (Ok h.0) h.1.is in
-        let bare = subst IsPlain is (select_is selection).2 in
+        let bare = subst IsPlain is (select_is others selection).2 in
         let it = rw (bare.0, bare.1, append-nil params) at h.2 in
-        let db : it.0 ≡ old.now = subst (λ b. IsSourceOf b old.now it.0) (ap (λ schema. reads_listing schema text) stands.schema ∙ (select_is selection).1) it.1 in
-        let command = sym (ap command_of is) ∙ (select_is selection).0 in
+        let db : it.0 ≡ old.now = subst (λ b. IsSourceOf b old.now it.0) (ap (λ schema. reads_listing schema text) stands.schema.schema_is ∙ (select_is others selection).1) it.1 in
+        let command = sym (ap command_of is) ∙ (select_is others selection).0 in
         reads_with_reason e shown_names (subst₂ (λ k d. RefusesToRead old.step_limit k d params e) command db it.2)

@@ -63,11 +63,11 @@ rowid_reads schema base = refl
 
 -- ---- so nothing that is compiled of it has
 
-through : {A B : Type 0} (r : Checked A) (f : A → Checked B) (b : B) → and_then r f ≡ Ok b → (a : A) × (r ≡ Ok a) × (f a ≡ Ok b)
+pub through : {A B : Type 0} (r : Checked A) (f : A → Checked B) (b : B) → and_then r f ≡ Ok b → (a : A) × (r ≡ Ok a) × (f a ≡ Ok b)
 through (Ok a) f b h = (a, refl, h)
 through (Err e) f b h = absurd cc
 
-value_is : {A : Type 0} (a b : A) → (let r : Checked A = Ok a in r ≡ Ok b) → b ≡ a
+pub value_is : {A : Type 0} (a b : A) → (let r : Checked A = Ok a in r ≡ Ok b) → b ≡ a
 value_is a b h = cc
 
 -- what a command is found with
@@ -88,7 +88,7 @@ compiled_none schema sql reads c is =
     let nothing : shown.0 ≡ None = value_is None shown.0 (sym (none schema _) ∙ shown.1) in
     ap (λ (k : Compiled). k.returning) (value_is (with_command p plan.0) c plan.2) ∙ ap (λ (q : _ × (_ × _)). q.1.1) (value_is (_, found.0) plan.0 found.2) ∙ same ∙ nothing
 
-selected : (r : Checked Compiled) (c : Compiled) → if_select r ≡ Ok c → r ≡ Ok c
+pub selected : (r : Checked Compiled) (c : Compiled) → if_select r ≡ Ok c → r ≡ Ok c
 selected (Err e) c h = absurd cc
 selected (Ok k) c h = elim (cases_Bool (is_select k.command)) [
   | inl so ↦ rw so at h

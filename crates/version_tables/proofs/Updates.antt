@@ -1,6 +1,6 @@
 -- What UPDATE of versions does, whatever columns it sets: of those of which its tests are true, and
 -- of those with a key.
-use Rattle.std.proofs.Common.{◌≡◌, ℕ, pos, List, [], ◌∷◌, ◌++◌, map, drop, filter, length, Bool, true, false, not, None, Ok, refl, sym, ap, subst, subst₂, ◌∙◌, arith}
+use Rattle.std.proofs.Common.{◌≡◌, ◌<◌, ℕ, pos, List, [], ◌∷◌, ◌++◌, map, drop, filter, length, Bool, true, false, not, None, Ok, refl, sym, ap, subst, subst₂, ◌∙◌, arith}
 use Rattle.std.specs.Prelude.{unwrap_or}
 use Rattle.std.specs.List.{list_all, AllByRecursion}
 use Rattle.std.specs.List.Sorted.{IsPermutation}
@@ -27,10 +27,11 @@ use Rattle.sqlite.specs.Tree.{Trees, rowid, put_row}
 use Rattle.sqlite.specs.Listing.{understood}
 use Rattle.sqlite.specs.Effect.{Database}
 use Rattle.sqlite.specs.State.{State, mode_of, Executes}
-use Rattle.sqlite.proofs.Callers.{IsPlain, command_of, statement_of, runs_as, one_step}
+use Rattle.sqlite.proofs.Callers.{IsPlain, command_of, statement_of, runs_as}
 use Rattle.sqlite_rules.specs.Calls.{ids_of}
-use Rattle.version_tables.specs.Tables.{store_schema, version_table}
+use Rattle.version_tables.specs.Tables.{Others, schema_with, version_table}
 use Rattle.version_tables.specs.Represents.{Version, Records, Represents, changed, defined, meta_shown, table_shown, version_shown, AreUntied, stored, same_key}
+use Rattle.version_tables.proofs.Apart.{one_step_with}
 use Rattle.version_tables.proofs.Texts.{by_key, changing, updating}
 use Rattle.version_tables.proofs.Rows.{went, same_value, put_row_fresh}
 use Rattle.version_tables.proofs.Shows.{chosen}
@@ -93,7 +94,7 @@ fused f g (x ∷ xs) = ap (λ l. f (g x) ∷ l) (fused f g xs)
 
 -- the rows of which the tests are true are changed, and counted; of the versions P holds
 module _ (text : List ℕ) (tests columns : List Term) (params : Row) (picks : Version → Bool) (test : Row → Bool) (P : Version → Type 0) (f : Version → Version) (body : Row → Row)
-    (is : (command_of (understood store_schema text) ≡ Update 2 (record { lets = []; body = updating tests columns })) × IsPlain (understood store_schema text))
+    (is : (others : Others) → (command_of (understood (schema_with others) text) ≡ Update 2 (record { lets = []; body = updating tests columns })) × IsPlain (understood (schema_with others) text))
     (test_is : (r : Row) → list_all (holds (params ∷ r ∷ [])) tests ≡ test (version_shown r))
     (test-stored : (v : Version) → test (stored v) ≡ picks v)
     (body_is : (r : Row) → version_shown (again (output (updating tests columns) (params ∷ r ∷ [])).1) ≡ body (version_shown r))
@@ -101,19 +102,20 @@ module _ (text : List ℕ) (tests columns : List Term) (params : Row) (picks : V
   pub changes : (old new : State) (count : ℕ) (m : Records) → AllByRecursion P m.versions → Represents old.now m → Executes text params old new (Ok count)
       → Represents new.now (record m { versions = map f (filter picks m.versions) ++ filter (λ v. not (picks v)) m.versions }) × (count ≡ length (filter picks m.versions))
   changes old new count m are was h =
-      let has = was.schema in
+      let others = was.schema.others in
+      let has = was.schema.schema_is in
       let db = old.now.trees in
       let query = updating tests columns in
       let command = Update 2 (record { lets = []; body = query }) in
       let table = version_table 2 in
-      let w = runs_as text params old new store_schema has command is.0 is.1 count h in
-      let done = went (subst (λ s. Does old.step_limit (mode_of old) params (record old.now { schema = s }) (statement_of text (understood store_schema text)) None command (Ok (w.tally, new.now))) has w.changed) in
+      let w = runs_as text params old new (schema_with others) has command (is others).0 (is others).1 count h in
+      let done = went (subst (λ s. Does old.step_limit (mode_of old) params (record old.now { schema = s }) (statement_of text (understood (schema_with others) text)) None command (Ok (w.tally, new.now))) has w.changed) in
       let now = ap (λ (p : Tally × Database). p.1) (same_value (went (went done.2).2).2) in
       let found = went done.1 in
       let written = went found.2 in
       let trees : done.0.trees ≡ written.0 = ap (λ (it : Written). it.trees) (same_value written.2) in
       let edit = edit_of db table (ids_of found.0) Given 1 found.0 in
-      let applied = one_step store_schema _ db written.0 edit refl written.1 in
+      let applied = one_step_with others was.schema.apart _ db written.0 edit (let low : 2 < 4 = omega arith in low) written.1 in
       let after : (t : ℕ) → new.now.trees t ≡ written.0 t = λ t. ap (λ (d : Database). d.trees t) now ∙ ap (λ (all : Trees). all t) trees in
       let p = λ (r : Row). list_all (holds (params ∷ r ∷ [])) tests in
       let env = λ (r : Row). params ∷ r ∷ [] in
@@ -146,7 +148,7 @@ module _ (text : List ℕ) (tests columns : List Term) (params : Row) (picks : V
       let all : length edit.news ≡ length (filter picks m.versions) =
       sym (length-map edit.news version_shown) ∙ length_permutation _ _ gone ∙ length-map _ stored ∙ length-map _ f in (
         record {
-          schema = ap (λ (d : Database). d.schema) now;
+          schema = record { others = others; schema_is = ap (λ (d : Database). d.schema) now; apart = was.schema.apart };
           says = record {
             meta = ap (map meta_shown) (after 0 ∙ applied.tables.0 (λ e. absurd (omega (arith, e)))) ∙ was.says.meta;
             tables = subst (λ rows. IsPermutation (defined 1 m.tables) (map table_shown rows)) (sym (after 1 ∙ applied.tables.1.0 (λ e. absurd (omega (arith, e))))) was.says.tables;
@@ -164,7 +166,7 @@ everywhere P holds (v ∷ vs) = (holds v, everywhere P holds vs)
 
 -- the rows with the key are changed, and counted
 module _ (text : List ℕ) (columns : List Term) (k : Version) (more : Row) (f : Version → Version) (body : Row → Row)
-    (is : (command_of (understood store_schema text) ≡ Update 2 (record { lets = []; body = changing columns })) × IsPlain (understood store_schema text))
+    (is : (others : Others) → (command_of (understood (schema_with others) text) ≡ Update 2 (record { lets = []; body = changing columns })) × IsPlain (understood (schema_with others) text))
     (body_is : (r : Row) → version_shown (again (output (changing columns) (key_and k more ∷ r ∷ [])).1) ≡ body (version_shown r))
     (body-stored : (v : Version) → body (stored v) ≡ stored (f v)) where
   pub updates : (old new : State) (count : ℕ) (m : Records) → Represents old.now m → Executes text (key_and k more) old new (Ok count) → Represents new.now (changed k f m) × (count ≡ length (filter (same_key k) m.versions))

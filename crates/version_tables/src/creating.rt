@@ -3,10 +3,12 @@
 ghost use Rattle.std.specs.Prelude.{◌≡◌, false, IsTrue, OnErr, OnOk};
 ghost use Rattle.sqlite.specs.State.{HasCleanDisk};
 ghost use Rattle.sqlite.specs.Held.{state};
-ghost use Rattle.version_tables.specs.Represents.{HasTables, Represents, begun};
+ghost use Rattle.version_tables.specs.Making.{HasCounters, HasDefinitions, HasMeta, HasNone};
+ghost use Rattle.version_tables.specs.Making.{HasThree, IsBegunIn};
+ghost use Rattle.version_tables.specs.Presence.{IsNoneThere};
+ghost use Rattle.version_tables.specs.Represents.{Represents, begun};
 ghost use Rattle.version_tables.specs.Steps.{CommitsNothing, IsAsBefore, LeadsTo};
-ghost use Rattle.version_tables.specs.Tables.{definition_schema, meta_schema, no_schema};
-ghost use Rattle.version_tables.specs.Tables.{store_schema};
+ghost use Rattle.version_tables.specs.Tables.{no_schema};
 
 use sqlite::{Alter, Connection, Error, Transaction, params};
 
@@ -14,7 +16,7 @@ use sqlite::{Alter, Connection, Error, Transaction, params};
 fn create_meta<S: Alter>(transaction: &mut Transaction<'_, S>) -> Result<usize, Error>
     ensures same_reference { transaction.new.conn.ghost_name ≡ transaction.old.conn.ghost_name }
     ensures made { LeadsTo S.Store transaction.old.conn.now transaction.new.conn.now result
-        (HasTables no_schema 0) (HasTables meta_schema 1) }
+        HasNone HasMeta }
     ensures inside { CommitsNothing S.Store transaction.old.conn.now transaction.new.conn.now }
 {
     transaction.execute(
@@ -28,7 +30,7 @@ fn create_meta<S: Alter>(transaction: &mut Transaction<'_, S>) -> Result<usize, 
 fn create_definitions<S: Alter>(transaction: &mut Transaction<'_, S>) -> Result<usize, Error>
     ensures same_reference { transaction.new.conn.ghost_name ≡ transaction.old.conn.ghost_name }
     ensures made { LeadsTo S.Store transaction.old.conn.now transaction.new.conn.now result
-        (HasTables meta_schema 1) (HasTables definition_schema 2) }
+        HasMeta HasDefinitions }
     ensures inside { CommitsNothing S.Store transaction.old.conn.now transaction.new.conn.now }
 {
     transaction.execute(
@@ -41,7 +43,7 @@ fn create_definitions<S: Alter>(transaction: &mut Transaction<'_, S>) -> Result<
 fn create_versions<S: Alter>(transaction: &mut Transaction<'_, S>) -> Result<usize, Error>
     ensures same_reference { transaction.new.conn.ghost_name ≡ transaction.old.conn.ghost_name }
     ensures made { LeadsTo S.Store transaction.old.conn.now transaction.new.conn.now result
-        (HasTables definition_schema 2) (HasTables store_schema 3) }
+        HasDefinitions HasThree }
     ensures inside { CommitsNothing S.Store transaction.old.conn.now transaction.new.conn.now }
 {
     transaction.execute(
@@ -60,7 +62,7 @@ fn insert_meta<S: Alter>(
 ) -> Result<usize, Error>
     ensures same_reference { transaction.new.conn.ghost_name ≡ transaction.old.conn.ghost_name }
     ensures made { LeadsTo S.Store transaction.old.conn.now transaction.new.conn.now result
-        (HasTables store_schema 3) (λ db. Represents db (begun form clock)) }
+        HasThree (IsBegunIn form clock) }
     ensures inside { CommitsNothing S.Store transaction.old.conn.now transaction.new.conn.now }
 {
     transaction.execute(
@@ -69,14 +71,38 @@ fn insert_meta<S: Alter>(
     )
 }
 
+/// Makes the three tables behind those of others, and the row of the form and the clock.
+fn make_tables<S: Alter>(
+    transaction: &mut Transaction<'_, S>,
+    form: i64,
+    clock: i64,
+) -> Result<(), Error>
+    ensures same_reference { transaction.new.conn.ghost_name ≡ transaction.old.conn.ghost_name }
+    ensures made { LeadsTo S.Store transaction.old.conn.now transaction.new.conn.now result
+        HasNone (IsBegunIn form clock) }
+    ensures inside { CommitsNothing S.Store transaction.old.conn.now transaction.new.conn.now }
+{
+    create_meta(transaction)?;
+    create_definitions(transaction)?;
+    create_versions(transaction)?;
+    insert_meta(transaction, form, clock)?;
+    Ok(())
+}
+
 /// Makes the three tables, with this form and this clock (a moment's number), in one transaction.
-/// On `Err` nothing is changed, and no transaction is open. What the tables stand for is said where
-/// the database had no table at all.
+/// What others have in the database stays: the three are made behind their tables. On `Err` nothing
+/// is changed, and no transaction is open.
 pub fn create<S: Alter>(connection: &mut Connection<S>, form: i64, clock: i64) -> Result<(), Error>
     requires { connection.old.in_transaction ≡ false }
     ensures made { HasCleanDisk (state S.Store connection.new)
         → (state S.Store connection.old).now.schema ≡ no_schema
         → OnOk result (Represents (state S.Store connection.new).now (begun form clock)
+        × ((state S.Store connection.new).committed ≡ (state S.Store connection.new).now)) }
+    ensures beside { HasCleanDisk (state S.Store connection.new)
+        → IsNoneThere (state S.Store connection.old).now.schema
+        → HasCounters (state S.Store connection.old).now.schema
+        → OnOk result (IsBegunIn form clock (state S.Store connection.old).now
+        (state S.Store connection.new).now
         × ((state S.Store connection.new).committed ≡ (state S.Store connection.new).now)) }
     ensures none { HasCleanDisk (state S.Store connection.new)
         → IsTrue (state S.Store connection.new).is_open
@@ -89,9 +115,6 @@ pub fn create<S: Alter>(connection: &mut Connection<S>, form: i64, clock: i64) -
     // For the proof alone: whether a transaction is open is known by this call.
     let _settled = connection.is_autocommit();
     let mut transaction = connection.transaction();
-    create_meta(&mut transaction)?;
-    create_definitions(&mut transaction)?;
-    create_versions(&mut transaction)?;
-    insert_meta(&mut transaction, form, clock)?;
+    make_tables(&mut transaction, form, clock)?;
     transaction.commit()
 }

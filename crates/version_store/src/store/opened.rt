@@ -4,6 +4,7 @@ ghost use Rattle.std.specs.Prelude.{◌≡◌, ◌≢◌, ◌⊎◌, [], false, 
 ghost use Rattle.period_core.specs.declared.refusal.Refusal.TheVariants.{BadStore};
 ghost use Rattle.period_core.specs.declared.window.Window.TheVariants.{Now};
 ghost use Rattle.sqlite.specs.Held.{state};
+ghost use Rattle.version_tables.specs.Making.{HasCounters};
 ghost use Rattle.version_tables.specs.Presence.{IsNoneThere};
 ghost use Rattle.version_tables.specs.Steps.{IsAsBefore};
 ghost use Rattle.version_tables.specs.Tables.{no_schema};
@@ -13,9 +14,9 @@ ghost use Rattle.version_store.specs.Contents.{AreRowsOf, Contents, empty_conten
 ghost use Rattle.version_store.specs.GoodStore.{AreGood, AreLawful, HaveTables, IsGoodStore};
 ghost use Rattle.version_store.specs.GoodStore.{NothingMore};
 ghost use Rattle.version_store.specs.Scans.{AnswersRefusal, IsOwnRefusal, Visits};
-ghost use Rattle.version_store.specs.StoreState.{IsFailure, IsOpenRefusal, IsOpenedRead, IsOurs};
-ghost use Rattle.version_store.specs.StoreState.{IsStoreRefusal, IsUsable, OpenedRepresents};
-ghost use Rattle.version_store.specs.StoreState.{StoreRepresents};
+ghost use Rattle.version_store.specs.StoreState.{IsFailure, IsMadeBehind, IsOpenRefusal};
+ghost use Rattle.version_store.specs.StoreState.{IsOpenedRead, IsOurs, IsStoreRefusal, IsUsable};
+ghost use Rattle.version_store.specs.StoreState.{OpenedRepresents, StoreRepresents};
 ghost use Rattle.version_store.specs.Units.{in_microseconds};
 ghost use Rattle.version_store.specs.Written.{HasIn};
 
@@ -144,12 +145,13 @@ impl<S: Alter> OpenedStore<S> {
 
 impl<S: Alter> VersionStore<S> {
     /// Opens a store, which is then still to be accepted. In a database that has none of the three
-    /// tables they are made, as by `create`. Where all three are there, the store is opened exactly
-    /// if it is a good one but for its keys and references; what it holds is then as it was closed,
-    /// of form 1 in microseconds.
-    /// Of three tables that are not as the store makes them, or have other tables beside them, no
-    /// more is said than that a refusal changes nothing. On `Err` nothing is changed, the
-    /// connection is handed back, and no transaction is open on it.
+    /// tables they are made, as by `create`, behind what others have there. Where all three are
+    /// there, the store is opened exactly if it is a good one but for its keys and references; what
+    /// it holds is then as it was closed, of form 1 in microseconds. Tables, indexes and views that
+    /// others have behind the three do not count. Of three tables that are not as the store makes
+    /// them, or stand behind tables of others, no more is said than that a refusal changes nothing.
+    /// On `Err` nothing is changed, the connection is handed back, and no transaction is open on
+    /// it.
     pub fn open(
         alloc: Global,
         mut connection: Connection<S>,
@@ -158,6 +160,11 @@ impl<S: Alter> VersionStore<S> {
         ensures fresh { IfOk result (λ opened. IsUsable S.Store opened.store.connection
             → (state S.Store connection).now.schema ≡ no_schema
             → OpenedRepresents S.Store opened empty_contents) }
+        ensures beside { IfOk result (λ opened. IsUsable S.Store opened.store.connection
+            → IsNoneThere (state S.Store connection).now.schema
+            → HasCounters (state S.Store connection).now.schema
+            → IsMadeBehind (state S.Store connection)
+            (state S.Store opened.store.connection)) }
         ensures good { IfOk result (λ opened. IsUsable S.Store opened.store.connection
             → IsOurs (state S.Store connection).now.schema
             → IsNoneThere (state S.Store connection).now.schema

@@ -1,4 +1,4 @@
-use Rattle.std.proofs.Common.{◌∙◌, [], List, ap, map, subst, subst₂, sym}
+use Rattle.std.proofs.Common.{◌∙◌, [], List, map, subst, subst₂, sym}
 use Rattle.std.specs.List.Sorted.{IsPermutation}
 use Rattle.std.proofs.lemmas.Result.{IfOk-weaker}
 use Rattle.sqlite.specs.Effect.{Database}
@@ -8,6 +8,7 @@ use Rattle.version_tables.proofs.ColumnFacts.{never}
 use Rattle.version_tables.proofs.There.{store_has_columns}
 use Rattle.version_tables.proofs.Ordered.{own_rowids}
 use Rattle.version_tables.specs.Rows.{AreNumbered, AreRising, InOrder, by_rowid}
+use Rattle.version_tables.specs.Tables.{HasStoreTables}
 use Rattle.version_tables.specs.Represents.{meta_shown, rowid_shown, table_shown, version_shown}
 use Rattle.version_store.proofs.Keys.{keys_kept}
 use Rattle.version_store.proofs.Opens.{all_lawful, found_contents, judged_bad, judged_good}
@@ -22,13 +23,13 @@ returns-clause-good g c clean on has =
     let clean1 = c.in_ok-tables.ensures.reads.clean clean2 in
     let u1 = c.in_ok-metas.ensures.reads.unchanged clean1 in
     let now1 = u1.0.now_is in
-    let has1 = ap (λ (d : Database). d.schema) now1 ∙ has in
+    let has1 = subst (λ (d : Database). HasStoreTables d.schema) (sym now1) has in
     let u2 = c.in_ok-tables.ensures.reads.unchanged clean2 in
     let now2 = u2.0.now_is ∙ now1 in
-    let has2 = ap (λ (d : Database). d.schema) now2 ∙ has in
+    let has2 = subst (λ (d : Database). HasStoreTables d.schema) (sym now2) has in
     let u3 = c.in_ok-versions.ensures.reads.unchanged clean3 in
     let now3 = u3.0.now_is ∙ now2 in
-    let has3 = ap (λ (d : Database). d.schema) now3 ∙ has in
+    let has3 = subst (λ (d : Database). HasStoreTables d.schema) (sym now3) has in
     let was_open = u1.0.was_open in
     let pm = subst (IsPermutation (map meta_shown (old.trees 0))) (sym c.deref-4.ensures.value) (c.in_ok-metas.ensures.shows clean1 has) in
     let pt = subst₂ (λ (d : Database) (rows : List Row). InOrder table_shown by_rowid (d.trees 1) rows) now1 (sym c.deref-5.ensures.value) (c.in_ok-tables.ensures.shows clean2 has1) in
@@ -50,10 +51,10 @@ returns-clause-bad g c clean on has =
     let clean1 = c.in_ok-tables.ensures.reads.clean clean2 in
     let u1 = c.in_ok-metas.ensures.reads.unchanged clean1 in
     let now1 = u1.0.now_is in
-    let has1 = ap (λ (d : Database). d.schema) now1 ∙ has in
+    let has1 = subst (λ (d : Database). HasStoreTables d.schema) (sym now1) has in
     let u2 = c.in_ok-tables.ensures.reads.unchanged clean2 in
     let now2 = u2.0.now_is ∙ now1 in
-    let has2 = ap (λ (d : Database). d.schema) now2 ∙ has in
+    let has2 = subst (λ (d : Database). HasStoreTables d.schema) (sym now2) has in
     let pm = subst (IsPermutation (map meta_shown (old.trees 0))) (sym c.deref-4.ensures.value) (c.in_ok-metas.ensures.shows clean1 has) in
     let pt = subst₂ (λ (d : Database) (rows : List Row). InOrder table_shown by_rowid (d.trees 1) rows) now1 (sym c.deref-5.ensures.value) (c.in_ok-tables.ensures.shows clean2 has1) in
     let pv = subst₂ (λ (d : Database) (rows : List Row). IsPermutation (map version_shown (d.trees 2)) rows) now2 (sym c.deref-6.ensures.value) (c.in_ok-versions.ensures.shows clean3 has2) in
@@ -82,6 +83,6 @@ returns-then-repeat_key-clause-bad g c clean on has = λ _ good.
     let now1 = u1.0.now_is in
     let u2 = c.in_ok-tables.ensures.reads.unchanged clean2 in
     let now2 = u2.0.now_is ∙ now1 in
-    let has2 = ap (λ (d : Database). d.schema) now2 ∙ has in
+    let has2 = subst (λ (d : Database). HasStoreTables d.schema) (sym now2) has in
     let pv = subst₂ (λ (d : Database) (rows : List Row). IsPermutation (map version_shown (d.trees 2)) rows) now2 (sym c.deref-3.ensures.value) (c.in_ok-versions.ensures.shows clean3 has2) in
     good_keys old c.deref-3.result.now pv (c.repeat_key.ensures.0 c.if-repeat_key.true) good

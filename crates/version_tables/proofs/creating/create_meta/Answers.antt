@@ -1,7 +1,6 @@
 use Rattle.std.proofs.Common.{[]}
 use Rattle.sqlite.specs.Held.{state}
-use Rattle.version_tables.specs.Tables.{no_schema, meta_schema}
-use Rattle.version_tables.specs.Represents.{HasTables}
+use Rattle.version_tables.specs.Making.{HasMeta, HasNone}
 use Rattle.version_tables.proofs.Steps.{one_statement, turned}
 use Rattle.version_tables.proofs.Creates.{makes_meta}
 use Rattle.version_tables.proofs.creating.create_meta.Goals as goal
@@ -10,7 +9,7 @@ pub returns-clause-made : goal.returns-clause-made
 returns-clause-made g c clean begun =
     let old = state g.S.Store c.args.transaction.now.conn.now in
     let new = state g.S.Store c.execute.new.self.conn.now in
-    turned old new _ [] c.execute.result (HasTables no_schema 0) (HasTables meta_schema 1) (makes_meta old new) (c.execute.ensures.runs clean begun)
+    turned old new _ [] c.execute.result HasNone HasMeta (makes_meta old new) (c.execute.ensures.runs clean begun)
 
 pub returns-clause-inside : goal.returns-clause-inside
 returns-clause-inside g c = one_statement g.S.Store _ _ _ _ c.execute.result c.execute.ensures.ended c.execute.ensures.runs c.execute.ensures.survives

@@ -116,3 +116,6 @@ returns-in-Some-clause-unchanged g c = λ usable. let same = c.in-Ok-inspect.ens
 
 pub returns-in-Some-clause-empty : goal.returns-in-Some-clause-empty
 returns-in-Some-clause-empty g c = λ none. absurd (not_both_ways c.args.connection.schema none (c.in-Whole.ensures.whole.0 refl))
+
+pub returns-in-Some-clause-beside : goal.returns-in-Some-clause-beside
+returns-in-Some-clause-beside g c = λ usable none. absurd (not_both_ways c.args.connection.schema none (c.in-Whole.ensures.whole.0 refl))
