@@ -37,7 +37,7 @@ mod in_memory;
 mod indexed;
 mod lawfulness;
 mod needed;
-pub mod outcome;
+mod outcome;
 mod shown;
 mod stored;
 
@@ -45,7 +45,7 @@ use crate::engine::closed::{add_versions, apply_closing, load_ended, remove_vers
 use crate::engine::indexed::load_lawful;
 use crate::engine::lawfulness::lawful_plan;
 use crate::engine::needed::answer_of;
-use crate::engine::outcome::{Outcome, VersionList, Word, done};
+use crate::engine::outcome::done;
 use crate::engine::shown::version_columns;
 use crate::engine::stored::shown_by;
 use catalog_core::{
@@ -59,6 +59,7 @@ use sql_statements::{
 };
 use sqlite::Connection;
 use sqlite_trees::store::Alter;
+use statement_reports::{Outcome, VersionList, Word};
 use std::alloc::Global;
 use std::marker::Model;
 use version_store::VersionStore;

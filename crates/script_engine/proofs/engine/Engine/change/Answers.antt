@@ -16,7 +16,7 @@ use Rattle.script_engine.specs.engine.EngineState.{EngineState}
 use Rattle.script_engine.specs.engine.Faults.{IsFault}
 use Rattle.script_engine.specs.engine.InMemory.{FollowCatalog, rows_in}
 use Rattle.script_engine.specs.engine.Runs.{StepsTo}
-use Rattle.script_engine.specs.declared.engine.outcome.Outcome.{Outcome}
+use Rattle.statement_reports.specs.declared.outcome.Outcome.{Outcome}
 use Rattle.script_engine.proofs.Changed.{changed_step, hold_before, lawful_before, resolved_table, unchanged_step, unlawful_step, unplanned_step, unresolved_step}
 use Rattle.script_engine.proofs.Indexed.{ended_there}
 use Rattle.script_engine.proofs.InMemory.{current-kept}
