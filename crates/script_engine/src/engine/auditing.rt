@@ -33,10 +33,8 @@ fn audit_of(
         (IsVerdictOver (plain_resolved query.now) tables.now answer.now) }
     ensures memory { IfErr result (λ refusal. refusal ≡ Refusal.Memory) }
 {
-    match audit(alloc, query, tables, answer) {
-        Ok(verdict) => Ok(verdict),
-        Err(_) => Err(Refusal::Memory),
-    }
+    let verdict = audit(alloc, query, tables, answer)?;
+    Ok(verdict)
 }
 
 impl<S: Alter> Engine<S> {

@@ -25,8 +25,8 @@ none_if_not_some : {X : Type 0} (found : Option X) → ((x : X) → found ≡ So
 none_if_not_some None off = refl
 none_if_not_some (Some x) off = absurd (off x refl)
 
-pub returns-in-Ok-None-clause-lawful : goal.returns-in-Ok-None-clause-lawful
-returns-in-Ok-None-clause-lawful c = λ before lawful hold.
+pub returns-in-None-clause-lawful : goal.returns-in-None-clause-lawful
+returns-in-None-clause-lawful c = λ before lawful hold.
     let catalog : List TableDef = c.args.catalog.now.tables in
     let (def, is) = c.requires.defined in
     record {
@@ -42,8 +42,8 @@ returns-in-Ok-None-clause-lawful c = λ before lawful hold.
           (c.in-Ok-None.ensures before (is_planned_in catalog c.args.tables.now c.args.table.now c.args.change.now c.args.plan.now def c.requires.follow is c.requires.table c.requires.plan before lawful hold));
     }
 
-pub returns-in-Ok-Some-clause-fault : goal.returns-in-Ok-Some-clause-fault
-returns-in-Ok-Some-clause-fault c = inr (
+pub returns-in-Some-reference_fault-clause-fault : goal.returns-in-Some-reference_fault-clause-fault
+returns-in-Some-reference_fault-clause-fault c = inr (
   tt,
   λ before lawful hold.
       let catalog : List TableDef = c.args.catalog.now.tables in
