@@ -21,6 +21,7 @@ pub use script::over::run_over;
 pub use script::{MOST_BYTES, run, run_audited, run_script};
 pub use snapshot_audit::Verdict;
 pub use statement_reports::{
-    Cell, Entry, Outcome, ReportFault, ReportWriter, VersionColumn, VersionList, Word, WriteRefused,
-    write_audited, write_audited_statement, write_check, write_report, write_statement,
+    Cell, Entry, Outcome, ReportFault, ReportWriter, VersionColumn, VersionList, Word,
+    WriteRefused, write_audited, write_audited_statement, write_check, write_report,
+    write_statement,
 };

@@ -195,7 +195,8 @@ fn load_table<S: Alter>(
     ensures named { IfErr result IsStoreRefusal }
 {
     let versions = store.rows(alloc, number)?;
-    match listed(alloc, list, versions, store.clock())? {
+    let found = listed(alloc, list, versions, store.clock())?;
+    match found {
         Some(list) => Ok(list),
         None => Err(Refusal::Store),
     }

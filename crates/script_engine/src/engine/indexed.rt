@@ -117,7 +117,8 @@ pub fn load_lawful<S: Alter>(
         return Ok(Vec::new(alloc));
     }
     let tables = tables_of(alloc, store.catalog(), rows)?;
-    if !is_lawful(alloc, store.catalog(), tables.as_slice())? {
+    let lawful = is_lawful(alloc, store.catalog(), tables.as_slice())?;
+    if !lawful {
         return Err(Refusal::BadStore);
     }
     Ok(tables)

@@ -44,10 +44,12 @@ fn judge_change(
         → HoldCurrent catalog.now.tables before (map rows_by_key tables.now)
         → IsFault catalog.now.tables before change.now refusal))) }
 {
-    if let Some(day) = key_fault(alloc, table.rows(), change, plan)? {
+    let clash = key_fault(alloc, table.rows(), change, plan)?;
+    if let Some(day) = clash {
         return Err(Refusal::KeyOverlap(day));
     }
-    match reference_fault(alloc, catalog, tables, change, plan)? {
+    let lacking = reference_fault(alloc, catalog, tables, change, plan)?;
+    match lacking {
         None => Ok(()),
         Some(day) => Err(Refusal::PeriodReference(day)),
     }

@@ -41,14 +41,14 @@ returns-clause-lawful g c = λ usable d stored tabled.
     let same : c.catalog-2.result.now.tables ≡ d.tables = ap (λ (k : Catalog). k.tables) (c.catalog-2.ensures ∙ c.in_ok-rows.ensures.read.0.catalog) ∙ stored.catalog in
     let rows : map rows_by_key c.as_slice.result.now ≡ c.in_ok-rows.rows.items = ap (map rows_by_key) c.as_slice.ensures.value ∙ c.in_ok-tables.ensures.rows in
     let hold = hold_now d c.in_ok-rows.rows.items (c.in_ok-rows.ensures.loaded usable d stored tabled) (current_state d) (λ table day. IsPermutation-refl (current_state d table day)) in
-    let law = c.in_ok-is_lawful.ensures (current_state d) (subst₂ (λ (tables : List TableDef) (ts : List RowsByKey). HoldCurrent tables (current_state d) ts) (sym same) (sym rows) hold) in
-    subst (λ (tables : List TableDef). IsLawfulState tables (current_state d)) same (law.0 c.in-Ok-true.field-0-test)
+    let law = c.in_ok-lawful.ensures (current_state d) (subst₂ (λ (tables : List TableDef) (ts : List RowsByKey). HoldCurrent tables (current_state d) ts) (sym same) (sym rows) hold) in
+    subst (λ (tables : List TableDef). IsLawfulState tables (current_state d)) same (law.0 c.if-not-lawful.false)
 
-pub returns-then-not-is_lawful-clause-bad : goal.returns-then-not-is_lawful-clause-bad
-returns-then-not-is_lawful-clause-bad g c = λ usable d stored tabled bad lawful.
+pub returns-then-not-lawful-clause-bad : goal.returns-then-not-lawful-clause-bad
+returns-then-not-lawful-clause-bad g c = λ usable d stored tabled bad lawful.
     let same : c.catalog-2.result.now.tables ≡ d.tables = ap (λ (k : Catalog). k.tables) (c.catalog-2.ensures ∙ c.in_ok-rows.ensures.read.0.catalog) ∙ stored.catalog in
     let rows : map rows_by_key c.as_slice.result.now ≡ c.in_ok-rows.rows.items = ap (map rows_by_key) c.as_slice.ensures.value ∙ c.in_ok-tables.ensures.rows in
     let hold = hold_now d c.in_ok-rows.rows.items (c.in_ok-rows.ensures.loaded usable d stored tabled) (current_state d) (λ table day. IsPermutation-refl (current_state d table day)) in
-    let law = c.in_ok-is_lawful.ensures (current_state d) (subst₂ (λ (tables : List TableDef) (ts : List RowsByKey). HoldCurrent tables (current_state d) ts) (sym same) (sym rows) hold) in
-    let on : c.in-Ok-false.field-0 ≡ true = law.1 (subst (λ (tables : List TableDef). IsLawfulState tables (current_state d)) (sym same) lawful) in
-    false≢true (sym c.in-Ok-false.field-0-test ∙ on)
+    let law = c.in_ok-lawful.ensures (current_state d) (subst₂ (λ (tables : List TableDef) (ts : List RowsByKey). HoldCurrent tables (current_state d) ts) (sym same) (sym rows) hold) in
+    let on : c.in_ok-lawful.lawful ≡ true = law.1 (subst (λ (tables : List TableDef). IsLawfulState tables (current_state d)) (sym same) lawful) in
+    false≢true (sym c.if-not-lawful.true ∙ on)

@@ -23,6 +23,3 @@ returns-then-not-fits-clause-why c history same kept known =
     let its : IsOfCatalog kept.contents.tables query = subst (λ (ts : List TableDef). IsOfCatalog ts query) (same ∙ sym kept.said.tables) known in
     let fit : fits query c.in_ok-needed.needed ≡ true = needed_fits history kept.contents query c.in_ok-needed.needed kept.said its (c.in_ok-needed.ensures history same kept) in
     absurd (false≢true (sym c.if-not-fits.true ∙ c.fits.ensures ∙ fit))
-
-pub returns-clause-why : goal.returns-clause-why
-returns-clause-why c history same kept known = refl
