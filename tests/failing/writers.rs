@@ -5,8 +5,8 @@ use command_tool::{Tracked, run_tool};
 use memory_store::open_in_memory;
 use period_core::Refusal;
 use script_engine::{
-    Entry, Outcome, ReportFault, check_script, run_audited, run_script,
-    write_audited_with_capacity, write_check_with_capacity, write_report_with_capacity,
+    Entry, Outcome, ReportFault, check_script, run_audited, run_script, write_audited, write_check,
+    write_report,
 };
 use std::alloc::Global;
 use std::io;
@@ -75,7 +75,7 @@ struct Reported {
     checks: Vec<Result<(), Refusal>>,
 }
 
-// Writes one of the reports, each record by itself.
+// Writes one of the reports.
 fn write(
     alloc: Global,
     reported: &Reported,
@@ -83,50 +83,40 @@ fn write(
     out: &mut Sink,
 ) -> Result<(), ReportFault> {
     match which {
-        0 => write_report_with_capacity(alloc, out, reported.results.as_slice(), 0),
-        1 => write_audited_with_capacity(alloc, out, reported.entries.as_slice(), 0),
-        _ => write_check_with_capacity(alloc, out, reported.checks.as_slice(), 0),
+        0 => write_report(alloc, out, reported.results.as_slice()),
+        1 => write_audited(alloc, out, reported.entries.as_slice()),
+        _ => write_check(alloc, out, reported.checks.as_slice()),
     }
 }
 
-// Where each line of a report ends.
-fn ends_of(alloc: Global, report: &[u8]) -> Result<Vec<usize>, Fail> {
-    let mut ends = Vec::new(alloc);
-    for (at, byte) in report.iter().enumerate() {
-        if *byte == b'\n' {
-            ends.push(at + 1)?;
-        }
-    }
-    Ok(ends)
-}
-
-// Each record's write fails in turn, and the writer has the records before it. How many they are.
-fn each_record(
+// A writer that takes so many bytes at a time fails at its k-th write, for each k, and has the bytes
+// before it. How many writes there are.
+fn each_part(
     alloc: Global,
     reported: &Reported,
     which: usize,
     whole: &[u8],
+    most: usize,
     fails: Fails,
 ) -> Result<usize, Fail> {
-    let ends = ends_of(alloc, whole)?;
-    for record in 0..ends.len() {
-        let mut sink = Sink::new(alloc, MANY, record, fails);
+    let writes = whole.len().div_ceil(most);
+    for count in 0..writes {
+        let mut sink = Sink::new(alloc, most, count, fails);
         match write(alloc, reported, which, &mut sink) {
             Err(ReportFault::Write) => {}
             Err(ReportFault::Memory) => return Err("a failed write is told as out of memory")?,
             Ok(()) => return Err("a failed write is not told")?,
         }
-        let start = if record == 0 { 0 } else { ends[record - 1] };
-        if sink.bytes.as_slice() != &whole[..start] {
-            return Err("the writer has not just the records before the failed write")?;
+        if sink.bytes.as_slice() != &whole[..count * most] {
+            return Err("the writer has not just the bytes before the failed write")?;
         }
     }
-    let mut sink = Sink::new(alloc, MANY, ends.len(), fails);
+    let mut sink = Sink::new(alloc, most, writes, fails);
     write(alloc, reported, which, &mut sink)?;
     if sink.bytes.as_slice() != whole {
-        return Err("other bytes from a writer that fails behind the last record")?;
+        return Err("other bytes from a writer that fails behind the last")?;
     }
-    Ok(ends.len())
+    Ok(writes)
 }
 
 // Runs the program over a script: its status, and what the writer and standard error got.
@@ -182,8 +172,11 @@ pub fn failing(rt: &HostRuntime, text: &str) -> Result<(), Fail> {
         checks: check_script(alloc, script)?,
     };
     for fails in [Fails::Says, Fails::TakesNone] {
-        for which in 0..3 {
-            let name = ["write_report", "write_audited", "write_check"][which];
+        for (which, name, most) in [
+            (0, "write_report", 4),
+            (1, "write_audited", 16),
+            (2, "write_check", 1),
+        ] {
             let mut whole = Sink::new(alloc, MANY, MANY, fails);
             write(alloc, &reported, which, &mut whole)?;
             let mut single = Sink::new(alloc, 1, MANY, fails);
@@ -191,8 +184,8 @@ pub fn failing(rt: &HostRuntime, text: &str) -> Result<(), Fail> {
             if single.bytes.as_slice() != whole.bytes.as_slice() {
                 return Err("other bytes from a writer that takes one byte at a time")?;
             }
-            let records = each_record(alloc, &reported, which, whole.bytes.as_slice(), fails)?;
-            println!(rt; "ok {name}: a fault at each of {records} records")?;
+            let writes = each_part(alloc, &reported, which, whole.bytes.as_slice(), most, fails)?;
+            println!(rt; "ok {name}: a fault at each of {writes} writes")?;
         }
         for (mode, name, most) in [
             (Mode::Run, "run", 4),

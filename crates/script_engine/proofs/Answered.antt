@@ -32,7 +32,7 @@ use Rattle.script_engine.specs.engine.Answering.{columns_of}
 use Rattle.script_engine.specs.engine.EngineState.{EngineState}
 use Rattle.script_engine.specs.engine.Runs.{StepsTo}
 use Rattle.script_engine.specs.engine.Stored.{AreOfHistory, EngineRepresents, HasContents}
-use Rattle.script_engine.specs.declared.engine.outcome.Outcome.TheVariants.{Answer as Answered}
+use Rattle.statement_reports.specs.declared.outcome.Outcome.TheVariants.{Answer as Answered}
 use Rattle.script_engine.proofs.Contents.{said-asked}
 use Rattle.script_engine.proofs.Steps.{failed_step, refused_step, tables_of}
 

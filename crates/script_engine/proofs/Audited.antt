@@ -22,9 +22,9 @@ use Rattle.script_engine.specs.Headline.{IsSequencedAnswer}
 use Rattle.script_engine.specs.engine.Audits.{AuditedStepsTo, HasAudit, HaveSeenRows, IsAuditOf, IsVerdictOver}
 use Rattle.script_engine.specs.engine.EngineState.{EngineState}
 use Rattle.script_engine.specs.engine.Runs.{Step, StepsTo}
-use Rattle.script_engine.specs.declared.engine.outcome.Outcome.{Outcome}
-use Rattle.script_engine.specs.declared.engine.outcome.Outcome.TheVariants.{Done, Versions}
-use Rattle.script_engine.specs.declared.engine.outcome.Outcome.TheVariants.{Answer as Answered}
+use Rattle.statement_reports.specs.declared.outcome.Outcome.{Outcome}
+use Rattle.statement_reports.specs.declared.outcome.Outcome.TheVariants.{Done, Versions}
+use Rattle.statement_reports.specs.declared.outcome.Outcome.TheVariants.{Answer as Answered}
 use Rattle.script_engine.proofs.AuditLaws.{audits_agree}
 
 -- what an audit gives of a sequenced answer over what the query's references see

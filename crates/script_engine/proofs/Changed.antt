@@ -39,8 +39,8 @@ use Rattle.script_engine.specs.engine.InMemory.{HaveCurrentRows, HaveRows, rows_
 use Rattle.script_engine.specs.engine.Planned.{planned_count, word_of}
 use Rattle.script_engine.specs.engine.Runs.{Accepts, AppliesOver, Changes, IsUnlawful, MayRefuse, MayRefuseStatement, StatementApplies, StepsTo}
 use Rattle.script_engine.specs.engine.Stored.{EngineRepresents, HasContents}
-use Rattle.script_engine.specs.declared.engine.outcome.Outcome.{Outcome}
-use Rattle.script_engine.specs.declared.engine.outcome.Outcome.TheVariants.{Done}
+use Rattle.statement_reports.specs.declared.outcome.Outcome.{Outcome}
+use Rattle.statement_reports.specs.declared.outcome.Outcome.TheVariants.{Done}
 use Rattle.script_engine.proofs.Contents.{IsOver, count_said, is_left, over_history, said-changed}
 use Rattle.script_engine.proofs.CurrentAfter.{current_planned, parted_current, staying}
 use Rattle.script_engine.proofs.Ended.{good_planned}

@@ -1,6 +1,5 @@
--- The checks of pieces, one after the other, and the text of their refusals.
-use Rattle.std.proofs.Common.{◌≡◌, ◌<◌, ◌+◌, ◌-◌, ◌++◌, ◌∷◌, ℕ, List, [], get_or, length, map, take, drop, Result, refl, arith, append_assoc}
-use Rattle.std.proofs.lemmas.List.{append-nil}
+-- The checks of pieces, one after the other.
+use Rattle.std.proofs.Common.{◌≡◌, ◌<◌, ◌+◌, ◌-◌, ◌++◌, ◌∷◌, ℕ, List, [], get_or, length, map, take, drop, Result}
 use Rattle.std.specs.List.{AllZip}
 use Rattle.period_core.specs.declared.refusal.Refusal.{Refusal}
 use Rattle.sql_statements.specs.Lexemes.{lexemes}
@@ -8,7 +7,6 @@ use Rattle.sql_front.specs.Pieces.{spanned}
 use Rattle.sql_front.specs.declared.pieces.Span.{Span}
 use Rattle.sql_statements.specs.declared.token.Token.{Token}
 use Rattle.script_engine.specs.script.Check.{IsPieceCheck}
-use Rattle.script_engine.specs.report.CheckReport.{refusal_text, refusals_from}
 use Rattle.script_engine.proofs.PieceFacts.{pieces_next}
 
 -- one more item of each list
@@ -26,12 +24,3 @@ pub check_next : (tokens : List Token) (spans : List Span) (i : ℕ) (d : Span) 
 check_next tokens spans i d results more result inside added checked here =
     rw (pieces_next tokens spans i d inside, added)
     (AllZip-more IsPieceCheck (map (spanned (lexemes tokens)) (take i spans)) results (lexemes (take ((get_or spans i d).end - (get_or spans i d).start) (drop (get_or spans i d).start tokens))) result checked here)
-
--- the text of a list that ends in one more result
-pub refusals-more : (n k : ℕ) (results : List (Result (Unit {0}) Refusal)) (result : Result (Unit {0}) Refusal) → n + length results ≡ k → refusals_from n (results ++ result ∷ []) ≡ refusals_from n results ++ refusal_text k result
-refusals-more n k [] result e =
-    let same : n ≡ k = omega arith in
-    rw (same, append-nil (refusal_text k result)) refl
-refusals-more n k (first ∷ rest) result e =
-    let next : (n + 1) + length rest ≡ k = omega arith in
-    rw (refusals-more (n + 1) k rest result next, append_assoc (refusal_text n first) (refusals_from (n + 1) rest) (refusal_text k result)) refl

@@ -8,8 +8,8 @@ use Rattle.catalog_core.specs.table.TableWords.{is_value_column}
 use Rattle.catalog_core.specs.declared.table.Column.{Column}
 use Rattle.catalog_core.specs.declared.table.TableDef.{TableDef}
 use Rattle.script_engine.specs.engine.Shown.{cell_at, version_column, version_columns}
-use Rattle.script_engine.specs.declared.engine.outcome.Cell.{Cell}
-use Rattle.script_engine.specs.declared.engine.outcome.VersionColumn.{VersionColumn}
+use Rattle.statement_reports.specs.declared.outcome.Cell.{Cell}
+use Rattle.statement_reports.specs.declared.outcome.VersionColumn.{VersionColumn}
 
 -- the declared columns before a place, each with its place
 abbrev pub before : List Column → ℕ → List (ℕ × Column)

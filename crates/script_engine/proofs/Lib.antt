@@ -44,17 +44,7 @@ mod AuditCounts
 mod Moved
 mod AuditLaws
 mod Audited
-mod AuditedSteps
-pub mod AppendFacts
-pub mod AuditedExamples
-pub mod BufferFacts
-pub mod ChangeExamples
-pub mod CheckExamples
-pub mod CsvFacts
 pub mod LawfulSteps
-pub mod QueryExamples
-pub mod ReportExamples
 pub mod RunExamples
 pub mod ScriptExamples
 pub mod StepExamples
-pub mod WholeQueryExamples

@@ -16,8 +16,8 @@ use Rattle.script_engine.specs.engine.Audits.{AuditedStepsTo}
 use Rattle.script_engine.specs.engine.Stored.{RepresentsSome}
 use Rattle.script_engine.specs.script.AuditedRuns.{AuditedPieceStep, IsAuditedRunFrom, results_of}
 use Rattle.script_engine.specs.script.Script.{IsRunFrom, PieceStep, RunPieces, StepPieces, TextApplies}
-use Rattle.script_engine.specs.declared.entry.Entry.{Entry}
-use Rattle.script_engine.specs.declared.engine.outcome.Outcome.{Outcome}
+use Rattle.statement_reports.specs.declared.entry.Entry.{Entry}
+use Rattle.statement_reports.specs.declared.outcome.Outcome.{Outcome}
 use Rattle.script_engine.proofs.PieceFacts.{pieces_next}
 
 -- a piece that spells a statement steps as the statement does

@@ -4,7 +4,7 @@ use Rattle.std.proofs.lemmas.Int.{ints}
 use Rattle.period_core.specs.Codes.{code_of}
 use Rattle.period_core.proofs.Periods.{are_ends, period_over}
 use Rattle.period_core.specs.declared.answer.Answer.{Answer}
-use Rattle.period_core.specs.declared.refusal.Refusal.TheVariants.{BadMoment, BadToken, Memory, MomentBack, ScriptTooLarge, Store, UnknownTable}
+use Rattle.period_core.specs.declared.refusal.Refusal.TheVariants.{BadToken, Memory, MomentBack, ScriptTooLarge, Store, UnknownTable}
 use Rattle.period_core.specs.declared.row.PeriodRow.{PeriodRow}
 use Rattle.period_core.specs.declared.value.Value.{Value}
 use Rattle.period_core.specs.declared.value.Value.TheVariants.{Int}
@@ -24,11 +24,10 @@ use Rattle.catalog_core.proofs.lemmas.judged.Least.{first_least}
 use Rattle.history_model.specs.Histories.{Advanced, History, new_database, opened, with_event}
 use Rattle.script_engine.specs.Headline.{IsSequencedAnswer}
 use Rattle.script_engine.specs.engine.Runs.{MayRefuseMoment, Step}
-use Rattle.script_engine.specs.declared.engine.outcome.Outcome.{Outcome}
-use Rattle.script_engine.specs.declared.engine.outcome.Outcome.TheVariants.{Done}
-use Rattle.script_engine.specs.declared.engine.outcome.Word.TheVariants as word
+use Rattle.statement_reports.specs.declared.outcome.Outcome.{Outcome}
+use Rattle.statement_reports.specs.declared.outcome.Outcome.TheVariants.{Done}
+use Rattle.statement_reports.specs.declared.outcome.Word.TheVariants as word
 use Rattle.script_engine.specs.script.Script.{ScriptApplies, most_bytes}
-use Rattle.period_core.specs.Moments.{first_moment, forever}
 
 -- ---- whole scripts
 
@@ -71,10 +70,7 @@ not_the_database rows step =
 
 -- ---- moments
 
--- 13 for FOREVER, 40 for a moment before the clock, and neither out of memory nor the database in place of these
-forever_refused : MayRefuseMoment first_moment forever BadMoment
-forever_refused = inl (refl, refl)
-
+-- 40 for a moment before the clock, and not out of memory in place of it
 back_refused : MayRefuseMoment (pos 5) (pos 4) MomentBack
 back_refused = inr (inl (refl, omega (arith, ints)))
 
@@ -100,18 +96,18 @@ earlier_moment outcome new step = step.0 MomentBack (inl (refl, refl))
 -- ---- answers
 
 -- the value 7
-abbrev pub seven : List Value
+abbrev seven : List Value
 seven = Int (pos 7) ∷ []
 
 -- on each day from 5 to 7 the set has the value 7 alone, and on no other day it has a value
-abbrev pub Sets : ℤ → List Value → Type 0
+abbrev Sets : ℤ → List Value → Type 0
 Sets day values = (seven ≡ values) × (pos 5 ≤ℤ day) × (day <ℤ pos 8)
 
 abbrev seven_over : (start end : ℤ) → are_ends start end ≡ true → PeriodRow
 seven_over start end ends = record { values = seven; period = period_over start end ends }
 
 -- the value 7 from day 5 on and before day 8
-abbrev pub whole : PeriodRow
+abbrev whole : PeriodRow
 whole = seven_over (pos 5) (pos 8) refl
 
 whole-certified : IsCertified (whole ∷ [])
@@ -125,10 +121,10 @@ whole-certified = record {
 }
 
 -- the row with the days 5 and 4 as its witness
-abbrev pub one_row : Answer
+abbrev one_row : Answer
 one_row = record { columns = codes "V" ∷ []; rows = whole ∷ []; witnesses = record { held = pos 5; absent = Some (pos 4) } ∷ [] }
 
-pub is_answer : IsSequencedAnswer Sets one_row
+is_answer : IsSequencedAnswer Sets one_row
 is_answer = record {
   daily = λ day values. (
     λ there.
@@ -154,7 +150,7 @@ is_answer = record {
 }
 
 -- the row cut in two on day 6: on the day before, which is its witness, the values of the second are there
-abbrev pub two_rows : Answer
+abbrev two_rows : Answer
 two_rows = record {
   columns = codes "V" ∷ [];
   rows = seven_over (pos 5) (pos 6) refl ∷ seven_over (pos 6) (pos 8) refl ∷ [];

@@ -32,8 +32,8 @@ use Rattle.catalog_core.specs.change.PortionChanges.{lacks_named}
 use Rattle.catalog_core.specs.stored.StoredQueries.{stored_conditions}
 use Rattle.catalog_core.specs.table.TableWords.{number_of, table_of_name}
 use Rattle.catalog_core.proofs.lemmas.judged.Least.{first_least}
-use Rattle.history_model.specs.Histories.{History, new_database, opened}
-use Rattle.script_engine.specs.script.Check.{IsCheckOf, IsPieceCheck}
+use Rattle.history_model.specs.Histories.{new_database, opened}
+use Rattle.script_engine.specs.script.Check.{IsCheckOf}
 use Rattle.script_engine.specs.script.Script.{IsCutInto, IsOverlong, IsRunOf, PieceStep, TextApplies}
 use Rattle.script_engine.proofs.PieceFacts.{none_of_text}
 use Rattle.script_engine.proofs.ScriptFacts.{none_of_script}
@@ -57,7 +57,7 @@ faultless ts date moment number NumberRange h = false≢true (sym number ∙ (nu
 faultless ts date moment number other h = h
 
 -- no refusal applies to tokens that are read as a statement, are at most 10,000 and not too deep, and have no bad literal
-pub sound_if_read : (n left : ℕ) (ts : List Lexeme) (s : Statement) → whole_read (statement_read n) ts ≡ Some s → length ts ≤ 10_000 → room 32 ts ≡ Some left
+sound_if_read : (n left : ℕ) (ts : List Lexeme) (s : Statement) → whole_read (statement_read n) ts ≡ Some s → length ts ≤ 10_000 → room 32 ts ≡ Some left
     → somewhere is_bad_date ts ≡ false → somewhere is_bad_moment ts ≡ false → number_above false ts ≡ false → NoneApplies (TextApplies ts)
 sound_if_read n left ts s read short shallow date moment number =
     none_of_text ts (λ long. omega arith)
@@ -131,10 +131,6 @@ letter_shallow : IsTooDeep letter → ⊥
 unfolding room
 letter_shallow = some_shallow 32 letter 32 refl
 
--- nor overlong
-letter_short : IsOverlong letter → ⊥
-letter_short long = omega arith
-
 -- what may be answered of a piece for its spelling may be answered of one that is not overlong
 of_text : (piece : List Lexeme) (refusal : Refusal) → (IsOverlong piece → ⊥) → MayAnswer (PieceApplies piece) refusal → MayAnswer (TextApplies piece) refusal
 of_text piece refusal short (inr memory) = inr memory
@@ -149,15 +145,11 @@ of_text piece refusal short (inl least) = inl (record {
 
 -- so it is refused with 10
 letter_refused : MayAnswer (TextApplies letter) Syntax
-letter_refused = of_text letter Syntax letter_short (no_statement letter letter_shallow (none_if_unread letter letter_is_not_read))
+letter_refused = of_text letter Syntax (λ long. omega arith) (no_statement letter letter_shallow (none_if_unread letter letter_is_not_read))
 
--- checked: the first piece is right
-lookup_checked : IsPieceCheck lookup (Ok tt)
-lookup_checked = ((looked_up, lookup_spelled), lookup_sound)
-
--- and the second is refused with 10
+-- checked: the first piece is right, and the second is refused with 10
 checked : IsCheckOf script_text (Ok tt ∷ Err Syntax ∷ [])
-checked = record { pieces = lookup ∷ letter ∷ []; cut = cut; checked = (lookup_checked, (letter_refused, tt)) }
+checked = record { pieces = lookup ∷ letter ∷ []; cut = cut; checked = (((looked_up, lookup_spelled), lookup_sound), (letter_refused, tt)) }
 
 -- run: the first is refused with 23, since there is no table T; the history stays
 lookup_step : PieceStep (opened new_database) lookup (Err UnknownTable) (opened new_database)
@@ -165,15 +157,11 @@ unfolding lacks_named number_of table_of_name
 lookup_step =
     inr (looked_up, lookup_sound, lookup_spelled, (inl (inl (first_least (stored_conditions [] looked_up) UnknownTable (lit≤ tt, (lit≤ tt, (lit≤ tt, (lit≤ tt, (lit≤ tt, (lit≤ tt, tt)))))) refl)), refl))
 
--- the second is refused as it is where it is checked
-letter_step : (history : History) → PieceStep history letter (Err Syntax) history
-letter_step history = inl (Syntax, refl, letter_refused, refl)
-
--- so the one is refused with 23, the other with 10
+-- and the second as it is where it is checked
 run : IsRunOf script_text (Err UnknownTable ∷ Err Syntax ∷ [])
 run = record {
   pieces = lookup ∷ letter ∷ [];
   cut = cut;
   last = opened new_database;
-  run = (opened new_database, lookup_step, (opened new_database, letter_step (opened new_database), refl));
+  run = (opened new_database, lookup_step, (opened new_database, inl (Syntax, refl, letter_refused, refl), refl));
 }

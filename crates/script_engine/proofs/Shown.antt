@@ -17,9 +17,9 @@ use Rattle.script_engine.specs.engine.Runs.{StepsTo}
 use Rattle.script_engine.specs.engine.Shown.{AreShownIn, version_columns}
 use Rattle.script_engine.specs.engine.EngineState.{EngineState}
 use Rattle.script_engine.specs.engine.Stored.{EngineRepresents, HasContents}
-use Rattle.script_engine.specs.declared.engine.outcome.Outcome.TheVariants.{Versions}
-use Rattle.script_engine.specs.declared.engine.outcome.VersionColumn.{VersionColumn}
-use Rattle.script_engine.specs.declared.engine.outcome.VersionList.{VersionList}
+use Rattle.statement_reports.specs.declared.outcome.Outcome.TheVariants.{Versions}
+use Rattle.statement_reports.specs.declared.outcome.VersionColumn.{VersionColumn}
+use Rattle.statement_reports.specs.declared.outcome.VersionList.{VersionList}
 use Rattle.script_engine.proofs.Contents.{said-asked}
 use Rattle.script_engine.proofs.Steps.{failed_step, refused_step, tables_of}
 

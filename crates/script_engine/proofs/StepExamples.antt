@@ -1,12 +1,18 @@
--- Worked rows: CREATE TABLE and INSERT, accepted and refused, each as a step of the history.
-use Rattle.std.proofs.Common.{◌≡◌, ◌∷◌, ◌++◌, ◌≤ℤ◌, [], ℕ, zero, suc, ℤ, pos, Bool, true, false, cond, List, None, Some, Ok, Err, ap, codes, refl, inl, inr, subst, sym, arith}
+-- Worked rows: CREATE TABLE, INSERT and a stored query, accepted and refused, each as a step of the history.
+use Rattle.std.proofs.Common.{◌≡◌, ◌∷◌, ◌++◌, [], ℕ, zero, suc, ℤ, pos, true, false, List, None, Some, Ok, Err, ap, codes, length, map, refl, inl, inr, sym, arith}
+use Rattle.std.specs.Prelude.{IsSorted}
 use Rattle.std.proofs.lemmas.Bool.{false≢true}
+use Rattle.std.proofs.lemmas.List.Sorted.{IsPermutation-refl}
 use Rattle.std.specs.Str.{chars}
-use Rattle.period_core.specs.Moments.{first_moment}
+use Rattle.period_core.proofs.Periods.{period_over}
+use Rattle.period_core.specs.Moments.{first_moment, forever}
 use Rattle.period_core.specs.Leasts.{NoneApplies}
-use Rattle.period_core.specs.declared.refusal.Refusal.TheVariants.{EmptyPeriod, KeyOverlap}
+use Rattle.period_core.specs.declared.refusal.Refusal.TheVariants.{EmptyPeriod}
 use Rattle.period_core.specs.declared.value.Value.{Value}
 use Rattle.period_core.specs.declared.value.Value.TheVariants.{Int, Date}
+use Rattle.period_core.specs.declared.version.VersionRow.{VersionRow}
+use Rattle.period_core.specs.declared.window.Window.TheVariants as window
+use Rattle.sql_statements.specs.Trees.{Stored}
 use Rattle.sql_statements.specs.Trees as statement
 use Rattle.sql_statements.specs.declared.create.ColumnElement.{ColumnElement}
 use Rattle.sql_statements.specs.declared.create.CreateTable.{CreateTable}
@@ -15,10 +21,12 @@ use Rattle.sql_statements.specs.declared.create.TypeName.TheVariants as type_nam
 use Rattle.sql_statements.specs.declared.statement.InsertRows.{InsertRows}
 use Rattle.catalog_core.specs.create.Creation.{create_conditions, period_matches, some_parent_match, some_match, has_sort, sort_count, exceeds_limits, is_there, lacks_parent, names_other_period, lacks_period, lacks_name, is_ambiguous, is_shared, repeats_name, is_no_value_column, some_no_value, keys_period_column, lacks_one_of_each, has_bad_period, has_bad_system_period, is_bad_type, has_bad_column, is_used_otherwise, has_other_period, is_at, is_key_name, is_named, are_key, names_no_key, references_no_key, is_bad_definition, has_unequal_lists, own_kind, have_other_kinds, names_other_kind, references_other_kind}
 use Rattle.catalog_core.specs.create.Definition.{declared_kind, declared_reference}
-use Rattle.temporal_model.specs.Snapshot.{covers_day}
-use Rattle.temporal_model.proofs.Members.{Contains-nil}
-use Rattle.history_model.specs.Effects.{Given, Kept, given_row, kept, traced}
-use Rattle.history_model.specs.Histories.{Changed, Created, History, last_state, new_database, opened, with_event}
+use Rattle.history_model.specs.Histories.{Asked, Changed, Created, History, last_state, new_database, opened, with_event}
+use Rattle.history_model.specs.Versions.{plain_version}
+use Rattle.version_store.specs.Contents.{version_cmp, version_in}
+use Rattle.catalog_core.specs.Flaws.{is_flawed_column, is_flawed_compare, is_flawed_period, is_flawed_test}
+use Rattle.catalog_core.specs.change.PortionChanges.{lacks_named}
+use Rattle.catalog_core.specs.stored.StoredQueries.{is_flawed_stored, stored_conditions}
 use Rattle.catalog_core.specs.change.Insertion.{wanted_names, given_names, lacks_table, lists_unknown, lists_ambiguous, lists_twice, is_system_name, some_system_name, lists_system, lacks_some, some_other_length, has_other_count, is_of_other_kind, is_longer, is_too_long, is_wrong, gives_wrong, has_wrong, given_value, value_for, is_no_period, gives_no_period, has_no_period}
 use Rattle.catalog_core.specs.Judged.{Holds, Judged, first_holding}
 use Rattle.catalog_core.specs.table.Kinds.{kind_of_type, kind_of_column, same_kind, differ}
@@ -31,10 +39,10 @@ use Rattle.catalog_core.specs.declared.change.Change.{Change}
 use Rattle.catalog_core.specs.declared.table.ColumnKind.TheVariants as kind
 use Rattle.catalog_core.specs.declared.table.TableDef.{TableDef}
 use Rattle.script_engine.specs.engine.Runs.{StatementApplies, Step}
-use Rattle.script_engine.specs.declared.engine.outcome.Outcome.TheVariants.{Done}
-use Rattle.script_engine.specs.declared.engine.outcome.Word.TheVariants as word
-use Rattle.period_keys.specs.Keys.{IsLeastDay}
-use Rattle.period_keys.specs.Lawful.{IsKeyFault, OriginsShareKey, key_positions}
+use Rattle.statement_reports.specs.declared.outcome.Cell.TheVariants as cell
+use Rattle.statement_reports.specs.declared.outcome.Outcome.TheVariants.{Done, Versions}
+use Rattle.statement_reports.specs.declared.outcome.VersionList.{VersionList}
+use Rattle.statement_reports.specs.declared.outcome.Word.TheVariants as word
 use Rattle.script_engine.proofs.LawfulSteps.{HaveNoReferences, lawful_alone}
 use Rattle.catalog_core.specs.table.Naming.{matches_among, place_among, some_match_among}
 use Rattle.catalog_core.specs.table.Naming.{find_among}
@@ -119,10 +127,6 @@ created = (
   },
 )
 
--- and the table is kept
-created_is_kept : Step at_first (statement.create creation) (Ok (Done word.Create 0)) at_first → ⊥
-created_is_kept (sound, creates) = let e = creates.after in cc
-
 -- ---- INSERT
 
 -- an employee of department 7, from a day on and before another, as an INSERT writes it
@@ -185,52 +189,52 @@ half_empty = into_emp (employee 1 5 8 ∷ employee 2 8 8 ∷ [])
 first_row_not_added : Step with_table (statement.insert half_empty) (Err EmptyPeriod) with_row → ⊥
 first_row_not_added (may, same) = cc
 
--- ---- a row that is there
+-- ---- stored queries
 
--- the same row once more: its key is there from day 5 on
-abbrev before_again : ℤ → List (List Value)
-before_again = last_state with_row 1
+-- the row as it is kept
+abbrev kept : VersionRow
+kept = record { values = worker; period = period_over (pos 5) (pos 8) refl; from = first_moment; to = forever }
 
--- on a day of the row's period the given row is beside the one that is there; on another day neither is
-again_traced : (day : ℤ) (a : Bool) → covers_day (pos 5) (pos 8) day ≡ a → traced inserted_row.action day (before_again day) ≡ cond a (kept worker ∷ given_row (0, record { values = worker; start = pos 5; end = pos 8 }) ∷ []) []
-again_traced day true e = rw e refl
-again_traced day false e = rw e refl
+-- SELECT * FROM EMP
+abbrev all_of_emp : Stored
+all_of_emp = record { table = codes "EMP"; window = None; condition = None }
 
--- so day 5 is the first on which two rows have the key
-again_on_five : IsLeastDay (IsKeyFault (emp ∷ []) (last_state with_row) inserted_row) (pos 5)
-again_on_five = record {
-  faulty = (
-    emp,
+-- the six columns, and where their cells come from
+abbrev shown : List VersionRow → VersionList
+shown rows = record {
+  columns =
+      record { name = codes "ENO"; cell = cell.Value 0 }
+      ∷ record { name = codes "DEPT"; cell = cell.Value 1 }
+      ∷ record { name = codes "S"; cell = cell.Start }
+      ∷ record { name = codes "E"; cell = cell.End }
+      ∷ record { name = codes "SS"; cell = cell.From }
+      ∷ record { name = codes "SE"; cell = cell.To }
+      ∷ [];
+  rows = rows;
+}
+
+-- a list of one row is in order
+one_row : (v : VersionRow) → IsSorted version_cmp (map (version_in 1) (v ∷ []))
+one_row v k d low high = absurd (omega arith)
+
+-- the row is shown, and stays
+stored : Step with_row (statement.stored all_of_emp) (Ok (Versions (shown (kept ∷ [])))) (with_event with_row Asked)
+unfolding is_flawed_stored is_flawed_test is_flawed_compare is_flawed_column is_flawed_period lacks_named is_matching find_among matches_among differ same_kind kind_of_column def_kind is_value_column number_of table_of_name
+stored = (
+  none_if_no_first (stored_conditions (emp ∷ []) (statement.stored all_of_emp)) refl,
+  (
+    shown (kept ∷ []),
     refl,
-    (
-      kept worker,
-      given_row (0, record { values = worker; start = pos 5; end = pos 8 }),
-      (0, omega arith, refl),
-      (1, omega arith, refl),
-      origins_apart,
-      refl,
-    ),
-  );
-  least = λ day (def, is, shared). no_earlier day def shared (covers_day (pos 5) (pos 8) day) refl;
-} where
-  origins_apart : Kept worker ≡ Given 0 → ⊥
-  origins_apart e = cc
-
-  no_earlier : (day : ℤ) (def : TableDef) → OriginsShareKey (key_positions def) (traced inserted_row.action day (before_again day)) → (a : Bool) → covers_day (pos 5) (pos 8) day ≡ a → pos 5 ≤ℤ day
-  no_earlier day def shared true e = grind (arith, e)
-  no_earlier day def shared false e =
-      let (x, y, in_x, in_y, apart, same) = subst (OriginsShareKey (key_positions def)) (again_traced day false e) shared in
-      absurd (Contains-nil x in_x)
-
--- it is refused with 42 and that day, and the history stays
-inserted_again : Step with_row (statement.insert insertion) (Err (KeyOverlap (pos 5))) with_row
-unfolding number_of wanted_names given_names given_value value_for is_value_column
-inserted_again = (
-  inr (record {
-    sound = insertion_is_sound;
-    change = inserted_row;
-    resolved = record { definition = emp; number = refl; table = refl; action = refl };
-    fault = again_on_five;
-  }),
-  refl,
+    record {
+      query = record { table = 1; window = window.Now; condition = None };
+      resolved = record { definition = emp; number = refl; table = refl; window = refl; rows = tt };
+      definition = emp;
+      table = refl;
+      columns = refl;
+      versions = kept ∷ [];
+      left = IsPermutation-refl (map plain_version (kept ∷ []));
+      rows = record { all = IsPermutation-refl (kept ∷ []); sorted = one_row kept };
+      after = refl;
+    },
+  ),
 )

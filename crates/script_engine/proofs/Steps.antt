@@ -22,8 +22,8 @@ use Rattle.script_engine.specs.engine.Ended.{HaveEnded}
 use Rattle.script_engine.specs.engine.EngineState.{EngineState, store_of}
 use Rattle.script_engine.specs.engine.InMemory.{HaveCurrentRows}
 use Rattle.script_engine.specs.engine.Stored.{EngineRepresents, HasContents}
-use Rattle.script_engine.specs.declared.engine.outcome.Outcome.TheVariants.{Done}
-use Rattle.script_engine.specs.declared.engine.outcome.Word.TheVariants as word
+use Rattle.statement_reports.specs.declared.outcome.Outcome.TheVariants.{Done}
+use Rattle.statement_reports.specs.declared.outcome.Word.TheVariants as word
 use Rattle.script_engine.proofs.Contents.{is_left, said-advanced, said-created}
 use Rattle.script_engine.proofs.LastState.{nothing_beyond, state_said}
 use Rattle.script_engine.proofs.TableNumbers.{few_tables}

@@ -2,4 +2,3 @@ pub mod Headline
 pub mod engine
 pub mod Laws
 pub mod script
-pub mod report

@@ -37,7 +37,7 @@ mod in_memory;
 mod indexed;
 mod lawfulness;
 mod needed;
-pub mod outcome;
+mod outcome;
 mod shown;
 mod stored;
 
@@ -45,7 +45,7 @@ use crate::engine::closed::{add_versions, apply_closing, load_ended, remove_vers
 use crate::engine::indexed::load_lawful;
 use crate::engine::lawfulness::lawful_plan;
 use crate::engine::needed::answer_of;
-use crate::engine::outcome::{Outcome, VersionList, Word, done};
+use crate::engine::outcome::done;
 use crate::engine::shown::version_columns;
 use crate::engine::stored::shown_by;
 use catalog_core::{
@@ -59,6 +59,7 @@ use sql_statements::{
 };
 use sqlite::Connection;
 use sqlite_trees::store::Alter;
+use statement_reports::{Outcome, VersionList, Word};
 use std::alloc::Global;
 use std::marker::Model;
 use version_store::VersionStore;
@@ -233,10 +234,8 @@ impl<S: Alter> Engine<S> {
         ensures memory { OnErr result (IsSameInMemory self.old self.new) }
         ensures usable { WasUsable S.Store self.old.connection self.new.connection }
     {
-        match self.at(moment.moment()) {
-            Ok(()) => Ok(Outcome::Done(Word::At, 0)),
-            Err(refusal) => Err(refusal),
-        }
+        self.at(moment.moment())?;
+        Ok(Outcome::Done(Word::At, 0))
     }
 
     /// Runs a CREATE. An `Err` changes nothing.
@@ -250,15 +249,10 @@ impl<S: Alter> Engine<S> {
         ensures memory { OnErr result (IsSameInMemory self.old self.new) }
         ensures usable { WasUsable S.Store self.old.connection self.new.connection }
     {
-        let definition = match define(alloc, self.store.catalog(), create) {
-            Ok(definition) => definition,
-            Err(refusal) => return Err(refusal),
-        };
+        let definition = define(alloc, self.store.catalog(), create)?;
         let catalog = self.store.catalog();
         let tables = &mut self.tables;
-        let Ok(()) = add_versions(alloc, catalog, tables, &mut self.ended, &definition) else {
-            return Err(Refusal::Memory);
-        };
+        add_versions(alloc, catalog, tables, &mut self.ended, &definition)?;
         match self.store.add_table(alloc, definition) {
             Ok(()) => Ok(Outcome::Done(Word::Create, 0)),
             Err(refusal) => {
@@ -319,19 +313,11 @@ impl<S: Alter> Engine<S> {
         ensures memory { OnErr result (IsSameInMemory self.old self.new) }
         ensures usable { WasUsable S.Store self.old.connection self.new.connection }
     {
-        let change = match resolve_change(alloc, self.store.catalog(), statement) {
-            Ok(change) => change,
-            Err(refusal) => return Err(refusal),
-        };
+        let change = resolve_change(alloc, self.store.catalog(), statement)?;
         let catalog = self.store.catalog();
-        let plan = match lawful_plan(alloc, catalog, self.tables.as_slice(), &change) {
-            Ok(plan) => plan,
-            Err(refusal) => return Err(refusal),
-        };
-        match self.apply(alloc, change.table, &plan) {
-            Ok(()) => Ok(done(&change.action, &plan)),
-            Err(refusal) => Err(refusal),
-        }
+        let plan = lawful_plan(alloc, catalog, self.tables.as_slice(), &change)?;
+        self.apply(alloc, change.table, &plan)?;
+        Ok(done(&change.action, &plan))
     }
 
     /// Answers a sequenced query. Nothing is changed.
@@ -355,17 +341,12 @@ impl<S: Alter> Engine<S> {
         ensures memory { OnErr result (IsSameInMemory self.old self.new) }
         ensures usable { WasUsable S.Store self.old.connection self.new.connection }
     {
-        let query = match resolve_sequenced(alloc, self.store.catalog(), query) {
-            Ok(query) => query,
-            Err(refusal) => return Err(refusal),
-        };
+        let query = resolve_sequenced(alloc, self.store.catalog(), query)?;
         let catalog = self.store.catalog();
         let tables = self.tables.as_slice();
         let ended = self.ended.as_slice();
-        match answer_of(alloc, catalog, tables, ended, &query) {
-            Ok(answer) => Ok(Outcome::Answer(answer)),
-            Err(refusal) => Err(refusal),
-        }
+        let answer = answer_of(alloc, catalog, tables, ended, &query)?;
+        Ok(Outcome::Answer(answer))
     }
 
     /// Shows the versions of a stored query. Nothing is changed.
@@ -385,25 +366,16 @@ impl<S: Alter> Engine<S> {
         ensures memory { OnErr result (IsSameInMemory self.old self.new) }
         ensures usable { WasUsable S.Store self.old.connection self.new.connection }
     {
-        let query = match resolve_stored_query(alloc, self.store.catalog(), query) {
-            Ok(query) => query,
-            Err(refusal) => return Err(refusal),
-        };
+        let query = resolve_stored_query(alloc, self.store.catalog(), query)?;
         let Some(table) = self.store.catalog().def(query.table) else {
             unreachable!()
         };
-        let Ok(columns) = version_columns(alloc, table) else {
-            return Err(Refusal::Memory);
-        };
-        let tables = self.tables.as_slice();
-        let ended = self.ended.as_slice();
-        match shown_by(alloc, tables, ended, &query) {
-            Ok(rows) => Ok(Outcome::Versions(VersionList {
-                columns,
-                rows: Items::from_vec(rows),
-            })),
-            Err(_) => Err(Refusal::Memory),
-        }
+        let columns = version_columns(alloc, table)?;
+        let rows = shown_by(alloc, self.tables.as_slice(), self.ended.as_slice(), &query)?;
+        Ok(Outcome::Versions(VersionList {
+            columns,
+            rows: Items::from_vec(rows),
+        }))
     }
 
     /// Runs a statement. An `Err` changes nothing: it is the refusal of the least number whose

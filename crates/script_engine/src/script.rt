@@ -29,8 +29,6 @@ pub mod listener;
 pub mod over;
 
 use crate::engine::Engine;
-use crate::engine::outcome::Outcome;
-use crate::entry::Entry;
 use crate::script::kept::Kept;
 use crate::script::listener::{AllKept, Listener};
 use period_core::Refusal;
@@ -38,6 +36,7 @@ use sql_front::{LexFault, Span, cut, lex, parse};
 use sql_statements::{Statement, Token};
 use sqlite::Connection;
 use sqlite_trees::store::Alter;
+use statement_reports::{Entry, Outcome};
 use std::alloc::Global;
 use std::str;
 
@@ -45,7 +44,7 @@ use std::str;
 pub const MOST_BYTES: usize = 4_194_304;
 
 /// The most tokens that a statement may have.
-pub const MOST_TOKENS: usize = 10_000;
+const MOST_TOKENS: usize = 10_000;
 
 /// The text of a script.
 pub(crate) fn script_text(script: &[u8]) -> Result<&str, Refusal>

@@ -20,10 +20,10 @@ use Rattle.script_engine.specs.engine.Answering.{AreSeenBy, SeesRows}
 use Rattle.script_engine.specs.engine.EngineState.{EngineState}
 use Rattle.script_engine.specs.engine.Runs.{Step}
 use Rattle.script_engine.specs.engine.Stored.{RepresentsSome}
-use Rattle.script_engine.specs.declared.engine.outcome.Outcome.{Outcome}
-use Rattle.script_engine.specs.declared.engine.outcome.Outcome.TheVariants.{Done, Versions}
-use Rattle.script_engine.specs.declared.engine.outcome.Outcome.TheVariants.{Answer as Answered}
-use Rattle.script_engine.specs.declared.entry.Entry.{Entry}
+use Rattle.statement_reports.specs.declared.outcome.Outcome.{Outcome}
+use Rattle.statement_reports.specs.declared.outcome.Outcome.TheVariants.{Done, Versions}
+use Rattle.statement_reports.specs.declared.outcome.Outcome.TheVariants.{Answer as Answered}
+use Rattle.statement_reports.specs.declared.entry.Entry.{Entry}
 
 -- each reference of the query has a list that holds on each day what the reference sees
 abbrev pub AreSeen : History → Query → List (List PeriodRow) → Type 0

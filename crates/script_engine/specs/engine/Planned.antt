@@ -5,8 +5,8 @@ use Rattle.catalog_core.specs.declared.change.Action.TheVariants.{Delete, Insert
 use Rattle.catalog_core.specs.declared.change.Plan.{Plan}
 use Rattle.history_model.specs.Left.{touched_rows}
 use Rattle.history_model.specs.Versions.{PlainVersion}
-use Rattle.script_engine.specs.declared.engine.outcome.Word.{Word}
-use Rattle.script_engine.specs.declared.engine.outcome.Word.TheVariants as word
+use Rattle.statement_reports.specs.declared.outcome.Word.{Word}
+use Rattle.statement_reports.specs.declared.outcome.Word.TheVariants as word
 
 -- what is done by an action
 abbrev pub word_of : Action → Word

@@ -42,12 +42,12 @@ use Rattle.script_engine.specs.engine.Answering.{columns_of}
 use Rattle.script_engine.specs.engine.Faults.{IsFault}
 use Rattle.script_engine.specs.engine.Planned.{count_of, word_of}
 use Rattle.script_engine.specs.engine.Shown.{AreShown, version_columns}
-use Rattle.script_engine.specs.declared.engine.outcome.Outcome.{Outcome}
-use Rattle.script_engine.specs.declared.engine.outcome.Outcome.TheVariants.{Done}
-use Rattle.script_engine.specs.declared.engine.outcome.Outcome.TheVariants.{Answer as Answered}
-use Rattle.script_engine.specs.declared.engine.outcome.Outcome.TheVariants.{Versions}
-use Rattle.script_engine.specs.declared.engine.outcome.VersionList.{VersionList}
-use Rattle.script_engine.specs.declared.engine.outcome.Word.TheVariants as word
+use Rattle.statement_reports.specs.declared.outcome.Outcome.{Outcome}
+use Rattle.statement_reports.specs.declared.outcome.Outcome.TheVariants.{Done}
+use Rattle.statement_reports.specs.declared.outcome.Outcome.TheVariants.{Answer as Answered}
+use Rattle.statement_reports.specs.declared.outcome.Outcome.TheVariants.{Versions}
+use Rattle.statement_reports.specs.declared.outcome.VersionList.{VersionList}
+use Rattle.statement_reports.specs.declared.outcome.Word.TheVariants as word
 
 -- the conditions of a change, with that of an empty period of a row that INSERT gives
 abbrev pub ChangeApplies : List TableDef → Statement → Refusal → Type 0

@@ -12,10 +12,10 @@ use Rattle.catalog_core.specs.declared.table.ColumnKind.TheVariants.{Date, Integ
 use Rattle.catalog_core.specs.declared.table.ColumnKind.TheVariants.{RowEnd, RowStart}
 use Rattle.catalog_core.specs.declared.table.TableDef.{TableDef}
 use Rattle.version_store.specs.Contents.{Contents, of_table, version_cmp, version_in}
-use Rattle.script_engine.specs.declared.engine.outcome.Cell.{Cell}
-use Rattle.script_engine.specs.declared.engine.outcome.Cell.TheVariants.{End, From, Start, To}
-use Rattle.script_engine.specs.declared.engine.outcome.Cell.TheVariants.{Value}
-use Rattle.script_engine.specs.declared.engine.outcome.VersionColumn.{VersionColumn}
+use Rattle.statement_reports.specs.declared.outcome.Cell.{Cell}
+use Rattle.statement_reports.specs.declared.outcome.Cell.TheVariants.{End, From, Start, To}
+use Rattle.statement_reports.specs.declared.outcome.Cell.TheVariants.{Value}
+use Rattle.statement_reports.specs.declared.outcome.VersionColumn.{VersionColumn}
 
 -- ---- columns
 

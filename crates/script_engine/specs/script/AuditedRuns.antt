@@ -8,8 +8,8 @@ use Rattle.sql_statements.specs.Trees.{Statement}
 use Rattle.history_model.specs.Histories.{History, new_database, opened}
 use Rattle.script_engine.specs.engine.Audits.{AuditedStep}
 use Rattle.script_engine.specs.script.Script.{IsRunBy, TextApplies}
-use Rattle.script_engine.specs.declared.engine.outcome.Outcome.{Outcome}
-use Rattle.script_engine.specs.declared.entry.Entry.{Entry}
+use Rattle.statement_reports.specs.declared.outcome.Outcome.{Outcome}
+use Rattle.statement_reports.specs.declared.entry.Entry.{Entry}
 
 -- a piece that spells no sound statement is refused, without an audit, and the history stays; the
 -- entry of another is that of its statement

@@ -14,7 +14,7 @@ use Rattle.sql_statements.specs.Trees.{Statement}
 use Rattle.history_model.specs.Histories.{History, new_database, opened}
 use Rattle.version_store.specs.StoreState.{IsOpenRefusal, IsStoreRefusal}
 use Rattle.script_engine.specs.engine.Runs.{Step}
-use Rattle.script_engine.specs.declared.engine.outcome.Outcome.{Outcome}
+use Rattle.statement_reports.specs.declared.outcome.Outcome.{Outcome}
 
 -- a piece of more than 10,000 tokens
 abbrev pub IsOverlong : List Lexeme → Type 0

@@ -319,14 +319,10 @@ pub fn answered(
         ≡ map (λ (item : Item). item.name) (columns_of (plain_query query.now))) }
     ensures named { IfErr result IsStoreRefusal }
 {
-    let Ok(seen) = tables_of(alloc, tables, ended, query) else {
-        return Err(Refusal::Memory);
-    };
+    let seen = tables_of(alloc, tables, ended, query)?;
     if !fits(query, &seen) {
         return Err(Refusal::Store);
     }
-    match answer_over(alloc, query, &seen) {
-        Ok(answer) => Ok((answer, seen)),
-        Err(_) => Err(Refusal::Memory),
-    }
+    let answer = answer_over(alloc, query, &seen)?;
+    Ok((answer, seen))
 }

@@ -13,14 +13,13 @@ ghost use Rattle.script_engine.specs.engine.Stored.{EngineRepresents, KeepsOnErr
 
 use crate::engine::Engine;
 use crate::engine::answering::answered;
-use crate::engine::outcome::Outcome;
-use crate::entry::Entry;
 use catalog_core::resolve_sequenced;
 use catalog_core::resolved::{Query, Tables};
 use period_core::{Answer, Refusal};
 use snapshot_audit::{Verdict, audit};
 use sql_statements::{QueryTree, SelectDistinct, Statement, StatementForm};
 use sqlite_trees::store::Alter;
+use statement_reports::{Entry, Outcome};
 use std::alloc::Global;
 
 /// What an audit says of an answer over what the references of its query saw.
@@ -34,10 +33,8 @@ fn audit_of(
         (IsVerdictOver (plain_resolved query.now) tables.now answer.now) }
     ensures memory { IfErr result (λ refusal. refusal ≡ Refusal.Memory) }
 {
-    match audit(alloc, query, tables, answer) {
-        Ok(verdict) => Ok(verdict),
-        Err(_) => Err(Refusal::Memory),
-    }
+    let verdict = audit(alloc, query, tables, answer)?;
+    Ok(verdict)
 }
 
 impl<S: Alter> Engine<S> {

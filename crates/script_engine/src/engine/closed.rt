@@ -70,9 +70,7 @@ pub fn apply_closing<S: Alter>(
     ensures named { IfErr result IsStoreRefusal }
 {
     let count = ended.len();
-    let Ok(()) = ended.close_all(alloc, plan.ended.as_slice(), store.clock()) else {
-        return Err(Refusal::Memory);
-    };
+    ended.close_all(alloc, plan.ended.as_slice(), store.clock())?;
     match apply_plan(alloc, store, table, number, plan) {
         Ok(()) => Ok(()),
         Err(refusal) => {
@@ -196,14 +194,11 @@ fn load_table<S: Alter>(
     ensures read { IsOpenedRead S.Store store.old store.new }
     ensures named { IfErr result IsStoreRefusal }
 {
-    let versions = match store.rows(alloc, number) {
-        Ok(versions) => versions,
-        Err(refusal) => return Err(refusal),
-    };
-    match listed(alloc, list, versions, store.clock()) {
-        Ok(Some(list)) => Ok(list),
-        Ok(None) => Err(Refusal::Store),
-        Err(_) => Err(Refusal::Memory),
+    let versions = store.rows(alloc, number)?;
+    let found = listed(alloc, list, versions, store.clock())?;
+    match found {
+        Some(list) => Ok(list),
+        None => Err(Refusal::Store),
     }
 }
 
@@ -223,16 +218,9 @@ pub fn load_ended<S: Alter>(
 {
     let mut lists = Vec::new(alloc);
     for place in 0..store.catalog().len() {
-        let Ok(list) = no_versions(alloc, &store.catalog().tables.as_slice()[place]) else {
-            return Err(Refusal::Memory);
-        };
-        let list = match load_table(alloc, store, place as u8 + 1, list) {
-            Ok(list) => list,
-            Err(refusal) => return Err(refusal),
-        };
-        let Ok(()) = lists.push(list) else {
-            return Err(Refusal::Memory);
-        };
+        let none = no_versions(alloc, &store.catalog().tables.as_slice()[place])?;
+        let list = load_table(alloc, store, place as u8 + 1, none)?;
+        lists.push(list)?;
     }
     Ok(lists)
 }

@@ -38,10 +38,8 @@ fn current_versions<S: Alter>(
     ensures named { IfErr result IsStoreRefusal }
 {
     let mut kept = KeptRows::new(alloc);
-    match store.scan_current(alloc, number, &mut kept) {
-        Ok(()) => Ok(kept.rows),
-        Err(refusal) => Err(refusal),
-    }
+    store.scan_current(alloc, number, &mut kept)?;
+    Ok(kept.rows)
 }
 
 /// Adds rows, one after the other.
@@ -69,14 +67,9 @@ fn load_table<S: Alter>(
     ensures read { IsOpenedRead S.Store store.old store.new }
     ensures named { IfErr result IsStoreRefusal }
 {
-    let versions = match current_versions(alloc, store, number) {
-        Ok(versions) => versions,
-        Err(refusal) => return Err(refusal),
-    };
-    match add_each(alloc, &mut rows, versions) {
-        Ok(()) => Ok(rows),
-        Err(_) => Err(Refusal::Memory),
-    }
+    let versions = current_versions(alloc, store, number)?;
+    add_each(alloc, &mut rows, versions)?;
+    Ok(rows)
 }
 
 /// The current rows of each table of an opened store, in the order of its catalog. Nothing is
@@ -96,16 +89,9 @@ pub fn load<S: Alter>(
 {
     let mut tables = Vec::new(alloc);
     for place in 0..store.catalog().len() {
-        let Ok(rows) = no_rows(alloc, &store.catalog().tables.as_slice()[place]) else {
-            return Err(Refusal::Memory);
-        };
-        let rows = match load_table(alloc, store, place as u8 + 1, rows) {
-            Ok(rows) => rows,
-            Err(refusal) => return Err(refusal),
-        };
-        let Ok(()) = tables.push(rows) else {
-            return Err(Refusal::Memory);
-        };
+        let none = no_rows(alloc, &store.catalog().tables.as_slice()[place])?;
+        let rows = load_table(alloc, store, place as u8 + 1, none)?;
+        tables.push(rows)?;
     }
     Ok(tables)
 }

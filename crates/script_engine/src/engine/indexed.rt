@@ -112,21 +112,16 @@ pub fn load_lawful<S: Alter>(
     ensures some { OnErr result (store.old.store.catalog.tables ≡ [] → ⊥) }
     ensures named { IfErr result IsOpenRefusal }
 {
-    let rows = match load(alloc, store) {
-        Ok(rows) => rows,
-        Err(refusal) => return Err(refusal),
-    };
+    let rows = load(alloc, store)?;
     if rows.is_empty() {
         return Ok(Vec::new(alloc));
     }
-    let Ok(tables) = tables_of(alloc, store.catalog(), rows) else {
-        return Err(Refusal::Memory);
-    };
-    match is_lawful(alloc, store.catalog(), tables.as_slice()) {
-        Ok(true) => Ok(tables),
-        Ok(false) => Err(Refusal::BadStore),
-        Err(_) => Err(Refusal::Memory),
+    let tables = tables_of(alloc, store.catalog(), rows)?;
+    let lawful = is_lawful(alloc, store.catalog(), tables.as_slice())?;
+    if !lawful {
+        return Err(Refusal::BadStore);
     }
+    Ok(tables)
 }
 
 /// Makes what a plan says of the table of a number at the clock, in the store and in the table's
@@ -161,18 +156,10 @@ pub fn apply_plan<S: Alter>(
     let moment = store.clock();
     let ended = plan.ended.as_slice();
     let added = plan.added.as_slice();
-    let Ok(rows) = rows_of(alloc, ended) else {
-        return Err(Refusal::Memory);
-    };
-    let Ok(going) = table.keys_of(alloc, rows.as_slice()) else {
-        return Err(Refusal::Memory);
-    };
-    let Ok(coming) = table.keys_of(alloc, added) else {
-        return Err(Refusal::Memory);
-    };
-    let Ok(()) = table.add_all(alloc, moment, &coming, added) else {
-        return Err(Refusal::Memory);
-    };
+    let rows = rows_of(alloc, ended)?;
+    let going = table.keys_of(alloc, rows.as_slice())?;
+    let coming = table.keys_of(alloc, added)?;
+    table.add_all(alloc, moment, &coming, added)?;
     match store.apply(alloc, number, moment, plan) {
         Ok(()) => {
             table.take_all(&going, ended, rows.as_slice());

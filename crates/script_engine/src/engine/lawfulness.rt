@@ -44,16 +44,14 @@ fn judge_change(
         → HoldCurrent catalog.now.tables before (map rows_by_key tables.now)
         → IsFault catalog.now.tables before change.now refusal))) }
 {
-    let Ok(found) = key_fault(alloc, table.rows(), change, plan) else {
-        return Err(Refusal::Memory);
-    };
-    if let Some(day) = found {
+    let clash = key_fault(alloc, table.rows(), change, plan)?;
+    if let Some(day) = clash {
         return Err(Refusal::KeyOverlap(day));
     }
-    match reference_fault(alloc, catalog, tables, change, plan) {
-        Ok(None) => Ok(()),
-        Ok(Some(day)) => Err(Refusal::PeriodReference(day)),
-        Err(_) => Err(Refusal::Memory),
+    let lacking = reference_fault(alloc, catalog, tables, change, plan)?;
+    match lacking {
+        None => Ok(()),
+        Some(day) => Err(Refusal::PeriodReference(day)),
     }
 }
 
@@ -87,12 +85,7 @@ pub fn lawful_plan(
     let Some(table) = of_number(tables, change.table) else {
         unreachable!()
     };
-    let plan = match plan_change(alloc, table.rows(), change) {
-        Ok(plan) => plan,
-        Err(refusal) => return Err(refusal),
-    };
-    match judge_change(alloc, catalog, tables, table, change, &plan) {
-        Ok(()) => Ok(plan),
-        Err(refusal) => Err(refusal),
-    }
+    let plan = plan_change(alloc, table.rows(), change)?;
+    judge_change(alloc, catalog, tables, table, change, &plan)?;
+    Ok(plan)
 }

@@ -333,14 +333,10 @@ pub fn answer_of(
         ≡ map (λ (item : Item). item.name) (columns_of (plain_query query.now))) }
     ensures named { IfErr result IsStoreRefusal }
 {
-    let Ok(needed) = needed_tables(alloc, catalog, tables, ended, query) else {
-        return Err(Refusal::Memory);
-    };
+    let needed = needed_tables(alloc, catalog, tables, ended, query)?;
     if !fits(query, &needed) {
         return Err(Refusal::Store);
     }
-    match answer_over(alloc, query, &needed) {
-        Ok(answer) => Ok(answer),
-        Err(_) => Err(Refusal::Memory),
-    }
+    let answer = answer_over(alloc, query, &needed)?;
+    Ok(answer)
 }

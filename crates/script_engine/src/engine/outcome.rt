@@ -1,70 +1,14 @@
-//! What a statement gives.
+//! What is told of a change.
 
 ghost use Rattle.std.specs.Prelude.{◌≡◌};
 ghost use Rattle.script_engine.specs.engine.Planned.{planned_count, word_of};
 
 use catalog_core::{Action, Plan};
-use period_core::{Answer, Items, Text, VersionRow};
+use statement_reports::{Outcome, Word};
 
-/// What was done.
-#[derive(Clone, Copy, Debug, PartialEq, Eq)]
-pub enum Word {
-    /// The clock was moved.
-    At,
-    /// A table was created.
-    Create,
-    /// Rows were inserted.
-    Insert,
-    /// Rows were updated.
-    Update,
-    /// Rows were deleted.
-    Delete,
-}
-
-/// Where the cell of a column comes from in a version.
-#[derive(Clone, Copy, Debug, PartialEq, Eq)]
-pub enum Cell {
-    /// The value at this position among the version's values, from 0.
-    Value(usize),
-    /// The first day of the version's period.
-    Start,
-    /// The day on which its period ends.
-    End,
-    /// The first moment of its system time.
-    From,
-    /// The moment at which its system time ends: FOREVER where the version is current.
-    To,
-}
-
-/// A column of a list of versions.
-#[derive(Drop, Debug)]
-pub struct VersionColumn {
-    pub name: Text,
-    pub cell: Cell,
-}
-
-/// Versions of a table, with all of its columns in declared order.
-#[derive(Drop, Debug)]
-pub struct VersionList {
-    pub columns: Items<VersionColumn>,
-    /// By values, then period start, then system start.
-    pub rows: Items<VersionRow>,
-}
-
-/// What an accepted statement gives.
-#[derive(Drop, Debug)]
-pub enum Outcome {
-    /// What was done, with a number of rows: of an INSERT those that were given, of an UPDATE or a
-    /// DELETE the current versions that it touched, else 0.
-    Done(Word, u64),
-    /// The answer of a sequenced query.
-    Answer(Answer),
-    /// The versions that a stored query shows.
-    Versions(VersionList),
-}
-
-/// What is told of a change of this plan.
-pub(crate) fn done(action: &Action, plan: &Plan) -> Outcome
+/// What is told of a change of this plan: of an INSERT how many rows were given, of an UPDATE or a
+/// DELETE how many current versions it touched.
+pub fn done(action: &Action, plan: &Plan) -> Outcome
     ensures { result ≡ Outcome.Done (word_of action.now) (planned_count action.now plan.now) }
 {
     match action {

@@ -3,9 +3,9 @@
 ghost use Rattle.std.specs.Prelude.{◌≡◌, IfOk};
 ghost use Rattle.script_engine.specs.engine.Shown.{cell_at, version_columns};
 
-use crate::engine::outcome::{Cell, VersionColumn};
 use catalog_core::{Column, ColumnKind, TableDef, is_value_column};
 use period_core::{Items, Memory};
+use statement_reports::{Cell, VersionColumn};
 use std::alloc::Global;
 
 /// The cell of the column that is declared at a place, where its value has this position.

@@ -12,11 +12,10 @@ ghost use Rattle.script_engine.specs.script.AuditedRuns.{AuditedPieceStep};
 ghost use Rattle.script_engine.specs.script.Script.{PieceStep, TextApplies};
 
 use crate::engine::Engine;
-use crate::engine::outcome::Outcome;
-use crate::entry::Entry;
 use period_core::Refusal;
 use sql_statements::Statement;
 use sqlite_trees::store::Alter;
+use statement_reports::{Entry, Outcome};
 use std::alloc::Global;
 
 /// What is kept of a piece.

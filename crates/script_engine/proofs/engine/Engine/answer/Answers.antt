@@ -1,4 +1,5 @@
 use Rattle.std.proofs.Common.{◌≡◌, ◌∙◌, List, ap, inl, map, subst, sym}
+use Rattle.std.proofs.lemmas.Result.{err_from_is_err_and}
 use Rattle.period_core.specs.Leasts.{MayAnswer, NoneApplies}
 use Rattle.sql_statements.specs.Plain.{plain_query}
 use Rattle.sql_statements.specs.Trees.{Statement}
@@ -17,70 +18,79 @@ use Rattle.script_engine.proofs.Refused.{failed_query}
 use Rattle.script_engine.proofs.SameInMemory.{failed_over, same_memory}
 use Rattle.script_engine.proofs.engine.Engine.answer.Goals as goal
 
-pub returns-in-Ok-answer_of-clause-step : goal.returns-in-Ok-answer_of-clause-step
-returns-in-Ok-answer_of-clause-step g c usable history kept =
-    let asked = plain_query c.args.query.now in
-    let s : Statement = statement.sequenced asked in
-    let query = resolved.plain_query c.in-Ok.query in
-    let old : EngineState g.row.S.Denot = c.args.self.now in
-    let catalog : c.catalog.result.now ≡ old.catalog = c.catalog.ensures ∙ ap (λ (e : EngineState g.row.S.Denot). e.catalog) c.self.view_is in
-    let rows =
-    handed_rows g.S.Store history old kept (map rows_by_key c.as_slice-tables.result.now) c.as_slice-ended.result.now
-    (ap (map rows_by_key) c.as_slice-tables.ensures.value ∙ ap (λ (e : EngineState g.row.S.Denot). e.tables) c.self.view_is)
-    (c.as_slice-ended.ensures.value ∙ ap (λ (e : EngineState g.row.S.Denot). e.ended) c.self.view_is) in
-    let known = handed_catalog g.S.Store history old kept c.catalog-catalog.result.now (c.catalog-catalog.ensures ∙ ap (λ (e : EngineState g.row.S.Denot). e.catalog) c.self.view_is) in
-    answered_step g.S.Store history old asked kept old query c.in-Ok-answer_of.answer
-    (subst (λ (k : Catalog). NoneApplies (Holds (query_conditions k.tables s))) catalog c.in-Ok.ensures.sound)
-    (subst (λ (k : Catalog). ResolvesQuery k.tables s query) catalog c.in-Ok.ensures.resolved)
-    (has_still g.S.Store history old kept) c.in-Ok-answer_of.ensures.columns (c.in-Ok-answer_of.ensures.right history known rows)
-
 pub returns-clause-step : goal.returns-clause-step
 returns-clause-step g c usable history kept =
     let asked = plain_query c.args.query.now in
     let s : Statement = statement.sequenced asked in
+    let query = resolved.plain_query c.in_ok-query.query in
     let old : EngineState g.row.S.Denot = c.args.self.now in
     let catalog : c.catalog.result.now ≡ old.catalog = c.catalog.ensures ∙ ap (λ (e : EngineState g.row.S.Denot). e.catalog) c.self.view_is in
-    failed_answer g.S.Store history old asked kept old c.in-Err-answer_of.refusal
-    (subst (λ (k : Catalog). NoneApplies (Holds (query_conditions k.tables s))) catalog c.in-Ok.ensures.sound)
-    (has_still g.S.Store history old kept) c.in-Err-answer_of.ensures.named
+    let rows =
+    handed_rows g.S.Store history old kept (map rows_by_key c.as_slice-tables.result.now) c.as_slice-ended.result.now
+    (ap (map rows_by_key) c.as_slice-tables.ensures.value ∙ ap (λ (e : EngineState g.row.S.Denot). e.tables) c.self.view_is)
+    (c.as_slice-ended.ensures.value ∙ ap (λ (e : EngineState g.row.S.Denot). e.ended) c.self.view_is) in
+    let known = handed_catalog g.S.Store history old kept c.catalog-catalog.result.now (c.catalog-catalog.ensures ∙ ap (λ (e : EngineState g.row.S.Denot). e.catalog) c.self.view_is) in
+    answered_step g.S.Store history old asked kept old query c.in_ok-answer.answer
+    (subst (λ (k : Catalog). NoneApplies (Holds (query_conditions k.tables s))) catalog c.in_ok-query.ensures.sound)
+    (subst (λ (k : Catalog). ResolvesQuery k.tables s query) catalog c.in_ok-query.ensures.resolved)
+    (has_still g.S.Store history old kept) c.in_ok-answer.ensures.columns (c.in_ok-answer.ensures.right history known rows)
 
-pub returns-in-Err-clause-refused : goal.returns-in-Err-clause-refused
-returns-in-Err-clause-refused g c =
-    let s : Statement = statement.sequenced (plain_query c.args.query.now) in
+pub returns-in_err-answer-clause-step : goal.returns-in_err-answer-clause-step
+returns-in_err-answer-clause-step g c usable history kept =
+    let p = err_from_is_err_and c.from_residual-in_err-answer.result c.from_residual-in_err-answer.ensures.1 in
+    rw (p.1, p.2) (let asked = plain_query c.args.query.now in
+    let s : Statement = statement.sequenced asked in
+    let old : EngineState g.row.S.Denot = c.args.self.now in
+    let catalog : c.catalog.result.now ≡ old.catalog = c.catalog.ensures ∙ ap (λ (e : EngineState g.row.S.Denot). e.catalog) c.self.view_is in
+    failed_answer g.S.Store history old asked kept old c.in_err-answer.field-0.0
+    (subst (λ (k : Catalog). NoneApplies (Holds (query_conditions k.tables s))) catalog c.in_ok-query.ensures.sound)
+    (has_still g.S.Store history old kept) c.in_err-answer.ensures.named)
+
+pub returns-in_err-query-clause-refused : goal.returns-in_err-query-clause-refused
+returns-in_err-query-clause-refused g c =
+    let p = err_from_is_err_and c.from_residual.result c.from_residual.ensures.1 in
+    rw (p.1, p.2) (let s : Statement = statement.sequenced (plain_query c.args.query.now) in
     let same : c.catalog.result.now.tables ≡ c.args.self.now.catalog.tables = ap (λ (k : Catalog). k.tables) c.catalog.ensures ∙ ap (λ s. s.catalog.tables) c.self.view_is in
-    inl (inl (subst (λ (tables : List TableDef). MayAnswer (Holds (query_conditions tables s)) c.in-Err.refusal) same c.in-Err.ensures.refused))
+    inl (inl (subst (λ (tables : List TableDef). MayAnswer (Holds (query_conditions tables s)) c.in_err-query.field-0.0) same c.in_err-query.ensures.refused)))
 
-pub returns-in-Err-clause-memory : goal.returns-in-Err-clause-memory
-returns-in-Err-clause-memory g c = same_memory c.args.self.now
+pub returns-in_err-query-clause-memory : goal.returns-in_err-query-clause-memory
+returns-in_err-query-clause-memory g c =
+    let p = err_from_is_err_and c.from_residual.result c.from_residual.ensures.1 in
+    rw p.1 (same_memory c.args.self.now)
 
-pub returns-clause-refused : goal.returns-clause-refused
-returns-clause-refused g c =
-    let s : Statement = statement.sequenced (plain_query c.args.query.now) in
+pub returns-in_err-answer-clause-refused : goal.returns-in_err-answer-clause-refused
+returns-in_err-answer-clause-refused g c =
+    let p = err_from_is_err_and c.from_residual-in_err-answer.result c.from_residual-in_err-answer.ensures.1 in
+    rw (p.1, p.2) (let s : Statement = statement.sequenced (plain_query c.args.query.now) in
     let old : EngineState g.row.S.Denot = c.args.self.now in
     let same : c.catalog.result.now.tables ≡ old.catalog.tables = ap (λ (k : Catalog). k.tables) c.catalog.ensures ∙ ap (λ s. s.catalog.tables) c.self.view_is in
-    failed_over old.catalog.tables old.clock s c.in-Err-answer_of.refusal
-    (subst (λ (tables : List TableDef). NoneApplies (Holds (query_conditions tables s))) same c.in-Ok.ensures.sound)
-    c.in-Err-answer_of.ensures.named
+    failed_over old.catalog.tables old.clock s c.in_err-answer.field-0.0
+    (subst (λ (tables : List TableDef). NoneApplies (Holds (query_conditions tables s))) same c.in_ok-query.ensures.sound)
+    c.in_err-answer.ensures.named)
 
-pub returns-clause-memory : goal.returns-clause-memory
-returns-clause-memory g c = same_memory c.args.self.now
+pub returns-in_err-answer-clause-memory : goal.returns-in_err-answer-clause-memory
+returns-in_err-answer-clause-memory g c =
+    let p = err_from_is_err_and c.from_residual-in_err-answer.result c.from_residual-in_err-answer.ensures.1 in
+    rw p.1 (same_memory c.args.self.now)
 
-pub returns-in-Err-clause-queries : goal.returns-in-Err-clause-queries
-returns-in-Err-clause-queries g c usable history kept =
-    let s : Statement = statement.sequenced (plain_query c.args.query.now) in
+pub returns-in_err-query-clause-queries : goal.returns-in_err-query-clause-queries
+returns-in_err-query-clause-queries g c usable history kept =
+    let p = err_from_is_err_and c.from_residual.result c.from_residual.ensures.1 in
+    rw (p.1, p.2) (let s : Statement = statement.sequenced (plain_query c.args.query.now) in
     let same : c.catalog.result.now.tables ≡ c.args.self.now.catalog.tables = ap (λ (k : Catalog). k.tables) c.catalog.ensures ∙ ap (λ s. s.catalog.tables) c.self.view_is in
-    inl (subst (λ (tables : List TableDef). MayAnswer (Holds (query_conditions tables s)) c.in-Err.refusal) same c.in-Err.ensures.refused)
+    inl (subst (λ (tables : List TableDef). MayAnswer (Holds (query_conditions tables s)) c.in_err-query.field-0.0) same c.in_err-query.ensures.refused))
 
-pub returns-clause-queries : goal.returns-clause-queries
-returns-clause-queries g c usable history kept =
-    let asked = plain_query c.args.query.now in
+pub returns-in_err-answer-clause-queries : goal.returns-in_err-answer-clause-queries
+returns-in_err-answer-clause-queries g c usable history kept =
+    let p = err_from_is_err_and c.from_residual-in_err-answer.result c.from_residual-in_err-answer.ensures.1 in
+    rw (p.1, p.2) (let asked = plain_query c.args.query.now in
     let s : Statement = statement.sequenced asked in
-    let query = resolved.plain_query c.in-Ok.query in
+    let query = resolved.plain_query c.in_ok-query.query in
     let old : EngineState g.row.S.Denot = c.args.self.now in
     let rows =
     handed_rows g.S.Store history old kept (map rows_by_key c.as_slice-tables.result.now) c.as_slice-ended.result.now
     (ap (map rows_by_key) c.as_slice-tables.ensures.value ∙ ap (λ (e : EngineState g.row.S.Denot). e.tables) c.self.view_is)
     (c.as_slice-ended.ensures.value ∙ ap (λ (e : EngineState g.row.S.Denot). e.ended) c.self.view_is) in
     let known = handed_catalog g.S.Store history old kept c.catalog-catalog.result.now (c.catalog-catalog.ensures ∙ ap (λ (e : EngineState g.row.S.Denot). e.catalog) c.self.view_is) in
-    let of = of_catalog c.catalog-catalog.result.now.tables asked query (subst (λ (k : Catalog). ResolvesQuery k.tables s query) (c.catalog.ensures ∙ sym c.catalog-catalog.ensures) c.in-Ok.ensures.resolved) in
-    failed_query g.S.Store old old s c.in-Err-answer_of.refusal (inl (c.in-Err-answer_of.ensures.why history known rows of))
+    let of = of_catalog c.catalog-catalog.result.now.tables asked query (subst (λ (k : Catalog). ResolvesQuery k.tables s query) (c.catalog.ensures ∙ sym c.catalog-catalog.ensures) c.in_ok-query.ensures.resolved) in
+    failed_query g.S.Store old old s c.in_err-answer.field-0.0 (inl (c.in_err-answer.ensures.why history known rows of)))

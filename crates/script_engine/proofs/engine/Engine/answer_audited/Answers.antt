@@ -15,7 +15,7 @@ use Rattle.script_engine.specs.engine.Audits.{AuditedStepsTo}
 use Rattle.script_engine.specs.engine.EngineState.{EngineState}
 use Rattle.script_engine.specs.engine.InMemory.{IsSameInMemory}
 use Rattle.script_engine.specs.engine.Runs.{MayRefuseOver, MayRefuseQuery}
-use Rattle.script_engine.specs.declared.entry.Entry.{Entry}
+use Rattle.statement_reports.specs.declared.entry.Entry.{Entry}
 use Rattle.script_engine.proofs.Answered.{answered_step, failed_answer}
 use Rattle.script_engine.proofs.Audited.{answer_entry, refused_entry}
 use Rattle.script_engine.proofs.Fits.{of_catalog}

@@ -1,4 +1,5 @@
 use Rattle.std.proofs.lemmas.Bool.{false≢true}
+use Rattle.std.proofs.lemmas.Result.{err_from_is_err_and}
 use Rattle.std.proofs.Common.{◌≡◌, ◌∙◌, false, List, Ok, ap, inl, inr, map, subst, subst₂, sym}
 use Rattle.period_core.specs.Leasts.{MayAnswer, NoneApplies}
 use Rattle.sql_statements.specs.Plain.{plain}
@@ -16,7 +17,7 @@ use Rattle.script_engine.specs.engine.EngineState.{EngineState}
 use Rattle.script_engine.specs.engine.Faults.{IsFault}
 use Rattle.script_engine.specs.engine.InMemory.{FollowCatalog, rows_in}
 use Rattle.script_engine.specs.engine.Runs.{StepsTo}
-use Rattle.script_engine.specs.declared.engine.outcome.Outcome.{Outcome}
+use Rattle.statement_reports.specs.declared.outcome.Outcome.{Outcome}
 use Rattle.script_engine.proofs.Changed.{changed_step, hold_before, lawful_before, resolved_table, unchanged_step, unlawful_step, unplanned_step, unresolved_step}
 use Rattle.script_engine.proofs.Indexed.{ended_there}
 use Rattle.script_engine.proofs.InMemory.{current-kept}
@@ -25,11 +26,12 @@ use Rattle.script_engine.proofs.Refused.{days-planned}
 use Rattle.script_engine.proofs.SameInMemory.{failed_over, rows_memory, same_memory}
 use Rattle.script_engine.proofs.engine.Engine.change.Goals as goal
 
-pub returns-in-Err-clause-step : goal.returns-in-Err-clause-step
-returns-in-Err-clause-step g c usable history kept =
-    let same : c.catalog.result.now.tables ≡ c.args.self.now.catalog.tables = ap (λ (k : Catalog). k.tables) c.catalog.ensures ∙ ap (λ s. s.catalog.tables) c.self.view_is in
-    unresolved_step g.S.Store history c.args.self.now (plain c.args.statement.now) c.requires kept c.in-Err.refusal
-    (subst (λ (tables : List TableDef). MayAnswer (Holds (change_conditions tables (plain c.args.statement.now))) c.in-Err.refusal) same c.in-Err.ensures.refused)
+pub returns-in_err-change-clause-step : goal.returns-in_err-change-clause-step
+returns-in_err-change-clause-step g c usable history kept =
+    let p = err_from_is_err_and c.from_residual.result c.from_residual.ensures.1 in
+    rw (p.1, p.2) (let same : c.catalog.result.now.tables ≡ c.args.self.now.catalog.tables = ap (λ (k : Catalog). k.tables) c.catalog.ensures ∙ ap (λ s. s.catalog.tables) c.self.view_is in
+    unresolved_step g.S.Store history c.args.self.now (plain c.args.statement.now) c.requires kept c.in_err-change.field-0.0
+    (subst (λ (tables : List TableDef). MayAnswer (Holds (change_conditions tables (plain c.args.statement.now))) c.in_err-change.field-0.0) same c.in_err-change.ensures.refused))
 
 pub lawful_plan-requires : goal.lawful_plan-requires
 lawful_plan-requires g c =
@@ -39,32 +41,33 @@ lawful_plan-requires g c =
           subst (λ (k : Catalog). FollowCatalog k.tables c.as_slice.result.now) (sym tables)
           (subst (FollowCatalog c.self.inside.store.catalog.tables) (sym c.as_slice.ensures.value) c.self.invariant.0);
       defined =
-          resolved_table c.catalog-catalog.result.now.tables (plain c.args.statement.now) c.in-Ok.change
-          (subst (λ (k : Catalog). ResolvesChange k.tables (plain c.args.statement.now) c.in-Ok.change) (c.catalog.ensures ∙ sym tables) c.in-Ok.ensures.resolved);
+          resolved_table c.catalog-catalog.result.now.tables (plain c.args.statement.now) c.in_ok-change.change
+          (subst (λ (k : Catalog). ResolvesChange k.tables (plain c.args.statement.now) c.in_ok-change.change) (c.catalog.ensures ∙ sym tables) c.in_ok-change.ensures.resolved);
     }
 
 -- the plan is over the rows in memory
 pub apply-requires : goal.apply-requires
 apply-requires g c =
-    let change = c.in-Ok.change in
-    let plan = c.in-Ok-lawful_plan.plan in
+    let change = c.in_ok-change.change in
+    let plan = c.in_ok-plan.plan in
     let tables : map rows_by_key c.as_slice.result.now ≡ c.args.self.now.tables = ap (map rows_by_key) c.as_slice.ensures.value ∙ ap (λ (e : EngineState g.row.S.Denot). e.tables) c.self.view_is in
     ended_there change.action (rows_in c.args.self.now.tables change.table) plan
-    (subst (λ (ts : List RowsByKey). IsPlanOf change.action (rows_in ts change.table) plan) tables c.in-Ok-lawful_plan.ensures.plan)
+    (subst (λ (ts : List RowsByKey). IsPlanOf change.action (rows_in ts change.table) plan) tables c.in_ok-plan.ensures.plan)
 
-pub returns-in-Err-lawful_plan-clause-step : goal.returns-in-Err-lawful_plan-clause-step
-returns-in-Err-lawful_plan-clause-step g c usable history kept =
-    let s = plain c.args.statement.now in
-    let change = c.in-Ok.change in
-    let refusal = c.in-Err-lawful_plan.refusal in
+pub returns-in_err-plan-clause-step : goal.returns-in_err-plan-clause-step
+returns-in_err-plan-clause-step g c usable history kept =
+    let p = err_from_is_err_and c.from_residual-in_err-plan.result c.from_residual-in_err-plan.ensures.1 in
+    rw (p.1, p.2) (let s = plain c.args.statement.now in
+    let change = c.in_ok-change.change in
+    let refusal = c.in_err-plan.field-0.0 in
     let old : EngineState g.row.S.Denot = c.args.self.now in
     let catalog : c.catalog.result.now ≡ old.catalog = c.catalog.ensures ∙ ap (λ (e : EngineState g.row.S.Denot). e.catalog) c.self.view_is in
     let judged : c.catalog-catalog.result.now ≡ old.catalog = c.catalog-catalog.ensures ∙ ap (λ (e : EngineState g.row.S.Denot). e.catalog) c.self.view_is in
     let tables : map rows_by_key c.as_slice.result.now ≡ old.tables = ap (map rows_by_key) c.as_slice.ensures.value ∙ ap (λ (e : EngineState g.row.S.Denot). e.tables) c.self.view_is in
-    let sound = subst (λ (k : Catalog). NoneApplies (Holds (change_conditions k.tables s))) catalog c.in-Ok.ensures.sound in
-    let empty = subst (λ (k : Catalog). (empty_period k.tables s).1 ≡ has_empty_row change.action) catalog c.in-Ok.ensures.empty in
-    let resolved = subst (λ (k : Catalog). ResolvesChange k.tables s change) catalog c.in-Ok.ensures.resolved in
-    elim c.in-Err-lawful_plan.ensures.refused [
+    let sound = subst (λ (k : Catalog). NoneApplies (Holds (change_conditions k.tables s))) catalog c.in_ok-change.ensures.sound in
+    let empty = subst (λ (k : Catalog). (empty_period k.tables s).1 ≡ has_empty_row change.action) catalog c.in_ok-change.ensures.empty in
+    let resolved = subst (λ (k : Catalog). ResolvesChange k.tables s change) catalog c.in_ok-change.ensures.resolved in
+    elim c.in_err-plan.ensures.refused [
       | inl none ↦ unplanned_step g.S.Store history old s c.requires kept change sound empty refusal (inl none)
       | inr other ↦ elim other [
         | inl memory ↦ unplanned_step g.S.Store history old s c.requires kept change sound empty refusal (inr (inl memory))
@@ -75,109 +78,119 @@ returns-in-Err-lawful_plan-clause-step g c usable history kept =
             (subst (λ (k : Catalog). IsLawfulState k.tables (last_state history)) (sym judged) (lawful_before g.S.Store history old s c.requires kept))
             (subst₂ (λ (k : Catalog) (ts : List RowsByKey). HoldCurrent k.tables (last_state history) ts) (sym judged) (sym tables) (hold_before g.S.Store history old s c.requires kept))))
       ]
-    ]
+    ])
 
-pub returns-in-Ok-apply-clause-step : goal.returns-in-Ok-apply-clause-step
-returns-in-Ok-apply-clause-step g c usable history kept =
+pub returns-clause-step : goal.returns-clause-step
+returns-clause-step g c usable history kept =
     let s = plain c.args.statement.now in
-    let change = c.in-Ok.change in
-    let plan = c.in-Ok-lawful_plan.plan in
+    let change = c.in_ok-change.change in
+    let plan = c.in_ok-plan.plan in
     let old : EngineState g.row.S.Denot = c.args.self.now in
     let new : EngineState g.row.S.Denot = c.apply.new.self in
     let catalog : c.catalog.result.now ≡ old.catalog = c.catalog.ensures ∙ ap (λ (e : EngineState g.row.S.Denot). e.catalog) c.self.view_is in
     let judged : c.catalog-catalog.result.now ≡ old.catalog = c.catalog-catalog.ensures ∙ ap (λ (e : EngineState g.row.S.Denot). e.catalog) c.self.view_is in
     let tables : map rows_by_key c.as_slice.result.now ≡ old.tables = ap (map rows_by_key) c.as_slice.ensures.value ∙ ap (λ (e : EngineState g.row.S.Denot). e.tables) c.self.view_is in
     let of : IsPlanOf change.action (rows_in old.tables change.table) plan =
-    subst (λ (ts : List RowsByKey). IsPlanOf change.action (rows_in ts change.table) plan) tables c.in-Ok-lawful_plan.ensures.plan in
+    subst (λ (ts : List RowsByKey). IsPlanOf change.action (rows_in ts change.table) plan) tables c.in_ok-plan.ensures.plan in
     subst (λ (o : Outcome). StepsTo g.S.Store history s (Ok o) new) (sym c.done.ensures)
     (changed_step g.S.Store history old s c.requires kept change
-    (subst (λ (k : Catalog). NoneApplies (Holds (change_conditions k.tables s))) catalog c.in-Ok.ensures.sound)
-    (subst (λ (k : Catalog). (empty_period k.tables s).1 ≡ has_empty_row change.action) catalog c.in-Ok.ensures.empty)
+    (subst (λ (k : Catalog). NoneApplies (Holds (change_conditions k.tables s))) catalog c.in_ok-change.ensures.sound)
+    (subst (λ (k : Catalog). (empty_period k.tables s).1 ≡ has_empty_row change.action) catalog c.in_ok-change.ensures.empty)
     plan of new
-    (subst (λ (k : Catalog). ResolvesChange k.tables s change) catalog c.in-Ok.ensures.resolved)
+    (subst (λ (k : Catalog). ResolvesChange k.tables s change) catalog c.in_ok-change.ensures.resolved)
     (subst (λ (k : Catalog). IsLawfulChange k.tables (last_state history) change) judged
-    (c.in-Ok-lawful_plan.ensures.lawful (last_state history)
+    (c.in_ok-plan.ensures.lawful (last_state history)
     (subst (λ (k : Catalog). IsLawfulState k.tables (last_state history)) (sym judged) (lawful_before g.S.Store history old s c.requires kept))
     (subst₂ (λ (k : Catalog) (ts : List RowsByKey). HoldCurrent k.tables (last_state history) ts) (sym judged) (sym tables) (hold_before g.S.Store history old s c.requires kept))))
-    (c.in-Ok-apply.ensures.distinct usable kept.contents kept.stored)
-    (c.in-Ok-apply.ensures.changes usable kept.contents kept.stored).0
-    c.in-Ok-apply.ensures.made c.in-Ok-apply.ensures.closed)
+    (c.in_ok-apply.ensures.distinct usable kept.contents kept.stored)
+    (c.in_ok-apply.ensures.changes usable kept.contents kept.stored).0
+    c.in_ok-apply.ensures.made c.in_ok-apply.ensures.closed)
 
-pub returns-clause-step : goal.returns-clause-step
-returns-clause-step g c usable history kept =
-    let s = plain c.args.statement.now in
-    let change = c.in-Ok.change in
-    let plan = c.in-Ok-lawful_plan.plan in
+pub returns-in_err-apply-clause-step : goal.returns-in_err-apply-clause-step
+returns-in_err-apply-clause-step g c usable history kept =
+    let p = err_from_is_err_and c.from_residual-in_err-apply.result c.from_residual-in_err-apply.ensures.1 in
+    rw (p.1, p.2) (let s = plain c.args.statement.now in
+    let change = c.in_ok-change.change in
+    let plan = c.in_ok-plan.plan in
     let old : EngineState g.row.S.Denot = c.args.self.now in
     let new : EngineState g.row.S.Denot = c.apply.new.self in
     let catalog : c.catalog.result.now ≡ old.catalog = c.catalog.ensures ∙ ap (λ (e : EngineState g.row.S.Denot). e.catalog) c.self.view_is in
     let tables : map rows_by_key c.as_slice.result.now ≡ old.tables = ap (map rows_by_key) c.as_slice.ensures.value ∙ ap (λ (e : EngineState g.row.S.Denot). e.tables) c.self.view_is in
     let of : IsPlanOf change.action (rows_in old.tables change.table) plan =
-    subst (λ (ts : List RowsByKey). IsPlanOf change.action (rows_in ts change.table) plan) tables c.in-Ok-lawful_plan.ensures.plan in
+    subst (λ (ts : List RowsByKey). IsPlanOf change.action (rows_in ts change.table) plan) tables c.in_ok-plan.ensures.plan in
     unchanged_step g.S.Store history old s c.requires kept change
-    (subst (λ (k : Catalog). NoneApplies (Holds (change_conditions k.tables s))) catalog c.in-Ok.ensures.sound)
-    (subst (λ (k : Catalog). (empty_period k.tables s).1 ≡ has_empty_row change.action) catalog c.in-Ok.ensures.empty)
-    plan of new c.in-Err-apply.refusal
+    (subst (λ (k : Catalog). NoneApplies (Holds (change_conditions k.tables s))) catalog c.in_ok-change.ensures.sound)
+    (subst (λ (k : Catalog). (empty_period k.tables s).1 ≡ has_empty_row change.action) catalog c.in_ok-change.ensures.empty)
+    plan of new c.in_err-apply.field-0.0
     (record {
-      stored = (c.in-Err-apply.ensures.changes usable kept.contents kept.stored).1;
-      current = current-kept kept.contents change.table old.tables new.tables c.in-Err-apply.ensures.none kept.current;
-      ended = subst (HaveEnded kept.contents) (sym c.in-Err-apply.ensures.open) kept.ended;
+      stored = (c.in_err-apply.ensures.changes usable kept.contents kept.stored).1;
+      current = current-kept kept.contents change.table old.tables new.tables c.in_err-apply.ensures.none kept.current;
+      ended = subst (HaveEnded kept.contents) (sym c.in_err-apply.ensures.open) kept.ended;
     })
-    c.in-Err-apply.ensures.named
+    c.in_err-apply.ensures.named)
 
-pub returns-clause-kept : goal.returns-clause-kept
-returns-clause-kept g c = λ usable contents has.
-    record {
-      stored = (c.in-Err-apply.ensures.changes usable contents has.stored).1;
-      current = current-kept contents c.in-Ok.change.table c.args.self.now.tables c.apply.new.self.tables c.in-Err-apply.ensures.none has.current;
-      ended = subst (HaveEnded contents) (sym c.in-Err-apply.ensures.open) has.ended;
-    }
+pub returns-in_err-apply-clause-kept : goal.returns-in_err-apply-clause-kept
+returns-in_err-apply-clause-kept g c =
+    let p = err_from_is_err_and c.from_residual-in_err-apply.result c.from_residual-in_err-apply.ensures.1 in
+    λ usable contents has. rw p.1 (record {
+      stored = (c.in_err-apply.ensures.changes usable contents has.stored).1;
+      current = current-kept contents c.in_ok-change.change.table c.args.self.now.tables c.apply.new.self.tables c.in_err-apply.ensures.none has.current;
+      ended = subst (HaveEnded contents) (sym c.in_err-apply.ensures.open) has.ended;
+    })
 
-pub returns-in-Err-clause-refused : goal.returns-in-Err-clause-refused
-returns-in-Err-clause-refused g c =
-    let s = plain c.args.statement.now in
+pub returns-in_err-change-clause-refused : goal.returns-in_err-change-clause-refused
+returns-in_err-change-clause-refused g c =
+    let p = err_from_is_err_and c.from_residual.result c.from_residual.ensures.1 in
+    rw (p.1, p.2) (let s = plain c.args.statement.now in
     let same : c.catalog.result.now.tables ≡ c.args.self.now.catalog.tables = ap (λ (k : Catalog). k.tables) c.catalog.ensures ∙ ap (λ s. s.catalog.tables) c.self.view_is in
-    inl (unresolved c.args.self.now.catalog.tables c.args.self.now.clock s c.requires c.in-Err.refusal
-    (subst (λ (tables : List TableDef). MayAnswer (Holds (change_conditions tables s)) c.in-Err.refusal) same c.in-Err.ensures.refused))
+    inl (unresolved c.args.self.now.catalog.tables c.args.self.now.clock s c.requires c.in_err-change.field-0.0
+    (subst (λ (tables : List TableDef). MayAnswer (Holds (change_conditions tables s)) c.in_err-change.field-0.0) same c.in_err-change.ensures.refused)))
 
-pub returns-in-Err-clause-memory : goal.returns-in-Err-clause-memory
-returns-in-Err-clause-memory g c = same_memory c.args.self.now
+pub returns-in_err-change-clause-memory : goal.returns-in_err-change-clause-memory
+returns-in_err-change-clause-memory g c =
+    let p = err_from_is_err_and c.from_residual.result c.from_residual.ensures.1 in
+    rw p.1 (same_memory c.args.self.now)
 
-pub returns-in-Err-lawful_plan-clause-refused : goal.returns-in-Err-lawful_plan-clause-refused
-returns-in-Err-lawful_plan-clause-refused g c =
-    let s = plain c.args.statement.now in
-    let change = c.in-Ok.change in
-    let refusal = c.in-Err-lawful_plan.refusal in
+pub returns-in_err-plan-clause-refused : goal.returns-in_err-plan-clause-refused
+returns-in_err-plan-clause-refused g c =
+    let p = err_from_is_err_and c.from_residual-in_err-plan.result c.from_residual-in_err-plan.ensures.1 in
+    rw (p.1, p.2) (let s = plain c.args.statement.now in
+    let change = c.in_ok-change.change in
+    let refusal = c.in_err-plan.field-0.0 in
     let old : EngineState g.row.S.Denot = c.args.self.now in
     let catalog : c.catalog.result.now ≡ old.catalog = c.catalog.ensures ∙ ap (λ (e : EngineState g.row.S.Denot). e.catalog) c.self.view_is in
-    let sound = subst (λ (k : Catalog). NoneApplies (Holds (change_conditions k.tables s))) catalog c.in-Ok.ensures.sound in
-    let empty = subst (λ (k : Catalog). (empty_period k.tables s).1 ≡ has_empty_row change.action) catalog c.in-Ok.ensures.empty in
-    elim c.in-Err-lawful_plan.ensures.refused [
+    let sound = subst (λ (k : Catalog). NoneApplies (Holds (change_conditions k.tables s))) catalog c.in_ok-change.ensures.sound in
+    let empty = subst (λ (k : Catalog). (empty_period k.tables s).1 ≡ has_empty_row change.action) catalog c.in_ok-change.ensures.empty in
+    elim c.in_err-plan.ensures.refused [
       | inl none ↦ inl (unplanned old.catalog.tables old.clock s c.requires change.action sound empty refusal (inl none))
       | inr other ↦ elim other [
         | inl memory ↦ inl (unplanned old.catalog.tables old.clock s c.requires change.action sound empty refusal (inr (inl memory)))
         | inr unlawful ↦ constrained old.catalog.tables old.clock s c.requires change.action sound empty refusal unlawful.0 unlawful.1
       ]
-    ]
+    ])
 
-pub returns-in-Err-lawful_plan-clause-memory : goal.returns-in-Err-lawful_plan-clause-memory
-returns-in-Err-lawful_plan-clause-memory g c = same_memory c.args.self.now
+pub returns-in_err-plan-clause-memory : goal.returns-in_err-plan-clause-memory
+returns-in_err-plan-clause-memory g c =
+    let p = err_from_is_err_and c.from_residual-in_err-plan.result c.from_residual-in_err-plan.ensures.1 in
+    rw p.1 (same_memory c.args.self.now)
 
-pub returns-clause-refused : goal.returns-clause-refused
-returns-clause-refused g c =
-    let s = plain c.args.statement.now in
-    let change = c.in-Ok.change in
-    let plan = c.in-Ok-lawful_plan.plan in
+pub returns-in_err-apply-clause-refused : goal.returns-in_err-apply-clause-refused
+returns-in_err-apply-clause-refused g c =
+    let p = err_from_is_err_and c.from_residual-in_err-apply.result c.from_residual-in_err-apply.ensures.1 in
+    rw (p.1, p.2) (let s = plain c.args.statement.now in
+    let change = c.in_ok-change.change in
+    let plan = c.in_ok-plan.plan in
     let old : EngineState g.row.S.Denot = c.args.self.now in
     let catalog : c.catalog.result.now ≡ old.catalog = c.catalog.ensures ∙ ap (λ (e : EngineState g.row.S.Denot). e.catalog) c.self.view_is in
-    let sound = subst (λ (k : Catalog). NoneApplies (Holds (change_conditions k.tables s))) catalog c.in-Ok.ensures.sound in
-    let empty = subst (λ (k : Catalog). (empty_period k.tables s).1 ≡ has_empty_row change.action) catalog c.in-Ok.ensures.empty in
-    let of = c.in-Ok-lawful_plan.ensures.plan in
-    failed_over old.catalog.tables old.clock s c.in-Err-apply.refusal
+    let sound = subst (λ (k : Catalog). NoneApplies (Holds (change_conditions k.tables s))) catalog c.in_ok-change.ensures.sound in
+    let empty = subst (λ (k : Catalog). (empty_period k.tables s).1 ≡ has_empty_row change.action) catalog c.in_ok-change.ensures.empty in
+    let of = c.in_ok-plan.ensures.plan in
+    failed_over old.catalog.tables old.clock s c.in_err-apply.field-0.0
     (none_without_empty old.catalog.tables old.clock s c.requires change.action sound empty
     (λ found. let off : has_empty_row change.action ≡ false = days-planned change.action of.listed plan of.plans in absurd (false≢true (sym off ∙ found))))
-    c.in-Err-apply.ensures.named
+    c.in_err-apply.ensures.named)
 
-pub returns-clause-memory : goal.returns-clause-memory
-returns-clause-memory g c =
-    rows_memory c.args.self.now c.apply.new.self c.in-Ok.change.table c.apply.ensures.catalog c.apply.ensures.clock c.in-Err-apply.ensures.none
+pub returns-in_err-apply-clause-memory : goal.returns-in_err-apply-clause-memory
+returns-in_err-apply-clause-memory g c =
+    let p = err_from_is_err_and c.from_residual-in_err-apply.result c.from_residual-in_err-apply.ensures.1 in
+    rw p.1 (rows_memory c.args.self.now c.apply.new.self c.in_ok-change.change.table c.apply.ensures.catalog c.apply.ensures.clock c.in_err-apply.ensures.none)

@@ -1,4 +1,5 @@
 use Rattle.std.proofs.Common.{◌≡◌, ◌<◌, ◌++◌, ◌∷◌, ◌∙◌, ℤ, List, [], ap, length, map, refl, subst, sym}
+use Rattle.std.proofs.lemmas.Result.{err_from_is_err_and}
 use Rattle.period_core.specs.Leasts.{MayAnswer, NoneApplies}
 use Rattle.catalog_core.specs.create.Creation.{create_conditions}
 use Rattle.catalog_core.specs.create.Definition.{Defines}
@@ -29,111 +30,115 @@ use Rattle.script_engine.proofs.engine.Engine.create.Goals as goal
 abbrev without_rows : TableDef → RowsByKey
 without_rows definition = record { positions = key_positions definition; rows = [] }
 
-pub returns-in-Err-clause-step : goal.returns-in-Err-clause-step
-returns-in-Err-clause-step g c usable history kept =
-    let same : c.catalog.result.now.tables ≡ c.args.self.now.catalog.tables = ap (λ (k : Catalog). k.tables) c.catalog.ensures ∙ ap (λ s. s.catalog.tables) c.self.view_is in
-    unmade_step g.S.Store history c.args.self.now c.args.create.now c.in-Err.refusal kept
-    (subst (λ (tables : List TableDef). MayAnswer (Holds (create_conditions tables c.args.create.now)) c.in-Err.refusal) same c.in-Err.ensures.refused)
+pub returns-in_err-definition-clause-step : goal.returns-in_err-definition-clause-step
+returns-in_err-definition-clause-step g c usable history kept =
+    let p = err_from_is_err_and c.from_residual.result c.from_residual.ensures.1 in
+    rw (p.1, p.2) (let same : c.catalog.result.now.tables ≡ c.args.self.now.catalog.tables = ap (λ (k : Catalog). k.tables) c.catalog.ensures ∙ ap (λ s. s.catalog.tables) c.self.view_is in
+    unmade_step g.S.Store history c.args.self.now c.args.create.now c.in_err-definition.field-0.0 kept
+    (subst (λ (tables : List TableDef). MayAnswer (Holds (create_conditions tables c.args.create.now)) c.in_err-definition.field-0.0) same c.in_err-definition.ensures.refused))
 
 pub add_versions-requires : goal.add_versions-requires
 add_versions-requires g c = record {
   follow = subst (λ (k : Catalog). FollowCatalog k.tables c.self.inside.tables.items) (sym c.catalog-catalog.ensures) c.self.invariant.0;
   lawful =
-      subst (λ (k : Catalog). IsLawful k.tables c.in-Ok.definition) (c.catalog.ensures ∙ sym c.catalog-catalog.ensures)
-      (c.args.create.now, c.in-Ok.ensures.sound, c.in-Ok.ensures.defined);
+      subst (λ (k : Catalog). IsLawful k.tables c.in_ok-definition.definition) (c.catalog.ensures ∙ sym c.catalog-catalog.ensures)
+      (c.args.create.now, c.in_ok-definition.ensures.sound, c.in_ok-definition.ensures.defined);
 }
 
 pub add_table-requires-clause-room : goal.add_table-requires-clause-room
 add_table-requires-clause-room g c =
-    subst (λ (k : Catalog). length k.tables < most_tables) c.catalog.ensures (few_tables c.catalog.result.now.tables c.args.create.now c.in-Ok.ensures.sound)
+    subst (λ (k : Catalog). length k.tables < most_tables) c.catalog.ensures (few_tables c.catalog.result.now.tables c.args.create.now c.in_ok-definition.ensures.sound)
 
-pub returns-in-Ok-add_table-clause-step : goal.returns-in-Ok-add_table-clause-step
-returns-in-Ok-add_table-clause-step g c usable history kept =
+pub returns-in-Ok-clause-step : goal.returns-in-Ok-clause-step
+returns-in-Ok-clause-step g c usable history kept =
     let ts : List RowsByKey = map rows_by_key c.self.inside.tables.items in
     let old : EngineState g.row.S.Denot = engine_of c.self.inside.store ts c.self.inside.ended.items in
     let new : EngineState g.row.S.Denot = engine_of c.add_table.new.self (map rows_by_key c.add_versions.new.tables.items) c.add_versions.new.ended.items in
     let create = c.args.create.now in
-    let definition = c.in-Ok.definition in
+    let definition = c.in_ok-definition.definition in
     let was : EngineRepresents g.S.Store history old = subst (λ s. EngineRepresents g.S.Store history s) (sym c.self.view_is) kept in
     created_step g.S.Store history old new create definition was
-    (subst (λ (k : Catalog). NoneApplies (Holds (create_conditions k.tables create))) c.catalog.ensures c.in-Ok.ensures.sound)
-    (subst (λ (k : Catalog). Defines k.tables create definition) c.catalog.ensures c.in-Ok.ensures.defined)
+    (subst (λ (k : Catalog). NoneApplies (Holds (create_conditions k.tables create))) c.catalog.ensures c.in_ok-definition.ensures.sound)
+    (subst (λ (k : Catalog). Defines k.tables create definition) c.catalog.ensures c.in_ok-definition.ensures.defined)
     (record {
-      stored = (c.in-Ok-add_table.ensures.changes usable was.contents was.stored).0;
+      stored = (c.in-Ok.ensures.changes usable was.contents was.stored).0;
       current =
-          subst (HaveCurrentRows (with_table definition was.contents)) (sym c.in-Ok-add_versions.ensures.rows)
+          subst (HaveCurrentRows (with_table definition was.contents)) (sym c.in_ok-add_versions.ensures.rows)
           (current-created was.contents ts definition (without_rows definition) was.current refl refl);
       ended =
-          subst (HaveEnded (with_table definition was.contents)) (sym c.in-Ok-add_versions.ensures.closed)
+          subst (HaveEnded (with_table definition was.contents)) (sym c.in_ok-add_versions.ensures.closed)
           (ended-created was.contents c.self.inside.ended.items definition was.ended);
     })
 
-pub returns-in-Err-add_table-clause-step : goal.returns-in-Err-add_table-clause-step
-returns-in-Err-add_table-clause-step g c usable history kept =
+pub returns-in-Err-clause-step : goal.returns-in-Err-clause-step
+returns-in-Err-clause-step g c usable history kept =
     let ts : List RowsByKey = map rows_by_key c.self.inside.tables.items in
     let old : EngineState g.row.S.Denot = engine_of c.self.inside.store ts c.self.inside.ended.items in
     let new : EngineState g.row.S.Denot = engine_of c.add_table.new.self (map rows_by_key c.remove_versions.new.tables.items) c.remove_versions.new.ended.items in
     let create = c.args.create.now in
     let was : EngineRepresents g.S.Store history old = subst (λ s. EngineRepresents g.S.Store history s) (sym c.self.view_is) kept in
-    uncreated_step g.S.Store history old new create c.in-Err-add_table.refusal was
-    (subst (λ (k : Catalog). NoneApplies (Holds (create_conditions k.tables create))) c.catalog.ensures c.in-Ok.ensures.sound)
+    uncreated_step g.S.Store history old new create c.in-Err.refusal was
+    (subst (λ (k : Catalog). NoneApplies (Holds (create_conditions k.tables create))) c.catalog.ensures c.in_ok-definition.ensures.sound)
     (record {
-      stored = (c.in-Err-add_table.ensures.changes usable was.contents was.stored).1;
-      current = subst (HaveCurrentRows was.contents) (sym (c.remove_versions.ensures.rows ts (without_rows c.in-Ok.definition) c.in-Ok-add_versions.ensures.rows)) was.current;
-      ended = subst (HaveEnded was.contents) (sym (c.remove_versions.ensures.ended c.self.inside.ended.items [] c.in-Ok-add_versions.ensures.closed)) was.ended;
+      stored = (c.in-Err.ensures.changes usable was.contents was.stored).1;
+      current = subst (HaveCurrentRows was.contents) (sym (c.remove_versions.ensures.rows ts (without_rows c.in_ok-definition.definition) c.in_ok-add_versions.ensures.rows)) was.current;
+      ended = subst (HaveEnded was.contents) (sym (c.remove_versions.ensures.ended c.self.inside.ended.items [] c.in_ok-add_versions.ensures.closed)) was.ended;
     })
-    c.in-Err-add_table.ensures.named
+    c.in-Err.ensures.named
 
-pub returns-in-Err-add_table-clause-kept : goal.returns-in-Err-add_table-clause-kept
-returns-in-Err-add_table-clause-kept g c = λ usable contents has.
+pub returns-in-Err-clause-kept : goal.returns-in-Err-clause-kept
+returns-in-Err-clause-kept g c = λ usable contents has.
     let ts : List RowsByKey = map rows_by_key c.self.inside.tables.items in
     let was : HasContents g.S.Store (engine_of c.self.inside.store ts c.self.inside.ended.items) contents = subst (λ s. HasContents g.S.Store s contents) (sym c.self.view_is) has in
     record {
-      stored = (c.in-Err-add_table.ensures.changes usable contents was.stored).1;
-      current = subst (HaveCurrentRows contents) (sym (c.remove_versions.ensures.rows ts (without_rows c.in-Ok.definition) c.in-Ok-add_versions.ensures.rows)) was.current;
-      ended = subst (HaveEnded contents) (sym (c.remove_versions.ensures.ended c.self.inside.ended.items [] c.in-Ok-add_versions.ensures.closed)) was.ended;
+      stored = (c.in-Err.ensures.changes usable contents was.stored).1;
+      current = subst (HaveCurrentRows contents) (sym (c.remove_versions.ensures.rows ts (without_rows c.in_ok-definition.definition) c.in_ok-add_versions.ensures.rows)) was.current;
+      ended = subst (HaveEnded contents) (sym (c.remove_versions.ensures.ended c.self.inside.ended.items [] c.in_ok-add_versions.ensures.closed)) was.ended;
     }
+
+pub returns-in_err-definition-clause-refused : goal.returns-in_err-definition-clause-refused
+returns-in_err-definition-clause-refused g c =
+    let p = err_from_is_err_and c.from_residual.result c.from_residual.ensures.1 in
+    rw (p.1, p.2) (let same : c.catalog.result.now.tables ≡ c.args.self.now.catalog.tables = ap (λ (k : Catalog). k.tables) c.catalog.ensures ∙ ap (λ s. s.catalog.tables) c.self.view_is in
+    inl (inl (subst (λ (tables : List TableDef). MayAnswer (Holds (create_conditions tables c.args.create.now)) c.in_err-definition.field-0.0) same c.in_err-definition.ensures.refused)))
+
+pub returns-in_err-definition-clause-memory : goal.returns-in_err-definition-clause-memory
+returns-in_err-definition-clause-memory g c =
+    let p = err_from_is_err_and c.from_residual.result c.from_residual.ensures.1 in
+    rw p.1 (same_memory c.args.self.now)
 
 pub returns-in-Err-clause-refused : goal.returns-in-Err-clause-refused
 returns-in-Err-clause-refused g c =
-    let same : c.catalog.result.now.tables ≡ c.args.self.now.catalog.tables = ap (λ (k : Catalog). k.tables) c.catalog.ensures ∙ ap (λ s. s.catalog.tables) c.self.view_is in
-    inl (inl (subst (λ (tables : List TableDef). MayAnswer (Holds (create_conditions tables c.args.create.now)) c.in-Err.refusal) same c.in-Err.ensures.refused))
-
-pub returns-in-Err-clause-memory : goal.returns-in-Err-clause-memory
-returns-in-Err-clause-memory g c = same_memory c.args.self.now
-
-pub returns-in-Err-add_table-clause-refused : goal.returns-in-Err-add_table-clause-refused
-returns-in-Err-add_table-clause-refused g c =
     let old : EngineState g.row.S.Denot = c.args.self.now in
     let same : c.catalog.result.now.tables ≡ old.catalog.tables = ap (λ (k : Catalog). k.tables) c.catalog.ensures ∙ ap (λ s. s.catalog.tables) c.self.view_is in
-    failed_over old.catalog.tables old.clock (statement.create c.args.create.now) c.in-Err-add_table.refusal
-    (subst (λ (tables : List TableDef). NoneApplies (Holds (create_conditions tables c.args.create.now))) same c.in-Ok.ensures.sound)
-    c.in-Err-add_table.ensures.named
+    failed_over old.catalog.tables old.clock (statement.create c.args.create.now) c.in-Err.refusal
+    (subst (λ (tables : List TableDef). NoneApplies (Holds (create_conditions tables c.args.create.now))) same c.in_ok-definition.ensures.sound)
+    c.in-Err.ensures.named
 
-pub returns-in-Err-add_table-clause-memory : goal.returns-in-Err-add_table-clause-memory
-returns-in-Err-add_table-clause-memory g c =
+pub returns-in-Err-clause-memory : goal.returns-in-Err-clause-memory
+returns-in-Err-clause-memory g c =
     let ts : List RowsByKey = map rows_by_key c.self.inside.tables.items in
     let old : EngineState g.row.S.Denot = engine_of c.self.inside.store ts c.self.inside.ended.items in
     let new : EngineState g.row.S.Denot = engine_of c.add_table.new.self (map rows_by_key c.remove_versions.new.tables.items) c.remove_versions.new.ended.items in
     subst (λ (e : EngineState g.row.S.Denot). IsSameInMemory e new) c.self.view_is
-    (list_memory old new c.in-Err-add_table.ensures.none c.in-Err-add_table.ensures.clock
-    (c.remove_versions.ensures.rows ts (without_rows c.in-Ok.definition) c.in-Ok-add_versions.ensures.rows))
+    (list_memory old new c.in-Err.ensures.none c.in-Err.ensures.clock
+    (c.remove_versions.ensures.rows ts (without_rows c.in_ok-definition.definition) c.in_ok-add_versions.ensures.rows))
 
-pub invariant_of-self-in-Ok-add_table : goal.invariant_of-self-in-Ok-add_table
-invariant_of-self-in-Ok-add_table g c =
-    let definition : TableDef = c.in-Ok.definition in
+pub invariant_of-self-in-Ok : goal.invariant_of-self-in-Ok
+invariant_of-self-in-Ok g c =
+    let definition : TableDef = c.in_ok-definition.definition in
     let known : c.catalog-catalog.result.now.tables ++ definition ∷ [] ≡ c.add_table.new.self.catalog.tables =
-    ap (λ (k : Catalog). k.tables ++ definition ∷ []) c.catalog-catalog.ensures ∙ sym c.in-Ok-add_table.ensures.added in (
-      subst (λ (tables : List TableDef). FollowCatalog tables c.add_versions.new.tables.items) known c.in-Ok-add_versions.ensures.follow,
-      subst (λ (m : ℤ). AllEndedBy m c.add_versions.new.ended.items) (sym c.in-Ok-add_table.ensures.clock)
-          (subst (AllEndedBy c.self.inside.store.clock) (sym c.in-Ok-add_versions.ensures.closed) (none_ended c.self.inside.store.clock c.self.inside.ended.items c.self.invariant.1)),
+    ap (λ (k : Catalog). k.tables ++ definition ∷ []) c.catalog-catalog.ensures ∙ sym c.in-Ok.ensures.added in (
+      subst (λ (tables : List TableDef). FollowCatalog tables c.add_versions.new.tables.items) known c.in_ok-add_versions.ensures.follow,
+      subst (λ (m : ℤ). AllEndedBy m c.add_versions.new.ended.items) (sym c.in-Ok.ensures.clock)
+          (subst (AllEndedBy c.self.inside.store.clock) (sym c.in_ok-add_versions.ensures.closed) (none_ended c.self.inside.store.clock c.self.inside.ended.items c.self.invariant.1)),
     )
 
-pub invariant_of-self-in-Err-add_table : goal.invariant_of-self-in-Err-add_table
-invariant_of-self-in-Err-add_table g c =
-    let same : c.catalog-catalog.result.now.tables ≡ c.add_table.new.self.catalog.tables = ap (λ (k : Catalog). k.tables) c.catalog-catalog.ensures ∙ sym c.in-Err-add_table.ensures.none in (
+pub invariant_of-self-in-Err : goal.invariant_of-self-in-Err
+invariant_of-self-in-Err g c =
+    let same : c.catalog-catalog.result.now.tables ≡ c.add_table.new.self.catalog.tables = ap (λ (k : Catalog). k.tables) c.catalog-catalog.ensures ∙ sym c.in-Err.ensures.none in (
       subst (λ (tables : List TableDef). FollowCatalog tables c.remove_versions.new.tables.items) same
-          (c.remove_versions.ensures.follow c.catalog-catalog.result.now.tables c.in-Ok.definition c.in-Ok-add_versions.ensures.follow),
-      subst (λ (m : ℤ). AllEndedBy m c.remove_versions.new.ended.items) (sym c.in-Err-add_table.ensures.clock)
-          (subst (AllEndedBy c.self.inside.store.clock) (sym (c.remove_versions.ensures.ended c.self.inside.ended.items [] c.in-Ok-add_versions.ensures.closed)) c.self.invariant.1),
+          (c.remove_versions.ensures.follow c.catalog-catalog.result.now.tables c.in_ok-definition.definition c.in_ok-add_versions.ensures.follow),
+      subst (λ (m : ℤ). AllEndedBy m c.remove_versions.new.ended.items) (sym c.in-Err.ensures.clock)
+          (subst (AllEndedBy c.self.inside.store.clock) (sym (c.remove_versions.ensures.ended c.self.inside.ended.items [] c.in_ok-add_versions.ensures.closed)) c.self.invariant.1),
     )

@@ -4,7 +4,7 @@ use Rattle.sql_statements.specs.Trees.{Statement}
 use Rattle.sql_statements.specs.Trees as statement
 use Rattle.catalog_core.specs.query.Resolving.{IsSequenced}
 use Rattle.script_engine.specs.engine.Audits.{AuditedStepsTo}
-use Rattle.script_engine.specs.declared.entry.Entry.{Entry}
+use Rattle.statement_reports.specs.declared.entry.Entry.{Entry}
 use Rattle.script_engine.proofs.Audited.{not_sequenced, other_entry}
 use Rattle.std.specs.Prelude.{IfErr, OnErr}
 use Rattle.script_engine.specs.engine.InMemory.{IsSameInMemory}

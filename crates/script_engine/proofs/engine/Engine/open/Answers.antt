@@ -1,10 +1,12 @@
-use Rattle.std.proofs.Common.{◌≡◌, ◌∙◌, [], List, inl, inr, map, subst, sym}
+use Rattle.std.proofs.Common.{◌≡◌, ◌∙◌, [], List, ap, inl, inr, map, subst, sym}
 use Rattle.sqlite.specs.Effect.{Database}
-use Rattle.sqlite.specs.Held.{state}
+use Rattle.sqlite.specs.Held.{Held, state}
 use Rattle.history_model.specs.Histories.{History}
 use Rattle.period_keys.specs.Current.{rows_by_key}
 use Rattle.period_keys.specs.Rows.{RowsByKey}
+use Rattle.catalog_core.specs.declared.table.catalog.Catalog.{Catalog}
 use Rattle.version_tables.proofs.ColumnFacts.{never}
+use Rattle.version_tables.specs.Steps.{IsAsBefore}
 use Rattle.version_store.specs.Contents.{Contents}
 use Rattle.version_store.specs.StoreState.{IsUsable, OpenedRepresents}
 use Rattle.version_store.specs.Units.{in_microseconds}
@@ -124,3 +126,36 @@ returns-in-Err-load_lawful-clause-bad g c = λ handed bad.
           let stored = c.in-Ok.ensures.same before five.form five.contents has in
           c.in-Err-load_lawful.ensures.bad usable (its_contents five) stored (good_tables five) bad good.constrained,
     )
+
+-- a store that is refused has tables, so it was not made anew, and it was read alone
+pub returns-in-Err-load_lawful-clause-none : goal.returns-in-Err-load_lawful-clause-none
+returns-in-Err-load_lawful-clause-none g c = λ handed.
+    let usable = subst (IsUsable g.S.Store) c.refuse.ensures.same handed in
+    let read = c.in-Err-load_lawful.ensures.read in
+    let loaded = read.0.same usable in
+    elim (c.in-Ok.ensures.unchanged (read.0.usable usable)) [
+      | inl empty ↦ absurd (c.in-Err-load_lawful.ensures.some empty.0)
+      | inr same ↦ subst (λ (k : Held g.row.S.Denot). IsAsBefore (state g.S.Store c.args.connection) (state g.S.Store k)) (sym c.refuse.ensures.same) (loaded.0 ∙ same.0, loaded.1 ∙ same.1)
+    ]
+
+pub returns-in-Err-load_ended-clause-none : goal.returns-in-Err-load_ended-clause-none
+returns-in-Err-load_ended-clause-none g c = λ handed.
+    let usable = subst (IsUsable g.S.Store) c.refuse-in-Err-load_ended.ensures.same handed in
+    let read = opened_more g.S.Store c.in-Ok.opened c.load_lawful.new.store c.load_ended.new.store c.in-Ok-load_lawful.ensures.read c.in-Err-load_ended.ensures.read in
+    let loaded = read.0.same usable in
+    elim (c.in-Ok.ensures.unchanged (read.0.usable usable)) [
+      | inl empty ↦ absurd (c.in-Err-load_ended.ensures.some (ap (λ (k : Catalog). k.tables) c.in-Ok-load_lawful.ensures.read.0.catalog ∙ empty.0))
+      | inr same ↦ subst (λ (k : Held g.row.S.Denot). IsAsBefore (state g.S.Store c.args.connection) (state g.S.Store k)) (sym c.refuse-in-Err-load_ended.ensures.same) (loaded.0 ∙ same.0, loaded.1 ∙ same.1)
+    ]
+
+pub returns-in-Err-load_lawful-clause-named : goal.returns-in-Err-load_lawful-clause-named
+returns-in-Err-load_lawful-clause-named g c = c.in-Err-load_lawful.ensures.named
+
+pub returns-in-Err-load_ended-clause-named : goal.returns-in-Err-load_ended-clause-named
+returns-in-Err-load_ended-clause-named g c = inr c.in-Err-load_ended.ensures.named
+
+pub returns-in-Err-accept-clause-named : goal.returns-in-Err-accept-clause-named
+returns-in-Err-accept-clause-named g c = inr c.in-Err-accept.ensures.named
+
+pub returns-in-Err-accept-clause-bad : goal.returns-in-Err-accept-clause-bad
+returns-in-Err-accept-clause-bad g c = λ usable bad. absurd (elim c.in-Err-accept.ensures.named [ inl memory ↦ cc | inr failed ↦ cc ])

@@ -1,4 +1,5 @@
 use Rattle.std.proofs.Common.{◌≡◌, ◌∙◌, List, Some, ap, inl, map, refl, subst, sym}
+use Rattle.std.proofs.lemmas.Result.{err_from_is_err_and}
 use Rattle.period_core.specs.Leasts.{MayAnswer, NoneApplies}
 use Rattle.period_core.specs.declared.refusal.Refusal.TheVariants.{Memory}
 use Rattle.sql_statements.specs.Plain.{plain_stored}
@@ -19,59 +20,68 @@ use Rattle.script_engine.proofs.Refused.{failed_query}
 use Rattle.script_engine.proofs.SameInMemory.{failed_over, same_memory}
 use Rattle.script_engine.proofs.engine.Engine.show.Goals as goal
 
-pub returns-in-Ok-shown_by-clause-step : goal.returns-in-Ok-shown_by-clause-step
-returns-in-Ok-shown_by-clause-step g c usable history kept =
-    let old : EngineState g.row.S.Denot = c.args.self.now in
-    let asked = plain_stored c.args.query.now in
-    let query = c.in-Ok.query in
-    let definition = c.in-Some.table.now in
-    let catalog : c.catalog.result.now ≡ old.catalog = c.catalog.ensures ∙ ap (λ (e : EngineState g.row.S.Denot). e.catalog) c.self.view_is in
-    let again : c.catalog-2.result.now ≡ old.catalog = c.catalog-2.ensures ∙ ap (λ (e : EngineState g.row.S.Denot). e.catalog) c.self.view_is in
-    let sound = subst (λ (k : Catalog). NoneApplies (Holds (stored_query_conditions k.tables asked))) catalog c.in-Ok.ensures.sound in
-    let tables : map rows_by_key c.as_slice-tables.result.now ≡ old.tables = ap (map rows_by_key) c.as_slice-tables.ensures.value ∙ ap (λ (e : EngineState g.row.S.Denot). e.tables) c.self.view_is in
-    let closed : c.as_slice-ended.result.now ≡ old.ended = c.as_slice-ended.ensures.value ∙ ap (λ (e : EngineState g.row.S.Denot). e.ended) c.self.view_is in
-    let current : HaveCurrentRows kept.contents (map rows_by_key c.as_slice-tables.result.now) = subst (HaveCurrentRows kept.contents) (sym tables) kept.current in
-    let ended : HaveEnded kept.contents c.as_slice-ended.result.now = subst (HaveEnded kept.contents) (sym closed) kept.ended in
-    shown_step g.S.Store history old asked kept old query definition c.in-Ok-version_columns.columns c.from_vec.result sound
-    (subst (λ (k : Catalog). ResolvesStoredQuery k.tables asked query) catalog c.in-Ok.ensures.resolved)
-    (subst (λ (k : Catalog). table_of k.tables query.table ≡ Some definition) again c.in-Some.ensures)
-    c.in-Ok-version_columns.ensures
-    (has_still g.S.Store history old kept)
-    (subst (AreShownIn kept.contents query) (sym c.from_vec.ensures) (c.in-Ok-shown_by.ensures kept.contents current ended))
-
 pub returns-clause-step : goal.returns-clause-step
 returns-clause-step g c usable history kept =
     let old : EngineState g.row.S.Denot = c.args.self.now in
     let asked = plain_stored c.args.query.now in
+    let query = c.in_ok-query.query in
+    let definition = c.in-Some.table.now in
     let catalog : c.catalog.result.now ≡ old.catalog = c.catalog.ensures ∙ ap (λ (e : EngineState g.row.S.Denot). e.catalog) c.self.view_is in
-    let sound = subst (λ (k : Catalog). NoneApplies (Holds (stored_query_conditions k.tables asked))) catalog c.in-Ok.ensures.sound in
-    failed_show g.S.Store history old asked kept old Memory sound (has_still g.S.Store history old kept) (inl refl)
+    let again : c.catalog-2.result.now ≡ old.catalog = c.catalog-2.ensures ∙ ap (λ (e : EngineState g.row.S.Denot). e.catalog) c.self.view_is in
+    let sound = subst (λ (k : Catalog). NoneApplies (Holds (stored_query_conditions k.tables asked))) catalog c.in_ok-query.ensures.sound in
+    let tables : map rows_by_key c.as_slice.result.now ≡ old.tables = ap (map rows_by_key) c.as_slice.ensures.value ∙ ap (λ (e : EngineState g.row.S.Denot). e.tables) c.self.view_is in
+    let closed : c.as_slice-2.result.now ≡ old.ended = c.as_slice-2.ensures.value ∙ ap (λ (e : EngineState g.row.S.Denot). e.ended) c.self.view_is in
+    let current : HaveCurrentRows kept.contents (map rows_by_key c.as_slice.result.now) = subst (HaveCurrentRows kept.contents) (sym tables) kept.current in
+    let ended : HaveEnded kept.contents c.as_slice-2.result.now = subst (HaveEnded kept.contents) (sym closed) kept.ended in
+    shown_step g.S.Store history old asked kept old query definition c.in_ok-columns.columns c.from_vec.result sound
+    (subst (λ (k : Catalog). ResolvesStoredQuery k.tables asked query) catalog c.in_ok-query.ensures.resolved)
+    (subst (λ (k : Catalog). table_of k.tables query.table ≡ Some definition) again c.in-Some.ensures)
+    c.in_ok-columns.ensures
+    (has_still g.S.Store history old kept)
+    (subst (AreShownIn kept.contents query) (sym c.from_vec.ensures) (c.in_ok-rows.ensures kept.contents current ended))
 
-pub returns-in-Err-clause-refused : goal.returns-in-Err-clause-refused
-returns-in-Err-clause-refused g c =
-    let same : c.catalog.result.now.tables ≡ c.args.self.now.catalog.tables = ap (λ (k : Catalog). k.tables) c.catalog.ensures ∙ ap (λ s. s.catalog.tables) c.self.view_is in
-    inl (inl (subst (λ (tables : List TableDef). MayAnswer (Holds (stored_query_conditions tables (plain_stored c.args.query.now))) c.in-Err.refusal) same c.in-Err.ensures.refused))
+pub returns-in_err-rows-clause-step : goal.returns-in_err-rows-clause-step
+returns-in_err-rows-clause-step g c usable history kept =
+    let p = err_from_is_err_and c.from_residual-in_err-rows.result c.from_residual-in_err-rows.ensures.1 in
+    rw (p.1, p.2) (let old : EngineState g.row.S.Denot = c.args.self.now in
+    let asked = plain_stored c.args.query.now in
+    let catalog : c.catalog.result.now ≡ old.catalog = c.catalog.ensures ∙ ap (λ (e : EngineState g.row.S.Denot). e.catalog) c.self.view_is in
+    let sound = subst (λ (k : Catalog). NoneApplies (Holds (stored_query_conditions k.tables asked))) catalog c.in_ok-query.ensures.sound in
+    failed_show g.S.Store history old asked kept old Memory sound (has_still g.S.Store history old kept) (inl refl))
 
-pub returns-in-Err-clause-memory : goal.returns-in-Err-clause-memory
-returns-in-Err-clause-memory g c = same_memory c.args.self.now
+pub returns-in_err-query-clause-refused : goal.returns-in_err-query-clause-refused
+returns-in_err-query-clause-refused g c =
+    let p = err_from_is_err_and c.from_residual.result c.from_residual.ensures.1 in
+    rw (p.1, p.2) (let same : c.catalog.result.now.tables ≡ c.args.self.now.catalog.tables = ap (λ (k : Catalog). k.tables) c.catalog.ensures ∙ ap (λ s. s.catalog.tables) c.self.view_is in
+    inl (inl (subst (λ (tables : List TableDef). MayAnswer (Holds (stored_query_conditions tables (plain_stored c.args.query.now))) c.in_err-query.field-0.0) same c.in_err-query.ensures.refused)))
 
-pub returns-clause-refused : goal.returns-clause-refused
-returns-clause-refused g c =
-    let old : EngineState g.row.S.Denot = c.args.self.now in
+pub returns-in_err-query-clause-memory : goal.returns-in_err-query-clause-memory
+returns-in_err-query-clause-memory g c =
+    let p = err_from_is_err_and c.from_residual.result c.from_residual.ensures.1 in
+    rw p.1 (same_memory c.args.self.now)
+
+pub returns-in_err-rows-clause-refused : goal.returns-in_err-rows-clause-refused
+returns-in_err-rows-clause-refused g c =
+    let p = err_from_is_err_and c.from_residual-in_err-rows.result c.from_residual-in_err-rows.ensures.1 in
+    rw (p.1, p.2) (let old : EngineState g.row.S.Denot = c.args.self.now in
     let asked = plain_stored c.args.query.now in
     let same : c.catalog.result.now.tables ≡ old.catalog.tables = ap (λ (k : Catalog). k.tables) c.catalog.ensures ∙ ap (λ s. s.catalog.tables) c.self.view_is in
-    let sound = subst (λ (tables : List TableDef). NoneApplies (Holds (stored_query_conditions tables asked))) same c.in-Ok.ensures.sound in
-    failed_over old.catalog.tables old.clock (statement.stored asked) Memory sound (inl refl)
+    let sound = subst (λ (tables : List TableDef). NoneApplies (Holds (stored_query_conditions tables asked))) same c.in_ok-query.ensures.sound in
+    failed_over old.catalog.tables old.clock (statement.stored asked) Memory sound (inl refl))
 
-pub returns-clause-memory : goal.returns-clause-memory
-returns-clause-memory g c = same_memory c.args.self.now
+pub returns-in_err-rows-clause-memory : goal.returns-in_err-rows-clause-memory
+returns-in_err-rows-clause-memory g c =
+    let p = err_from_is_err_and c.from_residual-in_err-rows.result c.from_residual-in_err-rows.ensures.1 in
+    rw p.1 (same_memory c.args.self.now)
 
-pub returns-in-Err-clause-queries : goal.returns-in-Err-clause-queries
-returns-in-Err-clause-queries g c usable history kept =
-    let same : c.catalog.result.now.tables ≡ c.args.self.now.catalog.tables = ap (λ (k : Catalog). k.tables) c.catalog.ensures ∙ ap (λ s. s.catalog.tables) c.self.view_is in
-    inl (subst (λ (tables : List TableDef). MayAnswer (Holds (stored_query_conditions tables (plain_stored c.args.query.now))) c.in-Err.refusal) same c.in-Err.ensures.refused)
+pub returns-in_err-query-clause-queries : goal.returns-in_err-query-clause-queries
+returns-in_err-query-clause-queries g c usable history kept =
+    let p = err_from_is_err_and c.from_residual.result c.from_residual.ensures.1 in
+    rw (p.1, p.2) (let same : c.catalog.result.now.tables ≡ c.args.self.now.catalog.tables = ap (λ (k : Catalog). k.tables) c.catalog.ensures ∙ ap (λ s. s.catalog.tables) c.self.view_is in
+    inl (subst (λ (tables : List TableDef). MayAnswer (Holds (stored_query_conditions tables (plain_stored c.args.query.now))) c.in_err-query.field-0.0) same c.in_err-query.ensures.refused))
 
-pub returns-clause-queries : goal.returns-clause-queries
-returns-clause-queries g c usable history kept =
-    let old : EngineState g.row.S.Denot = c.args.self.now in
-    failed_query g.S.Store old old (statement.stored (plain_stored c.args.query.now)) Memory (inl refl)
+pub returns-in_err-rows-clause-queries : goal.returns-in_err-rows-clause-queries
+returns-in_err-rows-clause-queries g c usable history kept =
+    let p = err_from_is_err_and c.from_residual-in_err-rows.result c.from_residual-in_err-rows.ensures.1 in
+    rw (p.1, p.2) (let old : EngineState g.row.S.Denot = c.args.self.now in
+    failed_query g.S.Store old old (statement.stored (plain_stored c.args.query.now)) Memory (inl refl))

@@ -10,7 +10,7 @@ use Rattle.script_engine.proofs.engine.closed.load_ended.Goals as goal
 pub loop-place-preserved : goal.loop-place-preserved
 loop-place-preserved g c =
     let place = c.loop-place.place in
-    let read = c.in-Ok-load_table.ensures.read in
+    let read = c.in_ok-list.ensures.read in
     let inv = c.loop-place.invariant in
     let clock : c.loop-place.store.store.clock ≡ c.args.store.now.store.clock = inv.read.0.clock in
     record {
@@ -22,11 +22,11 @@ loop-place-preserved g c =
       loaded = λ usable d stored.
           let was = inv.loaded (read.0.usable usable) d stored in
           let mid = opened_still g.S.Store c.args.store.now c.loop-place.store d inv.read (read.0.usable usable) stored in
-          subst (AreLoaded d (place + 1)) (sym c.in-Ok-push.ensures.items)
-          (one_loaded d place c.loop-place.lists.items c.in-Ok-load_table.list was (c.in-Ok-load_table.ensures.ended usable d mid));
-      before = subst (AllEndedBy c.args.store.now.store.clock) (sym c.in-Ok-push.ensures.items)
-          (All-push (AreEndedBy c.args.store.now.store.clock) c.loop-place.lists.items c.in-Ok-load_table.list inv.before
-          (subst (λ (m : ℤ). AreEndedBy m c.in-Ok-load_table.list) clock c.in-Ok-load_table.ensures.before));
+          subst (AreLoaded d (place + 1)) (sym c.in_ok-push.ensures.items)
+          (one_loaded d place c.loop-place.lists.items c.in_ok-list.list was (c.in_ok-list.ensures.ended usable d mid));
+      before = subst (AllEndedBy c.args.store.now.store.clock) (sym c.in_ok-push.ensures.items)
+          (All-push (AreEndedBy c.args.store.now.store.clock) c.loop-place.lists.items c.in_ok-list.list inv.before
+          (subst (λ (m : ℤ). AreEndedBy m c.in_ok-list.list) clock c.in_ok-list.ensures.before));
     }
 
 pub returns-clause-loaded : goal.returns-clause-loaded

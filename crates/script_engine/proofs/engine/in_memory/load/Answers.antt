@@ -8,14 +8,14 @@ use Rattle.script_engine.proofs.engine.in_memory.load.Goals as goal
 pub loop-place-preserved : goal.loop-place-preserved
 loop-place-preserved g c =
     let place = c.loop-place.place in
-    let read = c.in-Ok-load_table.ensures.read in
+    let read = c.in_ok-rows.ensures.read in
     let before = c.loop-place.invariant.read in
     record {
       read = opened_more g.S.Store c.args.store.now c.loop-place.store c.load_table.new.store before read;
       long =
           (let was = c.loop-place.invariant.long in
-          let more : length c.push.new.self.items ≡ length (c.loop-place.tables.items ++ c.in-Ok-load_table.rows ∷ []) = ap length c.in-Ok-push.ensures.items in
-          omega (arith, was, more, length-append c.loop-place.tables.items (c.in-Ok-load_table.rows ∷ [])));
+          let more : length c.push.new.self.items ≡ length (c.loop-place.tables.items ++ c.in_ok-rows.rows ∷ []) = ap length c.in_ok-push.ensures.items in
+          omega (arith, was, more, length-append c.loop-place.tables.items (c.in_ok-rows.rows ∷ [])));
       below =
           (let ends : c.len-place-end.result ≡ length c.args.store.now.store.catalog.tables = c.len-place-end.ensures ∙ ap (λ (k : Catalog). length k.tables) c.catalog.ensures in
           let inside = c.loop-place-test.true in
@@ -27,10 +27,10 @@ loop-place-preserved g c =
           let inside : place < length d.tables = subst (λ (n : ℕ). place < n) ends c.loop-place-test.true in
           let definition : TableDef = c.index-as_slice-place.result in
           let tables : c.as_slice.result.now ≡ d.tables = c.as_slice.ensures ∙ ap (λ (k : Catalog). k.tables) c.catalog-in-loop-place.ensures ∙ mid.catalog in
-          let key : c.in-Ok-load_table.rows.positions ≡ key_positions (get_or d.tables place definition) =
-          c.in-Ok-load_table.ensures.keys ∙ c.in-Ok.ensures.keys ∙ ap key_positions (c.index-as_slice-place.is ∙ ap (λ (l : List TableDef). get_or l place definition) tables) in
-          subst (AreLoaded d (place + 1)) (sym c.in-Ok-push.ensures.items)
-          (one_loaded d place c.loop-place.tables.items c.in-Ok-load_table.rows definition was inside key (c.in-Ok-load_table.ensures.current usable d mid));
+          let key : c.in_ok-rows.rows.positions ≡ key_positions (get_or d.tables place definition) =
+          c.in_ok-rows.ensures.keys ∙ c.in_ok-none.ensures.keys ∙ ap key_positions (c.index-as_slice-place.is ∙ ap (λ (l : List TableDef). get_or l place definition) tables) in
+          subst (AreLoaded d (place + 1)) (sym c.in_ok-push.ensures.items)
+          (one_loaded d place c.loop-place.tables.items c.in_ok-rows.rows definition was inside key (c.in_ok-rows.ensures.current usable d mid));
     }
 
 pub returns-clause-count : goal.returns-clause-count

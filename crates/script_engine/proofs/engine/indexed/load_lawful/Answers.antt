@@ -17,38 +17,38 @@ no_items : {A : Type 0} (xs : List A) → length xs ≡ 0 → xs ≡ []
 no_items [] none = refl
 no_items (x ∷ xs) none = absurd (omega (arith, none))
 
-pub returns-in-Ok-true-clause-follow : goal.returns-in-Ok-true-clause-follow
-returns-in-Ok-true-clause-follow g c =
-    let tables : List TableRows = c.in-Ok-tables_of.tables.items in
+pub returns-clause-follow : goal.returns-clause-follow
+returns-clause-follow g c =
+    let tables : List TableRows = c.in_ok-tables.tables.items in
     record {
       lawful = c.requires;
-      count = sym (length-map tables rows_by_key) ∙ ap length c.in-Ok-tables_of.ensures.rows ∙ c.in-Ok.ensures.count;
-      indexed = subst (λ (k : Catalog). HaveIndexes k.tables tables) (c.catalog.ensures ∙ c.in-Ok.ensures.read.0.catalog) c.in-Ok-tables_of.ensures.indexed;
+      count = sym (length-map tables rows_by_key) ∙ ap length c.in_ok-tables.ensures.rows ∙ c.in_ok-rows.ensures.count;
+      indexed = subst (λ (k : Catalog). HaveIndexes k.tables tables) (c.catalog.ensures ∙ c.in_ok-rows.ensures.read.0.catalog) c.in_ok-tables.ensures.indexed;
     }
 
 pub returns-then-is_empty-clause-loaded : goal.returns-then-is_empty-clause-loaded
 returns-then-is_empty-clause-loaded g c = λ usable d stored tabled.
-    let none : c.in-Ok.rows.items ≡ [] = no_items c.in-Ok.rows.items (search rules) in
+    let none : c.in_ok-rows.rows.items ≡ [] = no_items c.in_ok-rows.rows.items (search rules) in
     subst (λ (ts : List TableRows). HaveCurrentRows d (map rows_by_key ts)) (sym c.new.ensures.items)
-    (subst (HaveCurrentRows d) none (c.in-Ok.ensures.loaded usable d stored tabled))
+    (subst (HaveCurrentRows d) none (c.in_ok-rows.ensures.loaded usable d stored tabled))
 
-pub returns-in-Ok-true-clause-loaded : goal.returns-in-Ok-true-clause-loaded
-returns-in-Ok-true-clause-loaded g c = λ usable d stored tabled.
-    subst (HaveCurrentRows d) (sym c.in-Ok-tables_of.ensures.rows) (c.in-Ok.ensures.loaded usable d stored tabled)
+pub returns-clause-loaded : goal.returns-clause-loaded
+returns-clause-loaded g c = λ usable d stored tabled.
+    subst (HaveCurrentRows d) (sym c.in_ok-tables.ensures.rows) (c.in_ok-rows.ensures.loaded usable d stored tabled)
 
-pub returns-in-Ok-true-clause-lawful : goal.returns-in-Ok-true-clause-lawful
-returns-in-Ok-true-clause-lawful g c = λ usable d stored tabled.
-    let same : c.catalog-2.result.now.tables ≡ d.tables = ap (λ (k : Catalog). k.tables) (c.catalog-2.ensures ∙ c.in-Ok.ensures.read.0.catalog) ∙ stored.catalog in
-    let rows : map rows_by_key c.as_slice.result.now ≡ c.in-Ok.rows.items = ap (map rows_by_key) c.as_slice.ensures.value ∙ c.in-Ok-tables_of.ensures.rows in
-    let hold = hold_now d c.in-Ok.rows.items (c.in-Ok.ensures.loaded usable d stored tabled) (current_state d) (λ table day. IsPermutation-refl (current_state d table day)) in
-    let law = c.in-Ok-true.ensures (current_state d) (subst₂ (λ (tables : List TableDef) (ts : List RowsByKey). HoldCurrent tables (current_state d) ts) (sym same) (sym rows) hold) in
-    subst (λ (tables : List TableDef). IsLawfulState tables (current_state d)) same (law.0 c.in-Ok-true.field-0-test)
+pub returns-clause-lawful : goal.returns-clause-lawful
+returns-clause-lawful g c = λ usable d stored tabled.
+    let same : c.catalog-2.result.now.tables ≡ d.tables = ap (λ (k : Catalog). k.tables) (c.catalog-2.ensures ∙ c.in_ok-rows.ensures.read.0.catalog) ∙ stored.catalog in
+    let rows : map rows_by_key c.as_slice.result.now ≡ c.in_ok-rows.rows.items = ap (map rows_by_key) c.as_slice.ensures.value ∙ c.in_ok-tables.ensures.rows in
+    let hold = hold_now d c.in_ok-rows.rows.items (c.in_ok-rows.ensures.loaded usable d stored tabled) (current_state d) (λ table day. IsPermutation-refl (current_state d table day)) in
+    let law = c.in_ok-lawful.ensures (current_state d) (subst₂ (λ (tables : List TableDef) (ts : List RowsByKey). HoldCurrent tables (current_state d) ts) (sym same) (sym rows) hold) in
+    subst (λ (tables : List TableDef). IsLawfulState tables (current_state d)) same (law.0 c.if-not-lawful.false)
 
-pub returns-in-Ok-false-clause-bad : goal.returns-in-Ok-false-clause-bad
-returns-in-Ok-false-clause-bad g c = λ usable d stored tabled bad lawful.
-    let same : c.catalog-2.result.now.tables ≡ d.tables = ap (λ (k : Catalog). k.tables) (c.catalog-2.ensures ∙ c.in-Ok.ensures.read.0.catalog) ∙ stored.catalog in
-    let rows : map rows_by_key c.as_slice.result.now ≡ c.in-Ok.rows.items = ap (map rows_by_key) c.as_slice.ensures.value ∙ c.in-Ok-tables_of.ensures.rows in
-    let hold = hold_now d c.in-Ok.rows.items (c.in-Ok.ensures.loaded usable d stored tabled) (current_state d) (λ table day. IsPermutation-refl (current_state d table day)) in
-    let law = c.in-Ok-false.ensures (current_state d) (subst₂ (λ (tables : List TableDef) (ts : List RowsByKey). HoldCurrent tables (current_state d) ts) (sym same) (sym rows) hold) in
-    let on : c.in-Ok-false.field-0 ≡ true = law.1 (subst (λ (tables : List TableDef). IsLawfulState tables (current_state d)) (sym same) lawful) in
-    false≢true (sym c.in-Ok-false.field-0-test ∙ on)
+pub returns-then-not-lawful-clause-bad : goal.returns-then-not-lawful-clause-bad
+returns-then-not-lawful-clause-bad g c = λ usable d stored tabled bad lawful.
+    let same : c.catalog-2.result.now.tables ≡ d.tables = ap (λ (k : Catalog). k.tables) (c.catalog-2.ensures ∙ c.in_ok-rows.ensures.read.0.catalog) ∙ stored.catalog in
+    let rows : map rows_by_key c.as_slice.result.now ≡ c.in_ok-rows.rows.items = ap (map rows_by_key) c.as_slice.ensures.value ∙ c.in_ok-tables.ensures.rows in
+    let hold = hold_now d c.in_ok-rows.rows.items (c.in_ok-rows.ensures.loaded usable d stored tabled) (current_state d) (λ table day. IsPermutation-refl (current_state d table day)) in
+    let law = c.in_ok-lawful.ensures (current_state d) (subst₂ (λ (tables : List TableDef) (ts : List RowsByKey). HoldCurrent tables (current_state d) ts) (sym same) (sym rows) hold) in
+    let on : c.in_ok-lawful.lawful ≡ true = law.1 (subst (λ (tables : List TableDef). IsLawfulState tables (current_state d)) (sym same) lawful) in
+    false≢true (sym c.if-not-lawful.true ∙ on)

@@ -14,7 +14,7 @@ returns-in-Some-clause-fault c = inr (
       let catalog : List TableDef = c.args.catalog.now.tables in
       let (def, is) = c.requires.defined in
       subst (IsLeastOf (IsKeyFault catalog before c.args.change.now)) c.in-Some.is
-      (c.in-Ok.ensures catalog before
+      (c.in_ok-clash.ensures catalog before
       (subst (IsKeyOf catalog c.args.change.now.table) (sym c.rows.ensures.positions)
       (key_is catalog c.args.tables.now c.args.table.now c.args.change.now c.args.plan.now def c.requires.follow is c.requires.table c.requires.plan before lawful hold))
       (subst (λ (rows : List VersionRow). IsPlanned catalog before c.args.change.now rows c.args.plan.now) (sym c.rows.ensures.rows)
@@ -25,36 +25,36 @@ none_if_not_some : {X : Type 0} (found : Option X) → ((x : X) → found ≡ So
 none_if_not_some None off = refl
 none_if_not_some (Some x) off = absurd (off x refl)
 
-pub returns-in-Ok-None-clause-lawful : goal.returns-in-Ok-None-clause-lawful
-returns-in-Ok-None-clause-lawful c = λ before lawful hold.
+pub returns-in-None-clause-lawful : goal.returns-in-None-clause-lawful
+returns-in-None-clause-lawful c = λ before lawful hold.
     let catalog : List TableDef = c.args.catalog.now.tables in
     let (def, is) = c.requires.defined in
     record {
       keys =
-          subst (IsLeastOf (IsKeyFault catalog before c.args.change.now)) (none_if_not_some c.in-Ok.found (λ day there. c.in_default-found.not-Some day there))
-          (c.in-Ok.ensures catalog before
+          subst (IsLeastOf (IsKeyFault catalog before c.args.change.now)) (none_if_not_some c.in_ok-clash.clash (λ day there. c.in_default.not-Some day there))
+          (c.in_ok-clash.ensures catalog before
           (subst (IsKeyOf catalog c.args.change.now.table) (sym c.rows.ensures.positions)
           (key_is catalog c.args.tables.now c.args.table.now c.args.change.now c.args.plan.now def c.requires.follow is c.requires.table c.requires.plan before lawful hold))
           (subst (λ (rows : List VersionRow). IsPlanned catalog before c.args.change.now rows c.args.plan.now) (sym c.rows.ensures.rows)
           (is_planned catalog c.args.tables.now c.args.table.now c.args.change.now c.args.plan.now def c.requires.follow is c.requires.table c.requires.plan before lawful hold)));
       references =
-          subst (IsLeastOf (IsReferenceFault catalog before c.args.change.now)) c.in-Ok-None.field-0-is
-          (c.in-Ok-None.ensures before (is_planned_in catalog c.args.tables.now c.args.table.now c.args.change.now c.args.plan.now def c.requires.follow is c.requires.table c.requires.plan before lawful hold));
+          subst (IsLeastOf (IsReferenceFault catalog before c.args.change.now)) c.in-None.is
+          (c.in_ok-lacking.ensures before (is_planned_in catalog c.args.tables.now c.args.table.now c.args.change.now c.args.plan.now def c.requires.follow is c.requires.table c.requires.plan before lawful hold));
     }
 
-pub returns-in-Ok-Some-clause-fault : goal.returns-in-Ok-Some-clause-fault
-returns-in-Ok-Some-clause-fault c = inr (
+pub returns-in-Some-lacking-clause-fault : goal.returns-in-Some-lacking-clause-fault
+returns-in-Some-lacking-clause-fault c = inr (
   tt,
   λ before lawful hold.
       let catalog : List TableDef = c.args.catalog.now.tables in
       let (def, is) = c.requires.defined in (
-        subst (IsLeastOf (IsKeyFault catalog before c.args.change.now)) (none_if_not_some c.in-Ok.found (λ day there. c.in_default-found.not-Some day there))
-            (c.in-Ok.ensures catalog before
+        subst (IsLeastOf (IsKeyFault catalog before c.args.change.now)) (none_if_not_some c.in_ok-clash.clash (λ day there. c.in_default.not-Some day there))
+            (c.in_ok-clash.ensures catalog before
             (subst (IsKeyOf catalog c.args.change.now.table) (sym c.rows.ensures.positions)
             (key_is catalog c.args.tables.now c.args.table.now c.args.change.now c.args.plan.now def c.requires.follow is c.requires.table c.requires.plan before lawful hold))
             (subst (λ (rows : List VersionRow). IsPlanned catalog before c.args.change.now rows c.args.plan.now) (sym c.rows.ensures.rows)
             (is_planned catalog c.args.tables.now c.args.table.now c.args.change.now c.args.plan.now def c.requires.follow is c.requires.table c.requires.plan before lawful hold))),
-        subst (IsLeastOf (IsReferenceFault catalog before c.args.change.now)) c.in-Ok-Some.field-0-is
-            (c.in-Ok-Some.ensures before (is_planned_in catalog c.args.tables.now c.args.table.now c.args.change.now c.args.plan.now def c.requires.follow is c.requires.table c.requires.plan before lawful hold)),
+        subst (IsLeastOf (IsReferenceFault catalog before c.args.change.now)) c.in-Some-lacking.is
+            (c.in_ok-lacking.ensures before (is_planned_in catalog c.args.tables.now c.args.table.now c.args.change.now c.args.plan.now def c.requires.follow is c.requires.table c.requires.plan before lawful hold)),
       ),
 )

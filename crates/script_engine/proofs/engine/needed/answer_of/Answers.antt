@@ -9,20 +9,17 @@ use Rattle.script_engine.proofs.Answering.{answer_along}
 use Rattle.script_engine.proofs.Needed.{needed_alike, needed_fits}
 use Rattle.script_engine.proofs.engine.needed.answer_of.Goals as goal
 
-pub returns-in-Ok-answer_over-clause-right : goal.returns-in-Ok-answer_over-clause-right
-returns-in-Ok-answer_over-clause-right c history same kept =
+pub returns-clause-right : goal.returns-clause-right
+returns-clause-right c history same kept =
     let query = plain_query c.args.query.now in
-    let fit : fits query c.in-Ok.needed ≡ true = sym c.fits.ensures ∙ c.if-not-fits.false in
-    answer_along (InAnswerOver query c.in-Ok.needed) (InAnswerOn history query) (needed_alike history query c.in-Ok.needed fit (c.in-Ok.ensures history same kept))
-    c.in-Ok-answer_over.answer c.in-Ok-answer_over.ensures.right
+    let fit : fits query c.in_ok-needed.needed ≡ true = sym c.fits.ensures ∙ c.if-not-fits.false in
+    answer_along (InAnswerOver query c.in_ok-needed.needed) (InAnswerOn history query) (needed_alike history query c.in_ok-needed.needed fit (c.in_ok-needed.ensures history same kept))
+    c.in_ok-answer.answer c.in_ok-answer.ensures.right
 
 -- over a store that holds a history what is needed always fits
 pub returns-then-not-fits-clause-why : goal.returns-then-not-fits-clause-why
 returns-then-not-fits-clause-why c history same kept known =
     let query = plain_query c.args.query.now in
     let its : IsOfCatalog kept.contents.tables query = subst (λ (ts : List TableDef). IsOfCatalog ts query) (same ∙ sym kept.said.tables) known in
-    let fit : fits query c.in-Ok.needed ≡ true = needed_fits history kept.contents query c.in-Ok.needed kept.said its (c.in-Ok.ensures history same kept) in
+    let fit : fits query c.in_ok-needed.needed ≡ true = needed_fits history kept.contents query c.in_ok-needed.needed kept.said its (c.in_ok-needed.ensures history same kept) in
     absurd (false≢true (sym c.if-not-fits.true ∙ c.fits.ensures ∙ fit))
-
-pub returns-clause-why : goal.returns-clause-why
-returns-clause-why c history same kept known = refl

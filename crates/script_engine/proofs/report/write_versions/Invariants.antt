@@ -1,9 +1,0 @@
-use Rattle.std.proofs.Common.{take}
-use Rattle.std.specs.Io.KnownBytes.{Appends, append_known}
-use Rattle.script_engine.proofs.AppendFacts.{versions_text}
-use Rattle.script_engine.proofs.report.write_versions.Given as goal
-
-abbrev pub invariant-loop-version : goal.invariant-loop-version
-invariant-loop-version g l =
-    Appends (append_known (g.W.Write.contents l.fn.out) l.fn.buffer) (append_known (g.W.Write.contents l.out) l.buffer)
-    (versions_text l.number l.list l.columns (take l.version-index l.rows))

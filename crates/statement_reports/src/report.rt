@@ -1,0 +1,251 @@
+//! The report: for each statement, in order, the records of what it gave.
+
+ghost use Rattle.std.specs.Prelude.{◌≡◌, IfErr, Ok, OnOk};
+ghost use Rattle.std.specs.Io.KnownBytes.{Appends, append_known};
+ghost use Rattle.statement_reports.specs.Report.{MayFail, report, text_of};
+ghost use Rattle.statement_reports.specs.Report.{answer_record, columns_record, done_record};
+ghost use Rattle.statement_reports.specs.Report.{names_record, refused_record, row_record};
+ghost use Rattle.statement_reports.specs.Report.{version_record, versions_record};
+
+use crate::buffer::ReportBuffer;
+use crate::fault::ReportFault;
+use crate::outcome::{Outcome, VersionColumn, VersionList, Word};
+use crate::record::Record;
+use crate::writer::ReportWriter;
+use period_core::{Answer, PeriodRow, Refusal, Text, VersionRow, Witness};
+use std::alloc::Global;
+
+fn fill_done(
+    alloc: Global,
+    line: &mut Record,
+    number: u64,
+    word: Word,
+    count: u64,
+) -> Result<(), ReportFault>
+    ensures ok { OnOk result (line.new ≡ done_record number word count) }
+    ensures err { IfErr result (λ e. e ≡ ReportFault.Memory) }
+{
+    line.start("done")?;
+    line.push_number(alloc, number)?;
+    line.push(word.name().as_bytes())?;
+    line.push_number(alloc, count)
+}
+
+pub(crate) fn fill_refused(
+    alloc: Global,
+    line: &mut Record,
+    number: u64,
+    refusal: &Refusal,
+) -> Result<(), ReportFault>
+    ensures ok { OnOk result (line.new ≡ refused_record number refusal.now) }
+    ensures err { IfErr result (λ e. e ≡ ReportFault.Memory) }
+{
+    line.start("refused")?;
+    line.push_number(alloc, number)?;
+    line.push_number(alloc, u64::from(refusal.code()))?;
+    line.push(refusal.name().as_bytes())?;
+    match refusal {
+        Refusal::KeyOverlap(day) | Refusal::PeriodReference(day) => line.push_day(*day),
+        _ => line.push(b""),
+    }
+}
+
+// How many value columns and rows follow.
+fn fill_head(
+    alloc: Global,
+    line: &mut Record,
+    number: u64,
+    answer: &Answer,
+) -> Result<(), ReportFault>
+    ensures ok { OnOk result (line.new ≡ answer_record number answer.now) }
+    ensures err { IfErr result (λ e. e ≡ ReportFault.Memory) }
+{
+    line.start("answer")?;
+    line.push_number(alloc, number)?;
+    line.push_number(alloc, answer.columns.len() as u64)?;
+    line.push_number(alloc, answer.rows.len() as u64)
+}
+
+// The names of the columns.
+fn fill_columns(
+    alloc: Global,
+    line: &mut Record,
+    number: u64,
+    columns: &[Text],
+) -> Result<(), ReportFault>
+    ensures ok { OnOk result (line.new ≡ columns_record number columns.now) }
+    ensures err { IfErr result (λ e. e ≡ ReportFault.Memory) }
+{
+    line.start("columns")?;
+    line.push_number(alloc, number)?;
+    line.push_texts(columns)?;
+    line.push(b"valid_from")?;
+    line.push(b"valid_to")?;
+    line.push(b"held")?;
+    line.push(b"absent")
+}
+
+// One row and its witness.
+fn fill_row(
+    alloc: Global,
+    line: &mut Record,
+    number: u64,
+    row: &PeriodRow,
+    witness: &Witness,
+) -> Result<(), ReportFault>
+    ensures ok { OnOk result (line.new ≡ row_record number (row.now, witness.now)) }
+    ensures err { IfErr result (λ e. e ≡ ReportFault.Memory) }
+{
+    line.start("row")?;
+    line.push_number(alloc, number)?;
+    line.push_values(alloc, row.values.as_slice())?;
+    line.push_day(row.period.start())?;
+    line.push_day(row.period.end())?;
+    line.push_day(witness.held)?;
+    line.push_absent(witness.absent)
+}
+
+fn write_answer<W: ReportWriter>(
+    alloc: Global,
+    line: &mut Record,
+    buffer: &mut ReportBuffer,
+    out: &mut W,
+    number: u64,
+    answer: &Answer,
+) -> Result<(), ReportFault>
+    ensures ok { OnOk result
+        (Appends (append_known (W.contents out.old) buffer.old)
+        (append_known (W.contents out.new) buffer.new)
+        (text_of number (Ok (Outcome.Answer answer.now)))) }
+    ensures err { IfErr result (MayFail (W.has_failed out.new)) }
+{
+    fill_head(alloc, line, number, answer)?;
+    buffer.write(alloc, out, line)?;
+    fill_columns(alloc, line, number, answer.columns.as_slice())?;
+    buffer.write(alloc, out, line)?;
+    let witnesses = answer.witnesses.as_slice();
+    for (row, witness) in answer.rows.as_slice().iter().zip(witnesses) {
+        fill_row(alloc, line, number, row, witness)?;
+        buffer.write(alloc, out, line)?;
+    }
+    Ok(())
+}
+
+// How many columns and versions follow.
+fn fill_versions_head(
+    alloc: Global,
+    line: &mut Record,
+    number: u64,
+    list: &VersionList,
+) -> Result<(), ReportFault>
+    ensures ok { OnOk result (line.new ≡ versions_record number list.now) }
+    ensures err { IfErr result (λ e. e ≡ ReportFault.Memory) }
+{
+    line.start("versions")?;
+    line.push_number(alloc, number)?;
+    line.push_number(alloc, list.columns.len() as u64)?;
+    line.push_number(alloc, list.rows.len() as u64)
+}
+
+// The names of the columns.
+fn fill_names(
+    alloc: Global,
+    line: &mut Record,
+    number: u64,
+    columns: &[VersionColumn],
+) -> Result<(), ReportFault>
+    ensures ok { OnOk result (line.new ≡ names_record number columns.now) }
+    ensures err { IfErr result (λ e. e ≡ ReportFault.Memory) }
+{
+    line.start("columns")?;
+    line.push_number(alloc, number)?;
+    line.push_names(columns)
+}
+
+// One version.
+fn fill_version(
+    alloc: Global,
+    line: &mut Record,
+    number: u64,
+    columns: &[VersionColumn],
+    version: &VersionRow,
+) -> Result<(), ReportFault>
+    ensures ok { OnOk result (line.new ≡ version_record number columns.now version.now) }
+    ensures err { IfErr result (λ e. e ≡ ReportFault.Memory) }
+{
+    line.start("version")?;
+    line.push_number(alloc, number)?;
+    line.push_cells(alloc, columns, version)
+}
+
+fn write_versions<W: ReportWriter>(
+    alloc: Global,
+    line: &mut Record,
+    buffer: &mut ReportBuffer,
+    out: &mut W,
+    number: u64,
+    list: &VersionList,
+) -> Result<(), ReportFault>
+    ensures ok { OnOk result
+        (Appends (append_known (W.contents out.old) buffer.old)
+        (append_known (W.contents out.new) buffer.new)
+        (text_of number (Ok (Outcome.Versions list.now)))) }
+    ensures err { IfErr result (MayFail (W.has_failed out.new)) }
+{
+    fill_versions_head(alloc, line, number, list)?;
+    buffer.write(alloc, out, line)?;
+    let columns = list.columns.as_slice();
+    fill_names(alloc, line, number, columns)?;
+    buffer.write(alloc, out, line)?;
+    let rows = list.rows.as_slice();
+    for version in rows {
+        fill_version(alloc, line, number, columns, version)?;
+        buffer.write(alloc, out, line)?;
+    }
+    Ok(())
+}
+
+pub(crate) fn write_result<W: ReportWriter>(
+    alloc: Global,
+    line: &mut Record,
+    buffer: &mut ReportBuffer,
+    out: &mut W,
+    number: u64,
+    entry: &Result<Outcome, Refusal>,
+) -> Result<(), ReportFault>
+    ensures ok { OnOk result
+        (Appends (append_known (W.contents out.old) buffer.old)
+        (append_known (W.contents out.new) buffer.new) (text_of number entry.now)) }
+    ensures err { IfErr result (MayFail (W.has_failed out.new)) }
+{
+    match entry {
+        Ok(Outcome::Done(word, count)) => fill_done(alloc, line, number, *word, *count)?,
+        Ok(Outcome::Answer(answer)) => {
+            return write_answer(alloc, line, buffer, out, number, answer);
+        }
+        Ok(Outcome::Versions(list)) => {
+            return write_versions(alloc, line, buffer, out, number, list);
+        }
+        Err(refusal) => fill_refused(alloc, line, number, refusal)?,
+    }
+    buffer.write(alloc, out, line)
+}
+
+/// Writes the report of the results, numbered from 1, in parts of some 64 KiB, each by one
+/// `write_all`. After a fault the writer may hold a part of the report.
+pub fn write_report<W: ReportWriter>(
+    alloc: Global,
+    out: &mut W,
+    results: &[Result<Outcome, Refusal>],
+) -> Result<(), ReportFault>
+    ensures ok { OnOk result
+        (Appends (W.contents out.old) (W.contents out.new) (report results.now)) }
+    ensures err { IfErr result (MayFail (W.has_failed out.new)) }
+{
+    let mut line = Record::new(alloc);
+    let mut buffer = ReportBuffer::new(alloc);
+    for (i, entry) in results.iter().enumerate() {
+        write_result(alloc, &mut line, &mut buffer, out, i as u64 + 1, entry)?;
+    }
+    buffer.finish(alloc, out)
+}
