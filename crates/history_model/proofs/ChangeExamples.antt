@@ -12,7 +12,7 @@ use Rattle.catalog_core.specs.declared.change.Action.TheVariants.{Delete, Insert
 use Rattle.catalog_core.specs.declared.change.Assignment.{Assignment}
 use Rattle.catalog_core.specs.declared.change.Change.{Change}
 use Rattle.history_model.specs.Effects.{Kept, effect, traced}
-use Rattle.history_model.specs.Histories.{Advanced, Changed, History, new_database, state_at}
+use Rattle.history_model.specs.Histories.{Advanced, Changed, History, new_database}
 use Rattle.history_model.specs.Left.{closed_at, versions_of}
 use Rattle.history_model.specs.Portions.{PlainRow, replacements, touches}
 use Rattle.history_model.specs.SystemWindows.{SeesThrough}
@@ -53,10 +53,6 @@ last_day = refl
 at_its_end : effect updating 1 (pos 15) (worker ∷ []) ≡ worker ∷ []
 at_its_end = refl
 
--- without a portion every day is changed
-every_day : effect (record { table = 1; action = Update None (to_4 ∷ []) None }) 1 (pos 99) (worker ∷ []) ≡ promoted ∷ []
-every_day = refl
-
 removed : effect deleting 1 (pos 12) (worker ∷ []) ≡ []
 removed = refl
 
@@ -96,12 +92,6 @@ left_behind = refl
 -- a version that is closed as it begins is not kept
 not_kept : closed_at (pos 200) (version worker 10 12 200 forever) ≡ []
 not_kept = refl
-
-just_before : state_at history (pos 199) 1 (pos 12) ≡ worker ∷ []
-just_before = refl
-
-updated : state_at history (pos 200) 1 (pos 12) ≡ promoted ∷ []
-updated = refl
 
 -- ---- windows
 

@@ -20,7 +20,7 @@ use Rattle.catalog_core.specs.declared.change.GivenRow.{GivenRow}
 use Rattle.catalog_core.specs.declared.query.resolved.Select.{Select}
 use Rattle.catalog_core.specs.declared.table.ValueKind.TheVariants.{Integer}
 use Rattle.catalog_core.specs.query.Queries.{one}
-use Rattle.history_model.specs.OrdinaryQuery.{InAnswerOn, IsProjection}
+use Rattle.history_model.specs.OrdinaryQuery.{InAnswerOn}
 
 -- employee 1 of department 3
 abbrev worker : List Value
@@ -83,14 +83,6 @@ query =
           ∷ record { position = 0; name = codes "ENO" }
           ∷ [];
     }
-
-department_first : IsProjection query.items worker (Int (pos 3) ∷ Int (pos 1) ∷ [])
-department_first = refl
-
--- a row that lacks a value for an item has no projection
-lacking : (row : List Value) → IsProjection query.items (Int (pos 1) ∷ []) row → ⊥
-lacking [] e = cc
-lacking (value ∷ row) e = cc
 
 -- the ordinary query gives the projection on a day on which the row holds
 answered : InAnswerOn history (one query) (pos 15) (Int (pos 3) ∷ Int (pos 1) ∷ [])

@@ -111,22 +111,12 @@ in_difference = (
   λ h. not_in_join answer_row h,
 )
 
--- the other way round it holds nothing on that day
-not_turned_round
-    : (row : List Value)
-    → InAnswerOver (both Except (one joined) (one second)) tables (pos 10) row → ⊥
-not_turned_round row h = not_in_join row h.0
-
 -- on day 6 both selects give the row, on day 10 the second alone
 in_intersection : InAnswerOver (both Intersect (one joined) (one second)) tables (pos 6) answer_row
 in_intersection = (
   in_join,
   (shop, (shop, [], (0, omega arith, refl), refl, refl), refl, refl),
 )
-
-not_in_intersection
-    : InAnswerOver (both Intersect (one second) (one joined)) tables (pos 10) answer_row → ⊥
-not_in_intersection h = not_in_join answer_row h.1
 
 -- ---- over a history: the past of an employee with the present
 

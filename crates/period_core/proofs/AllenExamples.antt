@@ -1,4 +1,4 @@
--- Six of Allen's thirteen relations, each between the days 10 to 19 and another period, and what
+-- Four of Allen's thirteen relations, each between the days 10 to 19 and another period, and what
 -- the predicates say of it.
 use Rattle.std.proofs.Common.{◌≡◌, pos, Bool, true, false, List, [], ◌∷◌, refl}
 use Rattle.period_core.specs.PeriodPredicates.{contains, equals, immediately_precedes, immediately_succeeds, overlaps, precedes, succeeds}
@@ -12,9 +12,6 @@ x = period_over (pos 10) (pos 20) refl
 abbrev said : Period → List Bool
 said y = overlaps x y ∷ equals x y ∷ contains x y ∷ precedes x y ∷ succeeds x y ∷ immediately_precedes x y ∷ immediately_succeeds x y ∷ []
 
-before : said (period_over (pos 25) (pos 30) refl) ≡ false ∷ false ∷ false ∷ true ∷ false ∷ false ∷ false ∷ []
-before = refl
-
 meets : said (period_over (pos 20) (pos 30) refl) ≡ false ∷ false ∷ false ∷ true ∷ false ∷ true ∷ false ∷ []
 meets = refl
 
@@ -23,9 +20,6 @@ starting = refl
 
 equal : said (period_over (pos 10) (pos 20) refl) ≡ true ∷ true ∷ true ∷ false ∷ false ∷ false ∷ false ∷ []
 equal = refl
-
-finishing : said (period_over (pos 5) (pos 20) refl) ≡ true ∷ false ∷ false ∷ false ∷ false ∷ false ∷ false ∷ []
-finishing = refl
 
 met_by : said (period_over (pos 5) (pos 10) refl) ≡ false ∷ false ∷ false ∷ false ∷ true ∷ false ∷ true ∷ []
 met_by = refl

@@ -1,6 +1,6 @@
 -- Worked dates, numbers and texts, by computation.
 use Rattle.std.proofs.Common.{◌≡◌, refl, arith, codes, pos, None}
-use Rattle.period_core.specs.Calendar.{IsDate, count_below, day_number, day_text, day_after, day_before, first_day, last_day}
+use Rattle.period_core.specs.Calendar.{IsDate, count_below, day_number, day_text, day_after, last_day}
 
 last_date : day_number 9999 12 31 ≡ last_day
 last_date = refl
@@ -10,9 +10,6 @@ after_leap_day = refl
 
 leap_day_1900-none : IsDate 1900 2 29 → ⊥
 leap_day_1900-none date = omega (arith, date.day)
-
-first_day-before : day_before first_day ≡ None
-first_day-before = refl
 
 last_day-after : day_after last_day ≡ None
 last_day-after = refl

@@ -1,8 +1,8 @@
 -- Worked moments, numbers and texts, by computation.
 use Rattle.std.proofs.Common.{◌≡◌, refl, arith, codes, pos, None}
 use Rattle.period_core.specs.Calendar.{count_below}
-use Rattle.period_core.specs.Moments.{IsMoment, first_moment, forever, moment_after, moment_before, moment_number, moment_text}
-use Rattle.period_core.specs.Seconds.{first_second, last_second, moved_end, second_start}
+use Rattle.period_core.specs.Moments.{IsMoment, first_moment, forever, moment_after, moment_number, moment_text}
+use Rattle.period_core.specs.Seconds.{first_second, second_start}
 
 -- the last moment of a year
 before_2000 : moment_number 1999 12 31 23 59 59 999_999 ≡ pos 946_684_799_999_999
@@ -10,9 +10,6 @@ before_2000 = refl
 
 hour_24-none : IsMoment 2024 1 1 24 0 0 0 → ⊥
 hour_24-none moment = omega (arith, moment.hour)
-
-first-before : moment_before first_moment ≡ None
-first-before = refl
 
 forever-after : moment_after forever ≡ None
 forever-after = refl
@@ -27,19 +24,8 @@ half-text : moment_text (pos 951_786_123_500_000) ≡ codes "2000-02-29 01:02:03
 unfolding count_below
 half-text = refl
 
-forever-text : moment_text forever ≡ codes "9999-12-31 23:59:59.999999"
-unfolding count_below
-forever-text = refl
-
 -- ---- moments in whole seconds
 
 -- the first second begins with the first moment
 first-start : second_start first_second ≡ first_moment
 first-start = refl
-
--- the open end stays open, and every other end is where its second begins
-open_end-moved : moved_end last_second ≡ forever
-open_end-moved = refl
-
-end-moved : moved_end (pos 2) ≡ pos 2_000_000
-end-moved = refl

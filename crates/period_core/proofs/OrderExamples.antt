@@ -1,11 +1,8 @@
--- Worked comparisons of values, periods, rows and versions, and the code and the name of a
--- refusal, by computation.
+-- Worked comparisons of values, periods, rows and versions, by computation.
 use Rattle.std.proofs.Common.{◌≡◌, ℤ, refl, [], ◌∷◌, pos, neg_ℤ}
 use Rattle.std.specs.Prelude.{codes}
 use Rattle.std.specs.declared.cmp.Ordering.TheVariants.{Less, Greater}
-use Rattle.period_core.specs.Codes.{code_of, name_of}
 use Rattle.period_core.specs.Order.{value_cmp, values_cmp, period_cmp, row_cmp, version_cmp}
-use Rattle.period_core.specs.declared.refusal.Refusal.TheVariants.{KeyOverlap}
 use Rattle.period_core.proofs.Periods.{period_over}
 use Rattle.period_core.specs.contracts.period.PeriodOrd.TheImpl as period_impl
 use Rattle.period_core.specs.contracts.row.PeriodRowOrd.TheImpl as row_impl
@@ -27,9 +24,6 @@ texts-by-bytes = refl
 first-column-decides :
     values_cmp (Int (pos 1) ∷ Int (pos 9) ∷ []) (Int (pos 2) ∷ Int (pos 0) ∷ []) ≡ Less
 first-column-decides = refl
-
-shorter-list-first : values_cmp (Int (pos 1) ∷ []) (Int (pos 1) ∷ Int (pos 0) ∷ []) ≡ Less
-shorter-list-first = refl
 
 -- ---- periods
 
@@ -53,17 +47,9 @@ earlier_end-second = refl
 
 -- ---- rows over a period
 
-abbrev number_over : ℤ → Period → PeriodRow
-number_over n period = record { values = Int n ∷ []; period = period }
-
 -- the comparison of rows that the code runs is the one that is defined
 row-its_order : (a b : PeriodRow) → (row_impl.ghosts).cmp a b ≡ row_cmp a b
 row-its_order a b = refl
-
--- where the values are the same, the period decides, and first its start
-earlier_period-second :
-    (row_impl.ghosts).cmp (number_over (pos 7) three_to_nine) (number_over (pos 7) four_to_five) ≡ Less
-earlier_period-second = refl
 
 -- ---- versions
 
@@ -82,11 +68,3 @@ version-from_third :
     version_cmp (version_over (pos 7) three_to_nine (pos 50) (pos 60))
     (version_over (pos 7) three_to_five (pos 60) (pos 70)) ≡ Less
 version-from_third = refl
-
--- ---- refusals
-
-key_overlap-code : code_of (KeyOverlap (pos 0)) ≡ 42
-key_overlap-code = refl
-
-key_overlap-name : name_of (KeyOverlap (pos 0)) ≡ codes "KeyOverlap"
-key_overlap-name = refl

@@ -1,6 +1,5 @@
 -- Worked texts of days and moments, read by computation.
 use Rattle.std.proofs.Common.{◌≡◌, refl, codes, pos, Some, None}
-use Rattle.period_core.specs.Moments.{forever}
 use Rattle.period_core.specs.TextReading.{date_at, date_parts_of, day_of_text, fraction_at, is_date, is_time, moment_of_text, six_of, time_at, time_parts_of}
 
 -- ---- days
@@ -15,18 +14,10 @@ slashes-none = refl
 
 -- ---- moments
 
-forever-read : moment_of_text (codes "9999-12-31 23:59:59.999999") ≡ Some forever
-unfolding moment_of_text date_at time_at fraction_at date_parts_of time_parts_of six_of is_date is_time
-forever-read = refl
-
 -- a text without a fraction is that of the moment at which its second begins
 last_second-read : moment_of_text (codes "9999-12-31 23:59:59") ≡ Some (pos 253_402_300_799_000_000)
 unfolding moment_of_text date_at time_at fraction_at date_parts_of time_parts_of is_date is_time
 last_second-read = refl
-
-hour_24-none : moment_of_text (codes "2024-01-01 24:00:00") ≡ None
-unfolding moment_of_text date_at time_at fraction_at date_parts_of time_parts_of is_date is_time
-hour_24-none = refl
 
 -- ---- fractions
 
@@ -34,10 +25,6 @@ hour_24-none = refl
 half-read : moment_of_text (codes "1970-01-01 00:00:00.5") ≡ Some (pos 500_000)
 unfolding moment_of_text date_at time_at fraction_at date_parts_of time_parts_of six_of is_date is_time
 half-read = refl
-
-microsecond-read : moment_of_text (codes "1970-01-01 00:00:00.000001") ≡ Some (pos 1)
-unfolding moment_of_text date_at time_at fraction_at date_parts_of time_parts_of six_of is_date is_time
-microsecond-read = refl
 
 -- a point has digits behind it
 point-none : moment_of_text (codes "1970-01-01 00:00:00.") ≡ None

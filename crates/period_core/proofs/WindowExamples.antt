@@ -28,7 +28,3 @@ between-its_end = refl
 -- it doesn't see a version that ends at a
 between-ends_at_start : window_sees (Between (pos 20) (pos 30)) (pos 10) (pos 20) ≡ false
 between-ends_at_start = refl
-
--- FROM m TO m sees nothing
-from_to-one_moment : window_sees (FromTo (pos 15) (pos 15)) (pos 10) (pos 20) ≡ false
-from_to-one_moment = refl

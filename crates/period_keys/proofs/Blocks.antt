@@ -2,14 +2,14 @@
 use Rattle.std.proofs.Common.{◌≡◌, ◌⊎◌, ◌<◌, Bool, true, false, ◌≤ℤ◌, ◌+◌, ◌++◌, ◌∷◌, [], ◌∙◌, ℕ, ℤ, List, length, get_or, set, take, drop, sym, ap, subst, inl, inr, arith}
 use Rattle.std.specs.Prelude.{Result, Ok, Err, OnOk}
 use Rattle.std.specs.Bool.{OnTrue}
-use Rattle.std.specs.List.{All, Any, Contains, insert}
+use Rattle.std.specs.List.{All, Any, Contains, insert, swap_remove}
 use Rattle.std.specs.List.Sorted.{IsPermutation}
 use Rattle.std.proofs.lemmas.Int.{ints}
-use Rattle.std.proofs.lemmas.List.Elements.{All-weaker, Contains-append_cases, Contains-append_left, Contains-append_right}
+use Rattle.std.proofs.lemmas.List.Elements.{All-append, All-cons, All-weaker, Contains-append_cases, Contains-append_left, Contains-append_right}
 use Rattle.period_keys.specs.Between.{LiesBetween}
 use Rattle.std.proofs.lemmas.Bool.{cases_lt}
 use Rattle.std.proofs.lemmas.List.{get_or_default, get_or-set_other, get_or-set_same, length-set, take-append-drop, take_more}
-use Rattle.std.proofs.lemmas.List.Sorted.{Contains-permutation, IsPermutation-insert}
+use Rattle.std.proofs.lemmas.List.Sorted.{Contains-permutation, IsPermutation-insert, IsPermutation-swap_remove}
 use Rattle.temporal_model.proofs.Members.{Contains-cons_cases, Contains-here, Contains-one}
 use Rattle.period_core.specs.declared.period.Period.{Period}
 use Rattle.period_keys.specs.declared.block.Block.{Block}
@@ -60,9 +60,26 @@ pub wider : (start end low high : ℤ) (items : List PlacedPeriod) → low ≤�
 wider start end low high items before after within =
     All-weaker (LiesBetween start end) (LiesBetween low high) (λ item (from, to). (omega (arith, ints), omega (arith, ints))) items within
 
+-- with one more, between days around all
+pub wider_with :
+    (start end low high : ℤ) (items all : List PlacedPeriod) (item : PlacedPeriod) → low ≤ℤ start → end ≤ℤ high → LiesBetween low high item → All (LiesBetween start end) items
+    → all ≡ items ++ item ∷ [] → All (LiesBetween low high) all
+wider_with start end low high items all item before after lies within is =
+    subst (All (LiesBetween low high)) (sym is) (All-append (LiesBetween low high) items (item ∷ []) (wider start end low high items before after within) (All-cons (LiesBetween low high) item [] lies (λ k d below. absurd (omega arith))))
+
 -- of the elements of a list with one gone, the others are there
 pub others_left : {X : Type 0} (xs left : List X) (gone x : X) → IsPermutation xs (gone ∷ left) → Contains xs x → (x ≡ gone) ⊎ Contains left x
 others_left xs left gone x moved there = elim (Contains-cons_cases gone left x (Contains-permutation xs (gone ∷ left) x moved there)) [ inl same ↦ inl (sym same) | inr rest ↦ inr rest ]
+
+-- one is taken out of its place
+pub all_but_one : (items left : List PlacedPeriod) (place : ℕ) (gone : PlacedPeriod) → place < length items → gone ≡ get_or items place gone → left ≡ swap_remove items place gone
+    → IsPermutation items (gone ∷ left)
+all_but_one items left place gone inside there is = subst (λ (xs : List PlacedPeriod). IsPermutation items (gone ∷ xs)) (sym is) (IsPermutation-swap_remove items place gone inside there)
+
+pub left_by_one : (items left : List PlacedPeriod) (place : ℕ) (gone item : PlacedPeriod) → (place < length items) × (get_or items place item ≡ item) → gone ≡ get_or items place gone
+    → left ≡ swap_remove items place gone → (other : PlacedPeriod) → Contains items other → (other ≡ item) ⊎ Contains left other
+left_by_one items left place gone item (inside, at) there is other had =
+    elim (others_left items left gone other (all_but_one items left place gone inside there is) had) [ inl same ↦ inl (same ∙ there ∙ get_or_default items place gone item inside ∙ at) | inr rest ↦ inr rest ]
 
 -- with one put for another, too
 pub others_kept : {X : Type 0} (xs : List X) (i : ℕ) (new old x : X) → i < length xs → get_or xs i old ≡ old → Contains xs x → (x ≡ old) ⊎ Contains (set xs i new) x

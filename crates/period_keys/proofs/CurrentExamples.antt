@@ -1,5 +1,5 @@
 -- Worked rows of tables in memory: workers refer to departments by the second of their values. Where the departments go, a worker is left without a parent.
-use Rattle.std.proofs.Common.{◌≡◌, ◌==◌, ◌∷◌, [], cond, pos, None, List, refl}
+use Rattle.std.proofs.Common.{◌==◌, ◌∷◌, [], cond, pos, None, List, refl}
 use Rattle.std.specs.Prelude.{codes}
 use Rattle.period_core.specs.declared.value.Value.TheVariants.{Int}
 use Rattle.temporal_model.proofs.Members.{Contains-here, Contains-nil}
@@ -12,7 +12,6 @@ use Rattle.catalog_core.specs.declared.table.Reference.{Reference}
 use Rattle.catalog_core.specs.declared.table.TableDef.{TableDef}
 use Rattle.history_model.specs.Histories.{State}
 use Rattle.period_keys.specs.Faults.{IsFaultBy}
-use Rattle.period_keys.specs.Lawful.{own_positions}
 
 -- the columns of a period and of the system time, and then these
 abbrev with_periods : List Column → List Column
@@ -50,10 +49,6 @@ workers =
       references = to_department ∷ [];
       sound = refl;
     }
-
-own-second : own_positions workers to_department ≡ 1 ∷ []
-unfolding is_value_column
-own-second = refl
 
 -- on each day department 5 and a worker of it
 abbrev before : State

@@ -1,10 +1,11 @@
 -- Periods in the order of their starts: one more at its place, and one less.
-use Rattle.std.proofs.Common.{◌≡◌, ◌≤ℤ◌, ◌<ℤ◌, ◌<◌, ◌≤◌, ◌+◌, ◌-◌, ◌++◌, ◌∷◌, [], ◌∙◌, ℕ, ℤ, List, length, get_or, sym, ap, subst, inl, inr, arith}
-use Rattle.std.specs.List.{insert}
+use Rattle.std.proofs.Common.{◌≡◌, ◌≤ℤ◌, ◌<ℤ◌, ◌<◌, ◌≤◌, ◌+◌, ◌-◌, ◌++◌, ◌∷◌, [], ◌∙◌, ℕ, ℤ, List, None, Option, Some, true, drop, length, length-drop, get_or, min, sym, take, ap, subst, inl, inr, arith}
+use Rattle.std.specs.List.{Contains, insert}
+use Rattle.std.specs.Option.{MatchOption, is_some}
 use Rattle.std.specs.List.Sorted.{IsPermutation}
 use Rattle.std.proofs.lemmas.Int.{ints, by_lt_z}
 use Rattle.std.proofs.lemmas.Bool.{cases_lt}
-use Rattle.std.proofs.lemmas.List.{get_or_default}
+use Rattle.std.proofs.lemmas.List.{get_or-drop, get_or-take, get_or_default, length-take}
 use Rattle.std.proofs.lemmas.List.Edits.{get_or-insert_below, get_or-insert_at, get_or-insert_above, length-insert}
 use Rattle.std.proofs.lemmas.List.Sorted.{IsPermutation-insert, IsPermutation-sym, IsPermutation-trans, IsPermutation-append_comm}
 use Rattle.period_core.specs.declared.period.Period.{Period}
@@ -94,3 +95,22 @@ from_start xs m x day order below is later k d ge inside =
 -- what does not start by the day starts later
 pub later_start : (start day : ℤ) → (start ≤ℤ day → ⊥) → day <ℤ start
 later_start start day apart = by_lt_z {P = day <ℤ start} day start (λ less. less) (λ ge. absurd (apart ge))
+
+-- ---- the place of a period in the first part of a list, or in the rest
+
+abbrev IsPlaceIn : List Period → Period → ℕ → Type 0
+IsPlaceIn xs x place = (place < length xs) × (get_or xs place x ≡ x)
+
+pub found_early : (xs early : List Period) (n : ℕ) (x : Period) (found : Option ℕ) → early ≡ take n xs → true ≡ is_some found
+    → MatchOption found (Contains early x → ⊥) (IsPlaceIn early x) → MatchOption found (Contains xs x → ⊥) (IsPlaceIn xs x)
+found_early xs early n x None is some at = cc
+found_early xs early n x (Some place) is some at =
+    let first : IsPlaceIn (take n xs) x place = subst (λ ys. IsPlaceIn ys x place) is at in
+    let size : length (take n xs) ≡ min n (length xs) = length-take n xs in
+    (omega (arith, size, first.0), sym (get_or-take n xs place x (omega (arith, size, first.0))) ∙ first.1)
+
+pub found_late : (xs late : List Period) (n place : ℕ) (x : Period) → late ≡ drop n xs → IsPlaceIn late x place → IsPlaceIn xs x (n + place)
+found_late xs late n place x is at =
+    let rest : IsPlaceIn (drop n xs) x place = subst (λ ys. IsPlaceIn ys x place) is at in
+    let size : length (drop n xs) ≡ length xs - n = length-drop n xs in
+    (omega (arith, size, rest.0), sym (get_or-drop n xs place x) ∙ rest.1)

@@ -5,7 +5,7 @@ use Rattle.period_core.specs.declared.value.Value.TheVariants.{Int}
 use Rattle.period_core.specs.declared.row.PeriodRow.{PeriodRow}
 use Rattle.period_core.proofs.Periods.{are_ends, period_over}
 use Rattle.temporal_model.proofs.Members.{Contains-here, Contains-one}
-use Rattle.period_keys.specs.Keys.{key_values, ShareKeyOn, IsKeyClash, IsUncovered}
+use Rattle.period_keys.specs.Keys.{ShareKeyOn, IsKeyClash, IsUncovered}
 
 -- key 1 with the department, over a period
 abbrev row_over : (department start end : ℤ) → are_ends start end ≡ true → PeriodRow
@@ -20,16 +20,8 @@ meeting = row_over (pos 4) (pos 32) (pos 60) refl
 abbrev overlapping : PeriodRow
 overlapping = row_over (pos 4) (pos 31) (pos 60) refl
 
--- positions stand in any order
-key-turned : key_values (1 ∷ 0 ∷ []) first ≡ Int (pos 3) ∷ Int (pos 1) ∷ []
-key-turned = refl
-
 overlap-clashes : IsKeyClash (0 ∷ []) (first ∷ overlapping ∷ []) (pos 31)
 overlap-clashes = (0, 1, omega arith, omega arith, λ d. (refl, ((omega (arith, ints), omega (arith, ints)), (omega (arith, ints), omega (arith, ints)))))
-
--- an equal row at another place is another entry
-twice-clashes : IsKeyClash (0 ∷ []) (first ∷ first ∷ []) (pos 1)
-twice-clashes = (0, 1, omega arith, omega arith, λ d. (refl, ((omega (arith, ints), omega (arith, ints)), (omega (arith, ints), omega (arith, ints)))))
 
 meeting-no_clash : (day : ℤ) → IsKeyClash (0 ∷ []) (first ∷ meeting ∷ []) day → ⊥
 meeting-no_clash day (zero, zero, lt, below, both) = omega arith

@@ -1,5 +1,5 @@
 -- Lists of tables in memory: one of them written, one more, and with more indexes.
-use Rattle.std.proofs.Common.{◌≡◌, ◌⊎◌, ◌<◌, ◌≤◌, ◌+◌, ◌-◌, ◌++◌, ◌∷◌, [], ◌∙◌, ℕ, zero, suc, List, Some, append-nil, drop, inl, inr, length, set, take, refl, sym, ap, subst, arith}
+use Rattle.std.proofs.Common.{◌≡◌, ◌⊎◌, ◌<◌, ◌≤◌, ◌+◌, ◌-◌, ◌++◌, ◌∷◌, [], ◌∙◌, ℕ, zero, suc, List, Some, append-nil, drop, get_or, inl, inr, length, set, take, refl, sym, ap, subst, arith}
 use Rattle.std.specs.List.{Contains, slice_get}
 use Rattle.std.proofs.Math.Seq.{map-set_same}
 use Rattle.std.proofs.lemmas.Bool.{cases_eq}
@@ -14,7 +14,7 @@ use Rattle.period_keys.specs.Lawful.{own_positions, parent_positions}
 use Rattle.period_keys.specs.Rows.{RowsByKey}
 use Rattle.period_keys.specs.TableRows.{HasMoreIndexes, TableRows}
 
-value_is : {T : Type 0} (x y : T) → Some x ≡ Some y → x ≡ y
+pub value_is : {T : Type 0} (x y : T) → Some x ≡ Some y → x ≡ y
 value_is x y e = cc
 
 -- ---- a list written at one place
@@ -118,6 +118,21 @@ number_inside tables zero t is = cc
 number_inside tables (suc place) t is =
     let inside : place < length tables = slice_get_within tables place t is in
     omega (arith, inside)
+
+-- the table of a number
+pub table_at : {T : Type 0} (tables : List T) (number : ℕ) (table here : T) → here ≡ get_or tables (number - 1) here → table_of tables number ≡ Some table → here ≡ table
+table_at tables zero table here is found = cc
+table_at tables (suc place) table here is found =
+    let same : suc place - 1 ≡ place = omega arith in
+    is ∙ ap (λ n. get_or tables n here) same ∙ get_or_from_slice_get tables place table here found
+
+-- a table written in its place
+pub written_to : {T D : Type 0} (definitions : List D) (tables : List T) (number : ℕ) (def : D) (table : T) → table_of definitions number ≡ Some def → number - 1 < length tables
+    → table_of (set tables (number - 1) table) number ≡ Some table
+written_to definitions tables zero def table is below = cc
+written_to definitions tables (suc place) def table is below =
+    let same : suc place - 1 ≡ place = omega arith in
+    subst (λ n. slice_get (set tables n table) place ≡ Some table) (sym same) (set_here tables place table (omega (arith, below)))
 
 -- the table that was written at a place
 pub written_at : (tables : List TableRows) (place : ℕ) (table : TableRows) → place < length tables → table_of (set tables place table) (place + 1) ≡ Some table

@@ -147,11 +147,11 @@ fn first_shared_at(
     ensures { IsLeastOf
         (λ day. IsKeptAt rows.now (periods_at gone.now key.now) period.now day item.now) result }
 {
-    if is_at(rows, item) {
-        first_of_kept(gone, key, period, &item.period)
-    } else {
-        None
-    }
+    // (The row is looked at last: it lies far from the others.)
+    let Some(day) = first_of_kept(gone, key, period, &item.period) else {
+        return None;
+    };
+    if is_at(rows, item) { Some(day) } else { None }
 }
 
 // Whether the row at the place has the period.

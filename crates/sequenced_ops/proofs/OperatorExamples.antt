@@ -29,9 +29,6 @@ rights = row_over (Int (pos 7) ∷ []) (pos 4) (pos 6) refl ∷ []
 both_on_day_5 : InIntersection lefts rights (pos 5) (Int (pos 7) ∷ [])
 both_on_day_5 = (Contains-here _ [], Contains-here _ [])
 
-not_both_on_day_6 : InIntersection lefts rights (pos 6) (Int (pos 7) ∷ []) → ⊥
-not_both_on_day_6 (here, there) = Contains-nil _ there
-
 left_alone_on_day_6 : InDifference lefts rights (pos 6) (Int (pos 7) ∷ [])
 left_alone_on_day_6 = (Contains-here _ [], λ there. Contains-nil _ there)
 
@@ -45,10 +42,6 @@ either_on_day_2 = inr (Contains-here _ [])
 
 second_before_first : ReadsColumns (1 ∷ 0 ∷ []) (Int (pos 7) ∷ Int (pos 9) ∷ []) (Int (pos 9) ∷ Int (pos 7) ∷ [])
 second_before_first = refl
-
-no_third : (read : List Value) → ReadsColumns (2 ∷ []) (Int (pos 7) ∷ Int (pos 9) ∷ []) read → ⊥
-no_third [] reads = cc
-no_third (v ∷ read) reads = cc
 
 -- ---- joins
 

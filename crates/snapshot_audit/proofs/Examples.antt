@@ -1,5 +1,5 @@
 -- Worked rows: the value 7 over a few days, faults of witnesses, change days, a first difference.
-use Rattle.std.proofs.Common.{◌≡◌, true, ℤ, pos, neg_ℤ, List, [], ◌∷◌, ap, refl, sym, ◌∙◌, subst, inl, inr, arith}
+use Rattle.std.proofs.Common.{◌≡◌, true, ℕ, ℤ, pos, neg_ℤ, List, [], ◌∷◌, ap, codes, refl, sym, ◌∙◌, subst, inl, inr, arith}
 use Rattle.std.specs.List.{Contains}
 use Rattle.std.proofs.lemmas.Int.{ints}
 use Rattle.period_core.proofs.Periods.{are_ends, period_over}
@@ -7,20 +7,25 @@ use Rattle.period_core.specs.declared.value.Value.{Value}
 use Rattle.period_core.specs.declared.value.Value.TheVariants.{Int}
 use Rattle.period_core.specs.declared.row.PeriodRow.{PeriodRow}
 use Rattle.period_core.specs.declared.answer.Witness.{Witness}
+use Rattle.period_core.specs.declared.window.Window.TheVariants.{Now}
+use Rattle.sql_statements.specs.declared.tree.SetOperator.TheVariants.{Except}
 use Rattle.temporal_model.specs.Snapshot.{InSnapshot}
 use Rattle.temporal_model.specs.Witness.{witness_of}
 use Rattle.temporal_model.proofs.Members.{Contains-here, Contains-there, Contains-nil, Contains-one, Contains-cons_cases}
 use Rattle.temporal_model.proofs.Snapshots.{held, in_snapshot}
-use Rattle.snapshot_audit.specs.ChangeDays.{IsChangeDay}
+use Rattle.catalog_core.specs.declared.query.resolved.Select.{Select}
+use Rattle.catalog_core.specs.declared.table.ValueKind.TheVariants.{Integer}
+use Rattle.catalog_core.specs.query.Queries.{both, one}
+use Rattle.snapshot_audit.specs.ChangeDays.{IsChangeDay, seen_lists}
 use Rattle.snapshot_audit.specs.Faults.{IsSound, SoundBelow, IsFirstFault, IsFaultless}
 use Rattle.snapshot_audit.specs.Sets.{ListsSet}
 use Rattle.snapshot_audit.specs.Verdicts.{IsFirstDifference}
 use Rattle.snapshot_audit.proofs.Sound.{sound_more}
 
-abbrev pub seven : List Value
+abbrev seven : List Value
 seven = Int (pos 7) ∷ []
 
-abbrev pub seven_over : (start end : ℤ) → are_ends start end ≡ true → PeriodRow
+abbrev seven_over : (start end : ℤ) → are_ends start end ≡ true → PeriodRow
 seven_over start end ends = record { values = seven; period = period_over start end ends }
 
 -- from day 1 to day 3, from day 3 to day 5, from day 1 to day 5, from day 1 to day 9
@@ -33,7 +38,7 @@ late = seven_over (pos 3) (pos 5) refl
 abbrev whole : PeriodRow
 whole = seven_over (pos 1) (pos 5) refl
 
-abbrev pub long : PeriodRow
+abbrev long : PeriodRow
 long = seven_over (pos 1) (pos 9) refl
 
 -- ---- faults
@@ -110,6 +115,18 @@ held_twice-once = record {
 }
 
 -- ---- days
+
+-- SELECT DISTINCT DEPT, from the list in this place
+abbrev department : ℕ → Select
+department place = record {
+  references = record { place = place; table = 1; window = Now; kinds = Integer ∷ [] } ∷ [];
+  conjuncts = [];
+  items = record { position = 0; name = codes "DEPT" } ∷ [];
+}
+
+-- the audit looks at the rows of both lists of a difference
+both_lists-seen : seen_lists (both Except (one (department 0)) (one (department 1))) ((long ∷ []) ∷ (early ∷ []) ∷ []) ≡ (long ∷ []) ∷ (early ∷ []) ∷ []
+both_lists-seen = refl
 
 -- the day on which a row ends is one of change
 end-change_day : IsChangeDay ((whole ∷ []) ∷ []) (pos 5)

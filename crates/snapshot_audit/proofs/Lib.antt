@@ -16,4 +16,3 @@ pub mod QueryLists
 pub mod DifferenceSteps
 pub mod Verdicts
 pub mod Examples
-pub mod AuditExamples

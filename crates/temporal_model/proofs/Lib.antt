@@ -8,3 +8,4 @@ pub mod OneToOne
 pub mod Witnesses
 mod Examples
 pub mod AnswerExamples
+pub mod ListSteps

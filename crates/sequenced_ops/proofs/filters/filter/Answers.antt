@@ -3,7 +3,7 @@ use Rattle.std.proofs.lemmas.List.{nil_from_length}
 use Rattle.catalog_core.specs.Conditions.{meets}
 use Rattle.period_core.specs.declared.row.PeriodRow.{PeriodRow}
 use Rattle.sequenced_ops.specs.Operations.{Cond}
-use Rattle.sequenced_ops.proofs.Logic.{part_same, part_moved, none_left}
+use Rattle.sequenced_ops.proofs.Logic.{none_before, none_left, part_moved, part_same}
 use Rattle.sequenced_ops.proofs.Standing.{holds-push, holds-nil}
 use Rattle.sequenced_ops.proofs.Selections.{SelectionLeft, row_accepted, row_refused}
 use Rattle.sequenced_ops.proofs.filters.filter.Goals as goal
@@ -39,3 +39,10 @@ returns c = λ day vs.
     let is : rest ≡ [] = nil_from_length rest none in
     let old : SelectionLeft condition c.args.rows.items c.loop-row.kept.items [] = subst (SelectionLeft condition c.args.rows.items c.loop-row.kept.items) is c.loop-row.invariant in
     none_left (old day vs) (λ h. holds-nil day vs h.0)
+
+pub loop-row-init : goal.loop-row-init
+loop-row-init c =
+    let condition : Cond = c.args.condition.now in
+    let rows : List PeriodRow = c.args.rows.items in
+    subst (λ (kept : List PeriodRow). SelectionLeft condition rows kept c.into_iter-row-iterator.result.rest.items) (sym c.new-kept.ensures.items)
+    (subst (SelectionLeft condition rows []) (sym c.into_iter-row-iterator.ensures.into_iter_gives.0) (λ day vs. none_before (holds-nil day vs) (λ h. h, λ h. h)))

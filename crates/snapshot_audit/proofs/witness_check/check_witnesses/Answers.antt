@@ -34,3 +34,9 @@ returns-clause-shortest c = shortest c.args.rows.now (certified_from_sound c.arg
 pub returns-clause-witnesses : goal.returns-clause-witnesses
 returns-clause-witnesses c =
     witnessed_from_sound c.args.rows.now c.args.witnesses.now (λ k row h is. c.loop-place.invariant k row (omega arith) is) (omega arith)
+
+pub is_sound-requires : goal.is_sound-requires
+is_sound-requires c = record {
+  there = slice_get_read c.args.rows.now (length c.args.rows.now) c.loop-place.place c.index-rows-place.result refl (omega arith) c.index-rows-place.is;
+  apart = c.has_gaps-apart.ensures.0;
+}
