@@ -1,5 +1,5 @@
 -- A store in seconds and a database of the model are moved alike.
-use Rattle.std.proofs.Common.{◌≡◌, ◌==◌, ℕ, zero, suc, Bool, List, [], ◌∷◌, filter, get_or, map, refl, sym, ◌∙◌, ap, subst}
+use Rattle.std.proofs.Common.{◌≡◌, ◌==◌, ℕ, zero, suc, List, [], ◌∷◌, get_or, map, refl, sym, ◌∙◌, ap, subst}
 use Rattle.std.specs.List.Sorted.{IsPermutation}
 use Rattle.std.proofs.lemmas.List.Sorted.{IsPermutation-map}
 use Rattle.sqlite_trees.proofs.ListLemmas.{filter-map}
@@ -7,10 +7,10 @@ use Rattle.period_core.specs.declared.version.VersionRow.{VersionRow}
 use Rattle.period_core.specs.Seconds.{second_start}
 use Rattle.version_tables.specs.declared.form.Form.TheVariants.{Seconds}
 use Rattle.version_store.specs.Contents.{Contents, TableVersion, of_table, version_in}
-use Rattle.version_store.specs.Units.{in_microseconds, version_of}
+use Rattle.version_store.specs.Units.{version_of}
 use Rattle.history_model.specs.Histories.{Database, versions_in}
 use Rattle.history_model.specs.Moved.{moved, moved_version}
-use Rattle.script_engine.specs.engine.Moved.{AreOfDatabase, StoresMoveAsTheModel}
+use Rattle.script_engine.specs.engine.Moved.{StoresMoveAsTheModel}
 
 at_place : (lists : List (List VersionRow)) (place : ℕ) → get_or (map (map moved_version) lists) place [] ≡ map moved_version (get_or lists place [])
 at_place [] place = refl

@@ -1,5 +1,5 @@
 -- Worked rows: CREATE TABLE, INSERT and a stored query, accepted and refused, each as a step of the history.
-use Rattle.std.proofs.Common.{◌≡◌, ◌∷◌, ◌++◌, [], ℕ, zero, suc, ℤ, pos, true, false, List, None, Some, Ok, Err, ap, codes, length, map, refl, inl, inr, sym, arith}
+use Rattle.std.proofs.Common.{◌≡◌, ◌∷◌, ◌++◌, [], ℕ, zero, suc, pos, true, false, List, None, Some, Ok, Err, ap, codes, map, refl, inl, inr, sym, arith}
 use Rattle.std.specs.Prelude.{IsSorted}
 use Rattle.std.proofs.lemmas.Bool.{false≢true}
 use Rattle.std.proofs.lemmas.List.Sorted.{IsPermutation-refl}
