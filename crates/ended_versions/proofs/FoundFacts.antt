@@ -1,5 +1,5 @@
 -- The way through the versions of one hash, and the hashes of more versions and of fewer.
-use Rattle.std.proofs.Common.{◌≡◌, ◌≤◌, ◌<◌, ◌+◌, ◌&&◌, ◌++◌, ◌∷◌, [], ◌∙◌, ℕ, ℤ, Bool, true, false, cond, List, Option, None, Some, append-nil, append_assoc, length, get_or, map, reverse, take, refl, sym, ap, subst, inl, inr, arith}
+use Rattle.std.proofs.Common.{◌≡◌, ◌≤◌, ◌<◌, ◌&&◌, ◌++◌, ◌∷◌, [], ◌∙◌, ℕ, ℤ, Bool, true, false, cond, List, Option, None, Some, append-nil, append_assoc, length, get_or, map, reverse, take, refl, sym, ap, subst, inl, inr, arith}
 use Rattle.std.specs.Prelude.{option_to_list}
 use Rattle.std.specs.List.{filter}
 use Rattle.std.proofs.lemmas.Bool.{and_from, and_left, and_right, cases_lt, eq-eqb, ne_eqb}

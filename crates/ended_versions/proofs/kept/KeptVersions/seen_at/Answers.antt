@@ -1,4 +1,4 @@
-use Rattle.std.proofs.Common.{◌≡◌, ◌∙◌, ℕ, List, ap, sym, false, true}
+use Rattle.std.proofs.Common.{◌≡◌, ◌∙◌, ℕ, List, ap, sym}
 use Rattle.std.specs.Prelude.{slice_index_or}
 use Rattle.period_core.specs.Windows.{window_sees}
 use Rattle.period_core.specs.declared.version.VersionRow.{VersionRow}
