@@ -107,38 +107,6 @@ module _ (links : List Link) (link : Link) where
   abbrev LinkIs : List ℕ → ℕ → Link → Type 0
   LinkIs all place l = IsLastPlace all place l.hash l.before
 
-  pub chained_more : (last after : BTreeMap ℕ ℕ) → AreChained links last → link.before ≡ get nat_cmp last link.hash → Writes last after link.hash (Some n) → AreChained longer after
-  chained_more last after are its writes = record {
-    last_of = λ q. elim (cases_eq link.hash q) [
-      | inl same ↦ subst (IsLastPlace (hashes longer) (length longer) q) (sym (written_here last after link.hash q (Some n) writes same)) (here q same)
-      | inr apart ↦ subst (IsLastPlace (hashes longer) (length longer) q) (sym (written_there last after link.hash q (Some n) writes apart)) (still q apart)
-    ];
-    before = λ place d below. elim (cases_lt place n) [
-      | inl lt ↦ subst (LinkIs (hashes longer) place) (sym (same_link place d lt))
-          (along (hashes links) (hashes longer) place (get_or links place d).hash (get_or links place d).before (λ k e inner. same_hashes k e (omega arith)) (are.before place d lt))
-      | inr ge ↦ (let e : n ≡ place = (let size = length_push links link in omega (arith, size)) in
-          subst (λ (p : ℕ). LinkIs (hashes longer) p (get_or longer p d)) e (subst (LinkIs (hashes longer) n) (sym (its_link d)) latest))
-    ];
-  }
-    where
-      here : (q : ℕ) → link.hash ≡ q → IsLastPlace (hashes longer) (length longer) q (Some n)
-      here q same = record {
-        within = (let size = length_push links link in omega (arith, size));
-        there = λ p d e. subst (λ (k : ℕ). get_or (hashes longer) k d ≡ q) (some_is n p e) (its_hash d ∙ same);
-        only = λ k d from below e. (let size = length_push links link in omega (arith, size));
-      }
-
-      still : (q : ℕ) → (link.hash ≡ q → ⊥) → IsLastPlace (hashes longer) (length longer) q (get nat_cmp last q)
-      still q apart =
-          subst (λ (bound : ℕ). IsLastPlace (hashes longer) bound q (get nat_cmp last q)) (sym (length_push links link))
-          (higher (hashes longer) n q (get nat_cmp last q) (other_hash q apart)
-          (along (hashes links) (hashes longer) n q (get nat_cmp last q) same_hashes (are.last_of q)))
-
-      latest : IsLastPlace (hashes longer) n link.hash link.before
-      latest =
-          subst (IsLastPlace (hashes longer) n link.hash) (sym its)
-          (along (hashes links) (hashes longer) n link.hash (get nat_cmp last link.hash) same_hashes (are.last_of link.hash))
-
   -- ---- one place less
 
   pub chained_less : (last after : BTreeMap ℕ ℕ) → AreChained longer last → Writes last after link.hash link.before → AreChained links after

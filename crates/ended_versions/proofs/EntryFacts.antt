@@ -10,7 +10,7 @@ use Rattle.std.proofs.lemmas.List.Quantifiers.{all_pairs_push}
 use Rattle.period_core.specs.Encoding.{IsEncoding}
 use Rattle.ended_versions.specs.Entries.{AreEntries, IsKept, KnowLeast, Precedes, block_start, packed_in}
 use Rattle.ended_versions.specs.Packed.{AreEndedBy, PackedVersion}
-use Rattle.ended_versions.specs.declared.blocks.Entry.{Entry}
+use Rattle.ended_versions.specs.declared.blocks.VersionEntry.{VersionEntry}
 
 -- ---- bytes behind the others
 
@@ -26,7 +26,7 @@ last_part bytes more =
     ap (take (length (bytes ++ more) - length bytes)) (drop_at bytes more (length bytes) refl)
     ∙ take_all (length (bytes ++ more) - length bytes) more (omega (arith, length-append bytes more))
 
-kept_on : (bytes more : List ℕ) (entry : Entry) → IsKept bytes entry → IsKept (bytes ++ more) entry
+kept_on : (bytes more : List ℕ) (entry : VersionEntry) → IsKept bytes entry → IsKept (bytes ++ more) entry
 kept_on bytes more entry kept = record {
   forward = kept.forward;
   within = omega (arith, length-append bytes more, kept.within);
@@ -34,7 +34,7 @@ kept_on bytes more entry kept = record {
 }
 
 -- what is kept of each is the same
-same_on : (bytes more : List ℕ) (entries : List Entry) → All (IsKept bytes) entries → map (packed_in (bytes ++ more)) entries ≡ map (packed_in bytes) entries
+same_on : (bytes more : List ℕ) (entries : List VersionEntry) → All (IsKept bytes) entries → map (packed_in (bytes ++ more)) entries ≡ map (packed_in bytes) entries
 same_on bytes more [] kept = refl
 same_on bytes more (e ∷ es) kept =
     let first : IsKept bytes e = All-head (IsKept bytes) e es kept in
@@ -47,40 +47,40 @@ same_on bytes more (e ∷ es) kept =
 
 -- the entry may come behind these: its bytes are those behind theirs, none of them ended later, and
 -- none of its block begins before its `least`
-pub record ComesBehind (bytes more : List ℕ) (entries : List Entry) (entry : Entry) : Type 0 where
+pub record ComesBehind (bytes more : List ℕ) (entries : List VersionEntry) (entry : VersionEntry) : Type 0 where
   pub start : entry.start ≡ length bytes
   pub end : entry.end ≡ length (bytes ++ more)
   pub spelled : IsEncoding more
-  pub ended : (k : ℕ) (d : Entry) → k < length entries → (get_or entries k d).to ≤ℤ entry.to
+  pub ended : (k : ℕ) (d : VersionEntry) → k < length entries → (get_or entries k d).to ≤ℤ entry.to
   pub own : entry.least ≤ℤ entry.from
-  pub others : (k : ℕ) (d : Entry) → block_start (length entries) ≤ k → k < length entries → entry.least ≤ℤ (get_or entries k d).from
+  pub others : (k : ℕ) (d : VersionEntry) → block_start (length entries) ≤ k → k < length entries → entry.least ≤ℤ (get_or entries k d).from
 
-last_bytes : (bytes more : List ℕ) (entry : Entry) → entry.start ≡ length bytes → entry.end ≡ length (bytes ++ more) → slice_range (bytes ++ more) entry.start entry.end ≡ more
+last_bytes : (bytes more : List ℕ) (entry : VersionEntry) → entry.start ≡ length bytes → entry.end ≡ length (bytes ++ more) → slice_range (bytes ++ more) entry.start entry.end ≡ more
 last_bytes bytes more entry s e =
     ap (λ n. slice_range (bytes ++ more) n entry.end) s
     ∙ (ap (slice_range (bytes ++ more) (length bytes)) e ∙ last_part bytes more)
 
-kept_last : (bytes more : List ℕ) (entries : List Entry) (entry : Entry) → ComesBehind bytes more entries entry → IsKept (bytes ++ more) entry
+kept_last : (bytes more : List ℕ) (entries : List VersionEntry) (entry : VersionEntry) → ComesBehind bytes more entries entry → IsKept (bytes ++ more) entry
 kept_last bytes more entries entry comes = record {
   forward = omega (arith, comes.start, comes.end, length-append bytes more);
   within = omega (arith, comes.end);
   spelled = subst IsEncoding (sym (last_bytes bytes more entry comes.start comes.end)) comes.spelled;
 }
 
-least_more : (entries : List Entry) (entry : Entry) → KnowLeast entries → entry.least ≤ℤ entry.from
-    → ((k : ℕ) (d : Entry) → block_start (length entries) ≤ k → k < length entries → entry.least ≤ℤ (get_or entries k d).from)
+least_more : (entries : List VersionEntry) (entry : VersionEntry) → KnowLeast entries → entry.least ≤ℤ entry.from
+    → ((k : ℕ) (d : VersionEntry) → block_start (length entries) ≤ k → k < length entries → entry.least ≤ℤ (get_or entries k d).from)
     → KnowLeast (entries ++ entry ∷ [])
 least_more entries entry least own others = λ last place d from upto below.
     let size : length (entries ++ entry ∷ []) ≡ length entries + 1 = length_push entries entry in
     go last place d from upto (omega arith) (cases_lt last (length entries)) (cases_lt place (length entries))
   where
-    Known : Entry → Entry → Type 0
+    Known : VersionEntry → VersionEntry → Type 0
     Known a b = a.least ≤ℤ b.from
 
-    both : (a b c e : Entry) → a ≡ c → b ≡ e → Known c e → Known a b
+    both : (a b c e : VersionEntry) → a ≡ c → b ≡ e → Known c e → Known a b
     both a b c e p q h = subst (λ z. Known z b) (sym p) (subst (Known c) (sym q) h)
 
-    go : (last place : ℕ) (d : Entry) → block_start last ≤ place → place ≤ last → last ≤ length entries
+    go : (last place : ℕ) (d : VersionEntry) → block_start last ≤ place → place ≤ last → last ≤ length entries
         → (last < length entries) ⊎ (length entries ≤ last) → (place < length entries) ⊎ (length entries ≤ place)
         → Known (get_or (entries ++ entry ∷ []) last d) (get_or (entries ++ entry ∷ []) place d)
     go last place d from upto below (inl before) at =
@@ -93,7 +93,7 @@ least_more entries entry least own others = λ last place d from upto below.
     go last place d from upto below (inr behind) (inr too) =
         both _ _ _ _ (get_or_push entries entry d last (omega arith)) (get_or_push entries entry d place (omega arith)) own
 
-pub one_more : (bytes more : List ℕ) (entries : List Entry) (entry : Entry) → AreEntries bytes entries → ComesBehind bytes more entries entry → AreEntries (bytes ++ more) (entries ++ entry ∷ [])
+pub one_more : (bytes more : List ℕ) (entries : List VersionEntry) (entry : VersionEntry) → AreEntries bytes entries → ComesBehind bytes more entries entry → AreEntries (bytes ++ more) (entries ++ entry ∷ [])
 one_more bytes more entries entry are comes = record {
   kept = All-push (IsKept (bytes ++ more)) entries entry (All-weaker (IsKept bytes) (IsKept (bytes ++ more)) (kept_on bytes more) entries are.kept) (kept_last bytes more entries entry comes);
   ordered = all_pairs_push Precedes entries entry are.ordered (λ k d below. record { ended = comes.ended k d below; apart = omega (arith, (are.kept k d below).within, comes.start) });
@@ -101,7 +101,7 @@ one_more bytes more entries entry are comes = record {
 }
 
 pub packed_more :
-    (bytes more : List ℕ) (entries : List Entry) (entry : Entry) (version : PackedVersion) → AreEntries bytes entries
+    (bytes more : List ℕ) (entries : List VersionEntry) (entry : VersionEntry) (version : PackedVersion) → AreEntries bytes entries
     → ComesBehind bytes more entries entry
     → version ≡ record { bytes = more; period = entry.period; from = entry.from; to = entry.to }
     → map (packed_in (bytes ++ more)) (entries ++ entry ∷ []) ≡ map (packed_in bytes) entries ++ version ∷ []
@@ -121,12 +121,12 @@ part_before bytes n start end forward within inside =
     sym (same_part (take n bytes) (drop n bytes) start end forward (omega arith))
     ∙ ap (λ (bs : List ℕ). slice_range bs start end) (take-append-drop n bytes)
 
-pub record AreFirst (bytes : List ℕ) (entries : List Entry) (n count : ℕ) : Type 0 where
+pub record AreFirst (bytes : List ℕ) (entries : List VersionEntry) (n count : ℕ) : Type 0 where
   pub are : AreEntries bytes entries
   pub fewer : count < length entries
-  pub bytes_of : (d : Entry) → n ≡ (get_or entries count d).start
+  pub bytes_of : (d : VersionEntry) → n ≡ (get_or entries count d).start
 
-kept_first : (bytes : List ℕ) (entries : List Entry) (n count : ℕ) → AreFirst bytes entries n count → (k : ℕ) (d : Entry) → k < count → IsKept (take n bytes) (get_or entries k d)
+kept_first : (bytes : List ℕ) (entries : List VersionEntry) (n count : ℕ) → AreFirst bytes entries n count → (k : ℕ) (d : VersionEntry) → k < count → IsKept (take n bytes) (get_or entries k d)
 kept_first bytes entries n count first k d below =
     let mine : IsKept bytes (get_or entries k d) = first.are.kept k d (omega (arith, first.fewer)) in
     let next : IsKept bytes (get_or entries count d) = first.are.kept count d first.fewer in
@@ -139,7 +139,7 @@ kept_first bytes entries n count first k d below =
       spelled = subst IsEncoding (sym (part_before bytes n (get_or entries k d).start (get_or entries k d).end mine.forward upto inside)) mine.spelled;
     }
 
-pub first_ones : (bytes : List ℕ) (entries : List Entry) (n count : ℕ) → AreFirst bytes entries n count → AreEntries (take n bytes) (take count entries)
+pub first_ones : (bytes : List ℕ) (entries : List VersionEntry) (n count : ℕ) → AreFirst bytes entries n count → AreEntries (take n bytes) (take count entries)
 first_ones bytes entries n count first =
     let size : length (take count entries) ≡ count = length-take-le count entries (omega (arith, first.fewer)) in
     record {
@@ -148,10 +148,10 @@ first_ones bytes entries n count first =
       least = λ last place d from upto below. pair (λ b a. a.least ≤ℤ b.from) entries count place last d (omega arith) (omega arith) (first.are.least last place d from upto (omega (arith, first.fewer)));
     }
   where
-    pair : (R : Entry → Entry → Type 0) (xs : List Entry) (n i j : ℕ) (d : Entry) → i < n → j < n → R (get_or xs i d) (get_or xs j d) → R (get_or (take n xs) i d) (get_or (take n xs) j d)
+    pair : (R : VersionEntry → VersionEntry → Type 0) (xs : List VersionEntry) (n i j : ℕ) (d : VersionEntry) → i < n → j < n → R (get_or xs i d) (get_or xs j d) → R (get_or (take n xs) i d) (get_or (take n xs) j d)
     pair R xs n i j d p q h = subst (λ z. R z (get_or (take n xs) j d)) (sym (get_or-take n xs i d p)) (subst (R (get_or xs i d)) (sym (get_or-take n xs j d q)) h)
 
-pub packed_first : (bytes : List ℕ) (entries : List Entry) (n count : ℕ) → AreFirst bytes entries n count → map (packed_in (take n bytes)) (take count entries) ≡ take count (map (packed_in bytes) entries)
+pub packed_first : (bytes : List ℕ) (entries : List VersionEntry) (n count : ℕ) → AreFirst bytes entries n count → map (packed_in (take n bytes)) (take count entries) ≡ take count (map (packed_in bytes) entries)
 packed_first bytes entries n count first =
     let size : length (take count entries) ≡ count = length-take-le count entries (omega (arith, first.fewer)) in
     sym (same_on (take n bytes) (drop n bytes) (take count entries) (first_ones bytes entries n count first).kept)
@@ -162,23 +162,23 @@ packed_first bytes entries n count first =
 
 -- one block more before the others
 pub least_on :
-    (entries : List Entry) (entry : Entry) (least now : ℤ) (place next : ℕ) → KnowLeast entries → 0 < place → place ≤ length entries
+    (entries : List VersionEntry) (entry : VersionEntry) (least now : ℤ) (place next : ℕ) → KnowLeast entries → 0 < place → place ≤ length entries
     → entry ≡ get_or entries (place - 1) entry → next ≡ block_start (place - 1) → now ≤ℤ entry.least → now ≤ℤ least
-    → ((k : ℕ) (d : Entry) → place ≤ k → k < length entries → least ≤ℤ (get_or entries k d).from)
-    → (k : ℕ) (d : Entry) → next ≤ k → k < length entries → now ≤ℤ (get_or entries k d).from
+    → ((k : ℕ) (d : VersionEntry) → place ≤ k → k < length entries → least ≤ℤ (get_or entries k d).from)
+    → (k : ℕ) (d : VersionEntry) → next ≤ k → k < length entries → now ≤ℤ (get_or entries k d).from
 least_on entries entry least now place next known some inside is start by_entry by_least others k d from below =
     elim (cases_lt k place) [
       | inl before ↦
           let its : (get_or entries (place - 1) d).least ≤ℤ (get_or entries k d).from = known (place - 1) k d (subst (λ n. n ≤ k) start from) (omega arith) (omega arith) in
           let same : get_or entries (place - 1) d ≡ entry = get_or_default entries (place - 1) d entry (omega arith) ∙ sym is in
-          let mine : entry.least ≤ℤ (get_or entries k d).from = subst (λ (e : Entry). e.least ≤ℤ (get_or entries k d).from) same its in
+          let mine : entry.least ≤ℤ (get_or entries k d).from = subst (λ (e : VersionEntry). e.least ≤ℤ (get_or entries k d).from) same its in
           omega (arith, ints)
       | inr behind ↦ let other = others k d behind below in omega (arith, ints)
     ]
 
 -- ---- what the list of versions says of the entries
 
-pub ended_entries : (bytes : List ℕ) (entries : List Entry) (moment : ℤ) → AreEndedBy moment (map (packed_in bytes) entries) → (k : ℕ) (d : Entry) → k < length entries → (get_or entries k d).to ≤ℤ moment
+pub ended_entries : (bytes : List ℕ) (entries : List VersionEntry) (moment : ℤ) → AreEndedBy moment (map (packed_in bytes) entries) → (k : ℕ) (d : VersionEntry) → k < length entries → (get_or entries k d).to ≤ℤ moment
 ended_entries bytes entries moment ended k d below =
     subst (λ (p : PackedVersion). p.to ≤ℤ moment) (get_or-map (packed_in bytes) entries k d (packed_in bytes d) below)
     (ended k (packed_in bytes d) (omega (arith, length-map entries (packed_in bytes))))

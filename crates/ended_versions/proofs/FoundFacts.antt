@@ -1,11 +1,10 @@
 -- The way through the versions of one hash, and the hashes of more versions and of fewer.
-use Rattle.std.proofs.Common.{◌≡◌, ◌≤◌, ◌<◌, ◌+◌, ◌&&◌, ◌++◌, ◌∷◌, [], ◌∙◌, ℕ, ℤ, Bool, true, false, cond, List, Option, None, Some, append-nil, append_assoc, length, get_or, map, reverse, take, refl, sym, ap, subst, inl, inr, arith}
+use Rattle.std.proofs.Common.{◌≡◌, ◌≤◌, ◌<◌, ◌&&◌, ◌++◌, ◌∷◌, [], ◌∙◌, ℕ, ℤ, Bool, true, false, cond, List, Option, None, Some, append-nil, append_assoc, length, get_or, map, reverse, take, refl, sym, ap, subst, inl, inr, arith}
 use Rattle.std.specs.Prelude.{option_to_list}
-use Rattle.std.specs.List.{All, filter}
+use Rattle.std.specs.List.{filter}
 use Rattle.std.proofs.lemmas.Bool.{and_from, and_left, and_right, cases_lt, eq-eqb, ne_eqb}
 use Rattle.std.proofs.lemmas.List.{get_or-map, get_or-take, get_or_append_left, get_or_push, length-map, length-take-le, length_push, reverse-append, take_all}
 use Rattle.std.proofs.lemmas.List.Elements.{filter-append, filter_more}
-use Rattle.period_core.specs.Encoding.{IsColumnValue}
 use Rattle.period_core.specs.Windows.{window_sees}
 use Rattle.period_core.specs.declared.value.Value.{Value}
 use Rattle.period_core.specs.declared.version.VersionRow.{VersionRow}
@@ -15,7 +14,7 @@ use Rattle.ended_versions.specs.Entries.{packed_in}
 use Rattle.ended_versions.specs.Found.{AreHashes, IsVersionIfSeen}
 use Rattle.ended_versions.specs.Hashes.{hash_at, hash_of, shares_hash}
 use Rattle.ended_versions.specs.Packed.{Hold, PackedVersion, ended_at, packed, seen_through}
-use Rattle.ended_versions.specs.declared.blocks.Entry.{Entry}
+use Rattle.ended_versions.specs.declared.blocks.VersionEntry.{VersionEntry}
 use Rattle.ended_versions.proofs.PackedFacts.{OfColumns, same_version}
 use Rattle.ended_versions.proofs.WalkFacts.{none_between}
 
@@ -146,15 +145,9 @@ hashes_first positions list hashes count are = elim (cases_lt count (length list
       (subst (λ (l : List PackedVersion). AreHashes positions l hashes) (sym (take_all count list all)) are)
 ]
 
-pub hashes_none : (positions : List ℕ) → AreHashes positions [] []
-hashes_none positions = record {
-  as_many = refl;
-  each = λ place d e v below columns same. absurd (omega arith);
-}
-
 -- ---- the version at a place
 
-pub packed_at : (bytes : List ℕ) (entries : List Entry) (list : List PackedVersion) (versions : List VersionRow) (place : ℕ) (d : VersionRow) (entry : Entry) → map (packed_in bytes) entries ≡ list → Hold list versions → place < length list
+pub packed_at : (bytes : List ℕ) (entries : List VersionEntry) (list : List PackedVersion) (versions : List VersionRow) (place : ℕ) (d : VersionRow) (entry : VersionEntry) → map (packed_in bytes) entries ≡ list → Hold list versions → place < length list
     → entry ≡ get_or entries place entry → packed (get_or versions place d) ≡ packed_in bytes entry
 packed_at bytes entries list versions place d entry view hold below is =
     let many = length-map versions packed in

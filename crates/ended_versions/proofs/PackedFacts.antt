@@ -12,7 +12,7 @@ use Rattle.period_core.specs.declared.window.Window.{Window}
 use Rattle.period_core.proofs.EncodingOrder.{reads_back}
 use Rattle.ended_versions.specs.Entries.{is_seen, packed_in}
 use Rattle.ended_versions.specs.Packed.{AreOfColumns, Hold, PackedVersion, packed, seen_through}
-use Rattle.ended_versions.specs.declared.blocks.Entry.{Entry}
+use Rattle.ended_versions.specs.declared.blocks.VersionEntry.{VersionEntry}
 
 -- ---- one spelling
 
@@ -64,7 +64,7 @@ packed_is_seen : Window → PackedVersion → Bool
 packed_is_seen window version = window_sees window version.from version.to
 
 pub seen_is :
-    (window : Window) (bytes : List ℕ) (entries : List Entry) (versions seen : List VersionRow)
+    (window : Window) (bytes : List ℕ) (entries : List VersionEntry) (versions seen : List VersionRow)
     → Hold (map (packed_in bytes) entries) versions → AreOfColumns seen
     → map (packed_in bytes) (filter (is_seen window) entries) ≡ map packed (reverse seen)
     → seen ≡ reverse (seen_through window versions)
@@ -83,7 +83,7 @@ seen_is window bytes entries versions seen hold held e =
 
 -- one more, found before the others
 pub seen_more :
-    (bytes : List ℕ) (all before rest : List Entry) (entry : Entry) (seen : List VersionRow) (version : VersionRow)
+    (bytes : List ℕ) (all before rest : List VersionEntry) (entry : VersionEntry) (seen : List VersionRow) (version : VersionRow)
     → map (packed_in bytes) all ≡ map (packed_in bytes) before ++ map packed (reverse seen)
     → before ≡ rest ++ entry ∷ [] → packed version ≡ packed_in bytes entry
     → map (packed_in bytes) all ≡ map (packed_in bytes) rest ++ map packed (reverse (seen ++ version ∷ []))

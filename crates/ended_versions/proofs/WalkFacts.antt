@@ -1,5 +1,5 @@
 -- Steps of the way back through the entries.
-use Rattle.std.proofs.Common.{◌≡◌, ◌≤ℤ◌, ◌≤◌, ◌<◌, ◌+◌, ◌-◌, ◌++◌, ◌∷◌, [], ◌∙◌, ℕ, Bool, List, true, false, cond, zero, suc, length, get_or, take, sym, ap, subst, inl, inr, arith}
+use Rattle.std.proofs.Common.{◌≡◌, ◌≤ℤ◌, ◌≤◌, ◌<◌, ◌+◌, ◌-◌, ◌++◌, ◌∷◌, [], ◌∙◌, ℕ, Bool, List, false, cond, zero, suc, length, get_or, take, sym, ap, subst, inl, inr, arith}
 use Rattle.std.specs.List.{filter}
 use Rattle.std.proofs.lemmas.Bool.{cases_lt}
 use Rattle.std.proofs.lemmas.List.{append-nil}
@@ -7,7 +7,7 @@ use Rattle.std.proofs.lemmas.List.Elements.{filter_more}
 use Rattle.period_core.specs.declared.window.Window.{Window}
 use Rattle.ended_versions.specs.Bounds.{begins_early, ends_late}
 use Rattle.ended_versions.specs.Entries.{AreInOrder, KnowLeast, Precedes, block_start, is_seen}
-use Rattle.ended_versions.specs.declared.blocks.Entry.{Entry}
+use Rattle.ended_versions.specs.declared.blocks.VersionEntry.{VersionEntry}
 use Rattle.ended_versions.proofs.BoundFacts.{begins_late, ends_early}
 
 -- one more that does not pass
@@ -15,12 +15,6 @@ one_fails : {X : Type 0} (test : X → Bool) (xs : List X) (d : X) (i : ℕ) →
 one_fails test xs d i inside fails =
     filter_more test xs i d inside
     ∙ (ap (λ b. filter test (take i xs) ++ cond b (get_or xs i d ∷ []) []) fails ∙ append-nil (filter test (take i xs)))
-
--- a last one that passes
-pub passes_last : {X : Type 0} (test : X → Bool) (xs : List X) (d : X) (i : ℕ) → i < length xs → test (get_or xs i d) ≡ true → filter test (take (i + 1) xs) ≡ filter test (take i xs) ++ get_or xs i d ∷ []
-passes_last test xs d i inside passes =
-    filter_more test xs i d inside
-    ∙ ap (λ b. filter test (take i xs) ++ cond b (get_or xs i d ∷ []) []) passes
 
 -- so many behind a place that do not pass
 some_fail :
@@ -47,15 +41,15 @@ none_between test xs d low high order within none =
 
 -- where the entry ends too early, so do those before it
 pub none_before :
-    (window : Window) (entries : List Entry) (entry : Entry) (place : ℕ) → AreInOrder entries → place < length entries
+    (window : Window) (entries : List VersionEntry) (entry : VersionEntry) (place : ℕ) → AreInOrder entries → place < length entries
     → entry ≡ get_or entries place entry → is_seen window entry ≡ false → ends_late window entry.to ≡ false
     → filter (is_seen window) (take (place + 1) entries) ≡ []
 none_before window entries entry place order inside is unseen late =
     none_between (is_seen window) entries entry 0 (place + 1) (omega arith) (omega arith)
     (λ k from below. go k (omega arith))
   where
-    by_entry : (e : Entry) → entry ≡ e → (other : Entry) → Precedes other e → is_seen window other ≡ false
-    by_entry e same other p = ends_early window entry.to other.from other.to late (subst (λ (z : Entry). other.to ≤ℤ z.to) (sym same) p.ended)
+    by_entry : (e : VersionEntry) → entry ≡ e → (other : VersionEntry) → Precedes other e → is_seen window other ≡ false
+    by_entry e same other p = ends_early window entry.to other.from other.to late (subst (λ (z : VersionEntry). other.to ≤ℤ z.to) (sym same) p.ended)
 
     here : (k : ℕ) → k ≡ place → is_seen window (get_or entries k entry) ≡ false
     here k e = ap (λ n. is_seen window (get_or entries n entry)) e ∙ (ap (is_seen window) (sym is) ∙ unseen)
@@ -68,18 +62,10 @@ none_before window entries entry place order inside is unseen late =
 
 -- where a block begins too late, none of it is seen
 pub none_of_block :
-    (window : Window) (entries : List Entry) (entry : Entry) (place : ℕ) → KnowLeast entries → place < length entries
+    (window : Window) (entries : List VersionEntry) (entry : VersionEntry) (place : ℕ) → KnowLeast entries → place < length entries
     → entry ≡ get_or entries place entry → block_start place ≤ place → begins_early window entry.least ≡ false
     → filter (is_seen window) (take (place + 1) entries) ≡ filter (is_seen window) (take (block_start place) entries)
 none_of_block window entries entry place least inside is start late =
     none_between (is_seen window) entries entry (block_start place) (place + 1) (omega arith) (omega arith)
     (λ k from below. begins_late window entry.least (get_or entries k entry).from (get_or entries k entry).to late
-    (subst (λ (z : Entry). z.least ≤ℤ (get_or entries k entry).from) (sym is) (least place k entry from (omega arith) inside)))
-
--- and one that is not seen
-pub one_unseen :
-    (window : Window) (entries : List Entry) (entry : Entry) (place : ℕ) → place < length entries
-    → entry ≡ get_or entries place entry → is_seen window entry ≡ false
-    → filter (is_seen window) (take (place + 1) entries) ≡ filter (is_seen window) (take place entries)
-one_unseen window entries entry place inside is unseen =
-    one_fails (is_seen window) entries entry place inside (ap (is_seen window) (sym is) ∙ unseen)
+    (subst (λ (z : VersionEntry). z.least ≤ℤ (get_or entries k entry).from) (sym is) (least place k entry from (omega arith) inside)))

@@ -7,10 +7,10 @@ use Rattle.period_core.specs.Encoding.{IsEncoding}
 use Rattle.period_core.specs.Windows.{window_sees}
 use Rattle.period_core.specs.declared.window.Window.{Window}
 use Rattle.ended_versions.specs.Packed.{PackedVersion}
-use Rattle.ended_versions.specs.declared.blocks.Entry.{Entry}
+use Rattle.ended_versions.specs.declared.blocks.VersionEntry.{VersionEntry}
 
 -- the version of an entry
-abbrev pub packed_in : List ℕ → Entry → PackedVersion
+abbrev pub packed_in : List ℕ → VersionEntry → PackedVersion
 packed_in bytes entry = record {
   bytes = slice_range bytes entry.start entry.end;
   period = entry.period;
@@ -19,22 +19,22 @@ packed_in bytes entry = record {
 }
 
 -- whether the window sees it
-abbrev pub is_seen : Window → Entry → Bool
+abbrev pub is_seen : Window → VersionEntry → Bool
 is_seen window entry = window_sees window entry.from entry.to
 
 -- the bytes have the values of the entry
-pub record IsKept (bytes : List ℕ) (entry : Entry) : Type 0 where
+pub record IsKept (bytes : List ℕ) (entry : VersionEntry) : Type 0 where
   pub forward : entry.start ≤ entry.end
   pub within : entry.end ≤ length bytes
   pub spelled : IsEncoding (slice_range bytes entry.start entry.end)
 
 -- the second ended no earlier, and its values come behind those of the first
-pub record Precedes (first second : Entry) : Type 0 where
+pub record Precedes (first second : VersionEntry) : Type 0 where
   pub ended : first.to ≤ℤ second.to
   pub apart : first.end ≤ second.start
 
 -- each precedes those after it
-abbrev pub AreInOrder : List Entry → Type 0
+abbrev pub AreInOrder : List VersionEntry → Type 0
 AreInOrder = AllPairs Precedes
 
 -- the first place of the block that a place ends
@@ -42,13 +42,14 @@ abbrev pub block_start : ℕ → ℕ
 block_start place = bit_and (place + 1) place
 
 -- no version of the block that an entry ends begins before its `least`
-abbrev pub KnowLeast : List Entry → Type 0
+abbrev pub KnowLeast : List VersionEntry → Type 0
 KnowLeast entries =
-    (last place : ℕ) (d : Entry) → block_start last ≤ place → place ≤ last → last < length entries
+    (last place : ℕ) (d : VersionEntry) → block_start last ≤ place → place ≤ last
+    → last < length entries
     → (slice_index_or entries last d).least ≤ℤ (slice_index_or entries place d).from
 
 -- what is so of the whole list
-pub record AreEntries (bytes : List ℕ) (entries : List Entry) : Type 0 where
+pub record AreEntries (bytes : List ℕ) (entries : List VersionEntry) : Type 0 where
   pub kept : All (IsKept bytes) entries
   pub ordered : AreInOrder entries
   pub least : KnowLeast entries

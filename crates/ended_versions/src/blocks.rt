@@ -3,14 +3,14 @@
 
 ghost use Rattle.std.specs.Prelude.{◌≡◌, ◌<◌, ◌≤◌, ◌≤ℤ◌, length, slice_index_or, ℕ};
 ghost use Rattle.ended_versions.specs.Entries.{KnowLeast, block_start};
-ghost use Rattle.ended_versions.specs.declared.blocks.Entry.{Entry as Kept};
+ghost use Rattle.ended_versions.specs.declared.blocks.VersionEntry.{VersionEntry as Kept};
 
 use period_core::{Moment, Period};
 
 /// An ended version: where its values are among the bytes of all, its period, its system time, and
 /// the least moment at which a version of the block that it ends begins.
 #[derive(Clone, Copy)]
-pub struct Entry {
+pub struct VersionEntry {
     /// Where its values begin among the bytes.
     pub start: usize,
     /// Where they end.
@@ -45,7 +45,7 @@ fn earlier(first: Moment, second: Moment) -> Moment
 
 /// The least moment at which a version begins of the block that the next entry ends, where its own
 /// begins at `from`.
-pub fn least_with(entries: &[Entry], from: Moment) -> Moment
+pub fn least_with(entries: &[VersionEntry], from: Moment) -> Moment
     requires { KnowLeast entries.now }
     ensures own { result ≤ℤ from }
     ensures others { (place : ℕ) (d : Kept) → block_start (length entries.now) ≤ place

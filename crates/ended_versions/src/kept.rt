@@ -9,7 +9,7 @@ ghost use Rattle.ended_versions.specs.Entries.{IsKept, packed_in};
 ghost use Rattle.ended_versions.specs.Found.{IsVersionIfSeen};
 ghost use Rattle.ended_versions.specs.Packed.{AreEndedBy, Hold, ended_at, packed, seen_through};
 
-use crate::blocks::{Entry, least_with};
+use crate::blocks::{VersionEntry, least_with};
 use crate::walk::last_seen;
 use period_core::{
     DecodeFault, Memory, Moment, Values, VersionRow, Window, decode_values, encode_values,
@@ -22,7 +22,7 @@ use std::marker::Model;
 #[derive(Drop)]
 pub struct KeptVersions {
     bytes: Vec<u8>,
-    entries: Vec<Entry>,
+    entries: Vec<VersionEntry>,
 }
 
 impl Model for KeptVersions {
@@ -67,7 +67,7 @@ impl KeptVersions {
         let values = encode_values(alloc, version.values.as_slice())?;
         let start = self.bytes.len();
         self.bytes.extend_from_slice(values.as_slice())?;
-        let entry = Entry {
+        let entry = VersionEntry {
             start,
             end: self.bytes.len(),
             period: version.period,
@@ -128,7 +128,7 @@ impl KeptVersions {
 }
 
 /// The version of an entry.
-fn unpacked(alloc: Global, bytes: &[u8], entry: &Entry) -> Result<VersionRow, Memory>
+fn unpacked(alloc: Global, bytes: &[u8], entry: &VersionEntry) -> Result<VersionRow, Memory>
     requires { IsKept bytes.now entry.now }
     ensures same { IfOk result (λ version. packed version ≡ packed_in bytes.now entry.now) }
     ensures held { IfOk result (λ version. All IsColumnValue version.values) }

@@ -4,13 +4,13 @@ ghost use Rattle.std.specs.Prelude.{◌≡◌, ◌++◌, ◌∷◌, ◌<◌, ◌
 ghost use Rattle.std.specs.Prelude.{slice_index_or, take};
 ghost use Rattle.ended_versions.specs.Bounds.{begins_early, ends_late};
 ghost use Rattle.ended_versions.specs.Entries.{AreInOrder, KnowLeast, is_seen};
-ghost use Rattle.ended_versions.specs.declared.blocks.Entry.{Entry as Kept};
+ghost use Rattle.ended_versions.specs.declared.blocks.VersionEntry.{VersionEntry as Kept};
 
-use crate::blocks::{Entry, block_start};
+use crate::blocks::{VersionEntry, block_start};
 use period_core::{Moment, Window};
 
 /// Whether the window sees the version of an entry.
-fn is_seen(window: &Window, entry: &Entry) -> bool
+fn is_seen(window: &Window, entry: &VersionEntry) -> bool
     ensures { result ≡ is_seen window.now entry.now }
 {
     window.sees(entry.from, entry.to)
@@ -43,7 +43,7 @@ fn ends_late(window: &Window, to: Moment) -> bool
 
 /// The last place before this one of a version that the window sees. It takes some steps for each
 /// doubling of the list's length, not for each version.
-pub fn last_seen(entries: &[Entry], window: &Window, before: usize) -> Option<usize>
+pub fn last_seen(entries: &[VersionEntry], window: &Window, before: usize) -> Option<usize>
     requires ordered { AreInOrder entries.now }
     requires least { KnowLeast entries.now }
     requires within { before ≤ length entries.now }

@@ -1,9 +1,8 @@
 -- A list in two parts, the settled and the late ones, with one element more or less.
-use Rattle.std.proofs.Common.{◌≡◌, ◌≤◌, ◌<◌, ◌≤ℤ◌, ◌+◌, ◌-◌, ◌∷◌, [], ◌∙◌, ℕ, ℤ, zero, suc, Bool, true, false, List, length, get_or, take, drop, refl, sym, ap, subst, inl, inr, arith}
+use Rattle.std.proofs.Common.{◌≡◌, ◌≤◌, ◌<◌, ◌≤ℤ◌, ◌+◌, ◌-◌, ◌∷◌, [], ◌∙◌, ℕ, ℤ, zero, suc, Bool, true, false, List, length, get_or, take, drop, refl, sym, ap, subst, arith}
 use Rattle.std.specs.List.{insert, remove}
 use Rattle.std.specs.List.Sorted.{IsSortedByKey}
 use Rattle.std.specs.Ordering.{int_cmp, is_lt}
-use Rattle.std.proofs.lemmas.Bool.{cases_Bool}
 use Rattle.std.proofs.lemmas.Cmp.{int_cmp_total}
 use Rattle.std.proofs.lemmas.Int.{by_lt_z}
 use Rattle.std.proofs.lemmas.List.{take_all}
@@ -136,19 +135,6 @@ abbrev pub ComesIn : ℤ → ℕ → List Period → ℕ → Bool → Type 0
 ComesIn day settled periods place settles =
     (settles ≡ true → (drop settled periods ≡ []) × FitsAt day (take settled periods) place)
     × (settles ≡ false → (p : ℕ) × (place ≡ settled + p) × FitsAt day (drop settled periods) p)
-
--- the place is inside of the list
-pub comes_inside : (day : ℤ) (settled : ℕ) (periods : List Period) (place : ℕ) (b : Bool) → settled ≤ length periods → ComesIn day settled periods place b → place ≤ length periods
-comes_inside day settled periods place b within comes =
-    elim (cases_Bool b) [
-      | inl t ↦
-          let size : length (take settled periods) ≡ settled = length_take periods settled within in
-          let low : place ≤ length (take settled periods) = (comes.0 t).1.0 in omega arith
-      | inr f ↦
-          let (p, is, fits) = comes.1 f in
-          let size : settled + length (drop settled periods) ≡ length periods = length_drop periods settled within in
-          let low : p ≤ length (drop settled periods) = fits.0 in omega arith
-    ]
 
 -- a settled one is gone
 pub settled_gone : (settled place : ℕ) (periods : List Period) → AreRuns settled periods → place < settled → AreRuns (settled - 1) (remove periods place)

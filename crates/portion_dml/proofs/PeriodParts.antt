@@ -7,7 +7,7 @@ use Rattle.period_core.specs.DaySets.{InPart, InPeriod, IsAfter, IsBefore}
 use Rattle.period_core.specs.declared.period.Period.{Period}
 use Rattle.period_core.specs.declared.value.Value.{Value}
 use Rattle.period_core.proofs.PeriodEnds.{after_by, after_to, before_by, before_to, day_in, days_from, days_to, first_in, last_in}
-use Rattle.history_model.specs.Portions.{PlainRow, part}
+use Rattle.history_model.specs.Portions.{part}
 use Rattle.portion_dml.specs.Parts.{row_over}
 
 -- the part has the days from one on and before another

@@ -6,14 +6,14 @@ use Rattle.temporal_model.specs.Snapshot.{Equivalent, InSnapshot}
 use Rattle.sequenced_ops.specs.Joining.{Adds}
 use Rattle.sequenced_ops.specs.Operations.{Cond, InUnion, SnapshotsAre}
 use Rattle.sequenced_ops.specs.Outputs.{GivesSome, InSelected, IsGathered, IsGiven, IsSelected}
-use Rattle.sequenced_ops.specs.declared.outputs.Output.{Output}
-use Rattle.sequenced_ops.specs.declared.outputs.Output.TheVariants.{Pairs}
+use Rattle.sequenced_ops.specs.declared.outputs.JoinOutput.{JoinOutput}
+use Rattle.sequenced_ops.specs.declared.outputs.JoinOutput.TheVariants.{Pairs}
 use Rattle.sequenced_ops.proofs.Added.{Adds-behind, Adds-both}
 use Rattle.sequenced_ops.proofs.Standing.{holds-append}
 
 -- of other pairs too, where what is known of the pairs says so
 pub gives_weaker :
-    (Are Also : List PeriodRow → Type 0) (conjuncts : List Cond) (output : Output) (rows : List PeriodRow)
+    (Are Also : List PeriodRow → Type 0) (conjuncts : List Cond) (output : JoinOutput) (rows : List PeriodRow)
     → ((pairs : List PeriodRow) → Are pairs → Also pairs)
     → GivesSome Are conjuncts output rows → GivesSome Also conjuncts output rows
 gives_weaker Are Also conjuncts output rows step (pairs, are, given) = (pairs, step pairs are, given)
@@ -60,7 +60,7 @@ selected_both conjuncts columns done pairs selected rows before step day read = 
 
 -- the pairs left are selected as well
 pub batch_selected :
-    (conjuncts : List Cond) (output : Output) (all selected pairs rows : List PeriodRow)
+    (conjuncts : List Cond) (output : JoinOutput) (all selected pairs rows : List PeriodRow)
     → ((done : List PeriodRow) → IsSelected conjuncts output done selected → IsSelected conjuncts output (done ++ pairs) rows)
     → IsGathered conjuncts output all selected pairs → IsGathered conjuncts output all rows []
 batch_selected conjuncts output all selected pairs rows step (done, is, before) =
@@ -72,19 +72,19 @@ pub given_pairs :
 given_pairs conjuncts all selected pairs (done, is, none) = sym is ∙ ap (λ l. l ++ pairs) none
 
 pub given_columns :
-    (conjuncts : List Cond) (output : Output) (all selected pairs rows : List PeriodRow)
+    (conjuncts : List Cond) (output : JoinOutput) (all selected pairs rows : List PeriodRow)
     → ((done : List PeriodRow) → IsSelected conjuncts output done selected → IsGiven conjuncts output (done ++ pairs) rows)
     → IsGathered conjuncts output all selected pairs → IsGiven conjuncts output all rows
 given_columns conjuncts output all selected pairs rows step (done, is, before) =
     subst (λ l. IsGiven conjuncts output l rows) is (step done before)
 
 -- the pairs of the set that are found
-abbrev pub GathersAll : List Cond → Output → (ℤ → List Value → Type 0) → List PeriodRow → List PeriodRow → Type 0
+abbrev pub GathersAll : List Cond → JoinOutput → (ℤ → List Value → Type 0) → List PeriodRow → List PeriodRow → Type 0
 GathersAll conjuncts output InSet selected pairs =
     (all : List PeriodRow) × Adds conjuncts InSet [] all × IsGathered conjuncts output all selected pairs
 
 pub gathers_more :
-    (conjuncts : List Cond) (output : Output) (First Second Both : ℤ → List Value → Type 0)
+    (conjuncts : List Cond) (output : JoinOutput) (First Second Both : ℤ → List Value → Type 0)
     → (selected pairs more : List PeriodRow)
     → GathersAll conjuncts output First selected pairs → Adds conjuncts Second pairs more
     → ((day : ℤ) (values : List Value) → (Both day values ↔ (First day values ⊎ Second day values)))
@@ -98,7 +98,7 @@ gathers_more conjuncts output First Second Both selected pairs more (all, before
     )
 
 pub gathers_batch :
-    (conjuncts : List Cond) (output : Output) (InSet : ℤ → List Value → Type 0)
+    (conjuncts : List Cond) (output : JoinOutput) (InSet : ℤ → List Value → Type 0)
     → (selected pairs rows left : List PeriodRow)
     → ((all : List PeriodRow) → IsGathered conjuncts output all selected pairs → IsGathered conjuncts output all rows left)
     → GathersAll conjuncts output InSet selected pairs → GathersAll conjuncts output InSet rows left

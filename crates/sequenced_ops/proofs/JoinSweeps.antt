@@ -7,7 +7,7 @@ use Rattle.std.proofs.lemmas.Int.{ints}
 use Rattle.std.proofs.lemmas.List.Elements.{Contains-append_left, Contains-push, Contains-push_cases}
 use Rattle.period_core.specs.declared.value.Value.{Value}
 use Rattle.temporal_model.proofs.Members.{Contains-here, Contains-there, AllPairs-head}
-use Rattle.sequenced_ops.specs.declared.keyed.Key.{Key}
+use Rattle.sequenced_ops.specs.declared.keyed.JoinKey.{JoinKey}
 use Rattle.sequenced_ops.specs.declared.keyed.KeyedRow.{KeyedRow}
 use Rattle.sequenced_ops.specs.declared.keyed.Side.{Side}
 use Rattle.sequenced_ops.specs.declared.keyed.Side.TheVariants.{Left, Right}
@@ -18,7 +18,7 @@ use Rattle.sequenced_ops.proofs.Pairs.{gone-no_pair}
 -- ---- rows that are gone
 
 not_after_both :
-    (a x : Key) → is_lt (key_cmp x a) ≡ false → is_lt (key_cmp a x) ≡ false → a ≡ x
+    (a x : JoinKey) → is_lt (key_cmp x a) ≡ false → is_lt (key_cmp a x) ≡ false → a ≡ x
 not_after_both a x p q =
     elim (key_cmp a x) as (λ o. key_cmp a x ≡ o → a ≡ x) [
       | Less ↦ λ e. let wrong : is_lt (key_cmp a x) ≡ true = ap is_lt e in cc

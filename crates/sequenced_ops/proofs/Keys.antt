@@ -14,7 +14,7 @@ use Rattle.period_core.specs.OrderLaws.{values_cmp_total, values_cmp-same}
 use Rattle.period_core.specs.declared.value.Value.{Value}
 use Rattle.period_core.specs.declared.value.Value.TheVariants.{Int, Text, Date}
 use Rattle.sequenced_ops.specs.declared.equalities.Equality.{Equality}
-use Rattle.sequenced_ops.specs.declared.keyed.Key.{Key}
+use Rattle.sequenced_ops.specs.declared.keyed.JoinKey.{JoinKey}
 use Rattle.sequenced_ops.specs.declared.keyed.Side.TheVariants.{Left, Right}
 use Rattle.sequenced_ops.specs.Operations.{ReadsColumns}
 use Rattle.sequenced_ops.specs.Joining.{IsEqual}
@@ -96,7 +96,7 @@ reads_equal (equality ∷ equalities) first second (value ∷ read) lefts rights
 -- ---- keys
 
 -- keys of the same parts are the same
-pub key_from : (a b : Key) → a.lead ≡ b.lead → a.rest ≡ b.rest → a ≡ b
+pub key_from : (a b : JoinKey) → a.lead ≡ b.lead → a.rest ≡ b.rest → a ≡ b
 key_from a b lead rest = λ i. record { lead = lead i; rest = rest i }
 
 -- values of one length with the same key are the same
@@ -105,21 +105,21 @@ key_same [] [] long e = refl
 key_same [] (v ∷ b) long e = cc
 key_same (v ∷ a) [] long e = cc
 key_same (Int n ∷ a) (Int m ∷ b) long e =
-    ap₂ (λ (v : Value) (vs : List Value). v ∷ vs) (ap (λ i. Int i) (ap (λ (k : Key). k.lead) e)) (ap (λ (k : Key). k.rest) e)
-key_same (Int n ∷ a) (Text t ∷ b) long e = absurd (let more : length a ≡ length (Text t ∷ b) = ap length (ap (λ (k : Key). k.rest) e) in omega arith)
-key_same (Int n ∷ a) (Date d ∷ b) long e = absurd (let more : length a ≡ length (Date d ∷ b) = ap length (ap (λ (k : Key). k.rest) e) in omega arith)
-key_same (Text t ∷ a) (Int m ∷ b) long e = absurd (let more : length (Text t ∷ a) ≡ length b = ap length (ap (λ (k : Key). k.rest) e) in omega arith)
-key_same (Date d ∷ a) (Int m ∷ b) long e = absurd (let more : length (Date d ∷ a) ≡ length b = ap length (ap (λ (k : Key). k.rest) e) in omega arith)
-key_same (Text t ∷ a) (Text u ∷ b) long e = ap (λ (k : Key). k.rest) e
-key_same (Text t ∷ a) (Date d ∷ b) long e = ap (λ (k : Key). k.rest) e
-key_same (Date d ∷ a) (Text u ∷ b) long e = ap (λ (k : Key). k.rest) e
-key_same (Date d ∷ a) (Date c ∷ b) long e = ap (λ (k : Key). k.rest) e
+    ap₂ (λ (v : Value) (vs : List Value). v ∷ vs) (ap (λ i. Int i) (ap (λ (k : JoinKey). k.lead) e)) (ap (λ (k : JoinKey). k.rest) e)
+key_same (Int n ∷ a) (Text t ∷ b) long e = absurd (let more : length a ≡ length (Text t ∷ b) = ap length (ap (λ (k : JoinKey). k.rest) e) in omega arith)
+key_same (Int n ∷ a) (Date d ∷ b) long e = absurd (let more : length a ≡ length (Date d ∷ b) = ap length (ap (λ (k : JoinKey). k.rest) e) in omega arith)
+key_same (Text t ∷ a) (Int m ∷ b) long e = absurd (let more : length (Text t ∷ a) ≡ length b = ap length (ap (λ (k : JoinKey). k.rest) e) in omega arith)
+key_same (Date d ∷ a) (Int m ∷ b) long e = absurd (let more : length (Date d ∷ a) ≡ length b = ap length (ap (λ (k : JoinKey). k.rest) e) in omega arith)
+key_same (Text t ∷ a) (Text u ∷ b) long e = ap (λ (k : JoinKey). k.rest) e
+key_same (Text t ∷ a) (Date d ∷ b) long e = ap (λ (k : JoinKey). k.rest) e
+key_same (Date d ∷ a) (Text u ∷ b) long e = ap (λ (k : JoinKey). k.rest) e
+key_same (Date d ∷ a) (Date c ∷ b) long e = ap (λ (k : JoinKey). k.rest) e
 
 pub key_cmp_total : IsTotalOrder key_cmp
 key_cmp_total =
-    then_total (on_total (λ (k : Key). k.lead) int_cmp_total) (on_total (λ (k : Key). k.rest) values_cmp_total)
+    then_total (on_total (λ (k : JoinKey). k.lead) int_cmp_total) (on_total (λ (k : JoinKey). k.rest) values_cmp_total)
 
-pub key_cmp-refl : (k : Key) → key_cmp k k ≡ Equal
+pub key_cmp-refl : (k : JoinKey) → key_cmp k k ≡ Equal
 key_cmp-refl = tied_itself key_cmp_total
 
 tied_parts : (o p : Ordering) → ordering_then o p ≡ Equal → (o ≡ Equal) × (p ≡ Equal)
@@ -128,7 +128,7 @@ tied_parts Equal p e = (refl, e)
 tied_parts Greater p e = cc
 
 -- keys that tie are the same
-pub key_cmp-same : (a b : Key) → key_cmp a b ≡ Equal → a ≡ b
+pub key_cmp-same : (a b : JoinKey) → key_cmp a b ≡ Equal → a ≡ b
 key_cmp-same a b e =
     let (lead, rest) = tied_parts (int_cmp a.lead b.lead) (values_cmp a.rest b.rest) e in
     key_from a b (int_cmp-IsAntisymmetric a.lead b.lead lead) (values_cmp-same a.rest b.rest rest)
@@ -146,19 +146,19 @@ same_keys equalities first second read other lefts rights same =
 -- ---- a key that is read
 
 -- no values are at the columns, or these of the key are
-abbrev pub RestRead : List ℕ → List Value → ℤ → Option Key → Type 0
+abbrev pub RestRead : List ℕ → List Value → ℤ → Option JoinKey → Type 0
 RestRead columns values lead found =
     MatchOption found ((read : List Value) → ReadsColumns columns values read → ⊥)
-    (λ (key : Key). (key.lead ≡ lead) × ReadsColumns columns values key.rest)
+    (λ (key : JoinKey). (key.lead ≡ lead) × ReadsColumns columns values key.rest)
 
-abbrev pub KeyRead : List ℕ → List Value → Option Key → Type 0
+abbrev pub KeyRead : List ℕ → List Value → Option JoinKey → Type 0
 KeyRead columns values found =
     MatchOption found ((read : List Value) → ReadsColumns columns values read → ⊥)
-    (λ (key : Key). (read : List Value) × ReadsColumns columns values read × (key_of read ≡ key))
+    (λ (key : JoinKey). (read : List Value) × ReadsColumns columns values read × (key_of read ≡ key))
 
 -- the first value is an integer
 pub integer_first :
-    (first : ℕ) (others : List ℕ) (values : List Value) (n : ℤ) → slice_get values first ≡ Some (Int n) → (found : Option Key)
+    (first : ℕ) (others : List ℕ) (values : List Value) (n : ℤ) → slice_get values first ≡ Some (Int n) → (found : Option JoinKey)
     → RestRead others values n found → KeyRead (first ∷ others) values found
 integer_first first others values n there None none = λ read. elim read as (λ r. ReadsColumns (first ∷ others) values r → ⊥) [
   | [] ↦ λ all. cc
@@ -185,7 +185,7 @@ whole first others values v lead has there (w ∷ rest) reads =
 
 pub other_first :
     (first : ℕ) (others : List ℕ) (values : List Value) (v : Value) (lead : ℤ) → HasLead v lead → slice_get values first ≡ Some v
-    → (found : Option Key) → RestRead (first ∷ others) values lead found → KeyRead (first ∷ others) values found
+    → (found : Option JoinKey) → RestRead (first ∷ others) values lead found → KeyRead (first ∷ others) values found
 other_first first others values v lead has there None none = none
 other_first first others values v lead has there (Some key) (is, reads) =
     (key.rest, reads, whole first others values v lead has there key.rest reads ∙ key_from (record { lead = lead; rest = key.rest }) key (sym is) refl)

@@ -1,6 +1,6 @@
 -- What the values of a row from a position on decide of a condition.
 use Rattle.std.proofs.Common.{◌≡◌, ◌<◌, ◌≤◌, ◌-◌, ◌++◌, ◌∷◌, [], ℕ, zero, suc, Bool, List}
-use Rattle.std.proofs.Common.{true, false, not, length, get_or, refl, sym, ◌∙◌, ap}
+use Rattle.std.proofs.Common.{true, false, length, get_or, refl, sym, ◌∙◌, ap}
 use Rattle.std.proofs.Common.{arith}
 use Rattle.std.specs.Prelude.{◌||◌, ◌&&◌, slice_get}
 use Rattle.std.specs.Global.{Box, Vec}
@@ -11,7 +11,7 @@ use Rattle.period_core.specs.declared.value.Value.{Value}
 use Rattle.sql_statements.specs.declared.tree.Tree as code
 use Rattle.catalog_core.specs.Conditions.{compares, meets}
 use Rattle.catalog_core.specs.declared.condition.CompareValues.{CompareValues}
-use Rattle.catalog_core.proofs.lemmas.conditions.Truth.{and_both, and_truth, not_truth, or_none}
+use Rattle.catalog_core.proofs.lemmas.conditions.Truth.{and_both, and_truth, or_none}
 use Rattle.catalog_core.proofs.lemmas.conditions.Truth.{or_truth, test_truth}
 use Rattle.history_model.specs.OrdinaryQuery.{meets_all}
 use Rattle.sequenced_ops.specs.Operations.{Cond}
@@ -44,12 +44,6 @@ module _ (start : ℕ) (values : List Value) where
       → IsTruth start values (code.Test leaf) truth
   test_is leaf truth h first rest e =
       test_truth (compares (first ++ (values ++ rest))) leaf ∙ h first rest e
-
-  pub not_is
-      : (part : Box Cond) (truth : Bool) → IsTruth start values part.value truth
-      → IsTruth start values (code.Not part) (not truth)
-  not_is part truth h first rest e =
-      not_truth (compares (first ++ (values ++ rest))) part ∙ ap not (h first rest e)
 
   or_here : (a b : Bool) → a ≡ true → (a || b) ≡ true
   or_here true b e = refl

@@ -12,7 +12,7 @@ use Rattle.period_core.specs.declared.row.PeriodRow.{PeriodRow}
 use Rattle.temporal_model.specs.Snapshot.{InSnapshot}
 use Rattle.history_model.specs.OrdinaryQuery.{meets_all}
 use Rattle.sequenced_ops.specs.declared.equalities.Equality.{Equality}
-use Rattle.sequenced_ops.specs.declared.keyed.Key.{Key}
+use Rattle.sequenced_ops.specs.declared.keyed.JoinKey.{JoinKey}
 use Rattle.sequenced_ops.specs.declared.keyed.KeyedRow.{KeyedRow}
 use Rattle.sequenced_ops.specs.declared.keyed.Side.{Side}
 use Rattle.sequenced_ops.specs.declared.keyed.Side.TheVariants.{Left, Right}
@@ -47,14 +47,14 @@ columns_on side equalities = map (column_on side) equalities
 
 -- how values are kept as a key: a first integer stands apart, and a first date has its number
 -- there too; of values of one length no two have the same key
-abbrev pub key_of : List Value → Key
+abbrev pub key_of : List Value → JoinKey
 key_of [] = record { lead = pos 0; rest = [] }
 key_of (Int number ∷ values) = record { lead = number; rest = values }
 key_of (Text text ∷ values) = record { lead = pos 0; rest = Text text ∷ values }
 key_of (Date day ∷ values) = record { lead = day; rest = Date day ∷ values }
 
 -- by the lead, then by the rest
-abbrev pub key_cmp : Key → Key → Ordering
+abbrev pub key_cmp : JoinKey → JoinKey → Ordering
 key_cmp a b = ordering_then (int_cmp a.lead b.lead) (values_cmp a.rest b.rest)
 
 -- the row has this key on this side

@@ -13,7 +13,7 @@ ghost use Rattle.sequenced_ops.specs.Planning.{IsPruned};
 use crate::equalities::Equality;
 use crate::filters::filter;
 use crate::joins::join_equal;
-use crate::outputs::Output;
+use crate::outputs::JoinOutput;
 use crate::pruning::{copy_pruned, rules_some_out};
 use catalog_core::{Comparand, CompareValues, Cond};
 use period_core::{Memory, PeriodRow};
@@ -121,7 +121,7 @@ fn equalities_of(
 fn join_by_keys(
     alloc: Global,
     conjuncts: &[Cond],
-    output: Output,
+    output: JoinOutput,
     rows: &[PeriodRow],
     others: &[PeriodRow],
     width: usize,
@@ -154,7 +154,7 @@ fn join_by_keys(
 pub fn join_next(
     alloc: Global,
     conjuncts: &[Cond],
-    output: Output,
+    output: JoinOutput,
     rows: &[PeriodRow],
     others: &[PeriodRow],
 ) -> Result<Vec<PeriodRow>, Memory>
@@ -183,6 +183,6 @@ pub fn join(
         SnapshotsAre (InJoin condition.now left.now right.now) rows.items) }
 {
     let conjuncts = slice::from_ref(condition);
-    let pairs = join_next(alloc, conjuncts, Output::Pairs, left, right)?;
+    let pairs = join_next(alloc, conjuncts, JoinOutput::Pairs, left, right)?;
     filter(alloc, pairs, condition)
 }

@@ -12,7 +12,7 @@ ghost use Rattle.sequenced_ops.specs.Planning.{IsPruned};
 use crate::conjuncts::is_ruled_out;
 use crate::equalities::{Equality, columns_of};
 use crate::keyed::{KeyedRow, Side, push_keyed};
-use crate::outputs::{Output, given, select_batch};
+use crate::outputs::{JoinOutput, given, select_batch};
 use catalog_core::Cond;
 use period_core::{Memory, PeriodRow, Values};
 use std::alloc::Global;
@@ -122,7 +122,7 @@ fn meet<'a>(
 fn pairs_of(
     alloc: Global,
     conjuncts: &[Cond],
-    output: Output,
+    output: JoinOutput,
     sorted: Vec<KeyedRow>,
 ) -> Result<Vec<PeriodRow>, Memory>
     requires { AllPairs Follows sorted.items }
@@ -159,7 +159,7 @@ pub fn join_equal(
     right: &[PeriodRow],
     equalities: &[Equality],
     conjuncts: &[Cond],
-    output: Output,
+    output: JoinOutput,
 ) -> Result<Vec<PeriodRow>, Memory>
     ensures { IfOk result (λ rows. GivesSome
         (IsPruned conjuncts.now 0 (InEqualPairs equalities.now left.now right.now))

@@ -22,7 +22,7 @@ pub enum Side {
 /// The values by which a row is joined. A first integer is kept in place, so that most comparisons
 /// read no other memory.
 #[derive(Drop, PartialEq, Eq, PartialOrd, Ord)]
-pub struct Key {
+pub struct JoinKey {
     /// The first value, if it is an integer; the number of the day, if it is a date; or 0.
     pub lead: i64,
     /// The values behind the first, if that is an integer, or else all of them.
@@ -33,7 +33,7 @@ pub struct Key {
 #[derive(Drop, PartialEq, Eq, PartialOrd, Ord)]
 pub struct KeyedRow<'a> {
     /// The values by which it is joined.
-    pub key: Key,
+    pub key: JoinKey,
     /// The days on which it holds.
     pub period: Period,
     /// The side from which it comes.
@@ -48,7 +48,7 @@ fn read_rest(
     lead: &i64,
     columns: &[usize],
     values: &[Value],
-) -> Result<Option<Key>, Memory>
+) -> Result<Option<JoinKey>, Memory>
     ensures { IfOk result (λ found. MatchOption found
         ((read : List ColumnValue) → ReadsColumns columns.now values.now read → ⊥)
         (λ key. (key.lead ≡ lead.now) × ReadsColumns columns.now values.now key.rest)) }
@@ -56,11 +56,11 @@ fn read_rest(
     let Some(rest) = read_columns(alloc, columns, values)? else {
         return Ok(None);
     };
-    Ok(Some(Key { lead: *lead, rest }))
+    Ok(Some(JoinKey { lead: *lead, rest }))
 }
 
 /// The key of a row whose key has its values at these positions: `None` where one is not there.
-fn read_key(alloc: Global, columns: &[usize], values: &[Value]) -> Result<Option<Key>, Memory>
+fn read_key(alloc: Global, columns: &[usize], values: &[Value]) -> Result<Option<JoinKey>, Memory>
     ensures { IfOk result (λ found. MatchOption found
         ((read : List ColumnValue) → ReadsColumns columns.now values.now read → ⊥)
         (λ key. (read : List ColumnValue)

@@ -16,7 +16,7 @@ use std::alloc::Global;
 
 /// What a join gives.
 #[derive(Clone, Copy)]
-pub enum Output<'a> {
+pub enum JoinOutput<'a> {
     /// The pairs, but those that the conditions rule out.
     Pairs,
     /// The values at these positions of the pairs that meet all conditions.
@@ -64,7 +64,7 @@ fn select_more(
 pub fn select_batch(
     alloc: Global,
     conjuncts: &[Cond],
-    output: Output,
+    output: JoinOutput,
     selected: Vec<PeriodRow>,
     pairs: &mut Vec<PeriodRow>,
 ) -> Result<Vec<PeriodRow>, Memory>
@@ -73,8 +73,8 @@ pub fn select_batch(
         → IsGathered conjuncts.now output.entry all rows.items pairs.new.items) }
 {
     match output {
-        Output::Pairs => Ok(selected),
-        Output::Columns(columns) => {
+        JoinOutput::Pairs => Ok(selected),
+        JoinOutput::Columns(columns) => {
             if pairs.len() < BATCH {
                 return Ok(selected);
             }
@@ -89,7 +89,7 @@ pub fn select_batch(
 pub fn given(
     alloc: Global,
     conjuncts: &[Cond],
-    output: Output,
+    output: JoinOutput,
     selected: Vec<PeriodRow>,
     pairs: Vec<PeriodRow>,
 ) -> Result<Vec<PeriodRow>, Memory>
@@ -98,8 +98,8 @@ pub fn given(
         → IsGiven conjuncts.now output.entry all rows.items) }
 {
     match output {
-        Output::Pairs => Ok(pairs),
-        Output::Columns(columns) => {
+        JoinOutput::Pairs => Ok(pairs),
+        JoinOutput::Columns(columns) => {
             select_more(alloc, conjuncts, columns, selected, pairs.as_slice())
         }
     }

@@ -11,7 +11,7 @@ ghost use Rattle.sequenced_ops.specs.Planning.{InJoined};
 use crate::differences::difference;
 use crate::intersections::intersection;
 use crate::joining::join_next;
-use crate::outputs::Output;
+use crate::outputs::JoinOutput;
 use crate::pruning::{copy_pruned, rules_some_out};
 use crate::selecting::select_meeting;
 use crate::unions::union;
@@ -52,9 +52,9 @@ fn join_all(
     };
     let others = tables.rows_for(reference);
     if more.is_empty() {
-        return join_next(alloc, conjuncts, Output::Columns(columns), rows, others);
+        return join_next(alloc, conjuncts, JoinOutput::Columns(columns), rows, others);
     }
-    let next = join_next(alloc, conjuncts, Output::Pairs, rows, others)?;
+    let next = join_next(alloc, conjuncts, JoinOutput::Pairs, rows, others)?;
     join_all(alloc, tables, conjuncts, columns, next.as_slice(), more)
 }
 

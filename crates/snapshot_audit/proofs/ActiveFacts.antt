@@ -7,7 +7,7 @@ use Rattle.period_core.specs.declared.row.PeriodRow.{PeriodRow}
 use Rattle.period_core.specs.declared.value.Value.{Value}
 use Rattle.temporal_model.specs.Snapshot.{InSnapshot}
 use Rattle.temporal_model.proofs.Snapshots.{CoversDay, held, in_snapshot}
-use Rattle.temporal_model.proofs.Members.{Contains-there, Contains-nil, Contains-cons_cases}
+use Rattle.temporal_model.proofs.Members.{Contains-nil}
 use Rattle.catalog_core.specs.declared.query.resolved.QueryReference.{QueryReference}
 use Rattle.catalog_core.specs.query.Queries.{Query, rows_for}
 use Rattle.history_model.specs.OrdinaryQuery.{InAnswerOver, InQuery, TableSights}
@@ -20,17 +20,6 @@ use Rattle.snapshot_audit.proofs.Zips.{zip_at, zip_map}
 
 pub ContainsRow-nil : (row : PeriodRow) → ContainsRow [] row → ⊥
 ContainsRow-nil row (r, c, is) = Contains-nil r c
-
-pub ContainsRow-there : (r : Bor PeriodRow) (references : RowReferences) (row : PeriodRow) → ContainsRow references row → ContainsRow (r ∷ references) row
-ContainsRow-there r references row (s, c, is) = (s, Contains-there r references s c, is)
-
-pub ContainsRow-cons_cases :
-    (r : Bor PeriodRow) (references : RowReferences) (row : PeriodRow) → ContainsRow (r ∷ references) row
-    → (r.now ≡ row) ⊎ ContainsRow references row
-ContainsRow-cons_cases r references row (s, c, is) = elim (Contains-cons_cases r references s c) [
-  | inl same ↦ inl (subst (λ (x : Bor PeriodRow). x.now ≡ row) (sym same) is)
-  | inr more ↦ inr (s, more, is)
-]
 
 pub ContainsRow-push : (references : RowReferences) (r : Bor PeriodRow) → ContainsRow (references ++ r ∷ []) r.now
 ContainsRow-push references r = (r, Contains-push references r, refl)
@@ -47,25 +36,6 @@ ContainsRow-push_cases references r row (s, c, is) = elim (Contains-push_cases r
   | inl before ↦ inl (s, before, is)
   | inr same ↦ inr (subst (λ (x : Bor PeriodRow). x.now ≡ row) (sym same) is)
 ]
-
--- the references are to the rows of the list, and to no others
-abbrev pub AreRows : List PeriodRow → RowReferences → Type 0
-AreRows rows references = (row : PeriodRow) → (ContainsRow references row ↔ Contains rows row)
-
--- one more
-pub AreRows-more :
-    (rows : List PeriodRow) (references : RowReferences) (row : PeriodRow) (r : Bor PeriodRow) → r.now ≡ row
-    → AreRows rows references → AreRows (rows ++ row ∷ []) (references ++ r ∷ [])
-AreRows-more rows references row r is are other = (
-  λ h. elim (ContainsRow-push_cases references r other h) [
-    | inl before ↦ Contains-append_left rows (row ∷ []) other ((are other).0 before)
-    | inr same ↦ subst (Contains (rows ++ row ∷ [])) (sym is ∙ same) (Contains-push rows row)
-  ],
-  λ h. elim (Contains-push_cases rows row other h) [
-    | inl before ↦ ContainsRow-before references r other ((are other).1 before)
-    | inr same ↦ subst (ContainsRow (references ++ r ∷ [])) (is ∙ same) (ContainsRow-push references r)
-  ],
-)
 
 -- ---- the rows of a day
 

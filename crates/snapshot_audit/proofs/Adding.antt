@@ -13,11 +13,11 @@ use Rattle.temporal_model.proofs.Members.{Contains-nil}
 use Rattle.temporal_model.proofs.Snapshots.{held, in_snapshot}
 use Rattle.catalog_core.specs.declared.query.resolved.Select.{Select}
 use Rattle.history_model.specs.OrdinaryQuery.{meets_all}
-use Rattle.snapshot_audit.specs.declared.combined_rows.Output.{Output}
-use Rattle.snapshot_audit.specs.declared.combined_rows.Output.TheVariants.{Front, SelectList}
-use Rattle.snapshot_audit.specs.declared.joins.Side.{Side}
-use Rattle.snapshot_audit.specs.declared.joins.Side.TheVariants.{First, Second}
-use Rattle.snapshot_audit.specs.declared.keys.Entry.{Entry}
+use Rattle.snapshot_audit.specs.declared.combined_rows.CombinedOutput.{CombinedOutput}
+use Rattle.snapshot_audit.specs.declared.combined_rows.CombinedOutput.TheVariants.{Front, SelectList}
+use Rattle.snapshot_audit.specs.declared.joins.EntrySide.{EntrySide}
+use Rattle.snapshot_audit.specs.declared.joins.EntrySide.TheVariants.{First, Second}
+use Rattle.snapshot_audit.specs.declared.keys.KeyedEntry.{KeyedEntry}
 use Rattle.snapshot_audit.specs.Keys.{AreByKey, BeginsWithin, HasPeriod, Reads}
 use Rattle.snapshot_audit.specs.Pairs.{Adds, AreJoined, AreShared, Begun, InAny, InEach, InMeetingPair, InPair, Sided}
 use Rattle.snapshot_audit.specs.Selections.{CanMeet, IsKept}
@@ -98,7 +98,7 @@ snapshot_last rows row day values same inside =
 
 -- ---- a pair
 
-module _ (select : Select) (output : Output) (first second : PeriodRow) (rows : List PeriodRow) where
+module _ (select : Select) (output : CombinedOutput) (first second : PeriodRow) (rows : List PeriodRow) where
   -- the rows share no day
   pub pair_apart :
       ((day : ℤ) → InPeriod first.period day → InPeriod second.period day → ⊥)
@@ -114,13 +114,6 @@ module _ (select : Select) (output : Output) (first second : PeriodRow) (rows : 
       (λ day row ((rest, met), its).
       let no = none rest in
       let yes : meets_all select.conjuncts ((first.values ++ second.values) ++ rest) ≡ true = met in cc)
-
-  -- nothing of it is kept
-  pub pair_dropped :
-      ((row : List Value) → IsKept select output (first.values ++ second.values) row → ⊥)
-      → Adds (InPair select output first second) (InMeetingPair select output first second) rows rows
-  pair_dropped none = adds_none (InPair select output first second) (InMeetingPair select output first second) rows
-      (λ day row (can, (one, other, its)). none row its)
 
   pub pair_added :
       (added : PeriodRow) → ((day : ℤ) → InPeriod added.period day → InPeriod first.period day × InPeriod second.period day)
@@ -139,18 +132,18 @@ module _ (select : Select) (output : Output) (first second : PeriodRow) (rows : 
   }
 
 -- what is kept is determined
-pub kept_one : (select : Select) (output : Output) (values row other : List Value) → IsKept select output values row → IsKept select output values other → row ≡ other
+pub kept_one : (select : Select) (output : CombinedOutput) (values row other : List Value) → IsKept select output values row → IsKept select output values other → row ≡ other
 kept_one select Front values row other p q = sym p ∙ q
 kept_one select SelectList values row other p q = same_values row other (sym p.1 ∙ q.1)
 
 -- ---- each of the others
 
-module _ (May Must : Entry → Entry → Sets) (entry : Entry) (old : List PeriodRow) where
+module _ (May Must : KeyedEntry → KeyedEntry → Sets) (entry : KeyedEntry) (old : List PeriodRow) where
   pub each_none : Adds (InEach May entry []) (InEach Must entry []) old old
   each_none = adds_none (InEach May entry []) (InEach Must entry []) old (λ day row (other, c, its). Contains-nil other c)
 
   pub each_more :
-      (done : List Entry) (other : Entry) (rows new : List PeriodRow) → Adds (InEach May entry done) (InEach Must entry done) old rows
+      (done : List KeyedEntry) (other : KeyedEntry) (rows new : List PeriodRow) → Adds (InEach May entry done) (InEach Must entry done) old rows
       → Adds (May entry other) (Must entry other) rows new
       → Adds (InEach May entry (done ++ other ∷ [])) (InEach Must entry (done ++ other ∷ [])) old new
   each_more done other rows new one two =
@@ -166,12 +159,12 @@ module _ (May Must : Entry → Entry → Sets) (entry : Entry) (old : List Perio
 
 -- ---- each entry
 
-module _ (May Must : Entry → Entry → Sets) (others : List Entry) (old : List PeriodRow) where
+module _ (May Must : KeyedEntry → KeyedEntry → Sets) (others : List KeyedEntry) (old : List PeriodRow) where
   pub any_none : Adds (InAny May [] others) (InAny Must [] others) old old
   any_none = adds_none (InAny May [] others) (InAny Must [] others) old (λ day row (entry, c, its). Contains-nil entry c)
 
   pub any_more :
-      (done : List Entry) (entry : Entry) (rows new : List PeriodRow) → Adds (InAny May done others) (InAny Must done others) old rows
+      (done : List KeyedEntry) (entry : KeyedEntry) (rows new : List PeriodRow) → Adds (InAny May done others) (InAny Must done others) old rows
       → Adds (InEach May entry others) (InEach Must entry others) rows new
       → Adds (InAny May (done ++ entry ∷ []) others) (InAny Must (done ++ entry ∷ []) others) old new
   any_more done entry rows new one two =
@@ -187,17 +180,17 @@ module _ (May Must : Entry → Entry → Sets) (others : List Entry) (old : List
 
 -- a pair that holds on a day, where the other's row starts no earlier: it starts on a day of the entry
 sided_days :
-    (select : Select) (output : Output) (side : Side) (entry other : Entry) (day : ℤ) (row : List Value)
+    (select : Select) (output : CombinedOutput) (side : EntrySide) (entry other : KeyedEntry) (day : ℤ) (row : List Value)
     → Sided (InMeetingPair select output) side entry other day row → InPeriod entry.row.now.period day × InPeriod other.row.now.period day
 sided_days select output First entry other day row (can, (a, b, its)) = (a, b)
 sided_days select output Second entry other day row (can, (a, b, its)) = (b, a)
 
 -- what is added for the partners is added for all others that begin within the entry
 pub partners_are_all :
-    (select : Select) (output : Output) (side : Side) (entry : Entry) (others partners : List Entry) (rows new : List PeriodRow)
+    (select : Select) (output : CombinedOutput) (side : EntrySide) (entry : KeyedEntry) (others partners : List KeyedEntry) (rows new : List PeriodRow)
     → HasPeriod entry → All HasPeriod others
-    → ((other : Entry) → Contains partners other → Contains others other)
-    → ((other : Entry) → Contains others other → BeginsWithin entry other → Contains partners other)
+    → ((other : KeyedEntry) → Contains partners other → Contains others other)
+    → ((other : KeyedEntry) → Contains others other → BeginsWithin entry other → Contains partners other)
     → Adds (InEach (Sided (InPair select output) side) entry partners) (InEach (Sided (InMeetingPair select output) side) entry partners) rows new
     → Adds (InEach (Sided (InPair select output) side) entry others) (InEach (Begun (Sided (InMeetingPair select output) side)) entry others) rows new
 partners_are_all select output side entry others partners rows new period periods inside all one =
@@ -214,11 +207,11 @@ partners_are_all select output side entry others partners rows new period period
 -- ---- both sides
 
 module _
-    (select : Select) (output : Output) (rows others : List PeriodRow) (left right : List ℕ) (first second : List Entry)
+    (select : Select) (output : CombinedOutput) (rows others : List PeriodRow) (left right : List ℕ) (first second : List KeyedEntry)
     (shared : AreShared select rows others left right) (firsts : AreByKey left rows first) (seconds : AreByKey right others second) where
   -- both rows of a pair of entries are held on its day
   held_by_rows :
-      (entry other : Entry) (day : ℤ) (row : List Value) → Contains first entry → Contains second other
+      (entry other : KeyedEntry) (day : ℤ) (row : List Value) → Contains first entry → Contains second other
       → InPair select output entry.row.now other.row.now day row
       → (a b : List Value) × InSnapshot rows day a × InSnapshot others day b × IsKept select output (a ++ b) row
   held_by_rows entry other day row c d (p, q, its) =

@@ -1,5 +1,5 @@
 -- Change days: the ends of rows as they are gathered, and the last change day up to a day.
-use Rattle.std.proofs.Common.{◌≡◌, ◌↔◌, ◌⊎◌, ◌<ℤ◌, ◌≤ℤ◌, ℤ, List, [], ◌∷◌, ◌++◌, get_or, refl, sym, subst, inl, inr, arith}
+use Rattle.std.proofs.Common.{◌≡◌, ◌↔◌, ◌⊎◌, ◌<ℤ◌, ◌≤ℤ◌, ℤ, List, [], ◌∷◌, ◌++◌, get_or, sym, subst, inl, inr, arith}
 use Rattle.std.specs.List.{AllPairs, Contains}
 use Rattle.std.specs.FinMap.{int_cmp-IsAntisymmetric}
 use Rattle.std.specs.Ordering.{int_cmp}
@@ -10,7 +10,6 @@ use Rattle.std.proofs.lemmas.List.Elements.{Contains-append_left, Contains-appen
 use Rattle.period_core.specs.Calendar.{first_day}
 use Rattle.period_core.specs.declared.row.PeriodRow.{PeriodRow}
 use Rattle.temporal_model.proofs.Members.{Contains-here, Contains-there, Contains-nil, Contains-one, Contains-cons_cases, AllPairs-head, AllPairs-tail}
-use Rattle.temporal_model.specs.Snapshot.{NoChangeBetween}
 use Rattle.snapshot_audit.specs.Sets.{IsSortedOnce}
 use Rattle.snapshot_audit.specs.ChangeDays.{EndsOn, EndsAmong, IsChangeDay, AreChangeDays}
 
@@ -176,27 +175,6 @@ last_upto first (second ∷ days) day up from =
         ];
       },
     ))
-
--- among the change days there is a last one up to each day from 0001-01-01 on
-pub last_change :
-    (lists : List (List PeriodRow)) (days : List ℤ) (day : ℤ) → AreChangeDays lists days → first_day ≤ℤ day
-    → (last : ℤ) × IsLastUpTo days day last
-last_change lists [] day are from = absurd (Contains-nil first_day ((are.members first_day).1 (inl refl)))
-last_change lists (first ∷ days) day are from = last_upto first days day are.ascending (least ((are.members first_day).1 (inl refl))) where
-  least : Contains (first ∷ days) first_day → first ≤ℤ day
-  least c = elim (Contains-cons_cases first days first_day c) [
-    | inl is ↦ subst (λ d. d ≤ℤ day) (sym is) from
-    | inr more ↦ let next : first <ℤ first_day = AllPairs-head (λ a b. a <ℤ b) first days are.ascending first_day more in omega (arith, ints)
-  ]
-
--- nothing changes in a list of rows from the last change day up to the day
-pub unchanged_since :
-    (lists : List (List PeriodRow)) (days : List ℤ) (day last : ℤ) → AreChangeDays lists days
-    → IsLastUpTo days day last → (rows : List PeriodRow) → Contains lists rows → NoChangeBetween rows last day
-unchanged_since lists days day last are is rows c row inside = (
-  λ after. is.none row.period.start ((are.members row.period.start).1 (inr (rows, c, (row, inside, inl refl)))) after,
-  λ after. is.none row.period.end ((are.members row.period.end).1 (inr (rows, c, (row, inside, inr refl)))) after,
-)
 
 -- the change days, once they are sorted without repeats
 pub change_days_from_once :

@@ -44,16 +44,6 @@ module _ (query : Query) (lists : List (List PeriodRow)) (answer : List PeriodRo
     differs = λ h. late.differs (early.differs h);
   }
 
-  -- one day that is not looked at, that agrees, and that differs
-  pub checks_skipped :
-      (day : ℤ) (values : List Value) (least : Option ℤ) → (IsDay day → IsBefore least day → ⊥) → Checks query lists answer (IsAt day values) least least
-  checks_skipped day values least none = record {
-    keeps = λ other h. h;
-    agrees = λ other others (same, its) is_day before.
-        absurd (none (subst IsDay (sym same) is_day) (subst (IsBefore least) (sym same) before));
-    differs = λ h. h;
-  }
-
   pub checks_agreed :
       (day : ℤ) (values : List Value) (least : Option ℤ) → AgreesIn query lists answer day values → Checks query lists answer (IsAt day values) least least
   checks_agreed day values least agreed = record {

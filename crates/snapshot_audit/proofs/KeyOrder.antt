@@ -16,9 +16,9 @@ use Rattle.period_core.specs.declared.value.Value.{Value}
 use Rattle.period_core.specs.declared.row.PeriodRow.{PeriodRow}
 use Rattle.temporal_model.proofs.AnswerOrder.{int_cmp-Less}
 use Rattle.temporal_model.proofs.Members.{Contains-nil}
-use Rattle.snapshot_audit.specs.declared.keys.Entry.{Entry}
-use Rattle.snapshot_audit.specs.contracts.keys.EntryOrd.TheImpl as impl
-use Rattle.snapshot_audit.specs.contracts.keys.EntryOrd.TheImpl.Laws.{total-law}
+use Rattle.snapshot_audit.specs.declared.keys.KeyedEntry.{KeyedEntry}
+use Rattle.snapshot_audit.specs.contracts.keys.KeyedEntryOrd.TheImpl as impl
+use Rattle.snapshot_audit.specs.contracts.keys.KeyedEntryOrd.TheImpl.Laws.{total-law}
 use Rattle.snapshot_audit.specs.Keys.{AreByKey, AreInOrder, BeginsWithin, HasPeriod, IsInOrder, Reads}
 use Rattle.snapshot_audit.specs.Staggered.{comes_before}
 use Rattle.snapshot_audit.proofs.SelectSteps.{same_values}
@@ -66,7 +66,7 @@ reads_push columns column values key value old there =
 
 -- ---- the order of entries
 
-abbrev entry_cmp : Entry → Entry → Ordering
+abbrev entry_cmp : KeyedEntry → KeyedEntry → Ordering
 entry_cmp = (impl.ghosts).cmp
 
 tied_start :
@@ -82,7 +82,7 @@ not_less Less o h = h
 not_less Equal o h = refl
 not_less Greater o h = refl
 
-order_from : (a b : Entry) → is_lt (entry_cmp b a) ≡ false → IsInOrder a b
+order_from : (a b : KeyedEntry) → is_lt (entry_cmp b a) ≡ false → IsInOrder a b
 order_from a b far = elim (values_cmp a.key b.key) as (λ o. values_cmp a.key b.key ≡ o → IsInOrder a b) [
   | Less ↦ λ e. inl e
   | Equal ↦ λ e.
@@ -101,18 +101,18 @@ order_from a b far = elim (values_cmp a.key b.key) as (λ o. values_cmp a.key b.
       let right : is_lt (values_cmp b.key a.key) ≡ false = not_less (values_cmp b.key a.key) _ far in cc)
 ] refl
 
-pub sorted_entries : (entries : List Entry) → IsSorted entry_cmp entries → AreInOrder entries
+pub sorted_entries : (entries : List KeyedEntry) → IsSorted entry_cmp entries → AreInOrder entries
 sorted_entries entries up = λ i j d lt below.
     order_from (get_or entries i d) (get_or entries j d)
-    (sorted_far (λ x y. is_lt (entry_cmp x y)) (ranks_by total-law (λ (r : Entry). r)) entries up i j d (omega arith) below)
+    (sorted_far (λ x y. is_lt (entry_cmp x y)) (ranks_by total-law (λ (r : KeyedEntry). r)) entries up i j d (omega arith) below)
 
 -- ---- the entries of rows, before they are sorted
 
-pub record AreEntries (columns : List ℕ) (rows : List PeriodRow) (entries : List Entry) : Type 0 where
+pub record AreEntries (columns : List ℕ) (rows : List PeriodRow) (entries : List KeyedEntry) : Type 0 where
   pub periods : All HasPeriod entries
-  pub made : (entry : Entry) → Contains entries entry → Contains rows entry.row.now × Reads columns entry.row.now.values entry.key
+  pub made : (entry : KeyedEntry) → Contains entries entry → Contains rows entry.row.now × Reads columns entry.row.now.values entry.key
   pub all : (row : PeriodRow) (key : List Value) → Contains rows row → Reads columns row.values key
-      → (entry : Entry) × Contains entries entry × (entry.row.now ≡ row)
+      → (entry : KeyedEntry) × Contains entries entry × (entry.row.now ≡ row)
 
 pub entries_none : (columns : List ℕ) → AreEntries columns [] []
 entries_none columns = record {
@@ -122,14 +122,14 @@ entries_none columns = record {
 }
 
 pub entries_more :
-    (columns : List ℕ) (rows : List PeriodRow) (entries : List Entry) (row : PeriodRow) (entry : Entry) → entry.row.now ≡ row
+    (columns : List ℕ) (rows : List PeriodRow) (entries : List KeyedEntry) (row : PeriodRow) (entry : KeyedEntry) → entry.row.now ≡ row
     → HasPeriod entry → Reads columns row.values entry.key → AreEntries columns rows entries
     → AreEntries columns (rows ++ row ∷ []) (entries ++ entry ∷ [])
 entries_more columns rows entries row entry is period reads old = record {
   periods = All-push HasPeriod entries entry old.periods period;
   made = λ e c. elim (Contains-push_cases entries entry e c) [
     | inl before ↦ let (there, its) = old.made e before in (Contains-append_left rows (row ∷ []) e.row.now there, its)
-    | inr same ↦ subst (λ (x : Entry). Contains (rows ++ row ∷ []) x.row.now × Reads columns x.row.now.values x.key) same
+    | inr same ↦ subst (λ (x : KeyedEntry). Contains (rows ++ row ∷ []) x.row.now × Reads columns x.row.now.values x.key) same
         (subst (λ (r : PeriodRow). Contains (rows ++ row ∷ []) r × Reads columns r.values entry.key) (sym is) (Contains-push rows row, reads))
   ];
   all = λ r key c its. elim (Contains-push_cases rows row r c) [
@@ -139,7 +139,7 @@ entries_more columns rows entries row entry is period reads old = record {
 }
 
 pub entries_skip :
-    (columns : List ℕ) (rows : List PeriodRow) (entries : List Entry) (row : PeriodRow)
+    (columns : List ℕ) (rows : List PeriodRow) (entries : List KeyedEntry) (row : PeriodRow)
     → ((key : List Value) → Reads columns row.values key → ⊥) → AreEntries columns rows entries → AreEntries columns (rows ++ row ∷ []) entries
 entries_skip columns rows entries row none old = record {
   periods = old.periods;
@@ -151,12 +151,12 @@ entries_skip columns rows entries row none old = record {
 }
 
 pub by_key_from :
-    (columns : List ℕ) (rows : List PeriodRow) (entries sorted : List Entry) → AreEntries columns rows entries
+    (columns : List ℕ) (rows : List PeriodRow) (entries sorted : List KeyedEntry) → AreEntries columns rows entries
     → IsPermutation entries sorted → IsSorted entry_cmp sorted → AreByKey columns rows sorted
 by_key_from columns rows entries sorted are moved up = record {
   ordered = sorted_entries sorted up;
   periods = λ k d inside.
-      let e : Entry = get_or sorted k d in
+      let e : KeyedEntry = get_or sorted k d in
       let c : Contains entries e = Contains-permutation sorted entries e (IsPermutation-sym entries sorted moved) (k, inside, get_or_default sorted k e d inside) in
       let (i, within, at) = c in subst HasPeriod at (are.periods i e within);
   made = λ e c. are.made e (Contains-permutation sorted entries e (IsPermutation-sym entries sorted moved) c);
@@ -166,10 +166,10 @@ by_key_from columns rows entries sorted are moved up = record {
 -- ---- where entries are found
 
 -- whether the entry comes before those of this key that begin on the day or later
-abbrev pub entry_before : List Value → ℤ → Entry → Bool
+abbrev pub entry_before : List Value → ℤ → KeyedEntry → Bool
 entry_before key day entry = comes_before entry.key entry.period.start key day
 
-earlier_before : (key : List Value) (day : ℤ) (a b : Entry) → IsInOrder a b → entry_before key day b ≡ true → entry_before key day a ≡ true
+earlier_before : (key : List Value) (day : ℤ) (a b : KeyedEntry) → IsInOrder a b → entry_before key day b ≡ true → entry_before key day a ≡ true
 earlier_before key day a b (inl less) by = elim (before_cases b.key key b.period.start day by) [
   | inl more ↦ before_less a.key key a.period.start day (values_cmp_total.trans a.key b.key key less more)
   | inr same ↦ before_less a.key key a.period.start day (subst (λ v. values_cmp a.key v ≡ Less) same.0 less)
@@ -182,7 +182,7 @@ earlier_before key day a b (inr (same, starts)) by = elim (before_cases b.key ke
       before_same a.key key a.period.start day (same ∙ is) ∙ begun
 ]
 
-pub before_in_order : (key : List Value) (day : ℤ) (entries : List Entry) → AreInOrder entries → IsPartitionedBy (entry_before key day) entries
+pub before_in_order : (key : List Value) (day : ℤ) (entries : List KeyedEntry) → AreInOrder entries → IsPartitionedBy (entry_before key day) entries
 before_in_order key day entries all i j d upto inside by = elim (cases_lt i j) [
   | inl less ↦ earlier_before key day (get_or entries i d) (get_or entries j d) (all i j d less inside) by
   | inr not_less ↦ let is : j ≡ i = omega arith in subst (λ k. entry_before key day (get_or entries k d) ≡ true) is by
@@ -190,10 +190,10 @@ before_in_order key day entries all i j d upto inside by = elim (cases_lt i j) [
 
 -- an entry of the key that begins on a day from the start and before the end stands between both points
 pub stands_between :
-    (entry : Entry) (entries : List Entry) (first last : ℕ)
+    (entry : KeyedEntry) (entries : List KeyedEntry) (first last : ℕ)
     → IsPartitionPoint (λ e. entry_before entry.key entry.period.start e ≡ true) (λ e. entry_before entry.key entry.period.start e ≡ false) entries first
     → IsPartitionPoint (λ e. entry_before entry.key entry.period.end e ≡ true) (λ e. entry_before entry.key entry.period.end e ≡ false) entries last
-    → (other : Entry) → BeginsWithin entry other → (k : ℕ) → k < length entries → get_or entries k other ≡ other → (first ≤ k) × (k < last)
+    → (other : KeyedEntry) → BeginsWithin entry other → (k : ℕ) → k < length entries → get_or entries k other ≡ other → (first ≤ k) × (k < last)
 stands_between entry entries first last from to other (key, starts, ends) k inside at = (
   elim (cases_lt k first) [
     | inl less ↦ absurd (
@@ -214,7 +214,7 @@ stands_between entry entries first last from to other (key, starts, ends) k insi
 
 -- so it is in the list from the first to the last
 pub contains_between :
-    (entries : List Entry) (first last : ℕ) (other : Entry) (k : ℕ) → first ≤ k → k < last → k < length entries → get_or entries k other ≡ other
+    (entries : List KeyedEntry) (first last : ℕ) (other : KeyedEntry) (k : ℕ) → first ≤ k → k < last → k < length entries → get_or entries k other ≡ other
     → Contains (take (last - first) (drop first entries)) other
 contains_between entries first last other k from to inside at =
     let rest : length (drop first entries) ≡ length entries - first = length-drop first entries in

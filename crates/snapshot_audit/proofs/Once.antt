@@ -1,5 +1,5 @@
 -- Sorted lists without repeats, and the sets that they stand for.
-use Rattle.std.proofs.Common.{◌≡◌, ◌↔◌, List, [], ◌∷◌, Ordering, sym, ap, subst, ◌∙◌, arith}
+use Rattle.std.proofs.Common.{◌≡◌, ◌↔◌, List, [], ◌∷◌, Ordering, ap, ◌∙◌, arith}
 use Rattle.std.specs.List.{AllPairs, Contains}
 use Rattle.std.specs.List.Sorted.{IsStrictlySortedBy}
 use Rattle.std.specs.Ordering.{ordering_reverse}
@@ -9,7 +9,6 @@ use Rattle.std.proofs.lemmas.List.Elements.{All-from_recursion}
 use Rattle.period_core.specs.Order.{values_cmp}
 use Rattle.period_core.specs.OrderLaws.{values_cmp_total, values_cmp-same}
 use Rattle.period_core.specs.declared.value.Value.{Value}
-use Rattle.temporal_model.proofs.Members.{same_from_members}
 use Rattle.snapshot_audit.specs.Sets.{ListsSet, IsSortedOnce}
 
 -- in a strictly sorted list each element is less than all later ones
@@ -35,20 +34,6 @@ set_from_once InSet items once same is = record {
 
 strictly : (a b : List Value) → values_cmp a b ≡ Less → values_cmp b a ≡ Less → ⊥
 strictly a b p q = let back : values_cmp b a ≡ Greater = values_cmp_total.antisymm b a ∙ ap ordering_reverse p in cc
-
--- two lists of sets are the same exactly where the sets are
-pub same_sets :
-    (InOne InOther : List Value → Type 0) (one other : List (List Value)) → ListsSet InOne one → ListsSet InOther other
-    → ((one ≡ other) ↔ ((values : List Value) → (InOne values ↔ InOther values)))
-same_sets InOne InOther one other is that = (
-  λ same values. (
-    λ h. (that.members values).0 (subst (λ l. Contains l values) same ((is.members values).1 h)),
-    λ h. (is.members values).0 (subst (λ l. Contains l values) (sym same) ((that.members values).1 h)),
-  ),
-  λ alike. same_from_members (λ a b. values_cmp a b ≡ Less) strictly one other is.ascending that.ascending
-      (λ values h. (that.members values).1 ((alike values).0 ((is.members values).0 h)))
-      (λ values h. (is.members values).1 ((alike values).1 ((that.members values).0 h))),
-)
 
 -- a list of the same set by another name
 pub set_by :

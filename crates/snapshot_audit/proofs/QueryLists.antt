@@ -1,6 +1,5 @@
 -- A query's set by the rows of its selects.
-use Rattle.std.proofs.Common.{◌≡◌, ◌↔◌, ◌+◌, ℕ, zero, suc, ℤ, Bool, true, false, List, [], ◌∷◌, ◌++◌, length, drop, refl, sym, ◌∙◌, ap, subst, inl, inr, arith, append_assoc, length-append}
-use Rattle.std.specs.Prelude.{IsTrue}
+use Rattle.std.proofs.Common.{◌≡◌, ◌↔◌, ◌+◌, ℕ, zero, suc, ℤ, List, [], ◌∷◌, ◌++◌, length, drop, refl, sym, ◌∙◌, ap, subst, inl, inr, arith, append_assoc, length-append}
 use Rattle.std.specs.List.{All}
 use Rattle.std.proofs.lemmas.List.Elements.{All-append, All-cons, All-nil}
 use Rattle.period_core.specs.declared.value.Value.{Value}
@@ -11,7 +10,7 @@ use Rattle.sql_statements.specs.declared.tree.SetOperator.TheVariants.{Union, Ex
 use Rattle.catalog_core.specs.declared.query.resolved.Select.{Select}
 use Rattle.catalog_core.specs.query.Queries.{Query, one, both}
 use Rattle.history_model.specs.OrdinaryQuery.{InAnswerOver, InCombined}
-use Rattle.snapshot_audit.specs.Differences.{AddsRowsOf, AreRowsOf, InLists, InSelectOn, is_combined, select_count}
+use Rattle.snapshot_audit.specs.Differences.{AddsRowsOf, AreRowsOf, InLists, InSelectOn, select_count}
 use Rattle.snapshot_audit.specs.Staggered.{AreStaggered}
 use Rattle.snapshot_audit.specs.Verdicts.{AgreesAlways}
 
@@ -25,21 +24,6 @@ combined_alike Union A B C D values p q = (
 )
 combined_alike Except A B C D values p q = (λ (a, none). (p.0 a, λ d. none (q.1 d)), λ (c, none). (p.1 c, λ b. none (q.0 b)))
 combined_alike Intersect A B C D values p q = (λ (a, b). (p.0 a, q.0 b), λ (c, d). (p.1 c, q.1 d))
-
--- by the truth of both
-pub combined_truth :
-    (operator : SetOperator) (A B : List Value → Type 0) (values : List Value) (first second : Bool) → (IsTrue first ↔ A values)
-    → (IsTrue second ↔ B values) → (IsTrue (is_combined operator first second) ↔ InCombined operator A B values)
-combined_truth Union A B values true second p q = (λ h. inl (p.0 refl), λ h. refl)
-combined_truth Union A B values false second p q = (
-  λ h. inr (q.0 h),
-  λ h. elim h [ inl a ↦ absurd (let wrong : false ≡ true = p.1 a in cc) | inr b ↦ q.1 b ],
-)
-combined_truth Except A B values true true p q = (λ h. absurd (let wrong : false ≡ true = h in cc), λ (a, none). absurd (none (q.0 refl)))
-combined_truth Except A B values true false p q = (λ h. (p.0 refl, λ b. (let wrong : false ≡ true = q.1 b in cc)), λ h. refl)
-combined_truth Except A B values false second p q = (λ h. absurd (let wrong : false ≡ true = h in cc), λ (a, none). absurd (let wrong : false ≡ true = p.1 a in cc))
-combined_truth Intersect A B values true second p q = (λ h. (p.0 refl, q.0 h), λ (a, b). q.1 b)
-combined_truth Intersect A B values false second p q = (λ h. absurd (let wrong : false ≡ true = h in cc), λ (a, b). absurd (let wrong : false ≡ true = p.1 a in cc))
 
 -- ---- the rows of a query's selects
 
@@ -96,15 +80,6 @@ adds_select tables select old rows list agrees staggered same = (
       λ h. (same day values).0 ((agrees day is_day values).1 h),
     ),
   ),
-)
-
-pub adds_both :
-    (tables : List (List PeriodRow)) (operator : SetOperator) (left right : Query) (old mid new : List (List PeriodRow))
-    → AddsRowsOf tables left old mid → AddsRowsOf tables right mid new → AddsRowsOf tables (both operator left right) old new
-adds_both tables operator left right old mid new (first, begun, l) (second, ended, r) = (
-  first ++ second,
-  ended ∙ ap (λ ls. ls ++ second) begun ∙ append_assoc old first second,
-  (first, second, refl, l, r),
 )
 
 -- to no lists

@@ -11,7 +11,7 @@ use Rattle.catalog_core.specs.declared.query.resolved.Select.{Select}
 use Rattle.catalog_core.specs.query.Queries.{rows_for}
 use Rattle.std.specs.Prelude.{IsTrue}
 use Rattle.history_model.specs.OrdinaryQuery.{Sights, TableSights, meets_all}
-use Rattle.snapshot_audit.specs.declared.combined_rows.Output.TheVariants.{Front, SelectList}
+use Rattle.snapshot_audit.specs.declared.combined_rows.CombinedOutput.TheVariants.{Front, SelectList}
 use Rattle.snapshot_audit.specs.Differences.{InSelectOn}
 use Rattle.snapshot_audit.specs.Pairs.{AreJoined}
 use Rattle.snapshot_audit.specs.Selections.{InRest, InRestOn, IsSelected}

@@ -203,18 +203,6 @@ before_cases values others start day before = elim (values_cmp values others) as
   | Greater ↦ λ e. absurd (let wrong : comes_before values start others day ≡ false = ap (λ o. match_ordering o true (int_lt start day) false) e in cc)
 ] refl
 
--- what does not come before comes behind by its values, or has the same and starts on the day or later
-pub not_before_cases :
-    (values others : List Value) (start day : ℤ) → comes_before values start others day ≡ false
-    → (values_cmp others values ≡ Less) ⊎ ((values ≡ others) × (day ≤ℤ start))
-not_before_cases values others start day before = elim (values_cmp values others) as (λ o. values_cmp values others ≡ o → (values_cmp others values ≡ Less) ⊎ ((values ≡ others) × (day ≤ℤ start))) [
-  | Less ↦ λ e. absurd (let wrong : comes_before values start others day ≡ true = ap (λ o. match_ordering o true (int_lt start day) false) e in cc)
-  | Equal ↦ λ e. let same : values ≡ others = values_cmp-same values others e in
-      let starts : int_lt start day ≡ false = sym (before_same values others start day same) ∙ before in
-      inr (same, grind (arith, starts))
-  | Greater ↦ λ e. inl (values_cmp_total.antisymm others values ∙ ap ordering_reverse e)
-] refl
-
 -- whether the row begins by the day, in the order of the rows
 abbrev pub begins_by : List Value → ℤ → PeriodRow → Bool
 begins_by values day row = comes_before row.values row.period.start values (day +ℤ pos 1)

@@ -5,7 +5,7 @@ use Rattle.std.specs.declared.cmp.Ordering.TheVariants.{Less}
 use Rattle.period_core.specs.Order.{values_cmp}
 use Rattle.period_core.specs.declared.value.Value.{Value}
 use Rattle.period_core.specs.declared.row.PeriodRow.{PeriodRow}
-use Rattle.snapshot_audit.specs.declared.keys.Entry.{Entry}
+use Rattle.snapshot_audit.specs.declared.keys.KeyedEntry.{KeyedEntry}
 use Rattle.snapshot_audit.specs.declared.shared_columns.SharedColumns.{SharedColumns}
 
 -- the values have a value at each of these positions, and the key is these
@@ -13,31 +13,32 @@ abbrev pub Reads : List ℕ → List Value → List Value → Type 0
 Reads columns values key = map (slice_get values) columns ≡ map Some key
 
 -- the entry has its row's period
-abbrev pub HasPeriod : Entry → Type 0
+abbrev pub HasPeriod : KeyedEntry → Type 0
 HasPeriod entry = entry.row.now.period ≡ entry.period
 
 -- the key of the first comes before that of the second, or it is the same, and the first starts no
 -- later
-abbrev pub IsInOrder : Entry → Entry → Type 0
+abbrev pub IsInOrder : KeyedEntry → KeyedEntry → Type 0
 IsInOrder entry other =
     (values_cmp entry.key other.key ≡ Less)
     ⊎ ((entry.key ≡ other.key) × (entry.period.start ≤ℤ other.period.start))
 
 -- it is so of each entry and each later one
-abbrev pub AreInOrder : List Entry → Type 0
+abbrev pub AreInOrder : List KeyedEntry → Type 0
 AreInOrder = AllPairs IsInOrder
 
 -- the entries of the rows that have a key, and no others, in order
-pub record AreByKey (columns : List ℕ) (rows : List PeriodRow) (entries : List Entry) : Type 0 where
+pub record AreByKey (columns : List ℕ) (rows : List PeriodRow) (entries : List KeyedEntry)
+    : Type 0 where
   pub ordered : AreInOrder entries
   pub periods : All HasPeriod entries
-  pub made : (entry : Entry) → Contains entries entry
+  pub made : (entry : KeyedEntry) → Contains entries entry
       → Contains rows entry.row.now × Reads columns entry.row.now.values entry.key
   pub all : (row : PeriodRow) (key : List Value) → Contains rows row → Reads columns row.values key
-      → (entry : Entry) × Contains entries entry × (entry.row.now ≡ row)
+      → (entry : KeyedEntry) × Contains entries entry × (entry.row.now ≡ row)
 
 -- the other has the same key, and starts on a day of this one
-abbrev pub BeginsWithin : Entry → Entry → Type 0
+abbrev pub BeginsWithin : KeyedEntry → KeyedEntry → Type 0
 BeginsWithin entry other =
     (other.key ≡ entry.key) × (entry.period.start ≤ℤ other.period.start)
     × (other.period.start <ℤ entry.period.end)

@@ -5,10 +5,10 @@ use Rattle.period_core.specs.declared.value.Value.{Value}
 use Rattle.period_core.specs.declared.row.PeriodRow.{PeriodRow}
 use Rattle.temporal_model.specs.Snapshot.{InSnapshot}
 use Rattle.catalog_core.specs.declared.query.resolved.Select.{Select}
-use Rattle.snapshot_audit.specs.declared.combined_rows.Output.{Output}
-use Rattle.snapshot_audit.specs.declared.joins.Side.{Side}
-use Rattle.snapshot_audit.specs.declared.joins.Side.TheVariants.{First, Second}
-use Rattle.snapshot_audit.specs.declared.keys.Entry.{Entry}
+use Rattle.snapshot_audit.specs.declared.combined_rows.CombinedOutput.{CombinedOutput}
+use Rattle.snapshot_audit.specs.declared.joins.EntrySide.{EntrySide}
+use Rattle.snapshot_audit.specs.declared.joins.EntrySide.TheVariants.{First, Second}
+use Rattle.snapshot_audit.specs.declared.keys.KeyedEntry.{KeyedEntry}
 use Rattle.snapshot_audit.specs.declared.shared_columns.SharedColumns.{SharedColumns}
 use Rattle.snapshot_audit.specs.Keys.{Reads}
 use Rattle.snapshot_audit.specs.Selections.{CanMeet, IsKept}
@@ -24,39 +24,39 @@ pub record Adds (InMay InMust : ℤ → List Value → Type 0) (old new : List P
   pub all : (day : ℤ) (row : List Value) → InMust day row → InSnapshot new day row
 
 -- what is kept of two rows that both hold on the day
-abbrev pub InPair : Select → Output → PeriodRow → PeriodRow → ℤ → List Value → Type 0
+abbrev pub InPair : Select → CombinedOutput → PeriodRow → PeriodRow → ℤ → List Value → Type 0
 InPair select output first second day row =
     InPeriod first.period day × InPeriod second.period day
     × IsKept select output (first.values ++ second.values) row
 
 -- the same of two rows that can meet the conditions
-abbrev pub InMeetingPair : Select → Output → PeriodRow → PeriodRow → ℤ → List Value → Type 0
+abbrev pub InMeetingPair : Select → CombinedOutput → PeriodRow → PeriodRow → ℤ → List Value → Type 0
 InMeetingPair select output first second day row =
     CanMeet select (first.values ++ second.values) × InPair select output first second day row
 
 -- ---- of entries
 
 -- a set of a pair, where the entry's row comes first, or behind
-abbrev pub Sided : (PeriodRow → PeriodRow → ℤ → List Value → Type 0) → Side → Entry → Entry
-    → ℤ → List Value → Type 0
+abbrev pub Sided : (PeriodRow → PeriodRow → ℤ → List Value → Type 0)
+    → EntrySide → KeyedEntry → KeyedEntry → ℤ → List Value → Type 0
 Sided InBoth First entry other = InBoth entry.row.now other.row.now
 Sided InBoth Second entry other = InBoth other.row.now entry.row.now
 
 -- a set of the entry with one of the others
-abbrev pub InEach : (Entry → Entry → ℤ → List Value → Type 0) → Entry → List Entry → ℤ
-    → List Value → Type 0
+abbrev pub InEach : (KeyedEntry → KeyedEntry → ℤ → List Value → Type 0)
+    → KeyedEntry → List KeyedEntry → ℤ → List Value → Type 0
 InEach InBoth entry others day row =
-    (other : Entry) × Contains others other × InBoth entry other day row
+    (other : KeyedEntry) × Contains others other × InBoth entry other day row
 
 -- a set of one of the entries with one of the others
-abbrev pub InAny : (Entry → Entry → ℤ → List Value → Type 0) → List Entry → List Entry → ℤ
-    → List Value → Type 0
+abbrev pub InAny : (KeyedEntry → KeyedEntry → ℤ → List Value → Type 0)
+    → List KeyedEntry → List KeyedEntry → ℤ → List Value → Type 0
 InAny InBoth entries others day row =
-    (entry : Entry) × Contains entries entry × InEach InBoth entry others day row
+    (entry : KeyedEntry) × Contains entries entry × InEach InBoth entry others day row
 
 -- the same where the other has the entry's key, and starts no earlier
-abbrev pub Begun : (Entry → Entry → ℤ → List Value → Type 0) → Entry → Entry → ℤ → List Value
-    → Type 0
+abbrev pub Begun : (KeyedEntry → KeyedEntry → ℤ → List Value → Type 0)
+    → KeyedEntry → KeyedEntry → ℤ → List Value → Type 0
 Begun InBoth entry other day row =
     (other.key ≡ entry.key) × (entry.period.start ≤ℤ other.period.start)
     × InBoth entry other day row
@@ -81,8 +81,8 @@ ReadSame select width more columns =
 
 -- the joined rows hold on each day what is kept of the values of a row of each side: at least of
 -- those that can meet the conditions
-pub record AreJoined (select : Select) (output : Output) (rows others joined : List PeriodRow)
-    : Type 0 where
+pub record AreJoined (select : Select) (output : CombinedOutput)
+    (rows others joined : List PeriodRow) : Type 0 where
   pub made : (day : ℤ) (row : List Value) → InSnapshot joined day row
       → (first second : List Value) × InSnapshot rows day first × InSnapshot others day second
       × IsKept select output (first ++ second) row

@@ -7,8 +7,9 @@ use Rattle.temporal_model.specs.Snapshot.{InSnapshot}
 use Rattle.catalog_core.specs.declared.query.resolved.QueryReference.{QueryReference}
 use Rattle.catalog_core.specs.declared.query.resolved.Select.{Select}
 use Rattle.history_model.specs.OrdinaryQuery.{Sights, InProduct, IsProjection, meets_all}
-use Rattle.snapshot_audit.specs.declared.combined_rows.Output.{Output}
-use Rattle.snapshot_audit.specs.declared.combined_rows.Output.TheVariants.{Front, SelectList}
+use Rattle.snapshot_audit.specs.declared.combined_rows.CombinedOutput.{CombinedOutput}
+use Rattle.snapshot_audit.specs.declared.combined_rows.CombinedOutput.TheVariants.{Front}
+use Rattle.snapshot_audit.specs.declared.combined_rows.CombinedOutput.TheVariants.{SelectList}
 use Rattle.snapshot_audit.specs.ActiveRows.{RowReferences}
 
 -- the combined row meets every ON and WHERE, and this is the select list's row of it
@@ -37,7 +38,7 @@ CanMeet select front =
 
 -- what is kept of a combined row: its values, or the select list's row of it if it meets every ON
 -- and WHERE
-abbrev pub IsKept : Select → Output → List Value → List Value → Type 0
+abbrev pub IsKept : Select → CombinedOutput → List Value → List Value → Type 0
 IsKept select Front values row = values ≡ row
 IsKept select SelectList values row = IsSelected select values row
 

@@ -12,7 +12,7 @@ use std::alloc::Global;
 
 /// What is kept of the combined rows.
 #[derive(Clone, Copy)]
-pub(crate) enum Output {
+pub(crate) enum CombinedOutput {
     /// All values, to which those of further references come.
     Front,
     /// The select list's row of those that meet the conditions.
@@ -89,7 +89,7 @@ pub(crate) fn side_by_side(
 pub(crate) fn kept(
     alloc: Global,
     select: &Select,
-    output: Output,
+    output: CombinedOutput,
     values: Values,
 ) -> Result<Option<Values>, Memory>
     ensures { IfOk result (λ found. MatchOption found
@@ -97,7 +97,7 @@ pub(crate) fn kept(
         (IsKept select.now output values)) }
 {
     match output {
-        Output::Front => Ok(Some(values)),
-        Output::SelectList => selected(alloc, select, values.as_slice()),
+        CombinedOutput::Front => Ok(Some(values)),
+        CombinedOutput::SelectList => selected(alloc, select, values.as_slice()),
     }
 }

@@ -6,8 +6,8 @@ ghost use Rattle.snapshot_audit.specs.Keys.{AreInOrder, HasPeriod};
 ghost use Rattle.snapshot_audit.specs.Pairs.{Adds, AreJoined, Begun, InAny, InEach, InMeetingPair};
 ghost use Rattle.snapshot_audit.specs.Pairs.{InPair, Sided};
 
-use crate::combined_rows::{Output, kept, side_by_side};
-use crate::keys::{Entry, beginning_within, by_key};
+use crate::combined_rows::{CombinedOutput, kept, side_by_side};
+use crate::keys::{KeyedEntry, beginning_within, by_key};
 use crate::ruling_out::is_ruled_out;
 use crate::shared_columns::shared_columns;
 use crate::staggered::staggered;
@@ -17,7 +17,7 @@ use std::alloc::Global;
 
 /// The side of a join from which an entry comes.
 #[derive(Clone, Copy)]
-pub(crate) enum Side {
+pub(crate) enum EntrySide {
     /// Its values come first.
     First,
     /// Its values come behind.
@@ -29,7 +29,7 @@ pub(crate) enum Side {
 fn add_pair(
     alloc: Global,
     select: &Select,
-    output: Output,
+    output: CombinedOutput,
     rows: &mut Vec<PeriodRow>,
     first: &PeriodRow,
     second: &PeriodRow,
@@ -58,19 +58,19 @@ fn add_pair(
 fn add_sided(
     alloc: Global,
     select: &Select,
-    output: Output,
+    output: CombinedOutput,
     rows: &mut Vec<PeriodRow>,
-    entry: &Entry,
-    other: &Entry,
-    side: Side,
+    entry: &KeyedEntry,
+    other: &KeyedEntry,
+    side: EntrySide,
 ) -> Result<(), Memory>
     ensures { OnOk result (Adds (Sided (InPair select.now output) side entry.now other.now)
         (Sided (InMeetingPair select.now output) side entry.now other.now)
         rows.old.items rows.new.items) }
 {
     match side {
-        Side::First => add_pair(alloc, select, output, rows, entry.row, other.row),
-        Side::Second => add_pair(alloc, select, output, rows, other.row, entry.row),
+        EntrySide::First => add_pair(alloc, select, output, rows, entry.row, other.row),
+        EntrySide::Second => add_pair(alloc, select, output, rows, other.row, entry.row),
     }
 }
 
@@ -78,11 +78,11 @@ fn add_sided(
 fn add_partners(
     alloc: Global,
     select: &Select,
-    output: Output,
+    output: CombinedOutput,
     rows: &mut Vec<PeriodRow>,
-    entry: &Entry,
-    partners: &[Entry],
-    side: Side,
+    entry: &KeyedEntry,
+    partners: &[KeyedEntry],
+    side: EntrySide,
 ) -> Result<(), Memory>
     ensures { OnOk result
         (Adds (InEach (Sided (InPair select.now output) side) entry.now partners.now)
@@ -118,11 +118,11 @@ fn with_room(alloc: Global, rows: Vec<PeriodRow>, more: usize) -> Result<Vec<Per
 fn add_begun(
     alloc: Global,
     select: &Select,
-    output: Output,
+    output: CombinedOutput,
     rows: Vec<PeriodRow>,
-    entries: &[Entry],
-    others: &[Entry],
-    side: Side,
+    entries: &[KeyedEntry],
+    others: &[KeyedEntry],
+    side: EntrySide,
 ) -> Result<Vec<PeriodRow>, Memory>
     requires ordered { AreInOrder others.now }
     requires entries { All HasPeriod entries.now }
@@ -147,7 +147,7 @@ fn add_begun(
 pub(crate) fn joined(
     alloc: Global,
     select: &Select,
-    output: Output,
+    output: CombinedOutput,
     rows: &[PeriodRow],
     others: &[PeriodRow],
 ) -> Result<Vec<PeriodRow>, Memory>
@@ -160,6 +160,22 @@ pub(crate) fn joined(
     let firsts = first.as_slice();
     let seconds = second.as_slice();
     let none = Vec::new(alloc);
-    let pairs = add_begun(alloc, select, output, none, firsts, seconds, Side::First)?;
-    add_begun(alloc, select, output, pairs, seconds, firsts, Side::Second)
+    let pairs = add_begun(
+        alloc,
+        select,
+        output,
+        none,
+        firsts,
+        seconds,
+        EntrySide::First,
+    )?;
+    add_begun(
+        alloc,
+        select,
+        output,
+        pairs,
+        seconds,
+        firsts,
+        EntrySide::Second,
+    )
 }

@@ -6,7 +6,7 @@ ghost use Rattle.std.specs.List.Sorted.{IsPartitionPoint};
 ghost use Rattle.period_core.specs.declared.value.Value.{Value as ColumnValue};
 ghost use Rattle.snapshot_audit.specs.Keys.{AreByKey, AreInOrder, BeginsWithin, Reads};
 ghost use Rattle.snapshot_audit.specs.Staggered.{comes_before};
-ghost use Rattle.snapshot_audit.specs.declared.keys.Entry.{Entry as KeyedEntry};
+ghost use Rattle.snapshot_audit.specs.declared.keys.KeyedEntry.{KeyedEntry as Keyed};
 
 use period_core::{Day, Memory, Period, PeriodRow, Value, Values};
 use std::alloc::Global;
@@ -15,7 +15,7 @@ use std::cmp::Ordering;
 /// A row with the values by which it is joined. They stand in the order of these values, and those
 /// of the same values in the order of their periods.
 #[derive(Drop, PartialEq, Eq, PartialOrd, Ord)]
-pub(crate) struct Entry<'a> {
+pub(crate) struct KeyedEntry<'a> {
     /// The values by which it is joined.
     pub(crate) key: Values,
     /// The days on which it holds.
@@ -45,13 +45,13 @@ pub(crate) fn by_key<'a>(
     alloc: Global,
     columns: &[usize],
     rows: &'a [PeriodRow],
-) -> Result<Vec<Entry<'a>>, Memory>
+) -> Result<Vec<KeyedEntry<'a>>, Memory>
     ensures { IfOk result (λ entries. AreByKey columns.now rows.now entries.items) }
 {
     let mut entries = Vec::with_capacity(alloc, rows.len())?;
     for row in rows {
         if let Some(key) = read(alloc, columns, row.values.as_slice())? {
-            entries.push(Entry {
+            entries.push(KeyedEntry {
                 key,
                 period: row.period,
                 row,
@@ -63,7 +63,7 @@ pub(crate) fn by_key<'a>(
 }
 
 // Whether the entry comes before those of this key that begin on the day or later.
-fn begins_before(entry: &Entry, key: &Values, day: Day) -> bool
+fn begins_before(entry: &KeyedEntry, key: &Values, day: Day) -> bool
     ensures { result ≡ comes_before entry.now.key entry.now.period.start key.now day }
 {
     match entry.key.cmp(key) {
@@ -74,7 +74,7 @@ fn begins_before(entry: &Entry, key: &Values, day: Day) -> bool
 }
 
 // How many entries come before those of this key that begin on the day or later.
-fn count_before(entries: &[Entry], key: &Values, day: Day) -> usize
+fn count_before(entries: &[KeyedEntry], key: &Values, day: Day) -> usize
     requires { AreInOrder entries.now }
     ensures inside { result ≤ length entries.now }
     ensures before { IsPartitionPoint
@@ -86,11 +86,14 @@ fn count_before(entries: &[Entry], key: &Values, day: Day) -> usize
 }
 
 /// The entries of this entry's key that begin on one of its days.
-pub(crate) fn beginning_within<'e, 'a>(entries: &'e [Entry<'a>], entry: &Entry) -> &'e [Entry<'a>]
+pub(crate) fn beginning_within<'e, 'a>(
+    entries: &'e [KeyedEntry<'a>],
+    entry: &KeyedEntry,
+) -> &'e [KeyedEntry<'a>]
     requires { AreInOrder entries.now }
-    ensures inside { (other : KeyedEntry) → Contains result.now other
+    ensures inside { (other : Keyed) → Contains result.now other
         → Contains entries.now other }
-    ensures all { (other : KeyedEntry) → Contains entries.now other → BeginsWithin entry.now other
+    ensures all { (other : Keyed) → Contains entries.now other → BeginsWithin entry.now other
         → Contains result.now other }
 {
     let first = count_before(entries, &entry.key, entry.period.start);

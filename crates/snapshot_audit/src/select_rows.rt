@@ -9,7 +9,7 @@ ghost use Rattle.snapshot_audit.specs.Differences.{InSelectOn};
 ghost use Rattle.snapshot_audit.specs.Selections.{InRestOn};
 ghost use Rattle.snapshot_audit.specs.Verdicts.{AgreesAlways};
 
-use crate::combined_rows::Output;
+use crate::combined_rows::CombinedOutput;
 use crate::joins::joined;
 use catalog_core::resolved::{QueryReference, Select, Tables};
 use period_core::{Day, Memory, Period, PeriodRow, Values};
@@ -44,9 +44,9 @@ fn rest_rows(
     };
     let others = tables.rows_for(reference);
     if more.is_empty() {
-        return joined(alloc, select, Output::SelectList, fronts, others);
+        return joined(alloc, select, CombinedOutput::SelectList, fronts, others);
     }
-    let rows = joined(alloc, select, Output::Front, fronts, others)?;
+    let rows = joined(alloc, select, CombinedOutput::Front, fronts, others)?;
     rest_rows(alloc, select, more, tables, rows.as_slice())
 }
 

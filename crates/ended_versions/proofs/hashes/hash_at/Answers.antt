@@ -1,4 +1,4 @@
-use Rattle.std.proofs.Common.{◌≡◌, ◌++◌, ◌∷◌, [], ◌∙◌, ℕ, List, ap, arith, get_or, sym, take}
+use Rattle.std.proofs.Common.{◌∷◌, [], ◌∙◌, ℕ, List, ap, get_or, sym, take}
 use Rattle.std.specs.List.{filter_map, slice_get}
 use Rattle.std.proofs.lemmas.List.{take_more}
 use Rattle.std.proofs.lemmas.List.Concat.{flat_map-append}

@@ -2,15 +2,15 @@ use Rattle.std.proofs.Common.{◌≡◌, ◌+◌, ◌-◌, ◌<◌, ◌≤◌, �
 use Rattle.std.specs.List.{filter}
 use Rattle.std.proofs.lemmas.Nat.{and_le_r}
 use Rattle.ended_versions.specs.Entries.{block_start, is_seen}
-use Rattle.ended_versions.specs.declared.blocks.Entry.{Entry}
+use Rattle.ended_versions.specs.declared.blocks.VersionEntry.{VersionEntry}
 use Rattle.ended_versions.proofs.WalkFacts.{none_before, none_of_block}
 use Rattle.ended_versions.proofs.walk.last_seen.Goals as goal
 
 pub returns-then-not-ends_late : goal.returns-then-not-ends_late
 returns-then-not-ends_late c =
     let window = c.args.window.now in
-    let entries : List Entry = c.args.entries.now in
-    let entry : Entry = c.index-entries-place.result in
+    let entries : List VersionEntry = c.args.entries.now in
+    let entry : VersionEntry = c.index-entries-place.result in
     let place : ℕ = c.loop-place.place - 1 in
     let more : c.loop-place.place ≡ place + 1 = omega (arith, c.loop-place-test.true) in
     let inside : place < length entries = omega (arith, c.loop-place.invariant.upto, c.requires.within, c.loop-place-test.true) in
@@ -21,8 +21,8 @@ returns-then-not-ends_late c =
 pub loop-place-preserved : goal.loop-place-preserved
 loop-place-preserved c =
     let window = c.args.window.now in
-    let entries : List Entry = c.args.entries.now in
-    let entry : Entry = c.index-entries-place.result in
+    let entries : List VersionEntry = c.args.entries.now in
+    let entry : VersionEntry = c.index-entries-place.result in
     let place : ℕ = c.loop-place.place - 1 in
     let more : c.loop-place.place ≡ place + 1 = omega (arith, c.loop-place-test.true) in
     let inside : place < length entries = omega (arith, c.loop-place.invariant.upto, c.requires.within, c.loop-place-test.true) in

@@ -1,4 +1,6 @@
 use Rattle.std.proofs.Common.{◌≡◌, ◌∙◌, ◌++◌, ◌∷◌, [], ℕ, List, Option, get_or, ap, sym, arith}
+use Rattle.std.specs.List.{filter_map}
+use Rattle.std.proofs.lemmas.List.{take_all}
 use Rattle.period_keys.specs.Positions.{value_position_of}
 use Rattle.period_keys.proofs.Places.{position_with, position_without}
 use Rattle.period_keys.proofs.positions.positions_of.Goals as goal
@@ -17,3 +19,6 @@ loop-place-preserved c =
       | in_default w ↦
           ap (λ (v : _). v.items) w.positions-is ∙ c.loop-place.invariant ∙ sym (position_without f places i (omega arith) (gives ∙ w.in_default.is))
     ]
+
+pub returns : goal.returns
+returns c = c.loop-place.invariant ∙ ap (filter_map (value_position_of c.args.def.now)) (take_all c.loop-place.place-index c.args.places.now c.loop-place-test.false)

@@ -1,4 +1,3 @@
-use Rattle.std.proofs.Common.{◌≡◌}
 use Rattle.period_core.proofs.PeriodEnds.{day_in, days_from, days_to, first_in}
 use Rattle.period_keys.proofs.shared_days.first_of_both.Goals as goal
 

@@ -31,6 +31,6 @@ returns-clause-ok c =
     let keys : c.from_vec.result ≡ parent_positions parent reference = c.from_vec.ensures ∙ c.in_ok-keys.ensures ∙ ap (positions_of_places parent) c.as_slice.ensures in
     on_ok c.index_once.result
     (λ there other found.
-        let same : parent ≡ other = value_is parent other (sym c.in-Some.ensures ∙ found) in
-        (new, written, subst (Contains new.indexed) (keys ∙ ap (λ (def : TableDef). parent_positions def reference) same) there))
+    let same : parent ≡ other = value_is parent other (sym c.in-Some.ensures ∙ found) in
+    (new, written, subst (Contains new.indexed) (keys ∙ ap (λ (def : TableDef). parent_positions def reference) same) there))
     c.index_once.ensures.ok

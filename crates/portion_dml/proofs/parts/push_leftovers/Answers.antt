@@ -1,4 +1,4 @@
-use Rattle.std.proofs.Common.{◌≡◌, ◌++◌, ◌∙◌, List, OnOk, Option, Some, ap, ap₂, append_assoc, map, subst, sym}
+use Rattle.std.proofs.Common.{◌≡◌, ◌++◌, ◌∙◌, List, OnOk, Option, ap, ap₂, append_assoc, map, subst, sym}
 use Rattle.std.proofs.lemmas.Result.{IfOk-weaker}
 use Rattle.history_model.specs.Portions.{PlainRow, leftovers, plain_row}
 use Rattle.period_core.specs.declared.period.Period.{Period}

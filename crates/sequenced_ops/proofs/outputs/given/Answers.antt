@@ -2,7 +2,7 @@ use Rattle.std.proofs.Common.{◌++◌, List, sym, subst}
 use Rattle.std.specs.Global.{Vec}
 use Rattle.period_core.specs.declared.row.PeriodRow.{PeriodRow}
 use Rattle.sequenced_ops.specs.Outputs.{IsGathered, IsGiven, IsSelected}
-use Rattle.sequenced_ops.specs.declared.outputs.Output.{Output}
+use Rattle.sequenced_ops.specs.declared.outputs.JoinOutput.{JoinOutput}
 use Rattle.sequenced_ops.proofs.Gathered.{SelectsMore, given_columns, given_pairs, selected_both}
 use Rattle.sequenced_ops.proofs.Logic.{if_ok_weaker}
 use Rattle.sequenced_ops.proofs.outputs.given.Goals as goal
@@ -11,9 +11,9 @@ pub returns-in-Pairs : goal.returns-in-Pairs
 returns-in-Pairs c = λ all gathered.
     let conjuncts = c.args.conjuncts.now in
     let pairs : List PeriodRow = c.args.pairs.items in
-    subst (λ (o : Output). IsGiven conjuncts o all pairs) (sym c.in-Pairs.is)
+    subst (λ (o : JoinOutput). IsGiven conjuncts o all pairs) (sym c.in-Pairs.is)
     (given_pairs conjuncts all c.args.selected.items pairs
-    (subst (λ (o : Output). IsGathered conjuncts o all c.args.selected.items pairs) c.in-Pairs.is gathered))
+    (subst (λ (o : JoinOutput). IsGathered conjuncts o all c.args.selected.items pairs) c.in-Pairs.is gathered))
 
 pub returns-in-Columns : goal.returns-in-Columns
 returns-in-Columns c =
@@ -27,8 +27,8 @@ returns-in-Columns c =
     subst (λ (l : List PeriodRow). SelectsMore conjuncts columns selected l rows.items) c.as_slice.ensures.value more in
     given_columns conjuncts c.args.output all selected pairs rows.items
     (λ done before.
-    subst (λ (o : Output). IsGiven conjuncts o (done ++ pairs) rows.items) (sym c.in-Columns.is)
+    subst (λ (o : JoinOutput). IsGiven conjuncts o (done ++ pairs) rows.items) (sym c.in-Columns.is)
     (selected_both conjuncts columns done pairs selected rows.items
-    (subst (λ (o : Output). IsSelected conjuncts o done selected) c.in-Columns.is before) step))
+    (subst (λ (o : JoinOutput). IsSelected conjuncts o done selected) c.in-Columns.is before) step))
     gathered)
     c.select_more.ensures

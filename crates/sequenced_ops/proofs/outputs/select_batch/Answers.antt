@@ -1,7 +1,7 @@
 use Rattle.std.proofs.Common.{◌++◌, List, sym, subst}
 use Rattle.period_core.specs.declared.row.PeriodRow.{PeriodRow}
 use Rattle.sequenced_ops.specs.Outputs.{IsSelected}
-use Rattle.sequenced_ops.specs.declared.outputs.Output.{Output}
+use Rattle.sequenced_ops.specs.declared.outputs.JoinOutput.{JoinOutput}
 use Rattle.sequenced_ops.proofs.Gathered.{SelectsMore, batch_selected, selected_both}
 use Rattle.sequenced_ops.proofs.outputs.select_batch.Goals as goal
 
@@ -17,7 +17,7 @@ returns-in_ok-rows-in-Columns c = λ all gathered.
     rw c.clear.ensures.items
     (batch_selected conjuncts c.args.output all selected pairs rows
     (λ done before.
-    subst (λ (o : Output). IsSelected conjuncts o (done ++ pairs) rows) (sym c.in-Columns.is)
+    subst (λ (o : JoinOutput). IsSelected conjuncts o (done ++ pairs) rows) (sym c.in-Columns.is)
     (selected_both conjuncts columns done pairs selected rows
-    (subst (λ (o : Output). IsSelected conjuncts o done selected) c.in-Columns.is before) step))
+    (subst (λ (o : JoinOutput). IsSelected conjuncts o done selected) c.in-Columns.is before) step))
     gathered)

@@ -37,6 +37,6 @@ returns-then-is_ruled_out c =
     let conjuncts : List (Tree CompareValues) = c.as_slice-conjuncts.result.now in
     pair_ruled_out c.args.select.now c.args.output c.args.first.now c.args.second.now c.args.rows.now.items
     (λ rest.
-        subst (λ l. meets_all l ((first ++ second) ++ rest) ≡ false) c.as_slice-conjuncts.ensures
-        (subst (λ (v : List Value). meets_all conjuncts ((v ++ second) ++ rest) ≡ false) c.as_slice.ensures
-        (subst (λ (v : List Value). meets_all conjuncts ((c.as_slice.result.now ++ v) ++ rest) ≡ false) c.as_slice-2.ensures (c.if-is_ruled_out.ensures refl rest))))
+    subst (λ l. meets_all l ((first ++ second) ++ rest) ≡ false) c.as_slice-conjuncts.ensures
+    (subst (λ (v : List Value). meets_all conjuncts ((v ++ second) ++ rest) ≡ false) c.as_slice.ensures
+    (subst (λ (v : List Value). meets_all conjuncts ((c.as_slice.result.now ++ v) ++ rest) ≡ false) c.as_slice-2.ensures (c.if-is_ruled_out.ensures refl rest))))

@@ -1,8 +1,8 @@
 use Rattle.std.proofs.Common.{[], ℕ, List, sym, subst}
 use Rattle.std.proofs.lemmas.Result.{IfOk-weaker}
 use Rattle.period_core.specs.declared.row.PeriodRow.{PeriodRow}
-use Rattle.snapshot_audit.specs.declared.joins.Side.TheVariants.{First}
-use Rattle.snapshot_audit.specs.declared.keys.Entry.{Entry}
+use Rattle.snapshot_audit.specs.declared.joins.EntrySide.TheVariants.{First}
+use Rattle.snapshot_audit.specs.declared.keys.KeyedEntry.{KeyedEntry}
 use Rattle.snapshot_audit.specs.Keys.{AreByKey}
 use Rattle.snapshot_audit.specs.Pairs.{Adds, Begun, InAny, InMeetingPair, InPair, Sided}
 use Rattle.snapshot_audit.proofs.Adding.{both_sides}
@@ -16,8 +16,8 @@ returns c =
     let others : List PeriodRow = c.args.others.now in
     let left : List ℕ = c.in_ok-columns.columns.first.items in
     let right : List ℕ = c.in_ok-columns.columns.second.items in
-    let first : List Entry = c.as_slice-firsts.result.now in
-    let second : List Entry = c.as_slice-seconds.result.now in
+    let first : List KeyedEntry = c.as_slice-firsts.result.now in
+    let second : List KeyedEntry = c.as_slice-seconds.result.now in
     let mid : List PeriodRow = c.in_ok-pairs.pairs.items in
     let firsts : AreByKey left rows first =
     subst (λ l. AreByKey l rows first) c.as_slice.ensures.value (subst (AreByKey c.as_slice.result.now rows) (sym c.as_slice-firsts.ensures.value) c.in_ok-first.ensures) in

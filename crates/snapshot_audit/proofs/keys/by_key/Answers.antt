@@ -5,7 +5,7 @@ use Rattle.period_core.specs.declared.row.PeriodRow.{PeriodRow}
 use Rattle.period_core.specs.declared.value.Value.{Value}
 use Rattle.snapshot_audit.specs.Keys.{Reads}
 use Rattle.snapshot_audit.proofs.KeyOrder.{AreEntries, by_key_from, entries_more, entries_none, entries_skip}
-use Rattle.snapshot_audit.specs.declared.keys.Entry.{Entry}
+use Rattle.snapshot_audit.specs.declared.keys.KeyedEntry.{KeyedEntry}
 use Rattle.snapshot_audit.proofs.keys.by_key.Goals as goal
 use Rattle.snapshot_audit.proofs.keys.by_key.Goals.{in-Some+in_ok-push, in_default}
 
@@ -22,7 +22,7 @@ loop-row-preserved c =
     let columns : List ℕ = c.args.columns.now in
     let i = c.loop-row.row-index in
     let row : PeriodRow = c.row-item.result in
-    let entries : List Entry = c.loop-row.entries.items in
+    let entries : List KeyedEntry = c.loop-row.entries.items in
     let more : take (i + 1) rows ≡ take i rows ++ row ∷ [] =
     take_more rows i row c.loop-row-test.true ∙ ap (λ (r : PeriodRow). take i rows ++ r ∷ []) (sym c.row-item.is) in
     let found : KeyRead columns row.values c.in_ok-key.field-0 =
@@ -32,12 +32,12 @@ loop-row-preserved c =
       | in-Some+in_ok-push w ↦
           let key : Reads columns row.values w.in-Some.key = subst (KeyRead columns row.values) w.in-Some.is found in
           subst (λ now. AreEntries columns (take i rows ++ row ∷ []) now)
-          (sym (ap (λ (v : Vec Entry Global). v.items) w.entries-is ∙ w.in_ok-push.ensures.items))
+          (sym (ap (λ (v : Vec KeyedEntry Global). v.items) w.entries-is ∙ w.in_ok-push.ensures.items))
           (entries_more columns (take i rows) entries row _ refl refl key c.loop-row.invariant)
       | in_default w ↦
           let none : (key : List Value) → Reads columns row.values key → ⊥ = subst (KeyRead columns row.values) w.in_default.is found in
           subst (λ now. AreEntries columns (take i rows ++ row ∷ []) now)
-          (sym (ap (λ (v : Vec Entry Global). v.items) w.entries-is))
+          (sym (ap (λ (v : Vec KeyedEntry Global). v.items) w.entries-is))
           (entries_skip columns (take i rows) entries row none c.loop-row.invariant)
     ])
 

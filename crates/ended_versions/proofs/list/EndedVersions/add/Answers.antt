@@ -1,4 +1,4 @@
-use Rattle.std.proofs.Common.{◌≡◌, ◌++◌, ◌∷◌, [], ◌∙◌, ℕ, List, ap, ap₂, sym, subst, subst₂}
+use Rattle.std.proofs.Common.{◌≡◌, ◌++◌, ◌∷◌, [], ◌∙◌, ℕ, List, ap, ap₂, sym, subst₂}
 use Rattle.std.specs.List.{filter_map, slice_get}
 use Rattle.period_core.specs.declared.value.Value.{Value}
 use Rattle.ended_versions.specs.Found.{AreHashes}

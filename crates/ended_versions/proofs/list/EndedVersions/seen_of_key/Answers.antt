@@ -1,13 +1,12 @@
-use Rattle.std.proofs.Common.{◌≡◌, ◌==◌, ◌≤◌, ◌+◌, ◌++◌, ◌∷◌, [], ◌∙◌, ℕ, Bool, true, List, Option, Some, append-nil, ap, arith, length, refl, reverse, sym, subst}
+use Rattle.std.proofs.Common.{◌≡◌, ◌==◌, ◌≤◌, ◌+◌, ◌++◌, ◌∙◌, ℕ, Bool, List, Option, Some, append-nil, ap, arith, length, reverse, sym, subst}
 use Rattle.std.specs.Global.{Vec}
 use Rattle.std.specs.List.{filter}
 use Rattle.std.specs.Prelude.{option_to_list, slice_index_or}
 use Rattle.std.proofs.lemmas.Bool.{not-false}
-use Rattle.std.proofs.lemmas.Result.{IfOk-at_ok, IfOk-weaker}
+use Rattle.std.proofs.lemmas.Result.{IfOk-weaker}
 use Rattle.std.proofs.lemmas.Slice.Eq.{bytes_eq-Decides}
 use Rattle.period_core.specs.declared.version.VersionRow.{VersionRow}
 use Rattle.ended_versions.specs.Chains.{IsLastPlace, behind}
-use Rattle.ended_versions.specs.Found.{IsVersionIfSeen}
 use Rattle.ended_versions.specs.Hashes.{hash_at, hash_of, shares_hash}
 use Rattle.ended_versions.specs.Packed.{Hold, PackedVersion, seen_through}
 use Rattle.ended_versions.proofs.FoundFacts.{FoundTo, filter-reverse, found_all, found_first, found_step}

@@ -1,5 +1,4 @@
-use Rattle.std.proofs.Common.{◌≡◌, ◌≤◌, ◌++◌, ℕ, List, Some, length, reverse, take}
-use Rattle.std.specs.List.{filter}
+use Rattle.std.proofs.Common.{◌≡◌, ◌≤◌, ℕ, List, Some, length}
 use Rattle.std.specs.Prelude.{slice_index_or}
 use Rattle.period_core.specs.declared.version.VersionRow.{VersionRow}
 use Rattle.ended_versions.specs.Chains.{behind}

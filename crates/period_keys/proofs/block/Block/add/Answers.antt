@@ -1,4 +1,4 @@
-use Rattle.std.proofs.Common.{List, subst, sym}
+use Rattle.std.proofs.Common.{subst, sym}
 use Rattle.std.specs.List.{All}
 use Rattle.period_keys.specs.Between.{LiesBetween}
 use Rattle.period_keys.proofs.Blocks.{wider_with}
