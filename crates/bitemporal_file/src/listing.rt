@@ -2,7 +2,7 @@
 //! columns, its periods, its key and its references.
 
 use catalog_core::{Catalog, Column, ColumnKind, Reference, TableDef};
-use command_tool::RunFault;
+use command_line::RunFault;
 use period_core::Refusal;
 use script_engine::Engine;
 use sql_statements::Name;

@@ -2,14 +2,13 @@
 
 ghost use Rattle.std.specs.Prelude.{◌≡◌, ◌≤◌, IfOk, None, false};
 
-use crate::command::{Asked, command_line};
+use crate::command::{Asked, asked_by};
 use crate::listing::list_tables;
 use crate::reporter::{Reported, Reporter};
 use crate::runs::run_store;
 use crate::session::run_session;
 use crate::stores::{close_store, files_there, give_up, open_store};
-use command_arguments::CommandFault;
-use command_tool::{ProgramName, RunFault, Tracked, end_in, show};
+use command_line::{CommandFault, ProgramName, RunFault, Tracked, end_in, show};
 use period_core::Refusal;
 use script_engine::{Engine, Entry, Kept, Outcome};
 use sqlite::{Connection, File, FileStore};
@@ -127,7 +126,7 @@ pub fn run_file_program<R: Read, W: Write, E: Write>(
 {
     let alloc = rt.alloc();
     let program = ProgramName::BitemporalFile;
-    let asked = match command_line(alloc, words) {
+    let asked = match asked_by(alloc, words) {
         Ok(asked) => asked,
         Err(CommandFault::Clap(fault)) => return show(alloc, program, &fault, out, err),
         Err(CommandFault::Memory) => return end_in(alloc, program, err, RunFault::Memory),

@@ -8,7 +8,7 @@ ghost use Rattle.script_engine.specs.report.Report.{text_of};
 ghost use Rattle.bitemporal_file.specs.Reporting.{IsReportFault, Tells, entry_status};
 ghost use Rattle.bitemporal_file.specs.Reporting.{result_status};
 
-use command_tool::{RunFault, has_failed};
+use command_line::{RunFault, has_failed};
 use period_core::Refusal;
 use script_engine::{
     Entry, Listener, Outcome, ReportFault, write_audited_statement, write_statement,
