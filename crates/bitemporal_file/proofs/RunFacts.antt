@@ -14,7 +14,7 @@ use Rattle.script_engine.specs.engine.EngineState.{EngineState}
 use Rattle.version_tables.specs.declared.form.Form.TheVariants.{Microseconds}
 use Rattle.version_store.proofs.Units.{same_units}
 use Rattle.script_engine.specs.engine.Stored.{AreOfHistory, DatabaseRepresents, EngineRepresents}
-use Rattle.script_engine.specs.script.Script.{MayRefuseScript}
+use Rattle.script_engine.specs.script.Script.{MayRefuseScript, most_bytes}
 use Rattle.command_line.specs.Reading.{read_of}
 use Rattle.command_line.specs.declared.fault.RunFault.{RunFault}
 use Rattle.command_line.specs.declared.fault.RunFault.TheVariants.{Memory, Read, Script}

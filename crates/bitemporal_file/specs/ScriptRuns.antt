@@ -8,7 +8,7 @@ use Rattle.history_model.specs.Histories.{History}
 use Rattle.script_engine.specs.script.Listening.{IsFrontRunBy}
 use Rattle.command_line.specs.Reading.{read_of}
 use Rattle.period_core.specs.declared.refusal.Refusal.{Refusal}
-use Rattle.script_engine.specs.script.Script.{MayRefuseScript}
+use Rattle.script_engine.specs.script.Script.{MayRefuseScript, most_bytes}
 use Rattle.command_line.specs.declared.fault.RunFault.{RunFault}
 use Rattle.command_line.specs.declared.fault.RunFault.TheVariants.{Script}
 use Rattle.bitemporal_file.specs.Reporting.{EndsAtRefusal, IsReportFault, greatest_from, texts_from}

@@ -1,4 +1,5 @@
 use Rattle.std.proofs.Common.{[], ◌∷◌, Err, refl, subst, sym}
+use Rattle.std.proofs.lemmas.Result.{err_from_is_err_and}
 use Rattle.script_engine.specs.engine.Stored.{EngineRepresents}
 use Rattle.script_engine.specs.script.Script.{MayRefuseScript}
 use Rattle.command_line.specs.declared.fault.RunFault.TheVariants.{Script}
@@ -8,12 +9,14 @@ use Rattle.bitemporal_file.proofs.Told.{all_told}
 use Rattle.bitemporal_file.proofs.runs.run_script.Goals as goal
 
 pub returns-in_err-script-clause-ran : goal.returns-in_err-script-clause-ran
-returns-in_err-script-clause-ran g c = (
-  [],
-  tt,
-  none_run g.W.Write.contents g.K.Reported.text g.K.Reported.status_of _ c.args.reporter.now 1 c.in_err-script.field-0 c.requires (λ refusal is. absurd (read_fault_is_plain _ c.in_err-script.field-0 refusal c.in_err-script.ensures.refused is)),
-  λ usable history stands. (history, refl, stands),
-)
+returns-in_err-script-clause-ran g c =
+    let p = err_from_is_err_and c.from_residual.result c.from_residual.ensures.1 in
+    rw (p.1, p.2) (
+      [],
+      tt,
+      none_run g.W.Write.contents g.K.Reported.text g.K.Reported.status_of _ c.args.reporter.now 1 c.in_err-script.field-0.0 c.requires (λ refusal is. absurd (read_fault_is_plain _ c.in_err-script.field-0.0 refusal c.in_err-script.ensures.refused is)),
+      λ usable history stands. (history, refl, stands),
+    )
 
 pub returns-in-Some-clause-ran : goal.returns-in-Some-clause-ran
 returns-in-Some-clause-ran g c =
