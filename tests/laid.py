@@ -15,7 +15,7 @@ sys.path.append(str(ROOT / 'tools'))
 from builds.sums import lay_copy  # noqa: E402
 
 MAIN = ROOT / 'tests/laid_main.rs'
-USES = ['command_arguments', 'script_engine', 'sqlite']
+USES = ['script_engine', 'sqlite']
 CRATE = 'crates/bitemporal_cli'
 AT_ONCE = 20  # so many scripts: `rt try` takes no more than 1 MiB of their reports
 

@@ -8,8 +8,8 @@
 //! the store is no good one.
 #![tactic(auto)]
 
-use command_arguments::Mode;
-use command_tool::{Tracked, run_tool};
+use command_line::{Mode, Tracked};
+use command_tool::run_tool;
 use script_engine::{run_script, write_report};
 use sqlite::Connection;
 use std::io::{Read, Write};

@@ -18,7 +18,7 @@ mod opened;
 mod stores;
 mod writers;
 
-use command_tool::words_of;
+use command_line::words_of;
 use std::io::Read;
 use std::test::Fail;
 use std::{env, fs, str};

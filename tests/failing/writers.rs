@@ -1,7 +1,7 @@
 //! Writers that fail at their k-th write, for each k, and writers that take one byte at a time.
 
-use command_arguments::Mode;
-use command_tool::{Tracked, run_tool};
+use command_line::{Mode, Tracked};
+use command_tool::run_tool;
 use memory_store::open_in_memory;
 use period_core::Refusal;
 use script_engine::{

@@ -4,7 +4,8 @@
 #![tactic(auto)]
 
 use bitemporal_file::{is_called, run_file_program};
-use command_tool::{Tracked, run_program, words_of};
+use command_line::{Tracked, words_of};
+use command_tool::run_program;
 use std::env;
 use std::process::ExitCode;
 

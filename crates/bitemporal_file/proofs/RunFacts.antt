@@ -14,10 +14,10 @@ use Rattle.script_engine.specs.engine.EngineState.{EngineState}
 use Rattle.version_tables.specs.declared.form.Form.TheVariants.{Microseconds}
 use Rattle.version_store.proofs.Units.{same_units}
 use Rattle.script_engine.specs.engine.Stored.{AreOfHistory, DatabaseRepresents, EngineRepresents}
-use Rattle.script_engine.specs.script.Script.{MayRefuseScript}
-use Rattle.command_tool.specs.Program.{read_of}
-use Rattle.command_tool.specs.declared.fault.RunFault.{RunFault}
-use Rattle.command_tool.specs.declared.fault.RunFault.TheVariants.{Memory, Read, Script}
+use Rattle.script_engine.specs.script.Script.{MayRefuseScript, most_bytes}
+use Rattle.command_line.specs.Reading.{read_of}
+use Rattle.command_line.specs.declared.fault.RunFault.{RunFault}
+use Rattle.command_line.specs.declared.fault.RunFault.TheVariants.{Memory, Read, Script}
 use Rattle.bitemporal_file.specs.Reporting.{EndsAtRefusal, IsReportFault, TellsAll, greatest_from, texts_from}
 use Rattle.bitemporal_file.specs.ScriptRuns.{AreOfReaders, Ends, LeadsTo, MayRefuseNext, ScriptRun, reports, results_of}
 use Rattle.bitemporal_file.specs.declared.reporter.Reporter.{Reporter}
@@ -31,12 +31,12 @@ read_fault_is_plain has_failed fault refusal (inl memory) is = cc
 read_fault_is_plain has_failed fault refusal (inr (read, failed)) is = cc
 
 -- the bytes of a script, as they are handed on
-pub read_bytes : (known : Option (List ℕ)) (script items : List ℕ) → script ≡ items → IfSome known (λ all. items ≡ read_of all) → IfSome known (λ all. script ≡ read_of all)
+pub read_bytes : (known : Option (List ℕ)) (script items : List ℕ) → script ≡ items → IfSome known (λ all. items ≡ read_of most_bytes all) → IfSome known (λ all. script ≡ read_of most_bytes all)
 read_bytes None script items same bytes = tt
 read_bytes (Some all) script items same bytes = same ∙ bytes
 
 -- its refusal is one of what the reader has
-pub read_refusal : (known : Option (List ℕ)) (script items : List ℕ) (refusal : Refusal) → script ≡ items → IfSome known (λ all. items ≡ read_of all) → MayRefuseScript script refusal → IfSome known (λ all. MayRefuseScript (read_of all) refusal)
+pub read_refusal : (known : Option (List ℕ)) (script items : List ℕ) (refusal : Refusal) → script ≡ items → IfSome known (λ all. items ≡ read_of most_bytes all) → MayRefuseScript script refusal → IfSome known (λ all. MayRefuseScript (read_of most_bytes all) refusal)
 read_refusal None script items refusal same bytes may = tt
 read_refusal (Some all) script items refusal same bytes may = subst (λ (text : List ℕ). MayRefuseScript text refusal) (same ∙ bytes) may
 

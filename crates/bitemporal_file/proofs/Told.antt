@@ -6,7 +6,7 @@ use Rattle.std.proofs.KnownBytes.{Appends-nil, Appends-trans}
 use Rattle.std.proofs.lemmas.List.{length-append}
 use Rattle.std.proofs.lemmas.List.Elements.{All-append, All-cons, All-head, All-nil, All-tail}
 use Rattle.std.proofs.lemmas.Bool.{eqb-false, eqb-true}
-use Rattle.command_tool.specs.declared.fault.RunFault.{RunFault}
+use Rattle.command_line.specs.declared.fault.RunFault.{RunFault}
 use Rattle.script_engine.specs.script.Listening.{HearsAll}
 use Rattle.bitemporal_file.specs.Reporting.{EndsAtRefusal, EndsWith, IsReportFault, Tells, TellsAll, greatest_from, texts_from}
 use Rattle.bitemporal_file.specs.declared.reporter.Reporter.{Reporter}

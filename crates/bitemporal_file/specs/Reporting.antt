@@ -4,11 +4,11 @@ use Rattle.std.specs.Prelude.{Result, Ok, Err, All, IfSome, IsSome, false, true,
 use Rattle.std.specs.Prelude.{is_err, length, max}
 use Rattle.std.specs.Io.KnownBytes.{Appends}
 use Rattle.period_core.specs.declared.refusal.Refusal.{Refusal}
-use Rattle.script_engine.specs.declared.engine.outcome.Outcome.{Outcome}
-use Rattle.script_engine.specs.declared.entry.Entry.{Entry}
-use Rattle.command_tool.specs.Program.{fails_audit}
-use Rattle.command_tool.specs.declared.fault.RunFault.{RunFault}
-use Rattle.command_tool.specs.declared.fault.RunFault.TheVariants.{Memory, Write}
+use Rattle.statement_reports.specs.declared.outcome.Outcome.{Outcome}
+use Rattle.statement_reports.specs.declared.entry.Entry.{Entry}
+use Rattle.command_line.specs.Audits.{fails_audit}
+use Rattle.command_line.specs.declared.fault.RunFault.{RunFault}
+use Rattle.command_line.specs.declared.fault.RunFault.TheVariants.{Memory, Write}
 use Rattle.bitemporal_file.specs.declared.reporter.Reporter.{Reporter}
 
 -- 1 where the statement was refused, else 0

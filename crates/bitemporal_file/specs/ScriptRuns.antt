@@ -6,11 +6,11 @@ use Rattle.std.specs.Io.KnownBytes.{Appends}
 use Rattle.sql_statements.specs.Lexemes.{Lexeme}
 use Rattle.history_model.specs.Histories.{History}
 use Rattle.script_engine.specs.script.Listening.{IsFrontRunBy}
-use Rattle.command_tool.specs.Program.{read_of}
+use Rattle.command_line.specs.Reading.{read_of}
 use Rattle.period_core.specs.declared.refusal.Refusal.{Refusal}
-use Rattle.script_engine.specs.script.Script.{MayRefuseScript}
-use Rattle.command_tool.specs.declared.fault.RunFault.{RunFault}
-use Rattle.command_tool.specs.declared.fault.RunFault.TheVariants.{Script}
+use Rattle.script_engine.specs.script.Script.{MayRefuseScript, most_bytes}
+use Rattle.command_line.specs.declared.fault.RunFault.{RunFault}
+use Rattle.command_line.specs.declared.fault.RunFault.TheVariants.{Script}
 use Rattle.bitemporal_file.specs.Reporting.{EndsAtRefusal, IsReportFault, greatest_from, texts_from}
 use Rattle.bitemporal_file.specs.declared.reporter.Reporter.{Reporter}
 
@@ -33,7 +33,7 @@ abbrev pub AreOfReaders : {K : Type 0} → List (Option (List ℕ)) → List (Sc
 AreOfReaders readers [] = Unit {0}
 AreOfReaders [] (run ∷ runs) = ⊥
 AreOfReaders (known ∷ readers) (run ∷ runs) =
-    IfSome known (λ all. run.script ≡ read_of all) × AreOfReaders readers runs
+    IfSome known (λ all. run.script ≡ read_of most_bytes all) × AreOfReaders readers runs
 
 -- each of them was run, to its end
 abbrev pub AreAllRun : {K : Type 0} → List (Option (List ℕ)) → List (ScriptRun K) → Type 0
@@ -55,7 +55,7 @@ abbrev pub MayRefuseNext : {K : Type 0} → List (Option (List ℕ)) → List (S
     → Type 0
 MayRefuseNext [] runs refusal = ⊥
 MayRefuseNext (known ∷ readers) [] refusal =
-    IfSome known (λ all. MayRefuseScript (read_of all) refusal)
+    IfSome known (λ all. MayRefuseScript (read_of most_bytes all) refusal)
 MayRefuseNext (known ∷ readers) (run ∷ runs) refusal = MayRefuseNext readers runs refusal
 
 -- how scripts end that a reporter is handed the results of, before a fault or not

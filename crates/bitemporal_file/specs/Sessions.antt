@@ -6,8 +6,8 @@ use Rattle.history_model.specs.Histories.{History}
 use Rattle.sql_statements.specs.Lexemes.{Lexeme}
 use Rattle.period_core.specs.declared.refusal.Refusal.{Refusal}
 use Rattle.period_core.specs.declared.refusal.Refusal.TheVariants.{BadToken, ScriptTooLarge}
-use Rattle.command_tool.specs.declared.fault.RunFault.{RunFault}
-use Rattle.command_tool.specs.declared.fault.RunFault.TheVariants.{Script}
+use Rattle.command_line.specs.declared.fault.RunFault.{RunFault}
+use Rattle.command_line.specs.declared.fault.RunFault.TheVariants.{Script}
 use Rattle.script_engine.specs.script.Listening.{IsFrontRunBy}
 use Rattle.script_engine.specs.script.Script.{MayRefuseScript}
 use Rattle.bitemporal_file.specs.Parts.{BeginsTooLarge, EndsAtSemicolon, IsPart}

@@ -4,7 +4,7 @@ use crate::help::{
     ABOUT, AFTER_HELP, AUDIT_HELP, FILE_HELP, STOP_HELP, STORE_HELP, TABLES_HELP, VERSION,
 };
 use clap::{Arg, ArgAction, ArgMatches, Command};
-use command_arguments::CommandFault;
+use command_line::CommandFault;
 use std::alloc::{AllocError, Global};
 use std::convert::AsStr;
 
@@ -91,7 +91,7 @@ fn asked_of(alloc: Global, matches: &ArgMatches<'_>) -> Result<Asked, AllocError
 
 /// What a command line, with the program's name as its first word, asks for. Else clap's fault,
 /// with the text to show, or out of memory.
-pub fn command_line<S: AsStr>(alloc: Global, words: &[S]) -> Result<Asked, CommandFault> {
+pub fn asked_by<S: AsStr>(alloc: Global, words: &[S]) -> Result<Asked, CommandFault> {
     let Ok(mut command) = command(alloc) else {
         return Err(CommandFault::Memory);
     };

@@ -4,7 +4,7 @@
 //! - an option: `command.rt`, its text in `help.rt`, and section 12 of docs/PROFILE.md;
 //! - what is told of a statement: `Reported` in `reporter.rt`;
 //! - where a part of a session ends: `Place` in `parts.rt` and `specs/Parts`;
-//! - a fault that ends the program: `RunFault` of command_tool, and `stores.rt` where a file is at
+//! - a fault that ends the program: `RunFault` of command_line, and `stores.rt` where a file is at
 //!   fault.
 #![tactic(auto)]
 

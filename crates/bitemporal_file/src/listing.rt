@@ -1,12 +1,14 @@
 //! The list of a store's tables: its clock, and of each table how many versions it has, its
 //! columns, its periods, its key and its references.
 
+ghost use Rattle.std.specs.Prelude.{◌≡◌, false};
+
 use catalog_core::{Catalog, Column, ColumnKind, Reference, TableDef};
-use command_tool::RunFault;
+use command_line::RunFault;
 use period_core::Refusal;
 use script_engine::Engine;
 use sql_statements::Name;
-use sqlite::Alter;
+use sqlite::{Alter, Connection};
 use std::alloc::{AllocError, Global};
 use std::io::Write;
 use std::str;
@@ -134,8 +136,7 @@ fn text_of<S: Alter>(alloc: Global, engine: &mut Engine<S>) -> Result<String, Ru
     Ok(text)
 }
 
-/// Lists the tables of a store. Nothing is changed.
-pub fn list_tables<S: Alter, W: Write>(
+fn list_tables<S: Alter, W: Write>(
     alloc: Global,
     engine: &mut Engine<S>,
     out: &mut W,
@@ -145,4 +146,18 @@ pub fn list_tables<S: Alter, W: Write>(
         Ok(()) => Ok(()),
         Err(_) => Err(RunFault::Write),
     }
+}
+
+/// Lists the tables of the store of a connection, and changes nothing. Gives the connection back.
+/// An `Err` says why the store is not opened.
+pub fn list_store<S: Alter, W: Write>(
+    alloc: Global,
+    connection: Connection<S>,
+    out: &mut W,
+) -> Result<(Result<(), RunFault>, Connection<S>), (Refusal, Connection<S>)>
+    requires { connection.in_transaction ≡ false }
+{
+    let mut engine = Engine::open(alloc, connection)?;
+    let listed = list_tables(alloc, &mut engine, out);
+    Ok((listed, engine.close()))
 }

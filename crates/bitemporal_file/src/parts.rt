@@ -2,13 +2,13 @@
 
 ghost use Rattle.std.specs.Prelude.{◌≡◌, ◌∷◌, [], IfErr, IfOk, IfSome, None, false, true};
 ghost use Rattle.std.specs.Io.KnownBytes.{Consumes, IsAtEnd};
-ghost use Rattle.command_tool.specs.declared.fault.RunFault.TheVariants.{Read as NotRead, Script};
+ghost use Rattle.command_line.specs.declared.fault.RunFault.TheVariants.{Read as NotRead, Script};
 ghost use Rattle.period_core.specs.declared.refusal.Refusal.{Refusal};
 ghost use Rattle.period_core.specs.declared.refusal.Refusal.TheVariants.{ScriptTooLarge};
 ghost use Rattle.bitemporal_file.specs.Parts.{BeginsTooLarge, EndsAtSemicolon, IsOpen};
 ghost use Rattle.bitemporal_file.specs.Parts.{outside_after, place_after};
 
-use command_tool::RunFault;
+use command_line::RunFault;
 use period_core::Refusal;
 use script_engine::MOST_BYTES;
 use std::alloc::Global;
@@ -107,11 +107,7 @@ pub(crate) fn read_part<R: Read>(alloc: Global, input: &mut R) -> Result<Part, R
     let mut bytes = Vec::new(alloc);
     let mut place = Place::Outside;
     'reads: while bytes.len() <= MOST_BYTES {
-        let next = match next_byte(input) {
-            Ok(next) => next,
-            Err(fault) => return Err(fault),
-        };
-        let Some(byte) = next else {
+        let Some(byte) = next_byte(input)? else {
             return Ok(Part {
                 bytes,
                 is_last: true,

@@ -2,17 +2,17 @@
 
 ghost use Rattle.std.specs.Prelude.{◌≡◌, ◌≤◌, IfOk, None, false};
 
-use crate::command::{Asked, command_line};
-use crate::listing::list_tables;
+use crate::command::{Asked, asked_by};
+use crate::listing::list_store;
 use crate::reporter::{Reported, Reporter};
 use crate::runs::run_store;
 use crate::session::run_session;
 use crate::stores::{close_store, files_there, give_up, open_store};
-use command_arguments::CommandFault;
-use command_tool::{ProgramName, RunFault, Tracked, end_in, show};
+use command_line::{CommandFault, ProgramName, RunFault, Scripts, Tracked, end_in, show};
 use period_core::Refusal;
-use script_engine::{Engine, Entry, Kept, Outcome};
-use sqlite::{Connection, File, FileStore};
+use script_engine::{Entry, Kept, Outcome};
+use sqlite::{Alter, Connection, File, FileStore};
+use std::alloc::Global;
 use std::io::{BufReader, Read, Write};
 
 const NAME: &str = "bitemporal_file";
@@ -26,29 +26,23 @@ pub fn is_called(words: &[String]) -> bool {
     }
 }
 
-// How a run over a store in a file ended.
-type Ran = (Result<bool, RunFault>, Connection<FileStore<File>>);
-
-// Why a store in a file was not opened.
-type Unopened = (Refusal, Connection<FileStore<File>>);
-
 // Runs the scripts in files, or else a session of the input, and reports each statement.
-fn run_given<K: Kept<FileStore<File>> + Reported + Drop, R: Read, W: Write>(
-    rt: &HostRuntime,
-    connection: Connection<FileStore<File>>,
+fn run_given<S: Alter, K: Kept<S> + Reported + Drop, Q: Scripts, R: Read, W: Write>(
+    alloc: Global,
+    connection: Connection<S>,
+    scripts: &Q,
     files: &[String],
     input: &mut R,
     reporter: &mut Reporter<W>,
-) -> Result<Ran, Unopened>
+) -> Result<(Result<bool, RunFault>, Connection<S>), (Refusal, Connection<S>)>
     requires settled { connection.in_transaction ≡ false }
     requires fresh { reporter.old.fault ≡ None }
     ensures { reporter.old.worst ≤ 3 → reporter.new.worst ≤ 3 }
 {
-    let alloc = rt.alloc();
     if files.is_empty() {
-        return run_session::<FileStore<File>, K, R, W>(alloc, connection, input, reporter);
+        return run_session::<S, K, R, W>(alloc, connection, input, reporter);
     }
-    run_store::<FileStore<File>, K, HostRuntime, W>(alloc, connection, rt, files, reporter)
+    run_store::<S, K, Q, W>(alloc, connection, scripts, files, reporter)
 }
 
 // Runs what is asked for over the store. Gives the exit status. Where the store is new, and not
@@ -69,7 +63,8 @@ fn run_asked<K: Kept<FileStore<File>> + Reported + Drop, R: Read, W: Write>(
     let before = files_there(rt, name);
     let connection = open_store(rt, name, before)?;
     let mut reporter = Reporter::new(rt.alloc(), out, asked.stops);
-    match run_given::<K, _, _>(rt, connection, files, &mut input, &mut reporter) {
+    let alloc = rt.alloc();
+    match run_given::<_, K, _, _, _>(alloc, connection, rt, files, &mut input, &mut reporter) {
         Ok((Err(fault), connection)) if reporter.is_unused && !before.store => {
             give_up(rt, name, before, connection);
             Err(fault)
@@ -87,6 +82,30 @@ fn run_asked<K: Kept<FileStore<File>> + Reported + Drop, R: Read, W: Write>(
     }
 }
 
+// The same with the results of the statements alone.
+fn run_plain<R: Read, W: Write>(
+    rt: &HostRuntime,
+    asked: &Asked,
+    input: &mut Tracked<R>,
+    out: &mut W,
+) -> Result<u8, RunFault>
+    ensures { IfOk result (λ status. status ≤ 3) }
+{
+    run_asked::<Result<Outcome, Refusal>, R, W>(rt, asked, input, out)
+}
+
+// The same with an audit of each answer.
+fn run_audited<R: Read, W: Write>(
+    rt: &HostRuntime,
+    asked: &Asked,
+    input: &mut Tracked<R>,
+    out: &mut W,
+) -> Result<u8, RunFault>
+    ensures { IfOk result (λ status. status ≤ 3) }
+{
+    run_asked::<Entry, R, W>(rt, asked, input, out)
+}
+
 // Lists the tables of the store. Gives the exit status.
 fn list_asked<W: Write>(rt: &HostRuntime, asked: &Asked, out: &mut W) -> Result<u8, RunFault>
     ensures { IfOk result (λ status. status ≤ 3) }
@@ -97,10 +116,9 @@ fn list_asked<W: Write>(rt: &HostRuntime, asked: &Asked, out: &mut W) -> Result<
         return Err(RunFault::NoStore);
     }
     let connection = open_store(rt, name, before)?;
-    match Engine::open(rt.alloc(), connection) {
-        Ok(mut engine) => {
-            let listed = list_tables(rt.alloc(), &mut engine, out);
-            let closed = close_store(engine.close());
+    match list_store(rt.alloc(), connection, out) {
+        Ok((listed, connection)) => {
+            let closed = close_store(connection);
             listed?;
             closed?;
             Ok(0)
@@ -127,7 +145,7 @@ pub fn run_file_program<R: Read, W: Write, E: Write>(
 {
     let alloc = rt.alloc();
     let program = ProgramName::BitemporalFile;
-    let asked = match command_line(alloc, words) {
+    let asked = match asked_by(alloc, words) {
         Ok(asked) => asked,
         Err(CommandFault::Clap(fault)) => return show(alloc, program, &fault, out, err),
         Err(CommandFault::Memory) => return end_in(alloc, program, err, RunFault::Memory),
@@ -135,9 +153,9 @@ pub fn run_file_program<R: Read, W: Write, E: Write>(
     let ended = if asked.lists {
         list_asked(rt, &asked, out)
     } else if asked.audits {
-        run_asked::<Entry, R, W>(rt, &asked, input, out)
+        run_audited(rt, &asked, input, out)
     } else {
-        run_asked::<Result<Outcome, Refusal>, R, W>(rt, &asked, input, out)
+        run_plain(rt, &asked, input, out)
     };
     match ended {
         Ok(status) => status,

@@ -3,12 +3,12 @@
 ghost use Rattle.std.specs.Prelude.{◌≡◌, ◌≤◌, ◌+◌, ℕ, Err, IfErr, List, None, OnOk};
 ghost use Rattle.std.specs.Io.KnownBytes.{Appends};
 ghost use Rattle.period_core.specs.declared.refusal.Refusal.{Refusal};
-ghost use Rattle.script_engine.specs.report.AuditedReport.{entry_text};
-ghost use Rattle.script_engine.specs.report.Report.{text_of};
+ghost use Rattle.statement_reports.specs.AuditedReport.{entry_text};
+ghost use Rattle.statement_reports.specs.Report.{text_of};
 ghost use Rattle.bitemporal_file.specs.Reporting.{IsReportFault, Tells, entry_status};
 ghost use Rattle.bitemporal_file.specs.Reporting.{result_status};
 
-use command_tool::{RunFault, has_failed};
+use command_line::{RunFault, has_failed};
 use period_core::Refusal;
 use script_engine::{
     Entry, Listener, Outcome, ReportFault, write_audited_statement, write_statement,

@@ -13,9 +13,9 @@ ghost use Rattle.script_engine.specs.engine.Stored.{IsBadStore, RepresentsSome, 
 ghost use Rattle.bitemporal_file.specs.ScriptRuns.{AreOfReaders, Ends, LeadsTo, ScriptRun};
 
 use crate::reporter::{Reported, Reporter};
-use command_tool::{RunFault, Scripts, Tracked, read_script};
+use command_line::{RunFault, Scripts, Tracked, read_script};
 use period_core::Refusal;
-use script_engine::{Engine, Kept, run_over};
+use script_engine::{Engine, Kept, MOST_BYTES, run_over};
 use sqlite::{Alter, Connection};
 use std::alloc::Global;
 use std::io::{Read, Write};
@@ -38,10 +38,7 @@ fn run_script<S: Alter, K: Kept<S> + Reported + Drop, R: Read, W: Write>(
     ensures usable { WasUsable S.Store engine.old.connection engine.new.connection }
 {
     reporter.next = 1;
-    let script = match read_script(alloc, input) {
-        Ok(script) => script,
-        Err(fault) => return Err(fault),
-    };
+    let script = read_script(alloc, input, MOST_BYTES)?;
     match run_over::<S, K, Reporter<W>>(alloc, engine, script.as_slice(), reporter) {
         Ok(goes_on) => match reporter.fault {
             Some(fault) => Err(fault),
@@ -96,11 +93,7 @@ fn run_all<S: Alter, K: Kept<S> + Reported + Drop, Q: Scripts, W: Write>(
     ensures usable { WasUsable S.Store engine.old.connection engine.new.connection }
 {
     for name in names {
-        let ended = run_named::<S, K, Q, W>(alloc, engine, scripts, name.as_str(), reporter);
-        let goes_on = match ended {
-            Ok(goes_on) => goes_on,
-            Err(fault) => return Err(fault),
-        };
+        let goes_on = run_named::<S, K, Q, W>(alloc, engine, scripts, name.as_str(), reporter)?;
         if !goes_on {
             return Ok(false);
         }
@@ -141,10 +134,7 @@ pub fn run_store<S: Alter, K: Kept<S> + Reported + Drop, Q: Scripts, W: Write>(
         → IsAsBefore (state S.Store connection) (state S.Store failed.1)) }
     ensures same { IfErr result (λ _. reporter.new ≡ reporter.old) }
 {
-    let mut engine = match Engine::open(alloc, connection) {
-        Ok(engine) => engine,
-        Err(failed) => return Err(failed),
-    };
+    let mut engine = Engine::open(alloc, connection)?;
     let ended = run_all::<S, K, Q, W>(alloc, &mut engine, scripts, names, reporter);
     Ok((ended, engine.close()))
 }

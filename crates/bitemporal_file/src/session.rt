@@ -6,7 +6,7 @@ ghost use Rattle.sqlite.specs.Held.{state};
 ghost use Rattle.version_tables.specs.Steps.{IsAsBefore};
 ghost use Rattle.version_store.specs.StoreState.{IsOpenRefusal, IsUsable};
 ghost use Rattle.history_model.specs.Histories.{History};
-ghost use Rattle.command_tool.specs.declared.fault.RunFault.TheVariants.{Script};
+ghost use Rattle.command_line.specs.declared.fault.RunFault.TheVariants.{Script};
 ghost use Rattle.period_core.specs.declared.refusal.Refusal.TheVariants.{BadStore, ScriptTooLarge};
 ghost use Rattle.script_engine.specs.engine.Stored.{DatabaseRepresents, EngineRepresents};
 ghost use Rattle.script_engine.specs.engine.Stored.{IsBadStore, RepresentsSome, WasUsable};
@@ -17,7 +17,7 @@ ghost use Rattle.bitemporal_file.specs.Sessions.{ArePartsOf, LeadsThrough, PartS
 
 use crate::parts::read_part;
 use crate::reporter::{Reported, Reporter};
-use command_tool::RunFault;
+use command_line::RunFault;
 use period_core::Refusal;
 use script_engine::{Engine, Kept, Listener, run_over};
 use sqlite::{Alter, Connection};
@@ -89,15 +89,9 @@ fn run_parts<S: Alter, K: Kept<S> + Reported + Drop, R: Read, W: Write>(
     let mut start: usize = 0;
     // The input ends the loop. Its bound shows that it ends in any case.
     'parts: for _ in 0..u64::MAX {
-        let part = match read_part(alloc, input) {
-            Ok(part) => part,
-            Err(fault) => return Err(fault),
-        };
+        let part = read_part(alloc, input)?;
         let bytes = part.bytes.as_slice();
-        let goes_on = match run_part::<S, K, W>(alloc, engine, start, bytes, reporter) {
-            Ok(goes_on) => goes_on,
-            Err(fault) => return Err(fault),
-        };
+        let goes_on = run_part::<S, K, W>(alloc, engine, start, bytes, reporter)?;
         if let Some(fault) = reporter.fault {
             return Err(fault);
         }
@@ -144,10 +138,7 @@ pub fn run_session<S: Alter, K: Kept<S> + Reported + Drop, R: Read, W: Write>(
         → IsAsBefore (state S.Store connection) (state S.Store failed.1)) }
     ensures same { IfErr result (λ _. (reporter.new ≡ reporter.old) × (input.new ≡ input.old)) }
 {
-    let mut engine = match Engine::open(alloc, connection) {
-        Ok(engine) => engine,
-        Err(failed) => return Err(failed),
-    };
+    let mut engine = Engine::open(alloc, connection)?;
     let ended = run_parts::<S, K, R, W>(alloc, &mut engine, input, reporter);
     Ok((ended, engine.close()))
 }

@@ -2,7 +2,7 @@
 
 ghost use Rattle.std.specs.Prelude.{◌≡◌, IfOk, false};
 
-use command_tool::RunFault;
+use command_line::RunFault;
 use period_core::Refusal;
 use sqlite::{Connection, Error, ErrorCode, File, FileStore, Unknown};
 use std::fs;

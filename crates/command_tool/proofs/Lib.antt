@@ -1,5 +1,3 @@
-pub mod ReadFacts
-pub mod LineFacts
 mod NewStore
-pub mod ProgramExamples
-pub mod ProgramFacts
+mod ProgramExamples
+mod ProgramFacts

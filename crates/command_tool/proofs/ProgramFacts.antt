@@ -1,14 +1,14 @@
 -- How runs of the program end.
 use Rattle.std.proofs.Common.{◌≡◌, ◌≤◌, ◌⊎◌, ◌∙◌, ℕ, Bool, List, Option, None, Some, Result, Ok, Err, MatchResult, true, false, arith, inl, inr, refl, subst, sym}
 use Rattle.std.specs.Io.KnownBytes.{Keeps}
-use Rattle.command_tool.specs.Lines.{IsTold, MayBeToldAs, fault_line}
+use Rattle.command_line.specs.Lines.{IsTold, MayBeToldAs, fault_line}
 use Rattle.command_tool.specs.Program.{EndsInFault, EndsInReport, EndsRefused, EndsWell, MayEndIn, MayEndSilently, ProgramRun}
 use Rattle.clap.specs.declared.error.Error.{Error}
-use Rattle.command_arguments.specs.declared.command.CommandFault.TheVariants.{Clap, Memory as OutOfMemory}
-use Rattle.command_arguments.specs.declared.command.Mode.{Mode}
-use Rattle.command_tool.specs.declared.fault.RunFault.{RunFault}
-use Rattle.command_tool.specs.declared.fault.RunFault.TheVariants.{Script, Memory, Words, Read, Write, NoStore, Locked}
-use Rattle.command_tool.specs.declared.fault.ProgramName.TheVariants.{Bitemporal}
+use Rattle.command_line.specs.declared.command.CommandFault.TheVariants.{Clap, Memory as OutOfMemory}
+use Rattle.command_line.specs.declared.command.Mode.{Mode}
+use Rattle.command_line.specs.declared.fault.RunFault.{RunFault}
+use Rattle.command_line.specs.declared.fault.RunFault.TheVariants.{Script, Memory, Words, Read, Write, NoStore, Locked}
+use Rattle.command_line.specs.declared.fault.ProgramName.TheVariants.{Bitemporal}
 
 pub keeps_itself : (known : Option (List ℕ)) → Keeps known known
 keeps_itself None = tt

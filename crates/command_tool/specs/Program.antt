@@ -1,51 +1,35 @@
 -- What a run of the program gives: its exit status, its report, and its line on standard error.
 use Rattle.std.specs.Prelude.{◌≡◌, ◌≢◌, ◌≤◌, ◌⊎◌, ◌+◌, ℕ, Bool, List, Option, None, Some, Result}
-use Rattle.std.specs.Prelude.{Ok, Err, IfSome, length, take, false, true, is_err}
+use Rattle.std.specs.Prelude.{IfSome, true, is_err}
 use Rattle.std.specs.Prelude.{if◌then◌else◌, ⊤}
 use Rattle.std.specs.List.{list_any}
-use Rattle.std.specs.Io.KnownBytes.{Appends, Consumes, Keeps}
+use Rattle.std.specs.Io.KnownBytes.{Appends, Keeps}
 use Rattle.period_core.specs.declared.refusal.Refusal.{Refusal}
-use Rattle.snapshot_audit.specs.declared.verdict.Verdict.{Verdict}
-use Rattle.snapshot_audit.specs.declared.verdict.Verdict.TheVariants.{Agrees, Differs, BadWitness}
-use Rattle.script_engine.specs.declared.entry.Entry.{Entry}
+use Rattle.statement_reports.specs.declared.entry.Entry.{Entry}
 use Rattle.script_engine.specs.script.AuditedRuns.{IsAuditedRunOf}
 use Rattle.script_engine.specs.script.Check.{IsCheckOf}
-use Rattle.script_engine.specs.report.AuditedReport.{audited_report}
-use Rattle.script_engine.specs.report.CheckReport.{check_text}
-use Rattle.script_engine.specs.report.Report.{report}
+use Rattle.statement_reports.specs.AuditedReport.{audited_report}
+use Rattle.statement_reports.specs.CheckReport.{check_text}
+use Rattle.statement_reports.specs.Report.{report}
 use Rattle.script_engine.specs.script.Script.{IsRunOf, MayRefuseNewRun, MayRefuseScript}
 use Rattle.script_engine.specs.script.Script.{ScriptApplies, most_bytes}
-use Rattle.command_tool.specs.Lines.{IsTold, fault_line}
-use Rattle.command_arguments.specs.declared.command.Mode.{Mode}
-use Rattle.command_arguments.specs.declared.command.Mode.TheVariants.{Run, RunAudited, Check}
-use Rattle.command_tool.specs.declared.fault.RunFault.{RunFault}
-use Rattle.command_tool.specs.declared.fault.RunFault.TheVariants.{Script, Memory, Words, Read}
-use Rattle.command_tool.specs.declared.fault.RunFault.TheVariants.{Write, NoStore, Locked}
-use Rattle.command_tool.specs.declared.fault.ProgramName.TheVariants.{Bitemporal}
+use Rattle.command_line.specs.Audits.{fails_audit}
+use Rattle.command_line.specs.Lines.{IsTold, fault_line}
+use Rattle.command_line.specs.Reading.{read_of}
+use Rattle.command_line.specs.declared.command.Mode.{Mode}
+use Rattle.command_line.specs.declared.command.Mode.TheVariants.{Run, RunAudited, Check}
+use Rattle.command_line.specs.declared.fault.RunFault.{RunFault}
+use Rattle.command_line.specs.declared.fault.RunFault.TheVariants.{Script, Memory, Words, Read}
+use Rattle.command_line.specs.declared.fault.RunFault.TheVariants.{Write, NoStore, Locked}
+use Rattle.command_line.specs.declared.fault.ProgramName.TheVariants.{Bitemporal}
 
 -- the most bytes that are read: one more than a script may have
 abbrev pub read_limit : ℕ
 read_limit = most_bytes + 1
 
--- the bytes that are read
-abbrev pub read_of : List ℕ → List ℕ
-read_of all = take read_limit all
-
--- of known bytes at most so many are taken, from the front
-abbrev pub TakesAtMost : ℕ → Option (List ℕ) → Option (List ℕ) → Type 0
-TakesAtMost most old new = (bytes : List ℕ) × Consumes old new bytes × (length bytes ≤ most)
-
 -- 1 where a statement was refused, else 0
 abbrev pub status_of : {T : Type 0} → List (Result T Refusal) → ℕ
 status_of results = if list_any is_err results then 1 else 0
-
--- an audit was made, and it did not agree or was refused
-abbrev pub fails_audit : Option (Result Verdict Refusal) → Bool
-fails_audit None = false
-fails_audit (Some (Ok (Agrees days))) = false
-fails_audit (Some (Ok (Differs day))) = true
-fails_audit (Some (Ok (BadWitness row))) = true
-fails_audit (Some (Err refusal)) = true
 
 -- 3 where an audit did not agree or was refused; else 1 where a statement was refused, else 0
 abbrev pub audited_status : List Entry → ℕ
@@ -60,7 +44,7 @@ IsOfReport status = (status ≤ 3) × (status ≢ 2)
 -- the results are of this kind for the script that the reader has, where its bytes are known
 abbrev pub AreOfReader :
     {R : Type 0} → (List ℕ → List R → Type 0) → Option (List ℕ) → List R → Type 0
-AreOfReader IsOf input results = IfSome input (λ all. IsOf (read_of all) results)
+AreOfReader IsOf input results = IfSome input (λ all. IsOf (read_of most_bytes all) results)
 
 -- results of this kind have this status, and their text was written, and nothing else
 abbrev pub ReportsText :
@@ -76,22 +60,33 @@ Reports Run = ReportsText IsRunOf report status_of
 Reports RunAudited = ReportsText IsAuditedRunOf audited_report audited_status
 Reports Check = ReportsText IsCheckOf check_text status_of
 
+-- a script has these refusals as a whole: the fault of its run is one of them, or out of memory
+abbrev pub MayFailOver : (List ℕ → Refusal → Type 0) → List ℕ → RunFault → Type 0
+MayFailOver MayRefuse script fault =
+    (fault ≡ Memory) ⊎ ((refusal : Refusal) × (fault ≡ Script refusal) × MayRefuse script refusal)
+
+-- a fault of a script that gave no results and has these refusals as a whole; its reader is at
+-- fault only if a read failed
+abbrev pub MayFailSilently :
+    (List ℕ → Refusal → Type 0) → Option (List ℕ) → Bool → RunFault → Type 0
+MayFailSilently MayRefuse input read_failed (Script refusal) =
+    IfSome input (λ all. MayRefuse (read_of most_bytes all) refusal)
+MayFailSilently MayRefuse input read_failed Memory = ⊤
+MayFailSilently MayRefuse input read_failed Words = ⊥
+MayFailSilently MayRefuse input read_failed Read = read_failed ≡ true
+MayFailSilently MayRefuse input read_failed Write = ⊥
+MayFailSilently MayRefuse input read_failed NoStore = ⊥
+MayFailSilently MayRefuse input read_failed Locked = ⊥
+
 -- which refusals a whole script may get: only a run opens a store, and that is a new one
 abbrev pub MayRefuseIn : Mode → List ℕ → Refusal → Type 0
 MayRefuseIn Run = MayRefuseNewRun
 MayRefuseIn RunAudited = MayRefuseNewRun
 MayRefuseIn Check = MayRefuseScript
 
--- a fault of a script that gave no results; its reader is at fault only if a read failed
+-- a fault of a script that gave no results in this mode
 abbrev pub MayEndSilently : Mode → Option (List ℕ) → Bool → RunFault → Type 0
-MayEndSilently mode input read_failed (Script refusal) =
-    IfSome input (λ all. MayRefuseIn mode (read_of all) refusal)
-MayEndSilently mode input read_failed Memory = ⊤
-MayEndSilently mode input read_failed Words = ⊥
-MayEndSilently mode input read_failed Read = read_failed ≡ true
-MayEndSilently mode input read_failed Write = ⊥
-MayEndSilently mode input read_failed NoStore = ⊥
-MayEndSilently mode input read_failed Locked = ⊥
+MayEndSilently mode = MayFailSilently (MayRefuseIn mode)
 
 -- the script that the reader has gives results of this kind
 abbrev pub GivesResults : {R : Type 0} → (List ℕ → List R → Type 0) → Option (List ℕ) → Type 0
@@ -103,18 +98,23 @@ HasResults Run = GivesResults IsRunOf
 HasResults RunAudited = GivesResults IsAuditedRunOf
 HasResults Check = GivesResults IsCheckOf
 
--- a fault that the program may end in: the output got nothing; or the script has results, and
--- memory or the writer failed as their report was written
+-- a fault that ends a report: it may end it silently, and the output got nothing; or the script has
+-- results, and memory or the writer failed as their report was written
+abbrev pub MayEndBy :
+    (RunFault → Type 0) → Type 0 → Option (List ℕ) → Option (List ℕ) → RunFault → Type 0
+MayEndBy MaySilently HaveResults old new fault =
+    (MaySilently fault × Keeps old new) ⊎ (HaveResults × ((fault ≡ Memory) ⊎ (fault ≡ Write)))
+
+-- a fault that the program may end in
 abbrev pub MayEndIn :
     Mode → Option (List ℕ) → Bool → Option (List ℕ) → Option (List ℕ) → RunFault → Type 0
-MayEndIn mode input read_failed old new fault =
-    (MayEndSilently mode input read_failed fault × Keeps old new)
-    ⊎ (HasResults mode input × ((fault ≡ Memory) ⊎ (fault ≡ Write)))
+MayEndIn mode input read_failed =
+    MayEndBy (MayEndSilently mode input read_failed) (HasResults mode input)
 
 -- the script that the reader has, where its bytes are known, is refused as a whole
 abbrev pub IsRefusedWhole : Option (List ℕ) → Type 0
 IsRefusedWhole None = ⊥
-IsRefusedWhole (Some all) = (refusal : Refusal) × ScriptApplies (read_of all) refusal
+IsRefusedWhole (Some all) = (refusal : Refusal) × ScriptApplies (read_of most_bytes all) refusal
 
 -- a run of the program over a script: its mode, what is known of the script, of the output and of
 -- standard error before and after, whether a read or a write to standard error failed, the status

@@ -1,38 +1,17 @@
-//! The program: the words of its command line, the script that they name, its exit status.
+//! The program: what the words of its command line ask for, and its exit status.
 
-ghost use Rattle.std.specs.Prelude.{◌≡◌, ◌≤◌, ℕ, List, Option, IfErr, IfOk, IsOk, OnOk, map};
+ghost use Rattle.std.specs.Prelude.{◌≡◌, ◌≤◌, ℕ, List, Option, IfErr, IfOk, map};
 ghost use Rattle.std.specs.String.{string_bytes};
 ghost use Rattle.std.specs.Io.KnownBytes.{Keeps};
-ghost use Rattle.std.specs.IoError.{error_kind};
-ghost use Rattle.command_arguments.specs.CommandLine.{AsksFor};
-ghost use Rattle.command_tool.specs.Lines.{IsTold, fault_line, words_fault};
+ghost use Rattle.command_line.specs.CommandLine.{AsksFor};
 ghost use Rattle.command_tool.specs.Program.{EndsWell, may_fail, script_of};
 
-use crate::fault::{ProgramName, RunFault, end_in};
-use crate::scripts::Scripts;
 use crate::tool::run_tool;
-use crate::tracked::Tracked;
-use command_arguments::{CommandFault, Mode, command_line};
+use command_line::{
+    CommandFault, Mode, ProgramName, RunFault, Scripts, Tracked, command_line, end_in, show,
+};
 use std::alloc::Global;
-use std::env::Args;
-use std::io;
 use std::io::{Read, Write};
-
-/// The words of the command line, or why there are none: out of memory, or what the system says.
-pub fn words_of(alloc: Global, args: io::Result<Args>) -> Result<Vec<String>, RunFault>
-    ensures given { OnOk result (IsOk args) }
-    ensures memory { IfOk args (λ _. IfErr result (λ fault. fault ≡ RunFault.Memory)) }
-    ensures refused { IfErr args
-        (λ error. IfErr result (λ fault. fault ≡ words_fault (error_kind error))) }
-{
-    match args {
-        Ok(args) => match args.collect(alloc) {
-            Ok(words) => Ok(words),
-            Err(_) => Err(RunFault::Memory),
-        },
-        Err(error) => Err(RunFault::of_words(&error)),
-    }
-}
 
 /// Does what the words ask for: a run or a check of the script in a file, or in `input` where they
 /// name none; help; or the version. Gives the exit status: of a run or a check as `run_tool` says,
@@ -74,26 +53,5 @@ pub fn run_program<S: Scripts, R: Read, W: Write, E: Write>(
         },
         Err(CommandFault::Clap(fault)) => show(alloc, ProgramName::Bitemporal, &fault, out, err),
         Err(CommandFault::Memory) => end_in(alloc, ProgramName::Bitemporal, err, RunFault::Memory),
-    }
-}
-
-/// Shows clap's text, a mistake on standard error, and else help or the version on the output.
-/// Gives the exit status.
-pub fn show<W: Write, E: Write>(
-    alloc: Global,
-    program: ProgramName,
-    fault: &clap::Error,
-    out: &mut W,
-    err: &mut Tracked<E>,
-) -> u8
-    ensures status { result ≤ 2 }
-{
-    if fault.use_stderr() {
-        let _ = write!(err, "{fault}");
-        return 2;
-    }
-    match write!(out, "{fault}") {
-        Ok(()) => 0,
-        Err(_) => end_in(alloc, program, err, RunFault::Write),
     }
 }

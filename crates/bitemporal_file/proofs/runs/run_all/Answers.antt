@@ -1,5 +1,6 @@
 use Rattle.std.proofs.Common.{◌≡◌, ◌<◌, ◌+◌, ◌++◌, ◌∷◌, ◌∙◌, ℕ, List, [], Option, Result, Ok, Err, Bool, ap, arith, drop, get_or, length, map, refl, string_bytes, subst, sym, take, take_all, true, false}
-use Rattle.command_tool.specs.declared.fault.RunFault.{RunFault}
+use Rattle.std.proofs.lemmas.Result.{err_from_is_err_and}
+use Rattle.command_line.specs.declared.fault.RunFault.{RunFault}
 use Rattle.bitemporal_file.specs.ScriptRuns.{AreOfReaders, Ends}
 use Rattle.bitemporal_file.proofs.RunFacts.{ends_more, ends_within, known-all, known-next, leads-more, none_yet, quiet_of, readers-more, readers-within}
 use Rattle.bitemporal_file.proofs.runs.run_all.Goals as goal
@@ -20,37 +21,37 @@ loop-name-preserved g c =
     let names = c.args.names.now in
     let i = c.loop-name.name-index in
     let old = c.args.reporter.now in
-    let new = c.run_named-ended.new.reporter in
+    let new = c.run_named.new.reporter in
     let (runs, are, ends, did) = c.loop-name.invariant.ran in
-    let (more, its, last, went) = c.run_named-ended.ensures.ran in
+    let (more, its, last, went) = c.run_named.ensures.ran in
     let name = c.name-item.result in
     let inside : i < length names = omega arith in
     let readers = map content (map string_bytes (take i names)) in
     let known = content (string_bytes (get_or names i name)) in
     let same : content c.as_str.result.now ≡ known = ap content c.as_str.ensures.value ∙ ap (λ n. content (string_bytes n)) c.name-item.is in
     let next = known-next string_bytes content names i name inside in
-    let whole : c.run_named-ended.result ≡ Ok true = c.in-Ok.is ∙ ap Ok c.if-not-goes_on.false in
-    let quiet = quiet_of contents text status new.fault c.run_named-ended.result true last.faulty whole in
+    let whole : c.run_named.result ≡ Ok true = c.in_ok-goes_on.was ∙ ap Ok c.if-not-goes_on.false in
+    let quiet = quiet_of contents text status new.fault c.run_named.result true last.faulty whole in
     let its_known = subst (λ (k : Option (List ℕ)). AreOfReaders (k ∷ []) more) same its in
-    let last_known = subst (λ (k : Option (List ℕ)). Ends contents text status (k ∷ []) c.loop-name.reporter more c.run_named-ended.result new) same last in
+    let last_known = subst (λ (k : Option (List ℕ)). Ends contents text status (k ∷ []) c.loop-name.reporter more c.run_named.result new) same last in
     let last_whole = subst (λ (ended : Result Bool RunFault). Ends contents text status (known ∷ []) c.loop-name.reporter more ended new) whole last_known in
     let count = (ends.whole refl).0.0 in
     record {
       quiet = quiet;
-      usable = λ usable. c.loop-name.invariant.usable (c.run_named-ended.ensures.usable usable);
+      usable = λ usable. c.loop-name.invariant.usable (c.run_named.ensures.usable usable);
       ran = (
         runs ++ more,
         subst (λ (rs : List (Option (List ℕ))). AreOfReaders rs (runs ++ more)) (sym next) (readers-more contents text status readers known runs more count are its_known),
         subst (λ (rs : List (Option (List ℕ))). Ends contents text status rs old (runs ++ more) (Ok true) new) (sym next) (ends_more contents text status readers known old runs c.loop-name.reporter more (Ok true) new c.loop-name.invariant.quiet ends last_whole),
         λ usable history stands.
-            let (middle, leads, represents) = did (c.run_named-ended.ensures.usable usable) history stands in
+            let (middle, leads, represents) = did (c.run_named.ensures.usable usable) history stands in
             let (after, leads_on, represents_after) = went usable middle represents in
             (after, leads-more g.K.Kept.is_step history runs more middle after leads leads_on, represents_after),
       );
     }
 
-pub returns-in-Err-clause-ran : goal.returns-in-Err-clause-ran
-returns-in-Err-clause-ran g c =
+pub returns-in_err-goes_on-clause-ran : goal.returns-in_err-goes_on-clause-ran
+returns-in_err-goes_on-clause-ran g c =
     let contents = g.W.Write.contents in
     let text = g.K.Reported.text in
     let status = g.K.Reported.status_of in
@@ -58,28 +59,30 @@ returns-in-Err-clause-ran g c =
     let names = c.args.names.now in
     let i = c.loop-name.name-index in
     let old = c.args.reporter.now in
-    let new = c.run_named-ended.new.reporter in
+    let new = c.run_named.new.reporter in
     let (runs, are, ends, did) = c.loop-name.invariant.ran in
-    let (more, its, last, went) = c.run_named-ended.ensures.ran in
+    let (more, its, last, went) = c.run_named.ensures.ran in
     let name = c.name-item.result in
     let inside : i < length names = omega arith in
     let readers = map content (map string_bytes (take i names)) in
     let known = content (string_bytes (get_or names i name)) in
     let same : content c.as_str.result.now ≡ known = ap content c.as_str.ensures.value ∙ ap (λ n. content (string_bytes n)) c.name-item.is in
     let next = known-next string_bytes content names i name inside in
-    let whole : c.run_named-ended.result ≡ Err c.in-Err.fault = c.in-Err.is in
+    let whole : c.run_named.result ≡ Err c.in_err-goes_on.field-0.0 = c.in_err-goes_on.was in
     let its_known = subst (λ (k : Option (List ℕ)). AreOfReaders (k ∷ []) more) same its in
-    let last_known = subst (λ (k : Option (List ℕ)). Ends contents text status (k ∷ []) c.loop-name.reporter more c.run_named-ended.result new) same last in
+    let last_known = subst (λ (k : Option (List ℕ)). Ends contents text status (k ∷ []) c.loop-name.reporter more c.run_named.result new) same last in
     let last_whole = subst (λ (e : Result Bool RunFault). Ends contents text status (known ∷ []) c.loop-name.reporter more e new) whole last_known in
     let count = (ends.whole refl).0.0 in
     let rest = map content (map string_bytes (drop (i + 1) names)) in
     let all : (readers ++ known ∷ []) ++ rest ≡ map content (map string_bytes names) = ap (λ (rs : List (Option (List ℕ))). rs ++ rest) (sym next) ∙ known-all string_bytes content names (i + 1) in
-    let met = ends_more contents text status readers known old runs c.loop-name.reporter more (Err c.in-Err.fault) new c.loop-name.invariant.quiet ends last_whole in (
+    let met = ends_more contents text status readers known old runs c.loop-name.reporter more (Err c.in_err-goes_on.field-0.0) new c.loop-name.invariant.quiet ends last_whole in
+    let p = err_from_is_err_and c.from_residual.result c.from_residual.ensures.1 in
+    rw (p.1, p.2) (
       runs ++ more,
       subst (λ (rs : List (Option (List ℕ))). AreOfReaders rs (runs ++ more)) all (readers-within contents text status (readers ++ known ∷ []) rest (runs ++ more) (readers-more contents text status readers known runs more count are its_known)),
-      subst (λ (rs : List (Option (List ℕ))). Ends contents text status rs old (runs ++ more) (Err c.in-Err.fault) new) all (ends_within contents text status (readers ++ known ∷ []) rest old (runs ++ more) (Err c.in-Err.fault) new (λ on. let no : ⊥ = cc in no) met),
+      subst (λ (rs : List (Option (List ℕ))). Ends contents text status rs old (runs ++ more) (Err c.in_err-goes_on.field-0.0) new) all (ends_within contents text status (readers ++ known ∷ []) rest old (runs ++ more) (Err c.in_err-goes_on.field-0.0) new (λ on. let no : ⊥ = cc in no) met),
       λ usable history stands.
-          let (middle, leads, represents) = did (c.run_named-ended.ensures.usable usable) history stands in
+          let (middle, leads, represents) = did (c.run_named.ensures.usable usable) history stands in
           let (after, leads_on, represents_after) = went usable middle represents in
           (after, leads-more g.K.Kept.is_step history runs more middle after leads leads_on, represents_after),
     )
@@ -93,18 +96,18 @@ returns-then-not-goes_on-clause-ran g c =
     let names = c.args.names.now in
     let i = c.loop-name.name-index in
     let old = c.args.reporter.now in
-    let new = c.run_named-ended.new.reporter in
+    let new = c.run_named.new.reporter in
     let (runs, are, ends, did) = c.loop-name.invariant.ran in
-    let (more, its, last, went) = c.run_named-ended.ensures.ran in
+    let (more, its, last, went) = c.run_named.ensures.ran in
     let name = c.name-item.result in
     let inside : i < length names = omega arith in
     let readers = map content (map string_bytes (take i names)) in
     let known = content (string_bytes (get_or names i name)) in
     let same : content c.as_str.result.now ≡ known = ap content c.as_str.ensures.value ∙ ap (λ n. content (string_bytes n)) c.name-item.is in
     let next = known-next string_bytes content names i name inside in
-    let whole : c.run_named-ended.result ≡ Ok false = c.in-Ok.is ∙ ap Ok c.if-not-goes_on.true in
+    let whole : c.run_named.result ≡ Ok false = c.in_ok-goes_on.was ∙ ap Ok c.if-not-goes_on.true in
     let its_known = subst (λ (k : Option (List ℕ)). AreOfReaders (k ∷ []) more) same its in
-    let last_known = subst (λ (k : Option (List ℕ)). Ends contents text status (k ∷ []) c.loop-name.reporter more c.run_named-ended.result new) same last in
+    let last_known = subst (λ (k : Option (List ℕ)). Ends contents text status (k ∷ []) c.loop-name.reporter more c.run_named.result new) same last in
     let last_whole = subst (λ (e : Result Bool RunFault). Ends contents text status (known ∷ []) c.loop-name.reporter more e new) whole last_known in
     let count = (ends.whole refl).0.0 in
     let rest = map content (map string_bytes (drop (i + 1) names)) in
@@ -114,7 +117,7 @@ returns-then-not-goes_on-clause-ran g c =
       subst (λ (rs : List (Option (List ℕ))). AreOfReaders rs (runs ++ more)) all (readers-within contents text status (readers ++ known ∷ []) rest (runs ++ more) (readers-more contents text status readers known runs more count are its_known)),
       subst (λ (rs : List (Option (List ℕ))). Ends contents text status rs old (runs ++ more) (Ok false) new) all (ends_within contents text status (readers ++ known ∷ []) rest old (runs ++ more) (Ok false) new (λ on. let no : ⊥ = cc in no) met),
       λ usable history stands.
-          let (middle, leads, represents) = did (c.run_named-ended.ensures.usable usable) history stands in
+          let (middle, leads, represents) = did (c.run_named.ensures.usable usable) history stands in
           let (after, leads_on, represents_after) = went usable middle represents in
           (after, leads-more g.K.Kept.is_step history runs more middle after leads leads_on, represents_after),
     )

@@ -1,48 +1,51 @@
 use Rattle.std.proofs.Common.{[], ◌∷◌, Err, refl, subst, sym}
+use Rattle.std.proofs.lemmas.Result.{err_from_is_err_and}
 use Rattle.script_engine.specs.engine.Stored.{EngineRepresents}
 use Rattle.script_engine.specs.script.Script.{MayRefuseScript}
-use Rattle.command_tool.specs.declared.fault.RunFault.TheVariants.{Script}
+use Rattle.command_line.specs.declared.fault.RunFault.TheVariants.{Script}
 use Rattle.bitemporal_file.specs.ScriptRuns.{Ends}
 use Rattle.bitemporal_file.proofs.RunFacts.{none_run, one, one_ended, one_faulty, read_bytes, read_fault_is_plain, read_refusal, same_refusal}
 use Rattle.bitemporal_file.proofs.Told.{all_told}
 use Rattle.bitemporal_file.proofs.runs.run_script.Goals as goal
 
-pub returns-in-Err-clause-ran : goal.returns-in-Err-clause-ran
-returns-in-Err-clause-ran g c = (
-  [],
-  tt,
-  none_run g.W.Write.contents g.K.Reported.text g.K.Reported.status_of _ c.args.reporter.now 1 c.in-Err.fault c.requires (λ refusal is. absurd (read_fault_is_plain _ c.in-Err.fault refusal c.in-Err.ensures.refused is)),
-  λ usable history stands. (history, refl, stands),
-)
+pub returns-in_err-script-clause-ran : goal.returns-in_err-script-clause-ran
+returns-in_err-script-clause-ran g c =
+    let p = err_from_is_err_and c.from_residual.result c.from_residual.ensures.1 in
+    rw (p.1, p.2) (
+      [],
+      tt,
+      none_run g.W.Write.contents g.K.Reported.text g.K.Reported.status_of _ c.args.reporter.now 1 c.in_err-script.field-0.0 c.requires (λ refusal is. absurd (read_fault_is_plain _ c.in_err-script.field-0.0 refusal c.in_err-script.ensures.refused is)),
+      λ usable history stands. (history, refl, stands),
+    )
 
 pub returns-in-Some-clause-ran : goal.returns-in-Some-clause-ran
 returns-in-Some-clause-ran g c =
-    let (results, heard, ran) = c.in-Ok-run_over.ensures.run in
+    let (results, heard, ran) = c.in-Ok.ensures.run in
     let script = c.as_slice.result.now in
-    let told = all_told g.W.Write.contents g.K.Reported.text g.K.Reported.status_of 1 (record c.args.reporter.now { next = 1 }) results c.in-Ok-run_over.goes_on c.run_over.new.listener c.requires heard in (
-      one g.W.Write.contents g.K.Reported.text g.K.Reported.status_of script results c.in-Ok-run_over.goes_on,
-      (read_bytes (g.R.Read.remaining c.args.input.now.inner) script c.in-Ok.script.items c.as_slice.ensures.value c.in-Ok.ensures.bytes, tt),
-      one_faulty g.W.Write.contents g.K.Reported.text g.K.Reported.status_of _ script c.args.reporter.now results c.in-Ok-run_over.goes_on c.run_over.new.listener c.in-Some.fault c.in-Some.is told,
+    let told = all_told g.W.Write.contents g.K.Reported.text g.K.Reported.status_of 1 (record c.args.reporter.now { next = 1 }) results c.in-Ok.goes_on c.run_over.new.listener c.requires heard in (
+      one g.W.Write.contents g.K.Reported.text g.K.Reported.status_of script results c.in-Ok.goes_on,
+      (read_bytes (g.R.Read.remaining c.args.input.now.inner) script c.in_ok-script.script.items c.as_slice.ensures.value c.in_ok-script.ensures.bytes, tt),
+      one_faulty g.W.Write.contents g.K.Reported.text g.K.Reported.status_of _ script c.args.reporter.now results c.in-Ok.goes_on c.run_over.new.listener c.in-Some.fault c.in-Some.is told,
       λ usable history stands. let (made, after) = ran usable history stands in (made.last, (made, refl), after),
     )
 
-pub returns-in-Ok-run_over-clause-ran : goal.returns-in-Ok-run_over-clause-ran
-returns-in-Ok-run_over-clause-ran g c =
-    let (results, heard, ran) = c.in-Ok-run_over.ensures.run in
+pub returns-in-Ok-clause-ran : goal.returns-in-Ok-clause-ran
+returns-in-Ok-clause-ran g c =
+    let (results, heard, ran) = c.in-Ok.ensures.run in
     let script = c.as_slice.result.now in
-    let told = all_told g.W.Write.contents g.K.Reported.text g.K.Reported.status_of 1 (record c.args.reporter.now { next = 1 }) results c.in-Ok-run_over.goes_on c.run_over.new.listener c.requires heard in (
-      one g.W.Write.contents g.K.Reported.text g.K.Reported.status_of script results c.in-Ok-run_over.goes_on,
-      (read_bytes (g.R.Read.remaining c.args.input.now.inner) script c.in-Ok.script.items c.as_slice.ensures.value c.in-Ok.ensures.bytes, tt),
-      one_ended g.W.Write.contents g.K.Reported.text g.K.Reported.status_of _ script c.args.reporter.now results c.in-Ok-run_over.goes_on c.run_over.new.listener c.in-None.is told,
+    let told = all_told g.W.Write.contents g.K.Reported.text g.K.Reported.status_of 1 (record c.args.reporter.now { next = 1 }) results c.in-Ok.goes_on c.run_over.new.listener c.requires heard in (
+      one g.W.Write.contents g.K.Reported.text g.K.Reported.status_of script results c.in-Ok.goes_on,
+      (read_bytes (g.R.Read.remaining c.args.input.now.inner) script c.in_ok-script.script.items c.as_slice.ensures.value c.in_ok-script.ensures.bytes, tt),
+      one_ended g.W.Write.contents g.K.Reported.text g.K.Reported.status_of _ script c.args.reporter.now results c.in-Ok.goes_on c.run_over.new.listener c.in-None.is told,
       λ usable history stands. let (made, after) = ran usable history stands in (made.last, (made, refl), after),
     )
 
 pub returns-clause-ran : goal.returns-clause-ran
 returns-clause-ran g c =
-    let refusal = c.in-Err-run_over.refusal in
-    let (engine, reporter) = c.in-Err-run_over.ensures.none in
+    let refusal = c.in-Err.refusal in
+    let (engine, reporter) = c.in-Err.ensures.none in
     let whole = none_run g.W.Write.contents g.K.Reported.text g.K.Reported.status_of (g.R.Read.remaining c.args.input.now.inner ∷ []) c.args.reporter.now 1 (Script refusal) c.requires
-    (λ other is. read_refusal (g.R.Read.remaining c.args.input.now.inner) c.as_slice.result.now c.in-Ok.script.items other c.as_slice.ensures.value c.in-Ok.ensures.bytes (subst (MayRefuseScript c.as_slice.result.now) (same_refusal refusal other is) c.in-Err-run_over.ensures.refused)) in (
+    (λ other is. read_refusal (g.R.Read.remaining c.args.input.now.inner) c.as_slice.result.now c.in_ok-script.script.items other c.as_slice.ensures.value c.in_ok-script.ensures.bytes (subst (MayRefuseScript c.as_slice.result.now) (same_refusal refusal other is) c.in-Err.ensures.refused)) in (
       [],
       tt,
       subst (λ (new : _). Ends g.W.Write.contents g.K.Reported.text g.K.Reported.status_of (g.R.Read.remaining c.args.input.now.inner ∷ []) c.args.reporter.now [] (Err (Script refusal)) new) (sym reporter) whole,

@@ -11,7 +11,7 @@ returns-clause-ran g c =
       ends,
       λ usable history stands.
           let engine_usable = subst (IsUsable g.S.Store) c.close.ensures.same usable in
-          let opened = c.in-Ok.ensures.opened (c.run_all-ended.ensures.usable engine_usable) history stands in
+          let opened = c.in_ok-engine.ensures.opened (c.run_all-ended.ensures.usable engine_usable) history stands in
           let (last, leads, represents) = ran engine_usable history opened in
           (last, leads, stands_for g.S.Store last c.run_all-ended.new.engine c.close.result c.close.ensures.same represents),
     )

@@ -1,0 +1,4 @@
+pub mod CommandLines
+mod ReadFacts
+mod LineFacts
+mod LineExamples

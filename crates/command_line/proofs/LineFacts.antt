@@ -1,0 +1,36 @@
+-- The lines of standard error, byte by byte.
+use Rattle.std.proofs.Common.{◌≡◌, ◌++◌, ℕ, Bool, List, Option, inl, inr, refl, subst, codes, append_assoc}
+use Rattle.std.specs.Fmt.{digits}
+use Rattle.period_core.specs.declared.refusal.Refusal.{Refusal}
+use Rattle.command_line.specs.Lines.{IsTold, MayBeToldAs, fault_line, told_without}
+use Rattle.command_line.specs.declared.fault.ProgramName.{ProgramName}
+use Rattle.command_line.specs.declared.fault.ProgramName.TheVariants.{Bitemporal, BitemporalFile}
+use Rattle.command_line.specs.declared.fault.RunFault.{RunFault}
+use Rattle.command_line.specs.declared.fault.RunFault.TheVariants.{Script, Memory, Words, Read, Write, NoStore, Locked}
+
+pub memory_is : codes "bitemporal: 61 Memory\n" ≡ fault_line Bitemporal Memory
+unfolding digits
+memory_is = refl
+
+pub memory_is-second : codes "bitemporal_file: 61 Memory\n" ≡ fault_line BitemporalFile Memory
+unfolding digits
+memory_is-second = refl
+
+-- eight texts, joined in either order
+pub joined : (a b c d e f g h : List ℕ) → a ++ (b ++ (c ++ (d ++ (e ++ (f ++ (g ++ h)))))) ≡ a ++ b ++ c ++ d ++ e ++ (f ++ g) ++ h
+joined a b c d e f g h = simp append_assoc
+
+-- what is told without memory may be told
+pub may_without : (fault : RunFault) → MayBeToldAs fault (told_without fault)
+may_without (Script refusal) = inr (tt, refl)
+may_without Memory = inl refl
+may_without Words = inl refl
+may_without Read = inl refl
+may_without Write = inl refl
+may_without NoStore = inl refl
+may_without Locked = inl refl
+
+-- a fault whose line is the bytes written
+pub told_by : (program : ProgramName) (fault told : RunFault) (has_failed : Bool) (old new : Option (List ℕ)) (line : List ℕ) → line ≡ fault_line program told → MayBeToldAs fault told
+    → IsTold has_failed old new line → (told : RunFault) × MayBeToldAs fault told × IsTold has_failed old new (fault_line program told)
+told_by program fault told has_failed old new line is may written = (told, may, subst (IsTold has_failed old new) is written)

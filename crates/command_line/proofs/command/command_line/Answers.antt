@@ -1,0 +1,26 @@
+use Rattle.std.proofs.Common.{List, Option, ⊎_elim, map, option_map, rules, string_bytes, subst, sym}
+use Rattle.clap.specs.Words.{Row, Text, subcommand_of}
+use Rattle.command_line.specs.CommandLine.{Chooses, bitemporal}
+use Rattle.command_line.proofs.CommandLines.{chosen_word, none_found, one_found, only_memory, read_as, row_of_subcommand, same_choice}
+use Rattle.command_line.proofs.command.command_line.Goals as goal
+
+pub returns-in-Ok-file_of-clause-refuses : goal.returns-in-Ok-file_of-clause-refuses
+returns-in-Ok-file_of-clause-refuses g c = none_found _ _ c.in-Ok-command.ensures c.in-Ok-try_get_matches_from_mut.ensures.kinds
+
+pub returns-in-Err-clause-accepts : goal.returns-in-Err-clause-accepts
+returns-in-Err-clause-accepts g c mode file asks =
+    let found = one_found _ _ c.in-Err.fault c.in-Ok-command.ensures c.in-Err.ensures.kinds in
+    c.of_clap.ensures (only_memory _ c.in-Err.fault (read_as _ mode file asks).0 found)
+
+pub returns-in_default-mode_of-clause-accepts : goal.returns-in_default-mode_of-clause-accepts
+returns-in_default-mode_of-clause-accepts g c mode file asks =
+    let chooses = (read_as _ mode file asks).1 in
+    let row = row_of_subcommand _ _ c.in-Ok-try_get_matches_from_mut.matches c.in-Ok-command.ensures c.in-Ok-try_get_matches_from_mut.ensures.ok.2 in
+    let word = chosen_word _ c.in-Some.name.now mode file c.in-Some.ensures.name (subst (λ (chosen : Option (Text × List Row)). Chooses chosen mode file) (sym row) chooses) in
+    absurd (⊎_elim c.in_default-mode_of.ensures.other.0 c.in_default-mode_of.ensures.other.1 word)
+
+pub returns-in-Ok-file_of-clause-accepts : goal.returns-in-Ok-file_of-clause-accepts
+returns-in-Ok-file_of-clause-accepts g c mode file asks =
+    let said = map g.S.AsStr.text c.args.words.now in
+    let found : Chooses (subcommand_of bitemporal said) c.in-Some-mode_of.mode (option_map string_bytes c.in-Ok-file_of.file) = search rules in
+    same_choice _ _ _ _ _ found (read_as said mode file asks).1

@@ -1,0 +1,4 @@
+pub mod CommandLine
+pub mod Reading
+pub mod Audits
+pub mod Lines

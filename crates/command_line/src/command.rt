@@ -1,0 +1,207 @@
+//! The command line: what it may say, and what it chooses.
+
+ghost use Rattle.std.specs.Prelude.{◌≡◌, ◌≢◌, ◌↔◌, [], ℕ, List, Option, false, codes, IfSome};
+ghost use Rattle.std.specs.Prelude.{IfErr, IfNone, IfOk, IsTrue, MatchResult, OnOk, map};
+ghost use Rattle.std.specs.Prelude.{option_map};
+ghost use Rattle.std.specs.String.{string_bytes};
+ghost use Rattle.clap.specs.Words.{app_of, fault_of, first_of, found_of, kind_of, rows_of, rule_of};
+ghost use Rattle.clap.specs.Words.{subcommand_of};
+ghost use Rattle.clap.specs.declared.builder.Command.TheViews.{out-Command};
+ghost use Rattle.command_line.specs.CommandLine.{AsksFor, Chooses, IsAudited, IsMode};
+ghost use Rattle.command_line.specs.CommandLine.{audit_flag};
+ghost use Rattle.command_line.specs.CommandLine.{bitemporal, file_word, run_command};
+ghost use Rattle.command_line.specs.CommandLine.{script_command};
+
+use crate::help::{
+    ABOUT, AUDIT_HELP, CHECK_ABOUT, CHECK_STATUSES, EXAMPLES, FILE_HELP, REFUSALS, RUN_ABOUT,
+    RUN_STATUSES, VERSION,
+};
+use clap::error::ErrorKind;
+use clap::{Arg, ArgAction, ArgMatches, Command};
+use std::alloc::{AllocError, Global};
+use std::convert::AsStr;
+use thiserror::Error;
+
+/// What the program does.
+#[derive(Clone, Copy, PartialEq, Eq, Debug)]
+pub enum Mode {
+    /// Runs a script and prints its report.
+    Run,
+    /// Runs a script, audits each answer, and prints the report of both.
+    RunAudited,
+    /// Checks the syntax of a script without running it.
+    Check,
+}
+
+/// Why a command line chooses nothing.
+#[derive(Debug, Drop, Error)]
+pub enum CommandFault {
+    /// It is refused, or asks for help or the version; the fault says which, and has the text.
+    #[error(transparent)]
+    Clap(clap::Error),
+    /// Out of memory.
+    #[error("out of memory")]
+    Memory,
+}
+
+impl CommandFault {
+    /// The fault of clap; its out of memory is out of memory here.
+    pub fn of_clap(fault: clap::Error) -> CommandFault
+        ensures { kind_of fault ≡ ErrorKind.OutOfMemory → result ≡ CommandFault.Memory }
+    {
+        if fault.kind() == ErrorKind::OutOfMemory {
+            return CommandFault::Memory;
+        }
+        CommandFault::Clap(fault)
+    }
+}
+
+fn file_argument<'a>(alloc: Global) -> Arg<'a>
+    ensures rule { rule_of result ≡ file_word }
+    ensures local { result.global ≡ false }
+{
+    Arg::new(alloc, "FILE")
+        .help(FILE_HELP)
+        .action(ArgAction::Set)
+}
+
+fn audit_argument<'a>(alloc: Global) -> Arg<'a>
+    ensures rule { rule_of result ≡ audit_flag }
+    ensures local { result.global ≡ false }
+{
+    Arg::new(alloc, "audit")
+        .long("audit")
+        .help(AUDIT_HELP)
+        .action(ArgAction::SetTrue)
+}
+
+// A subcommand that takes a script, with its exit statuses below its help.
+fn script_subcommand<'a>(
+    alloc: Global,
+    name: &'a str,
+    about: &'a str,
+    statuses: &'a str,
+) -> Result<Command<'a>, AllocError>
+    ensures app { IfOk result (λ c. app_of c ≡ script_command name.now) }
+    ensures local { IfOk result (λ c. (out-Command c).has_globals ≡ false) }
+{
+    let file = file_argument(alloc);
+    let named = Command::new(alloc, name).about(about).after_help(statuses);
+    let whole = named.arg(file)?;
+    Ok(whole)
+}
+
+// The subcommand that runs a script.
+fn run_subcommand<'a>(alloc: Global) -> Result<Command<'a>, AllocError>
+    ensures app { IfOk result (λ c. app_of c ≡ run_command) }
+    ensures local { IfOk result (λ c. (out-Command c).has_globals ≡ false) }
+{
+    let audit = audit_argument(alloc);
+    let plain = script_subcommand(alloc, "run", RUN_ABOUT, RUN_STATUSES)?;
+    let whole = plain.arg(audit)?;
+    Ok(whole)
+}
+
+// The program's command line, with this text below its own help.
+fn command<'a>(alloc: Global, after: &'a str) -> Result<Command<'a>, AllocError>
+    ensures { IfOk result (λ c. app_of c ≡ bitemporal) }
+{
+    let run = run_subcommand(alloc)?;
+    let check = script_subcommand(alloc, "check", CHECK_ABOUT, CHECK_STATUSES)?;
+    let named = Command::new(alloc, "bitemporal")
+        .about(ABOUT)
+        .version(VERSION)
+        .after_help(after);
+    let top = named.subcommand_required(true);
+    let running = top.subcommand(run)?;
+    let whole = running.subcommand(check)?;
+    Ok(whole)
+}
+
+// The first value of an argument.
+fn value_of<'a>(matches: &ArgMatches<'a>, id: &str) -> Option<&'a str>
+    ensures { option_map (λ s. s.now) result ≡ first_of id.now (rows_of (found_of matches.now)) }
+{
+    matches.get_str(id)
+}
+
+fn is_audited(matches: &ArgMatches<'_>) -> bool
+    ensures { IsTrue result ↔ IsAudited (rows_of (found_of matches.now)) }
+{
+    match value_of(matches, "audit") {
+        Some(value) => value == "true",
+        None => false,
+    }
+}
+
+// The mode of a subcommand with its matches.
+fn mode_of(name: &str, matches: &ArgMatches<'_>) -> Option<Mode>
+    ensures mode { IfSome result (IsMode (name.now, rows_of (found_of matches.now))) }
+    ensures other { IfNone result ((name.now ≢ codes "run") × (name.now ≢ codes "check")) }
+{
+    match name {
+        "run" if is_audited(matches) => Some(Mode::RunAudited),
+        "run" => Some(Mode::Run),
+        "check" => Some(Mode::Check),
+        _ => None,
+    }
+}
+
+fn file_of(alloc: Global, matches: &ArgMatches<'_>) -> Result<Option<String>, AllocError>
+    ensures { IfOk result
+        (λ file. option_map string_bytes file
+        ≡ first_of (codes "FILE") (rows_of (found_of matches.now))) }
+{
+    match value_of(matches, "FILE") {
+        Some(file) => Ok(Some(String::from_str(alloc, file)?)),
+        None => Ok(None),
+    }
+}
+
+/// What a command line, with the program's name as its first word, asks for: the mode, and the
+/// file where one is named. Else clap's fault, with the text to show, or out of memory.
+pub fn command_line<S: AsStr>(
+    alloc: Global,
+    words: &[S],
+) -> Result<(Mode, Option<String>), CommandFault>
+    // Lines of these forms are accepted.
+    ensures accepts { (mode : Mode) (file : Option (List ℕ))
+        → AsksFor (map S.text words.now) mode file
+        → MatchResult result
+        (λ chosen. (chosen.0 ≡ mode) × (option_map string_bytes chosen.1 ≡ file))
+        (λ fault. fault ≡ CommandFault.Memory) }
+
+    // No other line is accepted than those in which clap finds no fault.
+    ensures refuses { OnOk result (fault_of bitemporal (map S.text words.now) ≡ []) }
+    ensures chosen { IfOk result
+        (λ chosen. Chooses (subcommand_of bitemporal (map S.text words.now)) chosen.0
+        (option_map string_bytes chosen.1)) }
+{
+    let Ok(after) = format!(in alloc; "{EXAMPLES}\n\n{RUN_STATUSES}\n\n{REFUSALS}") else {
+        return Err(CommandFault::Memory);
+    };
+    let Ok(mut command) = command(alloc, after.as_str()) else {
+        return Err(CommandFault::Memory);
+    };
+    let matches = match command.try_get_matches_from_mut(words) {
+        Ok(matches) => matches,
+        Err(fault) => return Err(CommandFault::of_clap(fault)),
+    };
+    let Some((name, inner)) = matches.subcommand() else {
+        return Err(usage_fault(&mut command));
+    };
+    let Some(mode) = mode_of(name, inner) else {
+        return Err(usage_fault(&mut command));
+    };
+    match file_of(alloc, inner) {
+        Ok(file) => Ok((mode, file)),
+        Err(_) => Err(CommandFault::Memory),
+    }
+}
+
+fn usage_fault(command: &mut Command<'_>) -> CommandFault {
+    match command.error(ErrorKind::MissingSubcommand, "a subcommand is required") {
+        Ok(fault) => CommandFault::Clap(fault),
+        Err(_) => CommandFault::Memory,
+    }
+}
