@@ -1,0 +1,53 @@
+"""Scripts whose instructions are counted, and their counting by valgrind: so the machine may have
+other things to do. BITEMPORAL=FILE counts those of another program."""
+import os
+import pathlib
+import random
+import re
+import subprocess
+import sys
+from datetime import date, timedelta
+
+ROOT = pathlib.Path(__file__).resolve().parent.parent
+PROGRAM = os.environ.get('BITEMPORAL', ROOT / 'crates/bitemporal_cli/out/bitemporal_cli')
+FIRST = date(2000, 1, 1)
+LATER = "AT TIMESTAMP '2024-01-01 00:00:00';\n"
+
+
+def create(name, references=''):
+    return (f'CREATE TABLE {name} (K INTEGER, V INTEGER, S DATE, E DATE,\n'
+            ' SS TIMESTAMP GENERATED ALWAYS AS ROW START, SE TIMESTAMP GENERATED ALWAYS AS ROW END,\n'
+            ' PERIOD FOR P (S, E), PERIOD FOR SYSTEM_TIME (SS, SE),\n'
+            f' PRIMARY KEY (K, P WITHOUT OVERLAPS){references}) WITH SYSTEM VERSIONING;\n')
+
+
+def day(number):
+    return f"DATE '{FIRST + timedelta(number)}'"
+
+
+def rows(table, these, each=800):
+    """INSERTs of so many rows each: a row is its key, its value, its first day and the day after its
+    last."""
+    text = ''
+    for at in range(0, len(these), each):
+        values = ','.join(f'({k},{v},{day(s)},{day(e)})' for k, v, s, e in these[at:at + each])
+        text += f'INSERT INTO {table} VALUES {values};\n'
+    return text
+
+
+def scattered(count):
+    numbers = list(range(count))
+    random.Random(7).shuffle(numbers)
+    return numbers
+
+
+def instructions(folder, script):
+    """How many instructions the program needs for a script, in which no statement is refused."""
+    file, counted = folder / 'script.sql', folder / 'counted'
+    file.write_text(script)
+    ran = subprocess.run(
+        ['valgrind', '--tool=callgrind', f'--callgrind-out-file={counted}', PROGRAM, 'run', file],
+        stdout=subprocess.PIPE, stderr=subprocess.PIPE, text=True, check=False)
+    if ran.returncode != 0 or 'refused' in ran.stdout:
+        sys.exit(f'{sys.argv[0]}: a statement was refused, or the program failed:\n{ran.stderr[-500:]}')
+    return int(re.search(r'Collected : (\d+)', ran.stderr).group(1))
