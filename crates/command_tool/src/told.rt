@@ -63,10 +63,7 @@ impl Told for Result<Outcome, Refusal> {
 
     ghost status_of = { status_of };
 
-    fn of_script(
-        alloc: Global,
-        script: &[u8],
-    ) -> Result<Vec<Result<Outcome, Refusal>>, RunFault> {
+    fn of_script(alloc: Global, script: &[u8]) -> Result<Vec<Result<Outcome, Refusal>>, RunFault> {
         run_results(alloc, script)
     }
 
@@ -96,11 +93,7 @@ impl Told for Entry {
         run_results(alloc, script)
     }
 
-    fn write<W: Write>(
-        alloc: Global,
-        out: &mut W,
-        results: &[Entry],
-    ) -> Result<(), ReportFault> {
+    fn write<W: Write>(alloc: Global, out: &mut W, results: &[Entry]) -> Result<(), ReportFault> {
         write_audited(alloc, out, results)
     }
 

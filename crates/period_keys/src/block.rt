@@ -13,7 +13,7 @@ use period_core::{Day, Memory, Period};
 use std::alloc::Global;
 
 // The most periods that a block has.
-const MOST: usize = 256;
+const MOST: usize = 128;
 
 /// Placed periods in any order. They lie between two days, so that a block far from a period is
 /// passed over.
