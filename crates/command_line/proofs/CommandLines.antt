@@ -1,5 +1,5 @@
 -- The lines that ask for a run or a check, as clap reads them.
-use Rattle.std.proofs.Common.{◌≡◌, ◌⊎◌, ◌==◌, ◌∙◌, [], ◌∷◌, Bool, List, Option, Some, None, codes, false, true, ap, inl, inr, refl, subst, sym}
+use Rattle.std.proofs.Common.{◌≡◌, ◌⊎◌, ◌∙◌, [], ◌∷◌, List, Option, Some, None, codes, false, true, ap, inl, inr, refl, subst, sym}
 use Rattle.clap.specs.Lexer.{long_of, short_of}
 use Rattle.clap.specs.declared.error.Error.{Error}
 use Rattle.clap.specs.declared.error.kind.ErrorKind.TheVariants.{OutOfMemory}
@@ -11,7 +11,7 @@ use Rattle.std.specs.Prelude.{Box, option_map, unwrap_or}
 use Rattle.std.specs.Box.{box_value}
 use Rattle.std.proofs.lemmas.Option.{same_Some}
 use Rattle.clap.proofs.OnLiterals.{clap_on_literals}
-use Rattle.command_line.specs.CommandLine.{AsksFor, AuditsFile, Chooses, IsMode, NamesFile, bitemporal, has_hyphen}
+use Rattle.command_line.specs.CommandLine.{AsksFor, AuditsFile, Chooses, IsMode, bitemporal, has_hyphen}
 use Rattle.command_line.specs.declared.command.Mode.{Mode}
 use Rattle.command_line.specs.declared.command.Mode.TheVariants.{Run, RunAudited, Check}
 

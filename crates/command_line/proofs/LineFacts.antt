@@ -1,7 +1,6 @@
 -- The lines of standard error, byte by byte.
 use Rattle.std.proofs.Common.{◌≡◌, ◌++◌, ℕ, Bool, List, Option, inl, inr, refl, subst, codes, append_assoc}
 use Rattle.std.specs.Fmt.{digits}
-use Rattle.period_core.specs.declared.refusal.Refusal.{Refusal}
 use Rattle.command_line.specs.Lines.{IsTold, MayBeToldAs, fault_line, told_without}
 use Rattle.command_line.specs.declared.fault.ProgramName.{ProgramName}
 use Rattle.command_line.specs.declared.fault.ProgramName.TheVariants.{Bitemporal, BitemporalFile}

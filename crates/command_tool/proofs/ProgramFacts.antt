@@ -1,8 +1,8 @@
 -- How runs of the program end.
-use Rattle.std.proofs.Common.{◌≡◌, ◌≤◌, ◌⊎◌, ◌∙◌, ℕ, Bool, List, Option, None, Some, Result, Ok, Err, MatchResult, true, false, arith, inl, inr, refl, subst, sym}
+use Rattle.std.proofs.Common.{◌≡◌, ◌≤◌, ℕ, Bool, List, Option, None, Some, Result, Ok, Err, MatchResult, true, arith, inl, inr, refl, subst, sym}
 use Rattle.std.specs.Io.KnownBytes.{Keeps}
 use Rattle.command_line.specs.Lines.{IsTold, MayBeToldAs, fault_line}
-use Rattle.command_tool.specs.Program.{EndsInFault, EndsInReport, EndsRefused, EndsWell, MayEndIn, MayEndSilently, ProgramRun}
+use Rattle.command_tool.specs.Program.{EndsWell, MayEndIn, MayEndSilently, ProgramRun}
 use Rattle.clap.specs.declared.error.Error.{Error}
 use Rattle.command_line.specs.declared.command.CommandFault.TheVariants.{Clap, Memory as OutOfMemory}
 use Rattle.command_line.specs.declared.command.Mode.{Mode}

@@ -1,7 +1,6 @@
 use Rattle.std.proofs.Common.{inl, inr, refl, rules, sym}
-use Rattle.command_line.specs.Lines.{told_without}
 use Rattle.command_line.specs.declared.fault.RunFault.TheVariants.{Memory, Script}
-use Rattle.command_line.proofs.LineFacts.{may_without, told_by}
+use Rattle.command_line.proofs.LineFacts.{told_by}
 use Rattle.command_line.proofs.ending.tell.Goals as goal
 
 pub returns-in-Ok : goal.returns-in-Ok

@@ -1,4 +1,4 @@
-use Rattle.std.proofs.Common.{◌≡◌, ◌∙◌, Option, Some, ap, option_map, refl, rules, string_bytes, sym, true}
+use Rattle.std.proofs.Common.{◌≡◌, ◌∙◌, ap, option_map, refl, rules, string_bytes, sym, true}
 use Rattle.command_tool.proofs.ProgramFacts.{at_err, at_ok, ends_over, ends_silently, is_no_memory, keeps_itself}
 use Rattle.command_line.specs.declared.fault.RunFault.TheVariants.{Read}
 use Rattle.command_tool.proofs.program.run_program.Goals as goal

@@ -1,5 +1,5 @@
 use Rattle.std.proofs.Common.{rules}
-use Rattle.command_tool.specs.Program.{EndsRefused, MayEndIn}
+use Rattle.command_tool.specs.Program.{MayEndIn}
 use Rattle.command_tool.proofs.ProgramFacts.{line_told}
 use Rattle.command_tool.proofs.tool.run_tool.Goals as goal
 
