@@ -114,5 +114,5 @@ pub fn write_audited<W: ReportWriter>(
     for (i, entry) in entries.iter().enumerate() {
         write_entry(alloc, &mut line, &mut buffer, out, i as u64 + 1, entry)?;
     }
-    buffer.finish(alloc, out)
+    buffer.finish(out)
 }

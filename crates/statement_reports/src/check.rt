@@ -75,5 +75,5 @@ pub fn write_check<W: ReportWriter>(
     }
     fill_counts(&mut line, results)?;
     buffer.write(alloc, out, &line)?;
-    buffer.finish(alloc, out)
+    buffer.finish(out)
 }

@@ -218,5 +218,5 @@ pub fn write_report<W: ReportWriter>(
     for (i, entry) in results.iter().enumerate() {
         write_result(alloc, &mut line, &mut buffer, out, i as u64 + 1, entry)?;
     }
-    buffer.finish(alloc, out)
+    buffer.finish(out)
 }
