@@ -1,6 +1,6 @@
 //! One record of the report: its fields.
 
-ghost use Rattle.std.specs.Prelude.{◌≡◌, ◌++◌, ◌∷◌, [], IfErr, OnOk, map, slice_get};
+ghost use Rattle.std.specs.Prelude.{◌≡◌, ◌++◌, ◌∷◌, [], IfErr, OnOk, map, slice_get, take};
 ghost use Rattle.std.specs.Fmt.{decimal, signed_decimal};
 ghost use Rattle.csv.specs.Records.{fields_of};
 ghost use Rattle.statement_reports.specs.Report.{absent_text, cell_text, printed_day};
@@ -49,6 +49,13 @@ impl Record {
     {
         self.inner.clear();
         self.push(kind.as_bytes())
+    }
+
+    /// Leaves the first fields, so many at most.
+    pub(crate) fn truncate(&mut self, count: usize)
+        ensures { self.new ≡ take count self.old }
+    {
+        self.inner.truncate(count);
     }
 
     /// Adds a field. After a fault the record is empty.

@@ -1,11 +1,11 @@
 //! The report: for each statement, in order, the records of what it gave.
 
-ghost use Rattle.std.specs.Prelude.{◌≡◌, IfErr, Ok, OnOk};
+ghost use Rattle.std.specs.Prelude.{◌≡◌, ◌++◌, IfErr, Ok, OnOk};
 ghost use Rattle.std.specs.Io.KnownBytes.{Appends, append_known};
 ghost use Rattle.statement_reports.specs.Report.{MayFail, report, text_of};
 ghost use Rattle.statement_reports.specs.Report.{answer_record, columns_record, done_record};
-ghost use Rattle.statement_reports.specs.Report.{names_record, refused_record, row_record};
-ghost use Rattle.statement_reports.specs.Report.{version_record, versions_record};
+ghost use Rattle.statement_reports.specs.Report.{names_record, refused_record, row_fields};
+ghost use Rattle.statement_reports.specs.Report.{versions_record};
 
 use crate::buffer::ReportBuffer;
 use crate::fault::ReportFault;
@@ -68,18 +68,11 @@ fn fill_columns(line: &mut Record, number: u64, columns: &[Text]) -> Result<(), 
     line.push(b"absent")
 }
 
-// One row and its witness.
-fn fill_row(
-    line: &mut Record,
-    number: u64,
-    row: &PeriodRow,
-    witness: &Witness,
-) -> Result<(), ReportFault>
-    ensures ok { OnOk result (line.new ≡ row_record number (row.now, witness.now)) }
+// Adds the fields of a row and its witness.
+fn push_row(line: &mut Record, row: &PeriodRow, witness: &Witness) -> Result<(), ReportFault>
+    ensures ok { OnOk result (line.new ≡ line.old ++ row_fields (row.now, witness.now)) }
     ensures err { IfErr result (λ e. e ≡ ReportFault.Memory) }
 {
-    line.start("row")?;
-    line.push_number(number)?;
     line.push_values(row.values.as_slice())?;
     line.push_day(row.period.start())?;
     line.push_day(row.period.end())?;
@@ -105,10 +98,14 @@ fn write_answer<W: ReportWriter>(
     buffer.write(alloc, out, line)?;
     fill_columns(line, number, answer.columns.as_slice())?;
     buffer.write(alloc, out, line)?;
+    // Each row keeps these two fields.
+    line.start("row")?;
+    line.push_number(number)?;
     let witnesses = answer.witnesses.as_slice();
     for (row, witness) in answer.rows.as_slice().iter().zip(witnesses) {
-        fill_row(line, number, row, witness)?;
+        push_row(line, row, witness)?;
         buffer.write(alloc, out, line)?;
+        line.truncate(2);
     }
     Ok(())
 }
@@ -134,21 +131,6 @@ fn fill_names(line: &mut Record, number: u64, columns: &[VersionColumn]) -> Resu
     line.push_names(columns)
 }
 
-// One version.
-fn fill_version(
-    line: &mut Record,
-    number: u64,
-    columns: &[VersionColumn],
-    version: &VersionRow,
-) -> Result<(), ReportFault>
-    ensures ok { OnOk result (line.new ≡ version_record number columns.now version.now) }
-    ensures err { IfErr result (λ e. e ≡ ReportFault.Memory) }
-{
-    line.start("version")?;
-    line.push_number(number)?;
-    line.push_cells(columns, version)
-}
-
 fn write_versions<W: ReportWriter>(
     alloc: Global,
     line: &mut Record,
@@ -168,10 +150,14 @@ fn write_versions<W: ReportWriter>(
     let columns = list.columns.as_slice();
     fill_names(line, number, columns)?;
     buffer.write(alloc, out, line)?;
+    // Each version keeps these two fields.
+    line.start("version")?;
+    line.push_number(number)?;
     let rows = list.rows.as_slice();
     for version in rows {
-        fill_version(line, number, columns, version)?;
+        line.push_cells(columns, version)?;
         buffer.write(alloc, out, line)?;
+        line.truncate(2);
     }
     Ok(())
 }
