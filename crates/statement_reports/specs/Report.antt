@@ -137,12 +137,15 @@ columns_record n names =
     ∷ (names ++ codes "valid_from" ∷ codes "valid_to" ∷ codes "held" ∷ codes "absent" ∷ [])
 
 -- a row's values, its first day and its end, and its witness
-abbrev pub row_record : ℕ → PeriodRow × Witness → List (List ℕ)
-row_record n (row, witness) =
-    codes "row" ∷ decimal n
-    ∷ (map value_text row.values
+abbrev pub row_fields : PeriodRow × Witness → List (List ℕ)
+row_fields (row, witness) =
+    map value_text row.values
     ++ printed_day row.period.start ∷ printed_day row.period.end
-    ∷ printed_day witness.held ∷ absent_text witness.absent ∷ [])
+    ∷ printed_day witness.held ∷ absent_text witness.absent ∷ []
+
+-- a row
+abbrev pub row_record : ℕ → PeriodRow × Witness → List (List ℕ)
+row_record n row = codes "row" ∷ decimal n ∷ row_fields row
 
 -- how many columns the table has, and how many versions are shown
 abbrev pub versions_record : ℕ → VersionList → List (List ℕ)

@@ -19,14 +19,14 @@ use snapshot_audit::Verdict;
 use std::alloc::Global;
 
 // The word of a verdict, and the number or the day that it carries.
-fn push_verdict(alloc: Global, line: &mut Record, verdict: Verdict) -> Result<(), ReportFault>
+fn push_verdict(line: &mut Record, verdict: Verdict) -> Result<(), ReportFault>
     ensures ok { OnOk result (line.new ≡ line.old ++ verdict_fields verdict) }
     ensures err { IfErr result (λ e. e ≡ ReportFault.Memory) }
 {
     match verdict {
         Verdict::Agrees(days) => {
             line.push(b"agrees")?;
-            line.push_number(alloc, days as u64)
+            line.push_number(days as u64)
         }
         Verdict::Differs(day) => {
             line.push(b"differs")?;
@@ -34,13 +34,12 @@ fn push_verdict(alloc: Global, line: &mut Record, verdict: Verdict) -> Result<()
         }
         Verdict::BadWitness(row) => {
             line.push(b"badwitness")?;
-            line.push_number(alloc, row as u64)
+            line.push_number(row as u64)
         }
     }
 }
 
 fn fill_audit(
-    alloc: Global,
     line: &mut Record,
     number: u64,
     audit: &Result<Verdict, Refusal>,
@@ -49,12 +48,12 @@ fn fill_audit(
     ensures err { IfErr result (λ e. e ≡ ReportFault.Memory) }
 {
     line.start("audit")?;
-    line.push_number(alloc, number)?;
+    line.push_number(number)?;
     match audit {
-        Ok(verdict) => push_verdict(alloc, line, *verdict),
+        Ok(verdict) => push_verdict(line, *verdict),
         Err(refusal) => {
             line.push(b"refused")?;
-            line.push_number(alloc, u64::from(refusal.code()))
+            line.push_number(u64::from(refusal.code()))
         }
     }
 }
@@ -74,7 +73,7 @@ fn write_audit<W: ReportWriter>(
     ensures err { IfErr result (MayFail (W.has_failed out.new)) }
 {
     if let Some(audit) = audit {
-        fill_audit(alloc, line, number, audit)?;
+        fill_audit(line, number, audit)?;
         buffer.write(alloc, out, line)?;
     }
     Ok(())
@@ -115,5 +114,5 @@ pub fn write_audited<W: ReportWriter>(
     for (i, entry) in entries.iter().enumerate() {
         write_entry(alloc, &mut line, &mut buffer, out, i as u64 + 1, entry)?;
     }
-    buffer.finish(alloc, out)
+    buffer.finish(out)
 }

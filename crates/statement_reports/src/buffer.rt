@@ -48,6 +48,17 @@ fn records_into(memory: Vec<u8>) -> Writer<Vec<u8>>
     WriterBuilder::new().flexible(true).from_writer(memory)
 }
 
+// Gives the writer these bytes.
+fn put_bytes<W: ReportWriter>(out: &mut W, bytes: &[u8]) -> Result<(), ReportFault>
+    ensures ok { OnOk result (Appends (W.contents out.old) (W.contents out.new) bytes.now) }
+    ensures err { IfErr result (MayFail (W.has_failed out.new)) }
+{
+    match out.put(bytes) {
+        Ok(()) => Ok(()),
+        Err(WriteRefused) => Err(ReportFault::Write),
+    }
+}
+
 impl ReportBuffer {
     /// No text yet.
     pub(crate) fn new(alloc: Global) -> ReportBuffer
@@ -83,13 +94,10 @@ impl ReportBuffer {
         let Ok(mut memory) = texts.into_inner() else {
             return Err(ReportFault::Memory);
         };
-        let written = out.put(memory.as_slice());
+        let written = put_bytes(out, memory.as_slice());
         memory.clear();
         self.texts = records_into(memory);
-        match written {
-            Ok(()) => Ok(()),
-            Err(WriteRefused) => Err(ReportFault::Write),
-        }
+        written
     }
 
     /// Adds the text of a record, and writes the texts out where there are enough of them.
@@ -113,14 +121,13 @@ impl ReportBuffer {
     }
 
     /// Writes out the texts that are left.
-    pub(crate) fn finish<W: ReportWriter>(
-        mut self,
-        alloc: Global,
-        out: &mut W,
-    ) -> Result<(), ReportFault>
+    pub(crate) fn finish<W: ReportWriter>(self, out: &mut W) -> Result<(), ReportFault>
         ensures ok { OnOk result (Appends (W.contents out.old) (W.contents out.new) self) }
         ensures err { IfErr result (MayFail (W.has_failed out.new)) }
     {
-        self.write_out(alloc, out)
+        match self.texts.into_inner() {
+            Ok(memory) => put_bytes(out, memory.as_slice()),
+            Err(_) => Err(ReportFault::Memory),
+        }
     }
 }

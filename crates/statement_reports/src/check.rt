@@ -28,7 +28,7 @@ fn write_refusal<W: ReportWriter>(
     ensures err { IfErr result (MayFail (W.has_failed out.new)) }
 {
     if let Err(refusal) = entry {
-        fill_refused(alloc, line, number, refusal)?;
+        fill_refused(line, number, refusal)?;
         buffer.write(alloc, out, line)?;
     }
     Ok(())
@@ -47,17 +47,13 @@ fn refused_count(results: &[Result<(), Refusal>]) -> u64
 }
 
 // How many statements there are, and how many are refused.
-fn fill_counts(
-    alloc: Global,
-    line: &mut Record,
-    results: &[Result<(), Refusal>],
-) -> Result<(), ReportFault>
+fn fill_counts(line: &mut Record, results: &[Result<(), Refusal>]) -> Result<(), ReportFault>
     ensures ok { OnOk result (line.new ≡ checked_record results.now) }
     ensures err { IfErr result (λ e. e ≡ ReportFault.Memory) }
 {
     line.start("checked")?;
-    line.push_number(alloc, results.len() as u64)?;
-    line.push_number(alloc, refused_count(results))
+    line.push_number(results.len() as u64)?;
+    line.push_number(refused_count(results))
 }
 
 /// Writes the report of a check: the records of the refused statements, numbered from 1 among all,
@@ -77,7 +73,7 @@ pub fn write_check<W: ReportWriter>(
     for (i, entry) in results.iter().enumerate() {
         write_refusal(alloc, &mut line, &mut buffer, out, i as u64 + 1, entry)?;
     }
-    fill_counts(alloc, &mut line, results)?;
+    fill_counts(&mut line, results)?;
     buffer.write(alloc, out, &line)?;
-    buffer.finish(alloc, out)
+    buffer.finish(out)
 }

@@ -1,6 +1,6 @@
 //! One record of the report: its fields.
 
-ghost use Rattle.std.specs.Prelude.{◌≡◌, ◌++◌, ◌∷◌, [], IfErr, OnOk, map, slice_get};
+ghost use Rattle.std.specs.Prelude.{◌≡◌, ◌++◌, ◌∷◌, [], IfErr, OnOk, map, slice_get, take};
 ghost use Rattle.std.specs.Fmt.{decimal, signed_decimal};
 ghost use Rattle.csv.specs.Records.{fields_of};
 ghost use Rattle.statement_reports.specs.Report.{absent_text, cell_text, printed_day};
@@ -10,6 +10,7 @@ ghost use Rattle.statement_reports.specs.declared.outcome.VersionColumn as any;
 use crate::fault::ReportFault;
 use crate::outcome::{Cell, VersionColumn};
 use csv::ByteRecord;
+use itoa::Buffer;
 use period_core::{Day, Moment, Text, Value, VersionRow};
 use std::alloc::Global;
 use std::marker::Model;
@@ -50,6 +51,13 @@ impl Record {
         self.push(kind.as_bytes())
     }
 
+    /// Leaves the first fields, so many at most.
+    pub(crate) fn truncate(&mut self, count: usize)
+        ensures { self.new ≡ take count self.old }
+    {
+        self.inner.truncate(count);
+    }
+
     /// Adds a field. After a fault the record is empty.
     pub(crate) fn push(&mut self, field: &[u8]) -> Result<(), ReportFault>
         ensures ok { OnOk result (self.new ≡ self.old ++ field.now ∷ []) }
@@ -63,25 +71,19 @@ impl Record {
     }
 
     /// Adds a number in decimal.
-    pub(crate) fn push_number(&mut self, alloc: Global, number: u64) -> Result<(), ReportFault>
+    pub(crate) fn push_number(&mut self, number: u64) -> Result<(), ReportFault>
         ensures ok { OnOk result (self.new ≡ self.old ++ decimal number ∷ []) }
         ensures err { IfErr result (λ e. e ≡ ReportFault.Memory) }
     {
-        match number.to_string(alloc) {
-            Ok(digits) => self.push(digits.as_bytes()),
-            Err(_) => Err(ReportFault::Memory),
-        }
+        self.push(Buffer::new().format(number).as_bytes())
     }
 
     /// Adds an integer in decimal, with `-` where it is negative.
-    fn push_integer(&mut self, alloc: Global, integer: i64) -> Result<(), ReportFault>
+    fn push_integer(&mut self, integer: i64) -> Result<(), ReportFault>
         ensures ok { OnOk result (self.new ≡ self.old ++ signed_decimal integer ∷ []) }
         ensures err { IfErr result (λ e. e ≡ ReportFault.Memory) }
     {
-        match integer.to_string(alloc) {
-            Ok(digits) => self.push(digits.as_bytes()),
-            Err(_) => Err(ReportFault::Memory),
-        }
+        self.push(Buffer::new().format(integer).as_bytes())
     }
 
     /// Adds a day as YYYY-MM-DD.
@@ -117,12 +119,12 @@ impl Record {
     }
 
     /// Adds a value.
-    fn push_value(&mut self, alloc: Global, value: &Value) -> Result<(), ReportFault>
+    fn push_value(&mut self, value: &Value) -> Result<(), ReportFault>
         ensures ok { OnOk result (self.new ≡ self.old ++ value_text value.now ∷ []) }
         ensures err { IfErr result (λ e. e ≡ ReportFault.Memory) }
     {
         match value {
-            Value::Int(integer) => self.push_integer(alloc, *integer),
+            Value::Int(integer) => self.push_integer(*integer),
             Value::Text(text) => self.push(text.as_str().as_bytes()),
             Value::Date(day) => self.push_day(*day),
         }
@@ -140,47 +142,35 @@ impl Record {
     }
 
     /// Adds the values.
-    pub(crate) fn push_values(&mut self, alloc: Global, values: &[Value]) -> Result<(), ReportFault>
+    pub(crate) fn push_values(&mut self, values: &[Value]) -> Result<(), ReportFault>
         ensures ok { OnOk result (self.new ≡ self.old ++ map value_text values.now) }
         ensures err { IfErr result (λ e. e ≡ ReportFault.Memory) }
     {
         for value in values {
-            self.push_value(alloc, value)?;
+            self.push_value(value)?;
         }
         Ok(())
     }
 
     /// Adds the value at a position, or nothing where there is none.
-    fn push_value_at(
-        &mut self,
-        alloc: Global,
-        values: &[Value],
-        position: usize,
-    ) -> Result<(), ReportFault>
+    fn push_value_at(&mut self, values: &[Value], position: usize) -> Result<(), ReportFault>
         ensures ok { OnOk result
             (self.new ≡ self.old ++ value_cell (slice_get values.now position) ∷ []) }
         ensures err { IfErr result (λ e. e ≡ ReportFault.Memory) }
     {
         match values.get(position) {
-            Some(value) => self.push_value(alloc, value),
+            Some(value) => self.push_value(value),
             None => self.push(b""),
         }
     }
 
     /// Adds a cell of a version.
-    fn push_cell(
-        &mut self,
-        alloc: Global,
-        version: &VersionRow,
-        cell: Cell,
-    ) -> Result<(), ReportFault>
+    fn push_cell(&mut self, version: &VersionRow, cell: Cell) -> Result<(), ReportFault>
         ensures ok { OnOk result (self.new ≡ self.old ++ cell_text version.now cell ∷ []) }
         ensures err { IfErr result (λ e. e ≡ ReportFault.Memory) }
     {
         match cell {
-            Cell::Value(position) => {
-                self.push_value_at(alloc, version.values.as_slice(), position)
-            }
+            Cell::Value(position) => self.push_value_at(version.values.as_slice(), position),
             Cell::Start => self.push_day(version.period.start()),
             Cell::End => self.push_day(version.period.end()),
             Cell::From => self.push_moment(version.from),
@@ -203,7 +193,6 @@ impl Record {
     /// Adds the cells of a version, column by column.
     pub(crate) fn push_cells(
         &mut self,
-        alloc: Global,
         columns: &[VersionColumn],
         version: &VersionRow,
     ) -> Result<(), ReportFault>
@@ -213,7 +202,7 @@ impl Record {
         ensures err { IfErr result (λ e. e ≡ ReportFault.Memory) }
     {
         for column in columns {
-            self.push_cell(alloc, version, column.cell)?;
+            self.push_cell(version, column.cell)?;
         }
         Ok(())
     }

@@ -1,11 +1,11 @@
 //! The report: for each statement, in order, the records of what it gave.
 
-ghost use Rattle.std.specs.Prelude.{◌≡◌, IfErr, Ok, OnOk};
+ghost use Rattle.std.specs.Prelude.{◌≡◌, ◌++◌, IfErr, Ok, OnOk};
 ghost use Rattle.std.specs.Io.KnownBytes.{Appends, append_known};
 ghost use Rattle.statement_reports.specs.Report.{MayFail, report, text_of};
 ghost use Rattle.statement_reports.specs.Report.{answer_record, columns_record, done_record};
-ghost use Rattle.statement_reports.specs.Report.{names_record, refused_record, row_record};
-ghost use Rattle.statement_reports.specs.Report.{version_record, versions_record};
+ghost use Rattle.statement_reports.specs.Report.{names_record, refused_record, row_fields};
+ghost use Rattle.statement_reports.specs.Report.{versions_record};
 
 use crate::buffer::ReportBuffer;
 use crate::fault::ReportFault;
@@ -15,24 +15,17 @@ use crate::writer::ReportWriter;
 use period_core::{Answer, PeriodRow, Refusal, Text, VersionRow, Witness};
 use std::alloc::Global;
 
-fn fill_done(
-    alloc: Global,
-    line: &mut Record,
-    number: u64,
-    word: Word,
-    count: u64,
-) -> Result<(), ReportFault>
+fn fill_done(line: &mut Record, number: u64, word: Word, count: u64) -> Result<(), ReportFault>
     ensures ok { OnOk result (line.new ≡ done_record number word count) }
     ensures err { IfErr result (λ e. e ≡ ReportFault.Memory) }
 {
     line.start("done")?;
-    line.push_number(alloc, number)?;
+    line.push_number(number)?;
     line.push(word.name().as_bytes())?;
-    line.push_number(alloc, count)
+    line.push_number(count)
 }
 
 pub(crate) fn fill_refused(
-    alloc: Global,
     line: &mut Record,
     number: u64,
     refusal: &Refusal,
@@ -41,8 +34,8 @@ pub(crate) fn fill_refused(
     ensures err { IfErr result (λ e. e ≡ ReportFault.Memory) }
 {
     line.start("refused")?;
-    line.push_number(alloc, number)?;
-    line.push_number(alloc, u64::from(refusal.code()))?;
+    line.push_number(number)?;
+    line.push_number(u64::from(refusal.code()))?;
     line.push(refusal.name().as_bytes())?;
     match refusal {
         Refusal::KeyOverlap(day) | Refusal::PeriodReference(day) => line.push_day(*day),
@@ -51,33 +44,23 @@ pub(crate) fn fill_refused(
 }
 
 // How many value columns and rows follow.
-fn fill_head(
-    alloc: Global,
-    line: &mut Record,
-    number: u64,
-    answer: &Answer,
-) -> Result<(), ReportFault>
+fn fill_head(line: &mut Record, number: u64, answer: &Answer) -> Result<(), ReportFault>
     ensures ok { OnOk result (line.new ≡ answer_record number answer.now) }
     ensures err { IfErr result (λ e. e ≡ ReportFault.Memory) }
 {
     line.start("answer")?;
-    line.push_number(alloc, number)?;
-    line.push_number(alloc, answer.columns.len() as u64)?;
-    line.push_number(alloc, answer.rows.len() as u64)
+    line.push_number(number)?;
+    line.push_number(answer.columns.len() as u64)?;
+    line.push_number(answer.rows.len() as u64)
 }
 
 // The names of the columns.
-fn fill_columns(
-    alloc: Global,
-    line: &mut Record,
-    number: u64,
-    columns: &[Text],
-) -> Result<(), ReportFault>
+fn fill_columns(line: &mut Record, number: u64, columns: &[Text]) -> Result<(), ReportFault>
     ensures ok { OnOk result (line.new ≡ columns_record number columns.now) }
     ensures err { IfErr result (λ e. e ≡ ReportFault.Memory) }
 {
     line.start("columns")?;
-    line.push_number(alloc, number)?;
+    line.push_number(number)?;
     line.push_texts(columns)?;
     line.push(b"valid_from")?;
     line.push(b"valid_to")?;
@@ -85,20 +68,12 @@ fn fill_columns(
     line.push(b"absent")
 }
 
-// One row and its witness.
-fn fill_row(
-    alloc: Global,
-    line: &mut Record,
-    number: u64,
-    row: &PeriodRow,
-    witness: &Witness,
-) -> Result<(), ReportFault>
-    ensures ok { OnOk result (line.new ≡ row_record number (row.now, witness.now)) }
+// Adds the fields of a row and its witness.
+fn push_row(line: &mut Record, row: &PeriodRow, witness: &Witness) -> Result<(), ReportFault>
+    ensures ok { OnOk result (line.new ≡ line.old ++ row_fields (row.now, witness.now)) }
     ensures err { IfErr result (λ e. e ≡ ReportFault.Memory) }
 {
-    line.start("row")?;
-    line.push_number(alloc, number)?;
-    line.push_values(alloc, row.values.as_slice())?;
+    line.push_values(row.values.as_slice())?;
     line.push_day(row.period.start())?;
     line.push_day(row.period.end())?;
     line.push_day(witness.held)?;
@@ -119,63 +94,41 @@ fn write_answer<W: ReportWriter>(
         (text_of number (Ok (Outcome.Answer answer.now)))) }
     ensures err { IfErr result (MayFail (W.has_failed out.new)) }
 {
-    fill_head(alloc, line, number, answer)?;
+    fill_head(line, number, answer)?;
     buffer.write(alloc, out, line)?;
-    fill_columns(alloc, line, number, answer.columns.as_slice())?;
+    fill_columns(line, number, answer.columns.as_slice())?;
     buffer.write(alloc, out, line)?;
+    // Each row keeps these two fields.
+    line.start("row")?;
+    line.push_number(number)?;
     let witnesses = answer.witnesses.as_slice();
     for (row, witness) in answer.rows.as_slice().iter().zip(witnesses) {
-        fill_row(alloc, line, number, row, witness)?;
+        push_row(line, row, witness)?;
         buffer.write(alloc, out, line)?;
+        line.truncate(2);
     }
     Ok(())
 }
 
 // How many columns and versions follow.
-fn fill_versions_head(
-    alloc: Global,
-    line: &mut Record,
-    number: u64,
-    list: &VersionList,
-) -> Result<(), ReportFault>
+fn fill_versions_head(line: &mut Record, number: u64, list: &VersionList) -> Result<(), ReportFault>
     ensures ok { OnOk result (line.new ≡ versions_record number list.now) }
     ensures err { IfErr result (λ e. e ≡ ReportFault.Memory) }
 {
     line.start("versions")?;
-    line.push_number(alloc, number)?;
-    line.push_number(alloc, list.columns.len() as u64)?;
-    line.push_number(alloc, list.rows.len() as u64)
+    line.push_number(number)?;
+    line.push_number(list.columns.len() as u64)?;
+    line.push_number(list.rows.len() as u64)
 }
 
 // The names of the columns.
-fn fill_names(
-    alloc: Global,
-    line: &mut Record,
-    number: u64,
-    columns: &[VersionColumn],
-) -> Result<(), ReportFault>
+fn fill_names(line: &mut Record, number: u64, columns: &[VersionColumn]) -> Result<(), ReportFault>
     ensures ok { OnOk result (line.new ≡ names_record number columns.now) }
     ensures err { IfErr result (λ e. e ≡ ReportFault.Memory) }
 {
     line.start("columns")?;
-    line.push_number(alloc, number)?;
+    line.push_number(number)?;
     line.push_names(columns)
-}
-
-// One version.
-fn fill_version(
-    alloc: Global,
-    line: &mut Record,
-    number: u64,
-    columns: &[VersionColumn],
-    version: &VersionRow,
-) -> Result<(), ReportFault>
-    ensures ok { OnOk result (line.new ≡ version_record number columns.now version.now) }
-    ensures err { IfErr result (λ e. e ≡ ReportFault.Memory) }
-{
-    line.start("version")?;
-    line.push_number(alloc, number)?;
-    line.push_cells(alloc, columns, version)
 }
 
 fn write_versions<W: ReportWriter>(
@@ -192,15 +145,19 @@ fn write_versions<W: ReportWriter>(
         (text_of number (Ok (Outcome.Versions list.now)))) }
     ensures err { IfErr result (MayFail (W.has_failed out.new)) }
 {
-    fill_versions_head(alloc, line, number, list)?;
+    fill_versions_head(line, number, list)?;
     buffer.write(alloc, out, line)?;
     let columns = list.columns.as_slice();
-    fill_names(alloc, line, number, columns)?;
+    fill_names(line, number, columns)?;
     buffer.write(alloc, out, line)?;
+    // Each version keeps these two fields.
+    line.start("version")?;
+    line.push_number(number)?;
     let rows = list.rows.as_slice();
     for version in rows {
-        fill_version(alloc, line, number, columns, version)?;
+        line.push_cells(columns, version)?;
         buffer.write(alloc, out, line)?;
+        line.truncate(2);
     }
     Ok(())
 }
@@ -219,14 +176,14 @@ pub(crate) fn write_result<W: ReportWriter>(
     ensures err { IfErr result (MayFail (W.has_failed out.new)) }
 {
     match entry {
-        Ok(Outcome::Done(word, count)) => fill_done(alloc, line, number, *word, *count)?,
+        Ok(Outcome::Done(word, count)) => fill_done(line, number, *word, *count)?,
         Ok(Outcome::Answer(answer)) => {
             return write_answer(alloc, line, buffer, out, number, answer);
         }
         Ok(Outcome::Versions(list)) => {
             return write_versions(alloc, line, buffer, out, number, list);
         }
-        Err(refusal) => fill_refused(alloc, line, number, refusal)?,
+        Err(refusal) => fill_refused(line, number, refusal)?,
     }
     buffer.write(alloc, out, line)
 }
@@ -247,5 +204,5 @@ pub fn write_report<W: ReportWriter>(
     for (i, entry) in results.iter().enumerate() {
         write_result(alloc, &mut line, &mut buffer, out, i as u64 + 1, entry)?;
     }
-    buffer.finish(alloc, out)
+    buffer.finish(out)
 }

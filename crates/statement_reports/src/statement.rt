@@ -31,7 +31,7 @@ pub fn write_statement<W: ReportWriter>(
     let mut line = Record::new(alloc);
     let mut buffer = ReportBuffer::new(alloc);
     write_result(alloc, &mut line, &mut buffer, out, number, given)?;
-    buffer.finish(alloc, out)
+    buffer.finish(out)
 }
 
 /// The same in an audited report: behind the records of an answer that of its audit.
@@ -48,5 +48,5 @@ pub fn write_audited_statement<W: ReportWriter>(
     let mut line = Record::new(alloc);
     let mut buffer = ReportBuffer::new(alloc);
     write_entry(alloc, &mut line, &mut buffer, out, number, entry)?;
-    buffer.finish(alloc, out)
+    buffer.finish(out)
 }
