@@ -110,16 +110,15 @@ def processes_at_once():
     return max(1, min(2 * len(os.sched_getaffinity(0)), free // MEMORY_OF_A_PROCESS))
 
 
-def jobs_of(name, is_first, is_alone, most):
+def jobs_of(name, is_first, most):
     """How many processes a crate gets, of so many at most.
 
     Two prove a crate in two thirds of the time of one, four in half of it or a little less, with a
     seventh and two fifths more of a processor's time. So the first, which has the longest chain of
-    crates above it, gets more. Of a program there is next to nothing to prove: a second process
+    crates above it, gets four. Of a program there is next to nothing to prove: a second process
     would load all libraries again.
     """
-    jobs = 1 if name == sums.PROGRAM else 4 if is_alone else 3 if is_first else 2
-    return min(jobs, most)
+    return min(1 if name == sums.PROGRAM else 4 if is_first else 2, most)
 
 
 def lines_of(name):
@@ -166,7 +165,7 @@ def prove(crates, waiting, tell):
             ready = [it for it in waiting if sums.crates_below(crates, it) <= done]
             for name in ready:
                 is_first = all(order[name] < order[room.name] for room in running)
-                jobs = jobs_of(name, is_first, ready == [name] and not running, most)
+                jobs = jobs_of(name, is_first, most)
                 if sum(room.jobs for room in running) + jobs <= most:
                     waiting.remove(name)
                     running.append(Room(crates, name, jobs, is_first))
