@@ -54,12 +54,9 @@ impl Chains {
         ensures err { OnErr result (self.new ≡ self.old) }
     {
         let place = self.links.len();
-        let before = self.last.get(&hash).copied();
+        self.links.reserve(1)?;
+        let before = self.last.insert(hash, place)?;
         self.links.push(Link { hash, before })?;
-        if let Err(refused) = self.last.insert(hash, place) {
-            let _taken = self.links.pop();
-            return Err(refused.into());
-        }
         Ok(())
     }
 
