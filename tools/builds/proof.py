@@ -27,7 +27,7 @@ MEMORY_OF_A_PROCESS = 2_500_000_000
 class Room:
     """A crate that is being proved."""
 
-    def __init__(self, crates, name, jobs, is_first):
+    def __init__(self, crates, name, jobs, has_priority):
         self.name, self.jobs, self.begun = name, jobs, time.monotonic()
         self.folder = ROOMS / name
         self.out = self.folder / 'crates' / name / 'out'
@@ -40,7 +40,7 @@ class Room:
             # (a group of its own, so that a proof that is interrupted ends whole; but no session of
             # its own, since a system may give each session the same share of the processors)
             self.process = subprocess.Popen(
-                words if is_first else ['nice', '-n', '10', *words],
+                words if has_priority else ['nice', '-n', '5', *words],
                 cwd=self.folder / 'crates' / name, stdin=subprocess.DEVNULL,
                 stdout=said, stderr=said, preexec_fn=os.setpgrp)
 
@@ -100,25 +100,27 @@ def link(source, target):
 
 
 def processes_at_once():
-    """How many processes there may be: two for each processor, since one alone reads a crate before
+    """How many processes there may be: two more than processors, since one alone reads a crate before
     several prove it, but no more than the free memory allows."""
     free = MEMORY_OF_A_PROCESS
     with open('/proc/meminfo', encoding='utf-8') as file:
         for line in file:
             if line.startswith('MemAvailable:'):
                 free = 1024 * int(line.split()[1])
-    return max(1, min(2 * len(os.sched_getaffinity(0)), free // MEMORY_OF_A_PROCESS))
+    return max(1, min(len(os.sched_getaffinity(0)) + 2, free // MEMORY_OF_A_PROCESS))
 
 
-def jobs_of(name, is_first, most):
+def jobs_of(name, is_first, are_few, most):
     """How many processes a crate gets, of so many at most.
 
     Two prove a crate in two thirds of the time of one, four in half of it or a little less, with a
-    seventh and two fifths more of a processor's time. So the first, which has the longest chain of
-    crates above it, gets four. Of a program there is next to nothing to prove: a second process
-    would load all libraries again.
+    seventh and two fifths more of a processor's time. So while there are crates enough to keep the
+    processors busy, only the first, which has the longest chain of crates above it, gets several.
+    Of a program there is next to nothing to prove: a second process would load all libraries again.
     """
-    return min(1 if name == sums.PROGRAM else 4 if is_first else 2, most)
+    if name == sums.PROGRAM or not is_first:
+        return 1
+    return min(4 if are_few else 3, most)
 
 
 def lines_of(name):
@@ -164,11 +166,13 @@ def prove(crates, waiting, tell):
         while waiting or running:
             ready = [it for it in waiting if sums.crates_below(crates, it) <= done]
             for name in ready:
-                is_first = all(order[name] < order[room.name] for room in running)
-                jobs = jobs_of(name, is_first, most)
+                before = sum(order[room.name] < order[name] for room in running)
+                are_few = len({*ready, *(room.name for room in running)}) <= 2
+                jobs = jobs_of(name, before == 0, are_few, most)
                 if sum(room.jobs for room in running) + jobs <= most:
                     waiting.remove(name)
-                    running.append(Room(crates, name, jobs, is_first))
+                    # (the second too: its chain may be nearly as long)
+                    running.append(Room(crates, name, jobs, before <= 1))
             time.sleep(0.2)
             for room in [it for it in running if it.has_ended()]:
                 running.remove(room)

@@ -27,7 +27,7 @@ pub enum JoinOutput<'a> {
 const BATCH: usize = 4_096;
 
 /// So few selected rows are not coalesced.
-const FEW: usize = 65_536;
+const FEW: usize = 49_152;
 
 /// The rows, coalesced where they are many and have no room for so many more. There is then room
 /// for as many again, so that coalescing takes no more time than the sort of the answer does.
