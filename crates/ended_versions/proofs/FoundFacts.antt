@@ -1,9 +1,9 @@
 -- The way through the versions of one hash, and the hashes of more versions and of fewer.
-use Rattle.std.proofs.Common.{◌≡◌, ◌≤◌, ◌<◌, ◌&&◌, ◌++◌, ◌∷◌, [], ◌∙◌, ℕ, ℤ, Bool, true, false, cond, List, Option, None, Some, append-nil, append_assoc, length, get_or, map, reverse, take, refl, sym, ap, subst, inl, inr, arith}
+use Rattle.std.proofs.Common.{◌≡◌, ◌≤◌, ◌<◌, ◌&&◌, ◌++◌, ◌∷◌, [], ◌∙◌, ℕ, Bool, true, false, cond, List, Option, None, Some, append-nil, append_assoc, length, get_or, map, reverse, take, refl, sym, ap, subst, inl, inr, arith}
 use Rattle.std.specs.Prelude.{option_to_list}
 use Rattle.std.specs.List.{filter}
 use Rattle.std.proofs.lemmas.Bool.{and_from, and_left, and_right, cases_lt, eq-eqb, ne_eqb}
-use Rattle.std.proofs.lemmas.List.{get_or-map, get_or-take, get_or_append_left, get_or_push, length-map, length-take-le, length_push, reverse-append, take_all}
+use Rattle.std.proofs.lemmas.List.{get_or-map, get_or-take, get_or_append_left, get_or_push, length-append, length-map, length-take-le, length_push, reverse-append, take_all}
 use Rattle.std.proofs.lemmas.List.Elements.{filter-append, filter_more}
 use Rattle.period_core.specs.Windows.{window_sees}
 use Rattle.period_core.specs.declared.value.Value.{Value}
@@ -13,7 +13,7 @@ use Rattle.ended_versions.specs.Chains.{IsLastPlace, behind}
 use Rattle.ended_versions.specs.Entries.{packed_in}
 use Rattle.ended_versions.specs.Found.{AreHashes, IsVersionIfSeen}
 use Rattle.ended_versions.specs.Hashes.{hash_at, hash_of, shares_hash}
-use Rattle.ended_versions.specs.Packed.{Hold, PackedVersion, ended_at, packed, seen_through}
+use Rattle.ended_versions.specs.Packed.{Hold, PackedVersion, packed, seen_through}
 use Rattle.ended_versions.specs.declared.blocks.VersionEntry.{VersionEntry}
 use Rattle.ended_versions.proofs.PackedFacts.{OfColumns, same_version}
 use Rattle.ended_versions.proofs.WalkFacts.{none_between}
@@ -52,7 +52,7 @@ abbrev pub FoundTo : List ℕ → Window → List Value → List VersionRow → 
 FoundTo positions window key versions place seen =
     reverse (filter (matches positions window key) versions) ≡ seen ++ reverse (filter (matches positions window key) (take (behind place) versions))
 
-module _ (positions : List ℕ) (list : List PackedVersion) (hashes : List ℕ) (are : AreHashes positions list hashes) (window : Window) (key : List Value) (versions : List VersionRow) (hold : Hold list versions) where
+module _ (positions : List ℕ) (list : List PackedVersion) (hashes : List ℕ) (are : AreHashes positions list hashes) (all : length hashes ≡ length list) (window : Window) (key : List Value) (versions : List VersionRow) (hold : Hold list versions) where
   abbrev test : VersionRow → Bool
   test = matches positions window key
 
@@ -60,11 +60,11 @@ module _ (positions : List ℕ) (list : List PackedVersion) (hashes : List ℕ) 
   IsFound = FoundTo positions window key versions
 
   as_many : length hashes ≡ length versions
-  as_many = are.as_many ∙ (ap length (sym hold.same) ∙ length-map versions packed)
+  as_many = all ∙ (ap length (sym hold.same) ∙ length-map versions packed)
 
   its_hash : (place : ℕ) (d : VersionRow) (e : ℕ) → place < length versions → get_or hashes place e ≡ hash_at positions (get_or versions place d)
   its_hash place d e below =
-      are.each place (packed d) e (get_or versions place d) (let sizes = as_many in let same = are.as_many in omega (arith, sizes, same)) (hold.held place d below)
+      are.each place (packed d) e (get_or versions place d) (let sizes = as_many in omega (arith, sizes)) (hold.held place d below)
       (sym (get_or-map packed versions place d (packed d) below) ∙ ap (λ (l : List PackedVersion). get_or l place (packed d)) hold.same)
 
   -- none of those between the place and the bound has the hash
@@ -121,28 +121,46 @@ module _ (positions : List ℕ) (list : List PackedVersion) (hashes : List ℕ) 
 
 -- ---- hashes of more versions, and of fewer
 
-pub hashes_more : (positions : List ℕ) (list : List PackedVersion) (hashes : List ℕ) (version : VersionRow) (end : ℤ) → AreHashes positions list hashes → OfColumns version
-    → AreHashes positions (list ++ packed (ended_at end version) ∷ []) (hashes ++ hash_at positions version ∷ [])
-hashes_more positions list hashes version end are held = record {
-  as_many = (let was = are.as_many in let one = length_push list (packed (ended_at end version)) in let other = length_push hashes (hash_at positions version) in omega (arith, was, one, other));
-  each = λ place d e v below columns same. elim (cases_lt place (length list)) [
-    | inl lt ↦ get_or_append_left hashes (hash_at positions version ∷ []) e place (let was = are.as_many in omega (arith, was))
-        ∙ are.each place d e v lt columns (same ∙ get_or_append_left list (packed (ended_at end version) ∷ []) d place lt)
-    | inr ge ↦ (let at : length list ≡ place = (let one = length_push list (packed (ended_at end version)) in omega (arith, one)) in
-        let one : v ≡ ended_at end version = same_version v (ended_at end version) columns held (same ∙ get_or_push list (packed (ended_at end version)) d place at) in
-        get_or_push hashes (hash_at positions version) e place (are.as_many ∙ at) ∙ sym (ap (hash_at positions) one))
-  ];
-}
+-- more versions behind those that the hashes are of
+pub hashes_kept : (positions : List ℕ) (list more : List PackedVersion) (hashes : List ℕ) → AreHashes positions list hashes → AreHashes positions (list ++ more) hashes
+hashes_kept positions list more hashes are =
+    let was = are.within in
+    record {
+      within = (let size = length-append list more in omega (arith, was, size));
+      each = λ place d e v below columns same. are.each place d e v below columns (same ∙ get_or_append_left list more d place (omega (arith, was)));
+    }
+
+-- the hash of the next of them
+pub hashes_more : (positions : List ℕ) (list : List PackedVersion) (hashes : List ℕ) (version : VersionRow) → AreHashes positions list hashes → length hashes < length list → OfColumns version
+    → ((d : PackedVersion) → packed version ≡ get_or list (length hashes) d) → AreHashes positions list (hashes ++ hash_at positions version ∷ [])
+hashes_more positions list hashes version are inside held is =
+    let one = length_push hashes (hash_at positions version) in
+    record {
+      within = omega (arith, one, inside);
+      each = λ place d e v below columns same. elim (cases_lt place (length hashes)) [
+        | inl lt ↦ get_or_append_left hashes (hash_at positions version ∷ []) e place lt ∙ are.each place d e v lt columns same
+        | inr ge ↦ (let at : length hashes ≡ place = omega (arith, one) in
+            let next : v ≡ version = same_version v version columns held (same ∙ (ap (λ (n : ℕ). get_or list n d) (sym at) ∙ sym (is d))) in
+            get_or_push hashes (hash_at positions version) e place at ∙ sym (ap (hash_at positions) next))
+      ];
+    }
 
 pub hashes_first : (positions : List ℕ) (list : List PackedVersion) (hashes : List ℕ) (count : ℕ) → AreHashes positions list hashes → AreHashes positions (take count list) (take count hashes)
-hashes_first positions list hashes count are = elim (cases_lt count (length list)) [
-  | inl fewer ↦ (let many = length-take-le count list (omega arith) in let other = length-take-le count hashes (let was = are.as_many in omega (arith, was)) in record {
-    as_many = other ∙ sym many;
-    each = λ place d e v below columns same. get_or-take count hashes place e (omega (arith, many))
-        ∙ are.each place d e v (omega (arith, many)) columns (same ∙ get_or-take count list place d (omega (arith, many)));
+hashes_first positions list hashes count are = elim (cases_lt count (length hashes)) [
+  | inl fewer ↦ (let was = are.within in
+      let many = length-take-le count list (omega (arith, was)) in
+      let other = length-take-le count hashes (omega arith) in record {
+        within = omega (arith, many, other);
+        each = λ place d e v below columns same. get_or-take count hashes place e (omega (arith, other))
+            ∙ are.each place d e v (omega (arith, other)) columns (same ∙ get_or-take count list place d (omega (arith, other)));
+      })
+  | inr every ↦ subst (AreHashes positions (take count list)) (sym (take_all count hashes every)) (record {
+    within = elim (cases_lt count (length list)) [
+      | inl fewer ↦ (let many = length-take-le count list (omega arith) in omega (arith, many))
+      | inr all ↦ (let was = are.within in let same = ap length (take_all count list all) in omega (arith, was, same))
+    ];
+    each = λ place d e v below columns same. are.each place d e v below columns (same ∙ get_or-take count list place d (omega arith));
   })
-  | inr all ↦ subst (AreHashes positions (take count list)) (sym (take_all count hashes (let was = are.as_many in omega (arith, was))))
-      (subst (λ (l : List PackedVersion). AreHashes positions l hashes) (sym (take_all count list all)) are)
 ]
 
 -- ---- the version at a place
@@ -166,14 +184,14 @@ held_at list versions place d hold below =
 
 -- a step down the chain
 pub found_step :
-    (positions : List ℕ) (list : List PackedVersion) (hashes : List ℕ) (are : AreHashes positions list hashes) (window : Window) (key : List Value) (versions : List VersionRow) (hold : Hold list versions)
+    (positions : List ℕ) (list : List PackedVersion) (hashes : List ℕ) (are : AreHashes positions list hashes) (all : length hashes ≡ length list) (window : Window) (key : List Value) (versions : List VersionRow) (hold : Hold list versions)
     (place : ℕ) (next : Option ℕ) (seen : List VersionRow) (found : Option VersionRow) → place < length hashes → ((e : ℕ) → get_or hashes place e ≡ hash_of key)
     → FoundTo positions window key versions (Some place) seen → IsLastPlace hashes place (hash_of key) next → ((d : VersionRow) → IsVersionIfSeen window (get_or versions place d) found)
     → FoundTo positions window key versions next (seen ++ option_to_list found)
-found_step positions list hashes are window key versions hold place next seen found below hash so_far is its =
-    let many : length hashes ≡ length versions = are.as_many ∙ (ap length (sym hold.same) ∙ length-map versions packed) in
+found_step positions list hashes are all window key versions hold place next seen found below hash so_far is its =
+    let many : length hashes ≡ length versions = all ∙ (ap length (sym hold.same) ∙ length-map versions packed) in
     go versions refl (omega (arith, many))
   where
     go : (vs : List VersionRow) → vs ≡ versions → place < length versions → FoundTo positions window key versions next (seen ++ option_to_list found)
     go [] same inside = absurd (let none : length versions ≡ 0 = ap length (sym same) in omega (arith, none, inside))
-    go (v ∷ vs) same inside = found_more positions list hashes are window key versions hold place next seen v found inside hash so_far is (its v)
+    go (v ∷ vs) same inside = found_more positions list hashes are all window key versions hold place next seen v found inside hash so_far is (its v)

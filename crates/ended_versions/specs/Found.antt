@@ -1,5 +1,5 @@
 -- Ended versions that are found one by one, by the hash of their key.
-use Rattle.std.specs.Prelude.{◌≡◌, ◌<◌, ℕ, Option, List, None, Some, false, length, true}
+use Rattle.std.specs.Prelude.{◌≡◌, ◌<◌, ◌≤◌, ℕ, Option, List, None, Some, false, length, true}
 use Rattle.std.specs.Prelude.{slice_index_or}
 use Rattle.std.specs.List.{All}
 use Rattle.period_core.specs.Encoding.{IsColumnValue}
@@ -15,10 +15,12 @@ IsVersionIfSeen window version None = window_sees window version.from version.to
 IsVersionIfSeen window version (Some found) =
     (window_sees window version.from version.to ≡ true) × (found ≡ version)
 
--- the hashes are those of the versions' values at these positions, in their order
+-- the hashes are those of the first of the versions, as many as there are hashes, by the values at
+-- these positions, in their order
 pub record AreHashes (positions : List ℕ) (list : List PackedVersion) (hashes : List ℕ) : Type 0
   where
-    pub as_many : length hashes ≡ length list
-    pub each : (place : ℕ) (d : PackedVersion) (e : ℕ) (version : VersionRow) → place < length list
-        → All IsColumnValue version.values → packed version ≡ slice_index_or list place d
+    pub within : length hashes ≤ length list
+    pub each : (place : ℕ) (d : PackedVersion) (e : ℕ) (version : VersionRow)
+        → place < length hashes → All IsColumnValue version.values
+        → packed version ≡ slice_index_or list place d
         → slice_index_or hashes place e ≡ hash_at positions version

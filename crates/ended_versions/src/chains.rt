@@ -48,6 +48,13 @@ impl Chains {
         }
     }
 
+    /// How many places there are.
+    pub fn len(&self) -> usize
+        ensures { result ≡ length self.now }
+    {
+        self.links.len()
+    }
+
     /// Adds a place of a hash. An error changes nothing.
     pub fn push(&mut self, hash: u32) -> Result<(), Memory>
         ensures ok { OnOk result (self.new ≡ self.old ++ hash ∷ []) }

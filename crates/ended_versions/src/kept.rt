@@ -7,7 +7,8 @@ ghost use Rattle.period_core.specs.Encoding.{IsColumnValue};
 ghost use Rattle.period_core.specs.declared.version.VersionRow.{VersionRow as Version};
 ghost use Rattle.ended_versions.specs.Entries.{IsKept, packed_in};
 ghost use Rattle.ended_versions.specs.Found.{IsVersionIfSeen};
-ghost use Rattle.ended_versions.specs.Packed.{AreEndedBy, Hold, ended_at, packed, seen_through};
+ghost use Rattle.ended_versions.specs.Packed.{AreEndedBy, Hold, PackedVersion, ended_at, packed};
+ghost use Rattle.ended_versions.specs.Packed.{seen_through};
 
 use crate::blocks::{VersionEntry, least_with};
 use crate::walk::last_seen;
@@ -106,6 +107,16 @@ impl KeptVersions {
             before = place;
         }
         Ok(seen)
+    }
+
+    /// The version at a place.
+    pub fn version_at(&self, alloc: Global, place: usize) -> Result<VersionRow, Memory>
+        requires { place < length self.now }
+        ensures same { (d : PackedVersion)
+            → IfOk result (λ version. packed version ≡ slice_index_or self.now place d) }
+        ensures held { IfOk result (λ version. All IsColumnValue version.values) }
+    {
+        unpacked(alloc, self.bytes.as_slice(), &self.entries[place])
     }
 
     /// The version at a place, if the window sees it.

@@ -7,7 +7,9 @@
 //! with their values as bytes.
 //!
 //! Versions of one key have the same hash (`hashes`), and each leads to the one before it of its
-//! hash (`chains`). `list` has both; contracts see the list of versions alone.
+//! hash (`chains`). They are chained before a query that may look for them so, and not as they end:
+//! a change costs no more than in a list without chains. `list` has both; contracts see the list of
+//! versions alone.
 #![tactic(auto)]
 
 mod blocks;

@@ -16,9 +16,9 @@ use period_core::{Items, Memory, Moment, Value, VersionRow, Window};
 use std::alloc::Global;
 use std::marker::Model;
 
-/// The ended versions of a table, in the order in which they ended, and beside each the hash of its
-/// key: the versions of one key are chained, the last to end first. Contracts see the list, with
-/// the values as bytes.
+/// The ended versions of a table, in the order in which they ended, and beside each of the first so
+/// many the hash of its key: of these, the versions of one key are chained, the last to end first.
+/// Contracts see the list of all, with the values as bytes.
 #[derive(Drop)]
 pub struct EndedVersions {
     positions: Items<usize>,
@@ -66,13 +66,7 @@ impl EndedVersions {
         ensures err { OnErr result (self.new ≡ self.old) }
         ensures ended { AreEndedBy end self.new }
     {
-        let hash = hash_at(alloc, self.positions.as_slice(), version.values.as_slice())?;
-        let count = self.versions.len();
         self.versions.add(alloc, version, end)?;
-        if let Err(refused) = self.keys.push(hash) {
-            self.versions.truncate(count);
-            return Err(refused);
-        }
         Ok(())
     }
 
@@ -112,6 +106,33 @@ impl EndedVersions {
         self.keys.truncate(count);
     }
 
+    /// Chains those that are not chained yet, so that `seen_of_key` need not look at all of them.
+    /// Which they are stays the same, on an error too: then some of them may be chained.
+    pub fn chain(&mut self, alloc: Global) -> Result<(), Memory>
+        ensures { self.new ≡ self.old }
+    {
+        if self.positions.as_slice().is_empty() {
+            return Ok(());
+        }
+        'places: for _ in self.keys.len()..self.versions.len() {
+            self.chain_next(alloc)?;
+        }
+        Ok(())
+    }
+
+    /// Chains the first that is not chained yet, if there is one.
+    fn chain_next(&mut self, alloc: Global) -> Result<(), Memory>
+        ensures { self.new ≡ self.old }
+    {
+        let place = self.keys.len();
+        if place < self.versions.len() {
+            let version = self.versions.version_at(alloc, place)?;
+            let hash = hash_at(alloc, self.positions.as_slice(), version.values.as_slice())?;
+            self.keys.push(hash)?;
+        }
+        Ok(())
+    }
+
     /// Those that a window sees, the last to end first.
     pub fn seen(&self, alloc: Global, window: Window) -> Result<Vec<VersionRow>, Memory>
         ensures { (versions : List Version) → Hold self.now versions
@@ -122,7 +143,7 @@ impl EndedVersions {
 
     /// Those of them that may have this key at these positions, the last to end first: all of the
     /// key, and of others those with the same hash. Where the positions are those of the table's
-    /// key, only these are looked at.
+    /// key, and all are chained, only these are looked at.
     pub fn seen_of_key(
         &self,
         alloc: Global,
@@ -135,7 +156,8 @@ impl EndedVersions {
             ≡ reverse (filter (shares_hash positions.now key.now) (seen_through window versions))) }
     {
         let hash = hash_of(alloc, key)?;
-        if positions.is_empty() || self.positions.as_slice() != positions {
+        let is_chained = self.keys.len() == self.versions.len();
+        if !is_chained || positions.is_empty() || self.positions.as_slice() != positions {
             return with_hash(alloc, self.versions.seen(alloc, window)?, positions, hash);
         }
         let mut seen = Vec::new(alloc);

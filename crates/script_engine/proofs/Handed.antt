@@ -1,5 +1,5 @@
 -- What a query is handed of an engine: its catalog, and its versions in memory.
-use Rattle.std.proofs.Common.{◌≡◌, ◌∙◌, List, ap, subst₂, sym}
+use Rattle.std.proofs.Common.{◌≡◌, ◌∙◌, List, ap, subst, subst₂, sym}
 use Rattle.sqlite.specs.Store.{Ghosts}
 use Rattle.catalog_core.specs.declared.table.catalog.Catalog.{Catalog}
 use Rattle.ended_versions.specs.Packed.{PackedVersion}
@@ -13,6 +13,10 @@ module _ {S : Type 0} (g : Ghosts S) (history : History) (engine : EngineState S
   -- what an engine represents it has
   pub has_still : HasContents g engine kept.contents
   has_still = record { stored = kept.stored; current = kept.current; ended = kept.ended }
+
+  -- and so has an engine that is the same
+  pub has_the_same : (other : EngineState S) → other ≡ engine → HasContents g other kept.contents
+  has_the_same other same = subst (λ (e : EngineState S). HasContents g e kept.contents) (sym same) has_still
 
   -- its versions in memory are those of the history
   pub handed_rows : (tables : List RowsByKey) (ended : List (List PackedVersion)) → tables ≡ engine.tables → ended ≡ engine.ended → RowsRepresent history tables ended

@@ -32,6 +32,7 @@ ghost use Rattle.sql_statements.specs.Trees as statement;
 
 mod answering;
 mod auditing;
+mod chained;
 mod closed;
 mod in_memory;
 mod indexed;
@@ -344,8 +345,7 @@ impl<S: Alter> Engine<S> {
         let query = resolve_sequenced(alloc, self.store.catalog(), query)?;
         let catalog = self.store.catalog();
         let tables = self.tables.as_slice();
-        let ended = self.ended.as_slice();
-        let answer = answer_of(alloc, catalog, tables, ended, &query)?;
+        let answer = answer_of(alloc, catalog, tables, &mut self.ended, &query)?;
         Ok(Outcome::Answer(answer))
     }
 
@@ -371,7 +371,7 @@ impl<S: Alter> Engine<S> {
             unreachable!()
         };
         let columns = version_columns(alloc, table)?;
-        let rows = shown_by(alloc, self.tables.as_slice(), self.ended.as_slice(), &query)?;
+        let rows = shown_by(alloc, self.tables.as_slice(), &mut self.ended, &query)?;
         Ok(Outcome::Versions(VersionList {
             columns,
             rows: Items::from_vec(rows),

@@ -30,6 +30,7 @@ ghost use Rattle.script_engine.specs.engine.Needed.{SeeNeeded, SeesWidth};
 ghost use Rattle.script_engine.specs.engine.Stored.{RowsRepresent};
 
 use crate::engine::answering::{answer_over, push_current_of_key, push_ended_of_key, seen_by};
+use crate::engine::chained::chain_sequenced;
 use crate::engine::indexed::{positions_of_number, rows_of_number};
 use catalog_core::resolved::{Query, QueryReference, Select, Tables};
 use catalog_core::{Catalog, Cond, TableDef, fits, is_value_column};
@@ -314,26 +315,29 @@ fn needed_tables(
 
 /// The answer of a query over the rows in memory. Of what its references see, only what it needs is
 /// looked at, which in a history always fits a query of the catalog. Where it does not, the rows in
-/// memory are those of no history, and the refusal is 62.
+/// memory are those of no history, and the refusal is 62. The versions that have ended are the same
+/// afterwards, chained where that may help.
 pub fn answer_of(
     alloc: Global,
     catalog: &Catalog,
     tables: &[TableIndex],
-    ended: &[EndedVersions],
+    ended: &mut Vec<EndedVersions>,
     query: &Query,
 ) -> Result<Answer, Refusal>
     ensures right { (history : History) → (catalog.now.tables ≡ catalog_of history)
-        → RowsRepresent history (map rows_by_key tables.now) ended.now
+        → RowsRepresent history (map rows_by_key tables.now) ended.old.items
         → IfOk result (IsSequencedAnswer (InAnswerOn history (plain_query query.now))) }
     ensures why { (history : History) → (catalog.now.tables ≡ catalog_of history)
-        → RowsRepresent history (map rows_by_key tables.now) ended.now
+        → RowsRepresent history (map rows_by_key tables.now) ended.old.items
         → IsOfCatalog catalog.now.tables (plain_query query.now)
         → IfErr result (λ refusal. refusal ≡ OutOfMemory) }
     ensures columns { IfOk result (λ answer. answer.columns
         ≡ map (λ (item : Item). item.name) (columns_of (plain_query query.now))) }
     ensures named { IfErr result IsStoreRefusal }
+    ensures same { ended.new.items ≡ ended.old.items }
 {
-    let needed = needed_tables(alloc, catalog, tables, ended, query)?;
+    chain_sequenced(alloc, ended, query)?;
+    let needed = needed_tables(alloc, catalog, tables, ended.as_slice(), query)?;
     if !fits(query, &needed) {
         return Err(Refusal::Store);
     }

@@ -11,6 +11,7 @@ ghost use Rattle.script_engine.specs.engine.Ended.{HaveEnded, ended_in};
 ghost use Rattle.script_engine.specs.engine.InMemory.{HaveCurrentRows, rows_in};
 ghost use Rattle.script_engine.specs.engine.Shown.{AreShownIn};
 
+use crate::engine::chained::chain_stored;
 use crate::engine::indexed::{positions_of_number, rows_of_number};
 use catalog_core::{Stored, meets, of_number};
 use ended_versions::EndedVersions;
@@ -144,20 +145,23 @@ fn current_shown(
 }
 
 /// The versions of its table that a stored query shows, by values, then period start, then system
-/// start: of those in memory, which are all.
+/// start: of those in memory, which are all. Those that have ended are the same afterwards, chained
+/// where that may help.
 pub fn shown_by(
     alloc: Global,
     tables: &[TableIndex],
-    ended: &[EndedVersions],
+    ended: &mut Vec<EndedVersions>,
     query: &Stored,
 ) -> Result<Vec<VersionRow>, Memory>
-    ensures { IfOk result (λ rows. (c : Contents)
-        → HaveCurrentRows c (map rows_by_key tables.now) → HaveEnded c ended.now
+    ensures right { IfOk result (λ rows. (c : Contents)
+        → HaveCurrentRows c (map rows_by_key tables.now) → HaveEnded c ended.old.items
         → AreShownIn c query.now rows.items) }
+    ensures same { ended.new.items ≡ ended.old.items }
 {
+    chain_stored(alloc, ended, query)?;
     let mut shown = current_shown(alloc, tables, query)?;
     let positions = positions_of_number(tables, query.table);
-    push_ended_of(alloc, query, positions, ended, &mut shown)?;
+    push_ended_of(alloc, query, positions, ended.as_slice(), &mut shown)?;
     shown.sort()?;
     Ok(shown)
 }

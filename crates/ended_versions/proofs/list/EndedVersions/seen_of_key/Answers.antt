@@ -16,8 +16,8 @@ use Rattle.ended_versions.proofs.list.EndedVersions.seen_of_key.Goals.{in-Some-2
 abbrev items_of : Vec VersionRow → List VersionRow
 items_of v = v.items
 
-pub returns-then-is_empty : goal.returns-then-is_empty
-returns-then-is_empty c = λ versions hold.
+pub returns-then-not-is_chained : goal.returns-then-not-is_chained
+returns-then-not-is_chained c = λ versions hold.
     let its : Hold c.self.inside.versions versions = subst (λ (l : List PackedVersion). Hold l versions) (sym c.self.view_is) hold in
     let positions = c.args.positions.now in
     let past : List VersionRow = seen_through c.args.window versions in
@@ -30,16 +30,18 @@ returns-then-is_empty c = λ versions hold.
     c.with_hash.ensures
 
 pub loop-next-init : goal.loop-next-init
-loop-next-init c = record {
-  within = c.last-next.ensures.within;
-  hashed = λ place d e. c.last-next.ensures.there place d e;
-  found = λ versions hold.
-      let its : Hold c.self.inside.versions versions = subst (λ (l : List PackedVersion). Hold l versions) (sym c.self.view_is) hold in
-      let keys : List ℕ = c.self.inside.keys in
-      let last : IsLastPlace keys (length keys) (hash_of c.args.key.now) c.last-next.result = subst (λ (h : ℕ). IsLastPlace keys (length keys) h c.last-next.result) c.in_ok-hash.ensures c.last-next.ensures in
-      subst (FoundTo c.self.inside.positions c.args.window c.args.key.now versions c.last-next.result) (sym c.new-seen.ensures.items)
-      (found_first c.self.inside.positions c.self.inside.versions keys c.self.invariant c.args.window c.args.key.now versions its c.last-next.result last);
-}
+loop-next-init c =
+    let all : length c.self.inside.keys ≡ length c.self.inside.versions = omega (arith, c.len.ensures, c.len-2.ensures, c.if-not-is_chained.false) in
+    record {
+      within = c.last-next.ensures.within;
+      hashed = λ place d e. c.last-next.ensures.there place d e;
+      found = λ versions hold.
+          let its : Hold c.self.inside.versions versions = subst (λ (l : List PackedVersion). Hold l versions) (sym c.self.view_is) hold in
+          let keys : List ℕ = c.self.inside.keys in
+          let last : IsLastPlace keys (length keys) (hash_of c.args.key.now) c.last-next.result = subst (λ (h : ℕ). IsLastPlace keys (length keys) h c.last-next.result) c.in_ok-hash.ensures c.last-next.ensures in
+          subst (FoundTo c.self.inside.positions c.args.window c.args.key.now versions c.last-next.result) (sym c.new-seen.ensures.items)
+          (found_first c.self.inside.positions c.self.inside.versions keys c.self.invariant all c.args.window c.args.key.now versions its c.last-next.result last);
+    }
 
 pub loop-next-smaller : goal.loop-next-smaller
 loop-next-smaller c =
@@ -50,6 +52,7 @@ loop-next-smaller c =
 pub loop-next-preserved : goal.loop-next-preserved
 loop-next-preserved c =
     let inv = c.loop-next.invariant in
+    let all : length c.self.inside.keys ≡ length c.self.inside.versions = omega (arith, c.len.ensures, c.len-2.ensures, c.if-not-is_chained.false) in
     let place : ℕ = c.in-Some.place in
     let keys : List ℕ = c.self.inside.keys in
     let at : behind c.loop-next.next ≡ place + 1 = ap behind c.in-Some.is in
@@ -69,14 +72,15 @@ loop-next-preserved c =
           let last : IsLastPlace keys place (hash_of c.args.key.now) c.before-next.result = subst (λ (h : ℕ). IsLastPlace keys place h c.before-next.result) (here 0) (c.before-next.ensures 0) in
           let so_far : FoundTo c.self.inside.positions c.args.window c.args.key.now versions (Some place) seen = subst (λ (o : Option ℕ). FoundTo c.self.inside.positions c.args.window c.args.key.now versions o seen) c.in-Some.is (inv.found versions hold) in
           subst (FoundTo c.self.inside.positions c.args.window c.args.key.now versions c.before-next.result) made
-          (found_step c.self.inside.positions c.self.inside.versions keys c.self.invariant c.args.window c.args.key.now versions its place c.before-next.result seen c.in_ok-version.field-0
+          (found_step c.self.inside.positions c.self.inside.versions keys c.self.invariant all c.args.window c.args.key.now versions its place c.before-next.result seen c.in_ok-version.field-0
           (let was = inv.within in omega (arith, was, at)) here so_far last (λ d. c.in_ok-version.ensures versions d its));
     }
 
 pub returns : goal.returns
 returns c = λ versions hold.
+    let all : length c.self.inside.keys ≡ length c.self.inside.versions = omega (arith, c.len.ensures, c.len-2.ensures, c.if-not-is_chained.false) in
     let its : Hold c.self.inside.versions versions = subst (λ (l : List PackedVersion). Hold l versions) (sym c.self.view_is) hold in
     let same : c.self.inside.positions ≡ c.args.positions.now =
     sym c.as_slice.ensures ∙ (bytes_eq-Decides c.as_slice.result.now c.args.positions.now).0 (not-false _ (sym c.ne.ensures ∙ c.if-ne.false)) in
     subst (λ (ps : List ℕ). c.loop-next.seen.items ≡ reverse (filter (shares_hash ps c.args.key.now) (seen_through c.args.window versions))) same
-    (found_all c.self.inside.positions c.self.inside.versions c.self.inside.keys c.self.invariant c.args.window c.args.key.now versions its c.loop-next.next c.loop-next.seen.items c.in_default.is (c.loop-next.invariant.found versions hold))
+    (found_all c.self.inside.positions c.self.inside.versions c.self.inside.keys c.self.invariant all c.args.window c.args.key.now versions its c.loop-next.next c.loop-next.seen.items c.in_default.is (c.loop-next.invariant.found versions hold))

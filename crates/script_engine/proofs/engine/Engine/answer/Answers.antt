@@ -10,10 +10,11 @@ use Rattle.catalog_core.specs.query.Resolving.{ResolvesQuery, query_conditions}
 use Rattle.catalog_core.specs.declared.table.TableDef.{TableDef}
 use Rattle.catalog_core.specs.declared.table.catalog.Catalog.{Catalog}
 use Rattle.period_keys.specs.Current.{rows_by_key}
-use Rattle.script_engine.specs.engine.EngineState.{EngineState}
+use Rattle.script_engine.specs.engine.EngineState.{EngineState, engine_of}
+use Rattle.script_engine.specs.engine.InMemory.{IsSameInMemory}
 use Rattle.script_engine.proofs.Answered.{answered_step, failed_answer}
 use Rattle.script_engine.proofs.Fits.{of_catalog}
-use Rattle.script_engine.proofs.Handed.{handed_catalog, handed_rows, has_still}
+use Rattle.script_engine.proofs.Handed.{handed_catalog, handed_rows, has_the_same}
 use Rattle.script_engine.proofs.Refused.{failed_query}
 use Rattle.script_engine.proofs.SameInMemory.{failed_over, same_memory}
 use Rattle.script_engine.proofs.engine.Engine.answer.Goals as goal
@@ -25,15 +26,17 @@ returns-clause-step g c usable history kept =
     let query = resolved.plain_query c.in_ok-query.query in
     let old : EngineState g.row.S.Denot = c.args.self.now in
     let catalog : c.catalog.result.now ≡ old.catalog = c.catalog.ensures ∙ ap (λ (e : EngineState g.row.S.Denot). e.catalog) c.self.view_is in
+    let new : EngineState g.row.S.Denot = engine_of c.self.inside.store (map rows_by_key c.self.inside.tables.items) c.answer_of.new.ended.items in
+    let same : new ≡ old = ap (engine_of c.self.inside.store (map rows_by_key c.self.inside.tables.items)) c.answer_of.ensures.same ∙ c.self.view_is in
     let rows =
-    handed_rows g.S.Store history old kept (map rows_by_key c.as_slice-tables.result.now) c.as_slice-ended.result.now
+    handed_rows g.S.Store history old kept (map rows_by_key c.as_slice-tables.result.now) c.self.inside.ended.items
     (ap (map rows_by_key) c.as_slice-tables.ensures.value ∙ ap (λ (e : EngineState g.row.S.Denot). e.tables) c.self.view_is)
-    (c.as_slice-ended.ensures.value ∙ ap (λ (e : EngineState g.row.S.Denot). e.ended) c.self.view_is) in
+    (ap (λ (e : EngineState g.row.S.Denot). e.ended) c.self.view_is) in
     let known = handed_catalog g.S.Store history old kept c.catalog-catalog.result.now (c.catalog-catalog.ensures ∙ ap (λ (e : EngineState g.row.S.Denot). e.catalog) c.self.view_is) in
-    answered_step g.S.Store history old asked kept old query c.in_ok-answer.answer
+    answered_step g.S.Store history old asked kept new query c.in_ok-answer.answer
     (subst (λ (k : Catalog). NoneApplies (Holds (query_conditions k.tables s))) catalog c.in_ok-query.ensures.sound)
     (subst (λ (k : Catalog). ResolvesQuery k.tables s query) catalog c.in_ok-query.ensures.resolved)
-    (has_still g.S.Store history old kept) c.in_ok-answer.ensures.columns (c.in_ok-answer.ensures.right history known rows)
+    (has_the_same g.S.Store history old kept new same) c.in_ok-answer.ensures.columns (c.in_ok-answer.ensures.right history known rows)
 
 pub returns-in_err-answer-clause-step : goal.returns-in_err-answer-clause-step
 returns-in_err-answer-clause-step g c usable history kept =
@@ -42,9 +45,11 @@ returns-in_err-answer-clause-step g c usable history kept =
     let s : Statement = statement.sequenced asked in
     let old : EngineState g.row.S.Denot = c.args.self.now in
     let catalog : c.catalog.result.now ≡ old.catalog = c.catalog.ensures ∙ ap (λ (e : EngineState g.row.S.Denot). e.catalog) c.self.view_is in
-    failed_answer g.S.Store history old asked kept old c.in_err-answer.field-0.0
+    let new : EngineState g.row.S.Denot = engine_of c.self.inside.store (map rows_by_key c.self.inside.tables.items) c.answer_of.new.ended.items in
+    let same : new ≡ old = ap (engine_of c.self.inside.store (map rows_by_key c.self.inside.tables.items)) c.answer_of.ensures.same ∙ c.self.view_is in
+    failed_answer g.S.Store history old asked kept new c.in_err-answer.field-0.0
     (subst (λ (k : Catalog). NoneApplies (Holds (query_conditions k.tables s))) catalog c.in_ok-query.ensures.sound)
-    (has_still g.S.Store history old kept) c.in_err-answer.ensures.named)
+    (has_the_same g.S.Store history old kept new same) c.in_err-answer.ensures.named)
 
 pub returns-in_err-query-clause-refused : goal.returns-in_err-query-clause-refused
 returns-in_err-query-clause-refused g c =
@@ -71,7 +76,10 @@ returns-in_err-answer-clause-refused g c =
 pub returns-in_err-answer-clause-memory : goal.returns-in_err-answer-clause-memory
 returns-in_err-answer-clause-memory g c =
     let p = err_from_is_err_and c.from_residual-in_err-answer.result c.from_residual-in_err-answer.ensures.1 in
-    rw p.1 (same_memory c.args.self.now)
+    let old : EngineState g.row.S.Denot = c.args.self.now in
+    let new : EngineState g.row.S.Denot = engine_of c.self.inside.store (map rows_by_key c.self.inside.tables.items) c.answer_of.new.ended.items in
+    let same : new ≡ old = ap (engine_of c.self.inside.store (map rows_by_key c.self.inside.tables.items)) c.answer_of.ensures.same ∙ c.self.view_is in
+    rw p.1 (subst (IsSameInMemory old) (sym same) (same_memory old))
 
 pub returns-in_err-query-clause-queries : goal.returns-in_err-query-clause-queries
 returns-in_err-query-clause-queries g c usable history kept =
@@ -87,10 +95,11 @@ returns-in_err-answer-clause-queries g c usable history kept =
     let s : Statement = statement.sequenced asked in
     let query = resolved.plain_query c.in_ok-query.query in
     let old : EngineState g.row.S.Denot = c.args.self.now in
+    let new : EngineState g.row.S.Denot = engine_of c.self.inside.store (map rows_by_key c.self.inside.tables.items) c.answer_of.new.ended.items in
     let rows =
-    handed_rows g.S.Store history old kept (map rows_by_key c.as_slice-tables.result.now) c.as_slice-ended.result.now
+    handed_rows g.S.Store history old kept (map rows_by_key c.as_slice-tables.result.now) c.self.inside.ended.items
     (ap (map rows_by_key) c.as_slice-tables.ensures.value ∙ ap (λ (e : EngineState g.row.S.Denot). e.tables) c.self.view_is)
-    (c.as_slice-ended.ensures.value ∙ ap (λ (e : EngineState g.row.S.Denot). e.ended) c.self.view_is) in
+    (ap (λ (e : EngineState g.row.S.Denot). e.ended) c.self.view_is) in
     let known = handed_catalog g.S.Store history old kept c.catalog-catalog.result.now (c.catalog-catalog.ensures ∙ ap (λ (e : EngineState g.row.S.Denot). e.catalog) c.self.view_is) in
     let of = of_catalog c.catalog-catalog.result.now.tables asked query (subst (λ (k : Catalog). ResolvesQuery k.tables s query) (c.catalog.ensures ∙ sym c.catalog-catalog.ensures) c.in_ok-query.ensures.resolved) in
-    failed_query g.S.Store old old s c.in_err-answer.field-0.0 (inl (c.in_err-answer.ensures.why history known rows of)))
+    failed_query g.S.Store old new s c.in_err-answer.field-0.0 (inl (c.in_err-answer.ensures.why history known rows of)))

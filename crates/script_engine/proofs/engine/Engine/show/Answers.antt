@@ -12,10 +12,10 @@ use Rattle.catalog_core.specs.declared.table.catalog.Catalog.{Catalog}
 use Rattle.period_keys.specs.Current.{rows_by_key}
 use Rattle.script_engine.specs.engine.Shown.{AreShownIn}
 use Rattle.script_engine.specs.engine.Ended.{HaveEnded}
-use Rattle.script_engine.specs.engine.EngineState.{EngineState}
-use Rattle.script_engine.specs.engine.InMemory.{HaveCurrentRows}
+use Rattle.script_engine.specs.engine.EngineState.{EngineState, engine_of}
+use Rattle.script_engine.specs.engine.InMemory.{HaveCurrentRows, IsSameInMemory}
 use Rattle.script_engine.proofs.Shown.{failed_show, shown_step}
-use Rattle.script_engine.proofs.Handed.{has_still}
+use Rattle.script_engine.proofs.Handed.{has_the_same}
 use Rattle.script_engine.proofs.Refused.{failed_query}
 use Rattle.script_engine.proofs.SameInMemory.{failed_over, same_memory}
 use Rattle.script_engine.proofs.engine.Engine.show.Goals as goal
@@ -23,6 +23,8 @@ use Rattle.script_engine.proofs.engine.Engine.show.Goals as goal
 pub returns-clause-step : goal.returns-clause-step
 returns-clause-step g c usable history kept =
     let old : EngineState g.row.S.Denot = c.args.self.now in
+    let new : EngineState g.row.S.Denot = engine_of c.self.inside.store (map rows_by_key c.self.inside.tables.items) c.shown_by.new.ended.items in
+    let same : new ≡ old = ap (engine_of c.self.inside.store (map rows_by_key c.self.inside.tables.items)) c.shown_by.ensures.same ∙ c.self.view_is in
     let asked = plain_stored c.args.query.now in
     let query = c.in_ok-query.query in
     let definition = c.in-Some.table.now in
@@ -30,24 +32,26 @@ returns-clause-step g c usable history kept =
     let again : c.catalog-2.result.now ≡ old.catalog = c.catalog-2.ensures ∙ ap (λ (e : EngineState g.row.S.Denot). e.catalog) c.self.view_is in
     let sound = subst (λ (k : Catalog). NoneApplies (Holds (stored_query_conditions k.tables asked))) catalog c.in_ok-query.ensures.sound in
     let tables : map rows_by_key c.as_slice.result.now ≡ old.tables = ap (map rows_by_key) c.as_slice.ensures.value ∙ ap (λ (e : EngineState g.row.S.Denot). e.tables) c.self.view_is in
-    let closed : c.as_slice-2.result.now ≡ old.ended = c.as_slice-2.ensures.value ∙ ap (λ (e : EngineState g.row.S.Denot). e.ended) c.self.view_is in
+    let closed : c.self.inside.ended.items ≡ old.ended = ap (λ (e : EngineState g.row.S.Denot). e.ended) c.self.view_is in
     let current : HaveCurrentRows kept.contents (map rows_by_key c.as_slice.result.now) = subst (HaveCurrentRows kept.contents) (sym tables) kept.current in
-    let ended : HaveEnded kept.contents c.as_slice-2.result.now = subst (HaveEnded kept.contents) (sym closed) kept.ended in
-    shown_step g.S.Store history old asked kept old query definition c.in_ok-columns.columns c.from_vec.result sound
+    let ended : HaveEnded kept.contents c.self.inside.ended.items = subst (HaveEnded kept.contents) (sym closed) kept.ended in
+    shown_step g.S.Store history old asked kept new query definition c.in_ok-columns.columns c.from_vec.result sound
     (subst (λ (k : Catalog). ResolvesStoredQuery k.tables asked query) catalog c.in_ok-query.ensures.resolved)
     (subst (λ (k : Catalog). table_of k.tables query.table ≡ Some definition) again c.in-Some.ensures)
     c.in_ok-columns.ensures
-    (has_still g.S.Store history old kept)
-    (subst (AreShownIn kept.contents query) (sym c.from_vec.ensures) (c.in_ok-rows.ensures kept.contents current ended))
+    (has_the_same g.S.Store history old kept new same)
+    (subst (AreShownIn kept.contents query) (sym c.from_vec.ensures) (c.in_ok-rows.ensures.right kept.contents current ended))
 
 pub returns-in_err-rows-clause-step : goal.returns-in_err-rows-clause-step
 returns-in_err-rows-clause-step g c usable history kept =
     let p = err_from_is_err_and c.from_residual-in_err-rows.result c.from_residual-in_err-rows.ensures.1 in
     rw (p.1, p.2) (let old : EngineState g.row.S.Denot = c.args.self.now in
+    let new : EngineState g.row.S.Denot = engine_of c.self.inside.store (map rows_by_key c.self.inside.tables.items) c.shown_by.new.ended.items in
+    let same : new ≡ old = ap (engine_of c.self.inside.store (map rows_by_key c.self.inside.tables.items)) c.shown_by.ensures.same ∙ c.self.view_is in
     let asked = plain_stored c.args.query.now in
     let catalog : c.catalog.result.now ≡ old.catalog = c.catalog.ensures ∙ ap (λ (e : EngineState g.row.S.Denot). e.catalog) c.self.view_is in
     let sound = subst (λ (k : Catalog). NoneApplies (Holds (stored_query_conditions k.tables asked))) catalog c.in_ok-query.ensures.sound in
-    failed_show g.S.Store history old asked kept old Memory sound (has_still g.S.Store history old kept) (inl refl))
+    failed_show g.S.Store history old asked kept new Memory sound (has_the_same g.S.Store history old kept new same) (inl refl))
 
 pub returns-in_err-query-clause-refused : goal.returns-in_err-query-clause-refused
 returns-in_err-query-clause-refused g c =
@@ -72,7 +76,10 @@ returns-in_err-rows-clause-refused g c =
 pub returns-in_err-rows-clause-memory : goal.returns-in_err-rows-clause-memory
 returns-in_err-rows-clause-memory g c =
     let p = err_from_is_err_and c.from_residual-in_err-rows.result c.from_residual-in_err-rows.ensures.1 in
-    rw p.1 (same_memory c.args.self.now)
+    let old : EngineState g.row.S.Denot = c.args.self.now in
+    let new : EngineState g.row.S.Denot = engine_of c.self.inside.store (map rows_by_key c.self.inside.tables.items) c.shown_by.new.ended.items in
+    let same : new ≡ old = ap (engine_of c.self.inside.store (map rows_by_key c.self.inside.tables.items)) c.shown_by.ensures.same ∙ c.self.view_is in
+    rw p.1 (subst (IsSameInMemory old) (sym same) (same_memory old))
 
 pub returns-in_err-query-clause-queries : goal.returns-in_err-query-clause-queries
 returns-in_err-query-clause-queries g c usable history kept =
@@ -84,4 +91,5 @@ pub returns-in_err-rows-clause-queries : goal.returns-in_err-rows-clause-queries
 returns-in_err-rows-clause-queries g c usable history kept =
     let p = err_from_is_err_and c.from_residual-in_err-rows.result c.from_residual-in_err-rows.ensures.1 in
     rw (p.1, p.2) (let old : EngineState g.row.S.Denot = c.args.self.now in
-    failed_query g.S.Store old old (statement.stored (plain_stored c.args.query.now)) Memory (inl refl))
+    let new : EngineState g.row.S.Denot = engine_of c.self.inside.store (map rows_by_key c.self.inside.tables.items) c.shown_by.new.ended.items in
+    failed_query g.S.Store old new (statement.stored (plain_stored c.args.query.now)) Memory (inl refl))
