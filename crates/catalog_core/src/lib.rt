@@ -38,6 +38,7 @@ pub use change::{Action, Assignment, Change, GivenRow, Plan};
 pub use condition::{Comparand, CompareValues, Cond, holds, is_allowed};
 pub use create::define;
 pub use create::lawful::lawful;
+pub use limits::MOST_TABLES;
 pub use query::fitting::fits;
 pub use query::resolution::{resolve_query, resolve_sequenced};
 pub use query::resolved::{Query, QueryReference, Select, Tables};

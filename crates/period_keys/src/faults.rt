@@ -17,23 +17,18 @@ use crate::clashes::key_clash_after;
 use crate::current_rows::CurrentRows;
 use crate::keyed_periods::KeyedPeriods;
 use crate::references::{uncovered_by_children, uncovered_by_parents};
-use catalog_core::{Change, Plan};
+use catalog_core::Plan;
 use period_core::{Day, Memory, PeriodRow, VersionRow};
 use std::alloc::Global;
 
-/// The least day on which the change would let two rows of its table share the key.
-pub fn key_fault(
-    alloc: Global,
-    current: &CurrentRows,
-    change: &Change,
-    plan: &Plan,
-) -> Result<Option<Day>, Memory>
+/// The least day on which a change of this plan would let two rows of its table share the key.
+pub fn key_fault(alloc: Global, current: &CurrentRows, plan: &Plan) -> Result<Option<Day>, Memory>
     ensures { IfOk result (λ found. (catalog : List TableDef) (before : State)
-        → IsKeyOf catalog change.now.table current.now.positions
-        → IsPlanned catalog before change.now current.now.rows plan.now
-        → IsLeastOf (IsKeyFault catalog before change.now) found) }
+        (change : ChangeModel)
+        → IsKeyOf catalog change.table current.now.positions
+        → IsPlanned catalog before change current.now.rows plan.now
+        → IsLeastOf (IsKeyFault catalog before change) found) }
 {
-    let _change = change;
     let ended = plan.ended.as_slice();
     let found = key_clash_after(alloc, current, ended, plan.added.as_slice())?;
     Ok(found)

@@ -18,105 +18,89 @@ use crate::current_rows::CurrentRows;
 use crate::fixed_keys::fixed_key;
 use crate::key::Key;
 use crate::key_rows::KeyRows;
-use catalog_core::{Action, Change, Cond, Plan};
+use catalog_core::{Action, Cond, Plan};
 use period_core::{Items, Memory, Period, Refusal, VersionRow};
-use portion_dml::{plan_delete, plan_insert, plan_update};
+use portion_dml::{plan_given, plan_portion};
 use std::alloc::Global;
 
 /// The plan of a change over its table's current rows. Where its condition fixes the key, the rows
-/// of that key alone are looked at. It is refused where an INSERT gives a row with a period without
-/// a day, and else only out of memory.
-pub fn plan_change(alloc: Global, current: &CurrentRows, change: &Change) -> Result<Plan, Refusal>
-    ensures plan { IfOk result (λ plan. IsPlanOf change.now.action current.now.rows plan) }
+/// of that key alone are looked at. The values of the rows that an INSERT gives are those of the
+/// plan. It is refused where such a row has a period without a day, and else only out of memory.
+pub fn plan_change(alloc: Global, current: &CurrentRows, action: Action) -> Result<Plan, Refusal>
+    ensures plan { IfOk result (λ plan. IsPlanOf action current.now.rows plan) }
     ensures refused { IfErr result (λ refusal.
-        ((refusal ≡ Refusal.EmptyPeriod) × IsTrue (has_empty_row change.now.action))
+        ((refusal ≡ Refusal.EmptyPeriod) × IsTrue (has_empty_row action))
         ⊎ (refusal ≡ Refusal.Memory)) }
 {
-    let Some(condition) = condition_of(&change.action) else {
-        return plan_without_condition(alloc, current, change);
+    match action {
+        Action::Insert(given) => plan_given(alloc, given),
+        action => Ok(plan_by_condition(alloc, current, &action)?),
+    }
+}
+
+// The plan of an action that gives no rows, by the key that its condition fixes, or over all rows.
+fn plan_by_condition(alloc: Global, current: &CurrentRows, action: &Action) -> Result<Plan, Memory>
+    requires { given_of action.now ≡ [] }
+    ensures { IfOk result (λ plan. IsPlanOf action.now current.now.rows plan) }
+{
+    let Some(condition) = condition_of(action) else {
+        return plan_over_all(alloc, current, action);
     };
     match fixed_key(alloc, condition, current.positions())? {
-        Some(key) => plan_of_key(alloc, current, &key, change),
-        None => plan_over_all(alloc, current, change),
+        Some(key) => plan_of_key(alloc, current, &key, action),
+        None => plan_over_all(alloc, current, action),
     }
 }
 
-// The plan of a change that is an INSERT, or looks at all rows.
-fn plan_without_condition(
-    alloc: Global,
-    current: &CurrentRows,
-    change: &Change,
-) -> Result<Plan, Refusal>
-    ensures plan { IfOk result (λ plan. IsPlanOf change.now.action current.now.rows plan) }
-    ensures refused { IfErr result (λ refusal.
-        ((refusal ≡ Refusal.EmptyPeriod) × IsTrue (has_empty_row change.now.action))
-        ⊎ (refusal ≡ Refusal.Memory)) }
-{
-    match &change.action {
-        Action::Insert(_) => plan_insert(alloc, &[], change),
-        _ => plan_over_all(alloc, current, change),
-    }
-}
-
-// The plan of a change that gives no rows, over all rows.
-fn plan_over_all(alloc: Global, current: &CurrentRows, change: &Change) -> Result<Plan, Refusal>
-    requires { given_of change.now.action ≡ [] }
-    ensures plan { IfOk result (λ plan. Plans change.now.action current.now.rows plan) }
-    ensures refused { IfErr result (λ refusal.
-        ((refusal ≡ Refusal.EmptyPeriod) × IsTrue (has_empty_row change.now.action))
-        ⊎ (refusal ≡ Refusal.Memory)) }
+// The same over all rows.
+fn plan_over_all(alloc: Global, current: &CurrentRows, action: &Action) -> Result<Plan, Memory>
+    requires { given_of action.now ≡ [] }
+    ensures { IfOk result (λ plan. Plans action.now current.now.rows plan) }
 {
     let mut plan = Plan {
         ended: Items::empty(alloc),
         added: Items::empty(alloc),
     };
     for group in current.groups() {
-        let own = plan_of_group(alloc, group, change)?;
+        let own = plan_of_group(alloc, group, action)?;
         append_plan(&mut plan, own)?;
     }
     Ok(plan)
 }
 
-// The plan of a change that gives no rows, over the rows of a key.
+// The same over the rows of a key.
 fn plan_of_key(
     alloc: Global,
     current: &CurrentRows,
     key: &Key,
-    change: &Change,
-) -> Result<Plan, Refusal>
-    requires { given_of change.now.action ≡ [] }
-    ensures plan { IfOk result
-        (λ plan. Plans change.now.action (rows_of_key current.now key.now) plan) }
-    ensures refused { IfErr result (λ refusal.
-        ((refusal ≡ Refusal.EmptyPeriod) × IsTrue (has_empty_row change.now.action))
-        ⊎ (refusal ≡ Refusal.Memory)) }
+    action: &Action,
+) -> Result<Plan, Memory>
+    requires { given_of action.now ≡ [] }
+    ensures { IfOk result
+        (λ plan. Plans action.now (rows_of_key current.now key.now) plan) }
 {
     match current.group_of_key(key) {
-        Some(group) => plan_of_group(alloc, group, change),
-        None => plan_over(alloc, &[], change),
+        Some(group) => plan_of_group(alloc, group, action),
+        None => plan_portion(alloc, &[], action),
     }
 }
 
-// The plan of a change that gives no rows, over the rows of a key. Of many rows those are looked at
-// that share a day with its portion.
-fn plan_of_group(alloc: Global, group: &KeyRows, change: &Change) -> Result<Plan, Refusal>
-    requires { given_of change.now.action ≡ [] }
-    ensures plan { IfOk result (λ plan. Plans change.now.action group.now.rows.items plan) }
-    ensures refused { IfErr result (λ refusal.
-        ((refusal ≡ Refusal.EmptyPeriod) × IsTrue (has_empty_row change.now.action))
-        ⊎ (refusal ≡ Refusal.Memory)) }
+// The same over the rows of a key, of which, where they are many, those are looked at that share a
+// day with the portion.
+fn plan_of_group(alloc: Global, group: &KeyRows, action: &Action) -> Result<Plan, Memory>
+    requires { given_of action.now ≡ [] }
+    ensures { IfOk result (λ plan. Plans action.now group.now.rows.items plan) }
 {
-    let Some(portion) = portion_of(&change.action) else {
-        return plan_over(alloc, group.as_slice(), change);
+    let Some(portion) = portion_of(action) else {
+        return plan_portion(alloc, group.as_slice(), action);
     };
     let Some(places) = group.places_near(alloc, portion)? else {
-        return plan_over(alloc, group.as_slice(), change);
+        return plan_portion(alloc, group.as_slice(), action);
     };
-    let plan = plan_at(alloc, group.as_slice(), places.as_slice(), change)?;
-    Ok(plan)
+    plan_at(alloc, group.as_slice(), places.as_slice(), action)
 }
 
-// The portion of a change, if it has one.
+// The portion of an action, if it has one.
 fn portion_of(action: &Action) -> Option<&Period>
     ensures { IfSome result (λ portion. (version : Version)
         → touches action.now (version_row version) ≡ true
@@ -129,19 +113,19 @@ fn portion_of(action: &Action) -> Option<&Period>
     }
 }
 
-// The plan over rows of which those at the places alone are touched.
+// The same over rows of which those at the places alone are touched.
 fn plan_at(
     alloc: Global,
     rows: &[VersionRow],
     places: &[usize],
-    change: &Change,
+    action: &Action,
 ) -> Result<Plan, Memory>
-    requires given { given_of change.now.action ≡ [] }
+    requires given { given_of action.now ≡ [] }
     requires ascending { IsSorted nat_cmp places.now }
     requires others { (place : ℕ) (d : Version) → place < length rows.now
-        → touches change.now.action (version_row (slice_index_or rows.now place d)) ≡ true
+        → touches action.now (version_row (slice_index_or rows.now place d)) ≡ true
         → (Contains places.now place → ⊥) → ⊥ }
-    ensures { IfOk result (λ plan. Plans change.now.action rows.now plan) }
+    ensures { IfOk result (λ plan. Plans action.now rows.now plan) }
 {
     let mut plan = Plan {
         ended: Items::empty(alloc),
@@ -152,7 +136,7 @@ fn plan_at(
         let at = *place;
         let is_next = is_between(at, next, rows.len());
         if is_next {
-            plan_one(alloc, rows, at, change, &mut plan)?;
+            plan_one(alloc, rows, at, action, &mut plan)?;
             next = at + 1;
         }
     }
@@ -171,19 +155,17 @@ fn plan_one(
     alloc: Global,
     rows: &[VersionRow],
     at: usize,
-    change: &Change,
+    action: &Action,
     plan: &mut Plan,
 ) -> Result<(), Memory>
-    requires given { given_of change.now.action ≡ [] }
+    requires given { given_of action.now ≡ [] }
     requires at { at < length rows.now }
     ensures { OnOk result ((before : List Version) (d : Version)
-        → Plans change.now.action before plan.old
-        → Plans change.now.action (before ++ slice_index_or rows.now at d ∷ []) plan.new) }
+        → Plans action.now before plan.old
+        → Plans action.now (before ++ slice_index_or rows.now at d ∷ []) plan.new) }
 {
-    match plan_over(alloc, &rows[at..at + 1], change) {
-        Ok(own) => append_plan(plan, own),
-        Err(_) => Err(Memory),
-    }
+    let own = plan_portion(alloc, &rows[at..at + 1], action)?;
+    append_plan(plan, own)
 }
 
 // Adds what another plan ends and adds.
@@ -197,7 +179,7 @@ fn append_plan(plan: &mut Plan, other: Plan) -> Result<(), Memory>
     plan.added.append(other.added)
 }
 
-// The condition of a change, if it has one.
+// The condition of an action, if it has one.
 fn condition_of(action: &Action) -> Option<&Cond>
     ensures given { IfSome result (λ condition. given_of action.now ≡ []) }
     ensures met { IfSome result (λ condition. (version : Version)
@@ -208,19 +190,5 @@ fn condition_of(action: &Action) -> Option<&Cond>
         Action::Insert(_) => None,
         Action::Update(_, _, condition) => condition.as_ref(),
         Action::Delete(_, condition) => condition.as_ref(),
-    }
-}
-
-/// The plan of a change over these rows.
-pub fn plan_over(alloc: Global, rows: &[VersionRow], change: &Change) -> Result<Plan, Refusal>
-    ensures plan { IfOk result (λ plan. Plans change.now.action rows.now plan) }
-    ensures refused { IfErr result (λ refusal.
-        ((refusal ≡ Refusal.EmptyPeriod) × IsTrue (has_empty_row change.now.action))
-        ⊎ (refusal ≡ Refusal.Memory)) }
-{
-    match &change.action {
-        Action::Insert(_) => plan_insert(alloc, rows, change),
-        Action::Update(_, _, _) => plan_update(alloc, rows, change),
-        Action::Delete(_, _) => plan_delete(alloc, rows, change),
     }
 }

@@ -20,29 +20,31 @@ use crate::keyed_periods::KeyedPeriods;
 use crate::positions::positions_of;
 use crate::shared_days::earlier;
 use crate::table_index::TableIndex;
-use catalog_core::{Catalog, Change, Plan, Reference, TableDef, of_number};
+use catalog_core::{Catalog, Plan, Reference, TableDef, of_number};
 use period_core::{Day, Memory};
 use std::alloc::Global;
 
-/// The least day on which a row of some table would have no parent by one of its references. The
-/// change is planned over the rows of its table, and each table refers to earlier ones alone.
+/// The least day on which a row of some table would have no parent by one of its references, after
+/// a change of the table of a number by this plan. It is planned over the rows of that table, and
+/// each table refers to earlier ones alone.
 pub fn reference_fault(
     alloc: Global,
     catalog: &Catalog,
     tables: &[TableIndex],
-    change: &Change,
+    changed: u8,
     plan: &Plan,
 ) -> Result<Option<Day>, Memory>
     requires { HaveIndexes catalog.now.tables tables.now }
-    ensures { IfOk result (λ found. (before : State)
-        → IsPlannedIn catalog.now.tables before tables.now change.now plan.now
-        → IsLeastOf (IsReferenceFault catalog.now.tables before change.now) found) }
+    ensures { IfOk result (λ found. (before : State) (change : ChangeModel)
+        → change.table ≡ changed
+        → IsPlannedIn catalog.now.tables before tables.now change plan.now
+        → IsLeastOf (IsReferenceFault catalog.now.tables before change) found) }
 {
     let definitions = catalog.tables.as_slice();
     let mut found = None;
     for place in 0..definitions.len() {
         let child = &definitions[place];
-        let here = fault_of(alloc, definitions, tables, change, plan, place + 1, child)?;
+        let here = fault_of(alloc, definitions, tables, changed, plan, place + 1, child)?;
         found = earlier(found, here);
     }
     Ok(found)
@@ -53,16 +55,17 @@ fn fault_of(
     alloc: Global,
     definitions: &[TableDef],
     tables: &[TableIndex],
-    change: &Change,
+    changed: u8,
     plan: &Plan,
     number: usize,
     child: &TableDef,
 ) -> Result<Option<Day>, Memory>
     requires indexed { HaveIndexes definitions.now tables.now }
     requires child { table_of definitions.now number ≡ Some child.now }
-    ensures { IfOk result (λ found. (before : State)
-        → IsPlannedIn definitions.now before tables.now change.now plan.now
-        → IsLeastOf (IsFaultOf definitions.now before change.now number child.now) found) }
+    ensures { IfOk result (λ found. (before : State) (change : ChangeModel)
+        → change.table ≡ changed
+        → IsPlannedIn definitions.now before tables.now change plan.now
+        → IsLeastOf (IsFaultOf definitions.now before change number child.now) found) }
 {
     let references = child.references.as_slice();
     let mut found = None;
@@ -71,7 +74,7 @@ fn fault_of(
             alloc,
             definitions,
             tables,
-            change,
+            changed,
             plan,
             number,
             child,
@@ -87,7 +90,7 @@ fn fault_by(
     alloc: Global,
     definitions: &[TableDef],
     tables: &[TableIndex],
-    change: &Change,
+    changed: u8,
     plan: &Plan,
     number: usize,
     child: &TableDef,
@@ -96,19 +99,20 @@ fn fault_by(
     requires indexed { HaveIndexes definitions.now tables.now }
     requires child { table_of definitions.now number ≡ Some child.now }
     requires reference { Contains child.now.references reference.now }
-    ensures { IfOk result (λ found. (before : State)
-        → IsPlannedIn definitions.now before tables.now change.now plan.now
+    ensures { IfOk result (λ found. (before : State) (change : ChangeModel)
+        → change.table ≡ changed
+        → IsPlannedIn definitions.now before tables.now change plan.now
         → IsLeastOf (λ day.
-        IsFaultBy definitions.now before change.now number child.now day reference.now) found) }
+        IsFaultBy definitions.now before change number child.now day reference.now) found) }
 {
     let Some(parent) = of_number(definitions, reference.parent) else {
         return Ok(None);
     };
-    if number == usize::from(change.table) {
+    if number == usize::from(changed) {
         let found = fault_from(alloc, tables, plan, number, child, reference, parent)?;
         return Ok(found);
     }
-    if reference.parent == change.table {
+    if reference.parent == changed {
         let found = fault_to(alloc, tables, plan, number, child, reference, parent)?;
         return Ok(found);
     }

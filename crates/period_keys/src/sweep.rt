@@ -22,6 +22,10 @@ pub fn rows_clash(
 ) -> Result<Option<Day>, Memory>
     ensures { IfOk result (IsLeastOf (IsKeyClash positions.now rows.now)) }
 {
+    // (A row by itself clashes with none, so its key need not be known.)
+    if rows.len() < 2 {
+        return Ok(None);
+    }
     let mut keyed = key_rows(alloc, positions, rows)?;
     keyed.sort()?;
     Ok(first_repeat(keyed.as_slice()))

@@ -1,28 +1,22 @@
--- One version more in a plan.
-use Rattle.std.proofs.Common.{◌≡◌, ◌+◌, ◌<◌, ℕ, true, List, [], ◌∷◌, ◌++◌, map, refl, sym, ◌∙◌, ap, take, length, get_or, append-nil}
-use Rattle.std.specs.List.{filter, flat_map}
-use Rattle.std.proofs.lemmas.List.{map-append, take_more}
+-- The plan of an INSERT.
+use Rattle.std.proofs.Common.{◌≡◌, ◌||◌, Bool, true, false, List, [], ◌∷◌, ◌++◌, map, refl, sym, ◌∙◌, ap, append-nil}
+use Rattle.std.specs.List.{filter, flat_map, list_any}
 use Rattle.period_core.specs.declared.version.VersionRow.{VersionRow}
+use Rattle.history_model.specs.Effects.{given_of}
 use Rattle.history_model.specs.Portions.{plain_given, plain_row, replacements}
-use Rattle.portion_dml.specs.Plans.{Plans, version_row}
+use Rattle.portion_dml.specs.Plans.{IsInsert, Plans, version_row}
 use Rattle.catalog_core.specs.declared.change.Action.{Action}
-use Rattle.catalog_core.specs.declared.change.Action.TheVariants.{Insert}
+use Rattle.catalog_core.specs.declared.change.Action.TheVariants.{Delete, Insert, Update}
 use Rattle.catalog_core.specs.declared.change.GivenRow.{GivenRow}
 use Rattle.portion_dml.proofs.Daily.{touched}
 use Rattle.period_core.specs.declared.row.PeriodRow.{PeriodRow}
 use Rattle.catalog_core.specs.change.Resolution.{has_empty_row, is_empty_row}
-use Rattle.std.proofs.lemmas.List.Folds.{list_any_at}
+use Rattle.std.proofs.lemmas.List.Folds.{list_any-append}
 
 -- INSERT touches no version
 pub none_touched : (given : List GivenRow) (current : List VersionRow) → filter (touched (Insert given)) current ≡ []
 none_touched given [] = refl
 none_touched given (v ∷ vs) = none_touched given vs
-
-pub given_more : (given : List GivenRow) (index : ℕ) (row : GivenRow) → index < length given → row ≡ get_or given index row
-    → map plain_given (take (index + 1) given) ≡ map plain_given (take index given) ++ plain_given row ∷ []
-given_more given index row inside its =
-    ap (map plain_given) (take_more given index row inside ∙ ap (λ (r : GivenRow). take index given ++ r ∷ []) (sym its))
-    ∙ map-append plain_given (take index given) (row ∷ [])
 
 pub insert_plans : (given : List GivenRow) (current ended : List VersionRow) (rows : List PeriodRow) → ended ≡ [] → map plain_row rows ≡ map plain_given given
     → Plans (Insert given) current (record { ended = ended; added = rows })
@@ -31,6 +25,18 @@ insert_plans given current ended rows none e = record {
   added = e ∙ sym (append-nil (map plain_given given)) ∙ ap (λ (l : List VersionRow). map plain_given given ++ flat_map (replacements (Insert given)) (map version_row l)) (sym none);
 }
 
-pub gives_empty : (action : Action) (given : List GivenRow) (index : ℕ) (row : GivenRow) → action ≡ Insert given → index < length given → row ≡ get_or given index row → is_empty_row row ≡ true → has_empty_row action ≡ true
-gives_empty action given index row is inside its none =
-    ap has_empty_row is ∙ list_any_at is_empty_row given index row inside (ap is_empty_row (sym its) ∙ none)
+or_true : (b : Bool) → (b || true) ≡ true
+or_true true = refl
+or_true false = refl
+
+-- one of the rows is empty
+pub gives_empty : (before after : List GivenRow) (row : GivenRow) (given : List GivenRow) → given ≡ before ++ row ∷ after → is_empty_row row ≡ true → has_empty_row (Insert given) ≡ true
+gives_empty before after row given split none =
+    ap (list_any is_empty_row) split ∙ list_any-append is_empty_row before (row ∷ after)
+    ∙ ap (λ b. list_any is_empty_row before || (b || list_any is_empty_row after)) none ∙ or_true (list_any is_empty_row before)
+
+-- an INSERT gives its rows
+pub insert_gives : (action : Action) → IsInsert action → Insert (given_of action) ≡ action
+insert_gives (Insert given) is = refl
+insert_gives (Update portion assignments condition) is = absurd is
+insert_gives (Delete portion condition) is = absurd is

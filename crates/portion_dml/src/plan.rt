@@ -1,9 +1,11 @@
 //! The plans of changes.
 
-ghost use Rattle.std.specs.Prelude.{◌≡◌, ◌++◌, ◌∷◌, ◌⊎◌, [], IfErr, IfOk, IsTrue, OnOk, map};
+ghost use Rattle.std.specs.Prelude.{◌≡◌, ◌++◌, ◌∷◌, ◌⊎◌, [], IfErr, IfOk, IsTrue, List, OnOk, map};
 ghost use Rattle.catalog_core.specs.change.Resolution.{has_empty_row, is_empty_row};
+ghost use Rattle.catalog_core.specs.declared.change.Action.TheVariants.{Insert};
 ghost use Rattle.history_model.specs.Effects.{given_of};
 ghost use Rattle.history_model.specs.Portions.{plain_given, plain_row};
+ghost use Rattle.period_core.specs.declared.version.VersionRow.{VersionRow as Version};
 ghost use Rattle.portion_dml.specs.Plans.{IsDelete, IsInsert, IsUpdate, Plans};
 
 use crate::parts::{push_replacements, touched};
@@ -11,8 +13,8 @@ use catalog_core::{Action, Change, GivenRow, Plan};
 use period_core::{Items, Memory, Period, PeriodRow, Refusal, VersionRow};
 use std::alloc::Global;
 
-/// The plan of an action that gives no rows.
-fn planned(alloc: Global, current: &[VersionRow], action: &Action) -> Result<Plan, Memory>
+/// The plan of an action that gives no rows, over its table's current versions.
+pub fn plan_portion(alloc: Global, current: &[VersionRow], action: &Action) -> Result<Plan, Memory>
     requires { given_of action.now ≡ [] }
     ensures { IfOk result (λ plan. Plans action.now current.now plan) }
 {
@@ -36,7 +38,7 @@ pub fn plan_update(alloc: Global, current: &[VersionRow], change: &Change) -> Re
     ensures plan { IfOk result (λ plan. Plans change.now.action current.now plan) }
     ensures refused { IfErr result (λ refusal. refusal ≡ Refusal.Memory) }
 {
-    let plan = planned(alloc, current, &change.action)?;
+    let plan = plan_portion(alloc, current, &change.action)?;
     Ok(plan)
 }
 
@@ -46,25 +48,71 @@ pub fn plan_delete(alloc: Global, current: &[VersionRow], change: &Change) -> Re
     ensures plan { IfOk result (λ plan. Plans change.now.action current.now plan) }
     ensures refused { IfErr result (λ refusal. refusal ≡ Refusal.Memory) }
 {
-    let plan = planned(alloc, current, &change.action)?;
+    let plan = plan_portion(alloc, current, &change.action)?;
     Ok(plan)
 }
 
-/// Adds a row that INSERT gives. Its refusals are a period without a day, and out of memory.
-fn push_given(alloc: Global, rows: &mut Vec<PeriodRow>, given: &GivenRow) -> Result<(), Refusal>
+/// Adds a row that INSERT gives, with its values. Its refusals are a period without a day, and out
+/// of memory.
+fn push_given(rows: &mut Vec<PeriodRow>, given: GivenRow) -> Result<(), Refusal>
     ensures ok { OnOk result
         (map plain_row rows.new.items
-        ≡ map plain_row rows.old.items ++ plain_given given.now ∷ []) }
+        ≡ map plain_row rows.old.items ++ plain_given given ∷ []) }
     ensures refused { IfErr result (λ refusal.
-        ((refusal ≡ Refusal.EmptyPeriod) × IsTrue (is_empty_row given.now))
+        ((refusal ≡ Refusal.EmptyPeriod) × IsTrue (is_empty_row given))
         ⊎ (refusal ≡ Refusal.Memory)) }
 {
-    let Some(period) = Period::new(given.start, given.end) else {
+    let GivenRow { values, start, end } = given;
+    let Some(period) = Period::new(start, end) else {
         return Err(Refusal::EmptyPeriod);
     };
-    let values = given.values.copy(alloc)?;
     rows.push(PeriodRow { values, period })?;
     Ok(())
+}
+
+/// The plan of an INSERT that gives these rows, whose values it takes. It ends no version. It is
+/// refused where a row has a period without a day, and else only out of memory.
+pub fn plan_given(alloc: Global, given: Items<GivenRow>) -> Result<Plan, Refusal>
+    ensures plan { IfOk result (λ plan. (current : List Version)
+        → Plans (Insert given) current plan) }
+    ensures refused { IfErr result (λ refusal.
+        ((refusal ≡ Refusal.EmptyPeriod) × IsTrue (has_empty_row (Insert given)))
+        ⊎ (refusal ≡ Refusal.Memory)) }
+{
+    let mut added = Vec::new(alloc);
+    let rows = given.into_vec();
+    for row in rows {
+        push_given(&mut added, row)?;
+    }
+    Ok(Plan {
+        ended: Items::empty(alloc),
+        added: Items::from_vec(added),
+    })
+}
+
+/// The rows that an action gives.
+fn given_by(action: &Action) -> &[GivenRow]
+    ensures { result.now ≡ given_of action.now }
+{
+    match action {
+        Action::Insert(given) => given.as_slice(),
+        Action::Update(..) | Action::Delete(..) => &[],
+    }
+}
+
+/// Copies of the given rows.
+fn copied_rows(alloc: Global, rows: &[GivenRow]) -> Result<Vec<GivenRow>, Memory>
+    ensures { IfOk result (λ copies. copies.items ≡ rows.now) }
+{
+    let mut copies = Vec::new(alloc);
+    for row in rows {
+        copies.push(GivenRow {
+            values: row.values.copy(alloc)?,
+            start: row.start,
+            end: row.end,
+        })?;
+    }
+    Ok(copies)
 }
 
 /// The plan of an INSERT, which ends none of its table's current versions. It is refused where a
@@ -77,15 +125,6 @@ pub fn plan_insert(alloc: Global, current: &[VersionRow], change: &Change) -> Re
         ⊎ (refusal ≡ Refusal.Memory)) }
 {
     let _current = current;
-    let Action::Insert(given) = &change.action else {
-        unreachable!()
-    };
-    let mut added = Vec::new(alloc);
-    for row in given.as_slice() {
-        push_given(alloc, &mut added, row)?;
-    }
-    Ok(Plan {
-        ended: Items::empty(alloc),
-        added: Items::from_vec(added),
-    })
+    let given = copied_rows(alloc, given_by(&change.action))?;
+    plan_given(alloc, Items::from_vec(given))
 }

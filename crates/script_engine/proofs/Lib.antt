@@ -13,6 +13,7 @@ mod PlanFacts
 mod Recorded
 mod SameInMemory
 mod Refused
+mod Resolved
 mod ScriptFacts
 mod Seen
 mod Shown

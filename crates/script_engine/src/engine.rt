@@ -6,7 +6,6 @@ ghost use Rattle.period_core.specs.Moments.{forever};
 ghost use Rattle.period_core.specs.declared.version.VersionRow.{VersionRow as Version};
 ghost use Rattle.period_keys.specs.Versions.{begun};
 ghost use Rattle.period_core.specs.declared.refusal.Refusal.TheVariants.{BadStore};
-ghost use Rattle.catalog_core.specs.change.Resolution.{IsChange};
 ghost use Rattle.sqlite.specs.Held.{state};
 ghost use Rattle.version_tables.specs.Presence.{IsNoneThere};
 ghost use Rattle.version_tables.specs.Steps.{IsAsBefore};
@@ -23,11 +22,13 @@ ghost use Rattle.script_engine.specs.engine.Ended.{HaveClosed};
 ghost use Rattle.script_engine.specs.engine.EngineState.{store_of};
 ghost use Rattle.script_engine.specs.engine.Faults.{AreConstrained};
 ghost use Rattle.script_engine.specs.engine.InMemory.{HaveRows, IsSameInMemory, rows_in};
+ghost use Rattle.script_engine.specs.engine.Planned.{IsResolved};
 ghost use Rattle.script_engine.specs.engine.Runs.{IsQuery, MayRefuseMoment, MayRefuseOver};
 ghost use Rattle.script_engine.specs.engine.Runs.{MayRefuseQuery, StepsTo};
 ghost use Rattle.script_engine.specs.engine.Stored.{DatabaseRepresents, EngineRepresents};
 ghost use Rattle.script_engine.specs.engine.Stored.{IsBadStore, KeepsOnErr, WasUsable};
 ghost use Rattle.sql_statements.specs.Plain.{plain, plain_query, plain_stored};
+ghost use Rattle.sql_statements.specs.Trees.{Statement as StatementModel};
 ghost use Rattle.sql_statements.specs.Trees as statement;
 
 mod answering;
@@ -50,7 +51,8 @@ use crate::engine::outcome::done;
 use crate::engine::shown::version_columns;
 use crate::engine::stored::shown_by;
 use catalog_core::{
-    Catalog, Plan, define, resolve_change, resolve_sequenced, resolve_stored_query,
+    Catalog, Change, Plan, define, resolve_delete, resolve_insert, resolve_sequenced,
+    resolve_stored_query, resolve_update,
 };
 use ended_versions::EndedVersions;
 use period_core::{Items, Moment, Refusal, VersionRow};
@@ -301,24 +303,33 @@ impl<S: Alter> Engine<S> {
         apply_closing(alloc, &mut self.store, index, ended, table, plan)
     }
 
-    /// Runs an INSERT, an UPDATE or a DELETE: where it is lawful, what its plan ends and adds is
-    /// ended and added in one transaction, and in memory. An `Err` changes nothing.
-    fn change(&mut self, alloc: Global, statement: &Statement) -> Result<Outcome, Refusal>
-        requires { IsChange (plain statement.now) }
+    /// Makes the change of this word that a statement is resolved to, or is refused as it was:
+    /// where the change is lawful, what its plan ends and adds is ended and added in one
+    /// transaction, and in memory. An `Err` changes nothing.
+    fn change(
+        &mut self,
+        alloc: Global,
+        word: Word,
+        resolved: Result<Change, Refusal>,
+    ) -> Result<Outcome, Refusal>
+        requires { (s : StatementModel) × IsResolved self.old.catalog.tables s word resolved }
         ensures step { IsUsable S.Store self.new.connection
             → (history : History) → EngineRepresents S.Store history self.old
-            → StepsTo S.Store history (plain statement.now) result self.new }
+            → (s : StatementModel) → IsResolved self.old.catalog.tables s word resolved
+            → StepsTo S.Store history s result self.new }
         ensures kept { KeepsOnErr S.Store self.old self.new result }
-        ensures refused { IfErr result
-            (MayRefuseOver self.old.catalog.tables self.old.clock (plain statement.now)) }
+        ensures refused { IfErr result (λ refusal. (s : StatementModel)
+            → IsResolved self.old.catalog.tables s word resolved
+            → MayRefuseOver self.old.catalog.tables self.old.clock s refusal) }
         ensures memory { OnErr result (IsSameInMemory self.old self.new) }
         ensures usable { WasUsable S.Store self.old.connection self.new.connection }
     {
-        let change = resolve_change(alloc, self.store.catalog(), statement)?;
+        let change = resolved?;
+        let table = change.table;
         let catalog = self.store.catalog();
-        let plan = lawful_plan(alloc, catalog, self.tables.as_slice(), &change)?;
-        self.apply(alloc, change.table, &plan)?;
-        Ok(done(&change.action, &plan))
+        let plan = lawful_plan(alloc, catalog, self.tables.as_slice(), change)?;
+        self.apply(alloc, table, &plan)?;
+        Ok(done(word, &plan))
     }
 
     /// Answers a sequenced query. Nothing is changed.
@@ -404,9 +415,18 @@ impl<S: Alter> Engine<S> {
         match statement.form() {
             StatementForm::At(moment) => self.advance(*moment),
             StatementForm::Create(create) => self.create(alloc, create.table()),
-            StatementForm::Insert(_) => self.change(alloc, statement),
-            StatementForm::Update(_) => self.change(alloc, statement),
-            StatementForm::Delete(_) => self.change(alloc, statement),
+            StatementForm::Insert(insert) => {
+                let resolved = resolve_insert(alloc, self.catalog(), insert);
+                self.change(alloc, Word::Insert, resolved)
+            }
+            StatementForm::Update(update) => {
+                let resolved = resolve_update(alloc, self.catalog(), update);
+                self.change(alloc, Word::Update, resolved)
+            }
+            StatementForm::Delete(delete) => {
+                let resolved = resolve_delete(alloc, self.catalog(), delete);
+                self.change(alloc, Word::Delete, resolved)
+            }
             StatementForm::Sequenced(query) => self.answer(alloc, query),
             StatementForm::Stored(query) => self.show(alloc, query),
         }

@@ -11,14 +11,11 @@ ghost use Rattle.version_store.specs.declared.fault.OpenFault.TheVariants.{BadSt
 
 use crate::fault::OpenFault;
 use crate::row_values::are_row_values;
-use catalog_core::{Catalog, TableDef, decode_def, lawful};
+use catalog_core::{Catalog, MOST_TABLES, TableDef, decode_def, lawful};
 use period_core::decode_values;
 use sqlite::Row;
 use std::alloc::Global;
 use version_tables::{Form, bytes_at, clock_of, is_definition, is_version, number_at};
-
-/// How many tables a store may have.
-const MOST_TABLES: usize = 64;
 
 /// The definition that a row has behind those of the catalog.
 fn read_table(alloc: Global, catalog: &Catalog, row: &Row) -> Result<TableDef, OpenFault>

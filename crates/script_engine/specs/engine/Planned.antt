@@ -1,8 +1,16 @@
--- Changes: what is done by them, and what is counted.
-use Rattle.std.specs.Prelude.{ℕ, List, length}
+-- Changes: what statements are resolved to, what is done by them, and what is counted.
+use Rattle.std.specs.Prelude.{◌≡◌, ℕ, IfErr, IfOk, List, OnOk, Result, length}
+use Rattle.period_core.specs.Leasts.{MayAnswer, NoneApplies}
+use Rattle.period_core.specs.declared.refusal.Refusal.{Refusal}
+use Rattle.sql_statements.specs.Trees.{Statement}
+use Rattle.catalog_core.specs.Judged.{Holds}
+use Rattle.catalog_core.specs.change.Resolution.{IsChange, ResolvesChange, change_conditions}
+use Rattle.catalog_core.specs.change.Resolution.{empty_period, has_empty_row}
 use Rattle.catalog_core.specs.declared.change.Action.{Action}
 use Rattle.catalog_core.specs.declared.change.Action.TheVariants.{Delete, Insert, Update}
+use Rattle.catalog_core.specs.declared.change.Change.{Change}
 use Rattle.catalog_core.specs.declared.change.Plan.{Plan}
+use Rattle.catalog_core.specs.declared.table.TableDef.{TableDef}
 use Rattle.history_model.specs.Left.{touched_rows}
 use Rattle.history_model.specs.Versions.{PlainVersion}
 use Rattle.statement_reports.specs.declared.outcome.Word.{Word}
@@ -28,3 +36,19 @@ abbrev pub planned_count : Action → Plan → ℕ
 planned_count (Insert given) plan = length plan.added
 planned_count (Update portion assignments condition) plan = length plan.ended
 planned_count (Delete portion condition) plan = length plan.ended
+
+-- what a statement of this word is resolved to over a catalog: the change that it makes, where none
+-- of its conditions holds (that of an empty row is left to the rows that are given); or else a
+-- refusal, the least whose condition holds, or out of memory
+pub record IsResolved
+    (catalog : List TableDef)
+    (s : Statement)
+    (verb : Word)
+    (resolved : Result Change Refusal) : Type 0 where
+  pub form : IsChange s
+  pub told : IfOk resolved (λ change. verb ≡ word_of change.action)
+  pub sound : OnOk resolved (NoneApplies (Holds (change_conditions catalog s)))
+  pub change : IfOk resolved (λ change. ResolvesChange catalog s change)
+  pub empty : IfOk resolved
+      (λ change. (empty_period catalog s).1 ≡ has_empty_row change.action)
+  pub refused : IfErr resolved (MayAnswer (Holds (change_conditions catalog s)))

@@ -3,6 +3,7 @@
 
 ghost use Rattle.std.specs.Prelude.{◌≡◌, ◌⊎◌, IfErr, IfOk, IsTrue, OnOk, Some, map};
 ghost use Rattle.catalog_core.specs.change.Resolution.{has_empty_row};
+ghost use Rattle.catalog_core.specs.declared.change.Change.{Change as ChangeModel};
 ghost use Rattle.catalog_core.specs.declared.table.TableDef.{TableDef as Definition};
 ghost use Rattle.catalog_core.specs.table.TableWords.{table_of};
 ghost use Rattle.history_model.specs.Histories.{State};
@@ -19,73 +20,80 @@ use period_core::Refusal;
 use period_keys::{TableIndex, key_fault, plan_change, reference_fault};
 use std::alloc::Global;
 
-/// Judges a change by its plan: by the key of its table, and then by the references from the table
-/// and to it. It is refused with the least day of a fault, or out of memory.
-fn judge_change(
+/// Judges a change of the table of a number by its plan: by the key of the table, and then by the
+/// references from it and to it. It is refused with the least day of a fault, or out of memory.
+fn judge_plan(
     alloc: Global,
     catalog: &Catalog,
     tables: &[TableIndex],
     table: &TableIndex,
-    change: &Change,
+    number: u8,
     plan: &Plan,
 ) -> Result<(), Refusal>
     requires follow { FollowCatalog catalog.now.tables tables.now }
-    requires defined { (d : Definition)
-        × (table_of catalog.now.tables change.now.table ≡ Some d) }
-    requires table { table_of tables.now change.now.table ≡ Some table.now }
-    requires plan { IsPlanOf change.now.action table.now.rows plan.now }
-    ensures lawful { OnOk result ((before : State)
+    requires defined { (d : Definition) × (table_of catalog.now.tables number ≡ Some d) }
+    requires table { table_of tables.now number ≡ Some table.now }
+    ensures lawful { OnOk result ((change : ChangeModel) (before : State)
+        → change.table ≡ number
+        → IsPlanOf change.action table.now.rows plan.now
         → IsLawfulState catalog.now.tables before
         → HoldCurrent catalog.now.tables before (map rows_by_key tables.now)
-        → IsLawfulChange catalog.now.tables before change.now) }
+        → IsLawfulChange catalog.now.tables before change) }
     ensures fault { IfErr result (λ refusal. (refusal ≡ refused.Memory)
-        ⊎ (IsConstraintRefusal refusal × ((before : State)
+        ⊎ (IsConstraintRefusal refusal × ((change : ChangeModel) (before : State)
+        → change.table ≡ number
+        → IsPlanOf change.action table.now.rows plan.now
         → IsLawfulState catalog.now.tables before
         → HoldCurrent catalog.now.tables before (map rows_by_key tables.now)
-        → IsFault catalog.now.tables before change.now refusal))) }
+        → IsFault catalog.now.tables before change refusal))) }
 {
-    let clash = key_fault(alloc, table.rows(), change, plan)?;
+    let clash = key_fault(alloc, table.rows(), plan)?;
     if let Some(day) = clash {
         return Err(Refusal::KeyOverlap(day));
     }
-    let lacking = reference_fault(alloc, catalog, tables, change, plan)?;
+    let lacking = reference_fault(alloc, catalog, tables, number, plan)?;
     match lacking {
         None => Ok(()),
         Some(day) => Err(Refusal::PeriodReference(day)),
     }
 }
 
-/// The plan of a change over its table's current rows, where the change is lawful. It is refused
-/// where an INSERT gives a row with a period without a day; with the least day on which it breaks
-/// its table's key, or else a reference; and else only out of memory.
+/// The plan of a change over its table's current rows, where the change is lawful. The values of
+/// the rows that an INSERT gives are those of the plan. It is refused where such a row has a period
+/// without a day; with the least day on which it breaks its table's key, or else a reference; and
+/// else only out of memory.
 pub fn lawful_plan(
     alloc: Global,
     catalog: &Catalog,
     tables: &[TableIndex],
-    change: &Change,
+    change: Change,
 ) -> Result<Plan, Refusal>
     requires follow { FollowCatalog catalog.now.tables tables.now }
     requires defined { (d : Definition)
-        × (table_of catalog.now.tables change.now.table ≡ Some d) }
-    ensures plan { IfOk result (IsPlanOf change.now.action
-        (rows_in (map rows_by_key tables.now) change.now.table)) }
+        × (table_of catalog.now.tables change.table ≡ Some d) }
+    ensures plan { IfOk result (IsPlanOf change.action
+        (rows_in (map rows_by_key tables.now) change.table)) }
     ensures lawful { OnOk result ((before : State)
         → IsLawfulState catalog.now.tables before
         → HoldCurrent catalog.now.tables before (map rows_by_key tables.now)
-        → IsLawfulChange catalog.now.tables before change.now) }
+        → IsLawfulChange catalog.now.tables before change) }
     ensures refused { IfErr result (λ refusal.
-        ((refusal ≡ refused.EmptyPeriod) × IsTrue (has_empty_row change.now.action))
+        ((refusal ≡ refused.EmptyPeriod) × IsTrue (has_empty_row change.action))
         ⊎ ((refusal ≡ refused.Memory)
-        ⊎ ((¬ IsTrue (has_empty_row change.now.action)) × IsConstraintRefusal refusal
+        ⊎ ((¬ IsTrue (has_empty_row change.action)) × IsConstraintRefusal refusal
         × ((before : State)
         → IsLawfulState catalog.now.tables before
         → HoldCurrent catalog.now.tables before (map rows_by_key tables.now)
-        → IsFault catalog.now.tables before change.now refusal)))) }
+        → IsFault catalog.now.tables before change refusal)))) }
 {
-    let Some(table) = of_number(tables, change.table) else {
+    let Change {
+        table: number,
+        action,
+    } = change;
+    let Some(table) = of_number(tables, number) else {
         unreachable!()
     };
-    let plan = plan_change(alloc, table.rows(), change)?;
-    judge_change(alloc, catalog, tables, table, change, &plan)?;
+    let plan = plan_change(alloc, table.rows(), action)?;
+    judge_plan(alloc, catalog, tables, table, number, &plan)?;
     Ok(plan)
 }

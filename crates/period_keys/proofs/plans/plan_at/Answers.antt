@@ -12,15 +12,15 @@ use Rattle.period_keys.proofs.plans.plan_at.Goals.{then-is_next+in_ok-plan_one, 
 
 pub loop-place-init : goal.loop-place-init
 loop-place-init c = record {
-  plans = subst (λ (xs : List VersionRow). Plans c.args.change.now.action [] (record { ended = xs; added = c.empty-2.result })) (sym c.empty.ensures)
-      (subst (λ (ys : List PeriodRow). Plans c.args.change.now.action [] (record { ended = []; added = ys })) (sym c.empty-2.ensures) (plans_nothing c.args.change.now.action c.requires.given));
+  plans = subst (λ (xs : List VersionRow). Plans c.args.action.now [] (record { ended = xs; added = c.empty-2.result })) (sym c.empty.ensures)
+      (subst (λ (ys : List PeriodRow). Plans c.args.action.now [] (record { ended = []; added = ys })) (sym c.empty-2.ensures) (plans_nothing c.args.action.now c.requires.given));
   bound = omega arith;
   passed = λ k d lt. absurd (omega (arith, lt));
 }
 
 pub loop-place-preserved : goal.loop-place-preserved
 loop-place-preserved c =
-    let action : Action = c.args.change.now.action in
+    let action : Action = c.args.action.now in
     let rows : List VersionRow = c.args.rows.now in
     let places : List ℕ = c.args.places.now in
     let i : ℕ = c.loop-place.place-index in
@@ -59,5 +59,5 @@ loop-place-preserved c =
 pub returns : goal.returns
 returns c =
     let inv = c.loop-place.invariant in
-    plan_beside c.args.change.now.action (take c.loop-place.next c.args.rows.now) c.args.rows.now c.loop-place.plan
-    (quiet_after c.args.change.now.action c.args.rows.now c.args.places.now c.loop-place.place-index c.loop-place.next c.requires.others inv.passed c.loop-place-test.false inv.bound) inv.plans
+    plan_beside c.args.action.now (take c.loop-place.next c.args.rows.now) c.args.rows.now c.loop-place.plan
+    (quiet_after c.args.action.now c.args.rows.now c.args.places.now c.loop-place.place-index c.loop-place.next c.requires.others inv.passed c.loop-place-test.false inv.bound) inv.plans

@@ -1,34 +1,25 @@
-use Rattle.std.proofs.Common.{◌≡◌, ℕ, List, true, sym, subst}
-use Rattle.std.specs.Prelude.{IfSome, Option, filter}
-use Rattle.catalog_core.specs.Conditions.{compares, meets}
+use Rattle.std.proofs.Common.{◌≡◌, List, Ok, Err, Result, sym, subst}
+use Rattle.std.specs.Prelude.{IfOk}
+use Rattle.std.proofs.lemmas.List.Sorted.{IsPermutation-refl}
 use Rattle.catalog_core.specs.declared.change.Action.{Action}
-use Rattle.catalog_core.specs.declared.condition.CompareValues.{CompareValues}
-use Rattle.sql_statements.specs.declared.tree.Tree.{Tree}
-use Rattle.period_core.specs.OrderLaws.{values_eq}
-use Rattle.period_core.specs.declared.value.Value.{Value}
+use Rattle.catalog_core.specs.declared.change.Action.TheVariants.{Insert}
+use Rattle.catalog_core.specs.declared.change.GivenRow.{GivenRow}
+use Rattle.catalog_core.specs.declared.change.Plan.{Plan}
+use Rattle.period_core.specs.declared.refusal.Refusal.{Refusal}
 use Rattle.period_core.specs.declared.version.VersionRow.{VersionRow}
 use Rattle.portion_dml.specs.Plans.{Plans}
-use Rattle.period_keys.specs.FixedKeys.{FixesKey}
 use Rattle.period_keys.specs.Planned.{IsPlanOf}
-use Rattle.period_keys.specs.Versions.{is_of_key, version_key}
-use Rattle.period_keys.proofs.PlanParts.{if_ok, plan_of_passing, touched}
 use Rattle.period_keys.proofs.plans.plan_change.Goals as goal
 
-abbrev its_values : List Value → List Value
-its_values values = values
+-- the plan of an INSERT is one over any rows
+over_rows : (r : Result Plan Refusal) (given : List GivenRow) (action : Action) (rows : List VersionRow) → action ≡ Insert given
+    → IfOk r (λ plan. (current : List VersionRow) → Plans (Insert given) current plan) → IfOk r (λ plan. IsPlanOf action rows plan)
+over_rows (Ok plan) given action rows is plans = record {
+  listed = rows;
+  are_rows = IsPermutation-refl rows;
+  plans = subst (λ (a : Action). Plans a rows plan) (sym is) (plans rows);
+}
+over_rows (Err refusal) given action rows is plans = plans
 
--- each row that the change touches has the key that its condition fixes
-of_fixed : (action : Action) (condition : Tree CompareValues) (positions : List ℕ) (key : List Value) → FixesKey its_values compares condition positions key
-    → ((v : VersionRow) → touched action v ≡ true → meets condition v.values ≡ true) → (v : VersionRow) → touched action v ≡ true → is_of_key positions key v ≡ true
-of_fixed action condition positions key fixes met v t = (values_eq key (version_key positions v)).1 (sym (fixes v.values (met v t)))
-
-pub returns-in-Some-2-clause-plan : goal.returns-in-Some-2-clause-plan
-returns-in-Some-2-clause-plan c =
-    let action : Action = c.args.change.now.action in
-    let positions : List ℕ = c.args.current.now.positions in
-    let rows : List VersionRow = c.args.current.now.rows in
-    let key : List Value = c.in-Some-2.key in
-    let fixes : FixesKey its_values compares c.in-Some.condition.now positions key = subst (λ (ps : List ℕ). FixesKey its_values compares c.in-Some.condition.now ps key) c.positions.ensures
-    (subst (λ (o : Option (List Value)). IfSome o (FixesKey its_values compares c.in-Some.condition.now c.positions.result.now)) c.in-Some-2.is c.in_ok-key.ensures.fixed) in
-    if_ok c.plan_of_key.result (λ plan. Plans action (filter (is_of_key positions key) rows) plan) (λ plan. IsPlanOf action rows plan)
-    (λ plan plans. plan_of_passing action (is_of_key positions key) rows plan (of_fixed action c.in-Some.condition.now positions key fixes c.in-Some.ensures.met) plans) c.plan_of_key.ensures.plan
+pub returns-in-Insert-clause-plan : goal.returns-in-Insert-clause-plan
+returns-in-Insert-clause-plan c = over_rows c.plan_given.result c.in-Insert.given c.args.action c.args.current.now.rows c.in-Insert.is c.plan_given.ensures.plan

@@ -17,7 +17,7 @@ plan_at-requires-clause-ascending c =
 
 pub plan_at-requires-clause-others : goal.plan_at-requires-clause-others
 plan_at-requires-clause-others c =
-    let action = c.args.change.now.action in
+    let action = c.args.action.now in
     let places : List ℕ = c.as_slice-3.result.now in
     let all : (place : ℕ) (d : VersionRow) → place < length c.args.group.now.rows.items → Meets (get_or c.args.group.now.rows.items place d).period c.in-Some.portion.now → (Contains c.in-Some-2.places.items place → ⊥) → ⊥ =
     subst (λ (o : Option (Vec ℕ Global)). IfSome o (λ ps. (place : ℕ) (d : VersionRow) → place < length c.args.group.now.rows.items → Meets (get_or c.args.group.now.rows.items place d).period c.in-Some.portion.now → (Contains ps.items place → ⊥) → ⊥)) c.in-Some-2.is c.in_ok-places.ensures.all in
@@ -25,5 +25,5 @@ plan_at-requires-clause-others c =
     all place d inside (c.in-Some.ensures (get_or c.args.group.now.rows.items place d) t)
     (λ there. none (subst (λ (ps : List ℕ). Contains ps place) (sym c.as_slice-3.ensures.value) there)))
 
-pub returns-in_default-clause-plan : goal.returns-in_default-clause-plan
-returns-in_default-clause-plan c = subst (λ (rows : List VersionRow). IfOk c.plan_over.result (λ plan. Plans c.args.change.now.action rows plan)) c.as_slice.ensures c.plan_over.ensures.plan
+pub returns-in_default : goal.returns-in_default
+returns-in_default c = subst (λ (rows : List VersionRow). IfOk c.plan_portion.result (λ plan. Plans c.args.action.now rows plan)) c.as_slice.ensures c.plan_portion.ensures

@@ -7,4 +7,4 @@ use Rattle.period_keys.proofs.plans.plan_over_all.Given as goal
 abbrev pub invariant-loop-group : goal.invariant-loop-group
 invariant-loop-group l =
     (done : List VersionRow) × (l.current.rows ≡ done ++ rows_of_lists l.group-iterator)
-    × Plans l.change.action done l.plan
+    × Plans l.action done l.plan

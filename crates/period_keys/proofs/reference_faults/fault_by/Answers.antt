@@ -17,25 +17,25 @@ fault_from-requires c =
     c.requires.indexed c.args.number c.args.child.now c.requires.child c.args.reference.now c.in-Some.parent.now c.requires.reference c.in-Some.ensures
 
 pub returns-then-number-from : goal.returns-then-number-from
-returns-then-number-from c = λ before known.
-    fault_by_parent c.args.definitions.now before c.args.change.now c.args.number c.args.child.now c.args.reference.now c.in-Some.parent.now c.in_ok-found.found c.in-Some.ensures
-    (c.in_ok-found.ensures c.args.definitions.now before c.args.change.now known
+returns-then-number-from c = λ before change is known.
+    fault_by_parent c.args.definitions.now before change c.args.number c.args.child.now c.args.reference.now c.in-Some.parent.now c.in_ok-found.found c.in-Some.ensures
+    (c.in_ok-found.ensures c.args.definitions.now before change known
     (refers_to c.args.definitions.now c.args.number c.args.child.now c.args.reference.now c.in-Some.parent.now c.requires.child c.requires.reference c.in-Some.ensures)
-    (c.if-number-from.true ∙ c.from.ensures))
+    (c.if-number-from.true ∙ c.from.ensures ∙ sym is))
 
 pub fault_to-requires : goal.fault_to-requires
 fault_to-requires c =
     c.requires.indexed c.args.number c.args.child.now c.requires.child c.args.reference.now c.in-Some.parent.now c.requires.reference c.in-Some.ensures
 
-pub returns-then-reference-change : goal.returns-then-reference-change
-returns-then-reference-change c = λ before known.
-    fault_by_parent c.args.definitions.now before c.args.change.now c.args.number c.args.child.now c.args.reference.now c.in-Some.parent.now c.in_ok-found-2.found c.in-Some.ensures
-    (c.in_ok-found-2.ensures c.args.definitions.now before c.args.change.now known
+pub returns-then-reference-changed : goal.returns-then-reference-changed
+returns-then-reference-changed c = λ before change is known.
+    fault_by_parent c.args.definitions.now before change c.args.number c.args.child.now c.args.reference.now c.in-Some.parent.now c.in_ok-found-2.found c.in-Some.ensures
+    (c.in_ok-found-2.ensures c.args.definitions.now before change known
     (refers_to c.args.definitions.now c.args.number c.args.child.now c.args.reference.now c.in-Some.parent.now c.requires.child c.requires.reference c.in-Some.ensures)
-    c.if-reference-change.true
-    (λ same. c.if-number-from.false (same ∙ sym c.from.ensures)))
+    (c.if-reference-changed.true ∙ sym is)
+    (λ same. c.if-number-from.false (same ∙ is ∙ sym c.from.ensures)))
 
 pub returns : goal.returns
-returns c = λ before known.
-    fault_elsewhere c.args.definitions.now before c.args.change.now c.args.number c.args.child.now c.args.reference.now known.lawful c.requires.child c.requires.reference
-    (λ same. c.if-number-from.false (same ∙ sym c.from.ensures)) c.if-reference-change.false
+returns c = λ before change is known.
+    fault_elsewhere c.args.definitions.now before change c.args.number c.args.child.now c.args.reference.now known.lawful c.requires.child c.requires.reference
+    (λ same. c.if-number-from.false (same ∙ is ∙ sym c.from.ensures)) (λ same. c.if-reference-changed.false (same ∙ is))

@@ -16,14 +16,14 @@ fault_by-requires c = record {
 }
 
 pub loop-reference-preserved : goal.loop-reference-preserved
-loop-reference-preserved c = λ before known.
-    least_more (λ reference day. IsFaultBy c.args.definitions.now before c.args.change.now c.args.number c.args.child.now day reference) c.as_slice-references.result.now c.loop-reference.reference-index c.reference-item.result
-    c.loop-reference.found c.in_ok-by_it.by_it c.earlier-found.result c.loop-reference-test.true c.reference-item.is (c.loop-reference.invariant before known) (c.in_ok-by_it.ensures before known) c.earlier-found.ensures
+loop-reference-preserved c = λ before change is known.
+    least_more (λ reference day. IsFaultBy c.args.definitions.now before change c.args.number c.args.child.now day reference) c.as_slice-references.result.now c.loop-reference.reference-index c.reference-item.result
+    c.loop-reference.found c.in_ok-by_it.by_it c.earlier-found.result c.loop-reference-test.true c.reference-item.is (c.loop-reference.invariant before change is known) (c.in_ok-by_it.ensures before change is known) c.earlier-found.ensures
 
 pub returns : goal.returns
-returns c = λ before known.
-    let By : ℤ → Reference → Type 0 = IsFaultBy c.args.definitions.now before c.args.change.now c.args.number c.args.child.now in
+returns c = λ before change is known.
+    let By : ℤ → Reference → Type 0 = IsFaultBy c.args.definitions.now before change c.args.number c.args.child.now in
     let references : List Reference = c.as_slice-references.result.now in
     let all : take c.loop-reference.reference-index references ≡ references = take_all _ _ (omega arith) in
     subst (λ (list : List Reference). IsLeastOf (λ day. Any (By day) list) c.loop-reference.found) c.as_slice-references.ensures
-    (subst (λ (list : List Reference). IsLeastOf (λ day. Any (By day) list) c.loop-reference.found) all (c.loop-reference.invariant before known))
+    (subst (λ (list : List Reference). IsLeastOf (λ day. Any (By day) list) c.loop-reference.found) all (c.loop-reference.invariant before change is known))

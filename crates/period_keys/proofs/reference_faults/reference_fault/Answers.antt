@@ -9,7 +9,7 @@ use Rattle.period_keys.proofs.ReferenceFacts.{below_more, fault_of_all, none_bel
 use Rattle.period_keys.proofs.reference_faults.reference_fault.Goals as goal
 
 pub loop-place-init : goal.loop-place-init
-loop-place-init c = λ before known. none_below c.as_slice-definitions.result.now before c.args.change.now
+loop-place-init c = λ before change is known. none_below c.as_slice-definitions.result.now before change
 
 pub fault_of-requires : goal.fault_of-requires
 fault_of-requires c = record {
@@ -18,17 +18,17 @@ fault_of-requires c = record {
 }
 
 pub loop-place-preserved : goal.loop-place-preserved
-loop-place-preserved c = λ before known.
+loop-place-preserved c = λ before change is known.
     let definitions : List TableDef = c.as_slice-definitions.result.now in
     let child : TableDef = c.index-definitions-place.result in
-    below_more definitions before c.args.change.now c.loop-place.place child c.loop-place.found c.in_ok-here.here c.earlier-found.result
+    below_more definitions before change c.loop-place.place child c.loop-place.found c.in_ok-here.here c.earlier-found.result
     (slice_get_read definitions (length definitions) c.loop-place.place child refl c.loop-place-test.true c.index-definitions-place.is)
-    (c.loop-place.invariant before known) (c.in_ok-here.ensures before known) c.earlier-found.ensures
+    (c.loop-place.invariant before change is known) (c.in_ok-here.ensures before change is known) c.earlier-found.ensures
 
 pub returns : goal.returns
-returns c = λ before known.
+returns c = λ before change is known.
     let definitions : List TableDef = c.as_slice-definitions.result.now in
     let all : length definitions ≤ c.loop-place.place = omega (arith, c.loop-place-test.false) in
-    subst (λ (list : List TableDef). IsLeastOf (IsReferenceFault list before c.args.change.now) c.loop-place.found) c.as_slice-definitions.ensures
-    (fault_of_all definitions before c.args.change.now c.loop-place.place c.loop-place.found all
-    (c.loop-place.invariant before (subst (λ (list : List TableDef). IsPlannedIn list before c.args.tables.now c.args.change.now c.args.plan.now) (sym c.as_slice-definitions.ensures) known)))
+    subst (λ (list : List TableDef). IsLeastOf (IsReferenceFault list before change) c.loop-place.found) c.as_slice-definitions.ensures
+    (fault_of_all definitions before change c.loop-place.place c.loop-place.found all
+    (c.loop-place.invariant before change is (subst (λ (list : List TableDef). IsPlannedIn list before c.args.tables.now change c.args.plan.now) (sym c.as_slice-definitions.ensures) known)))

@@ -1,4 +1,4 @@
-use Rattle.std.proofs.Common.{List, map, subst, sym}
+use Rattle.std.proofs.Common.{◌<◌, ℕ, List, arith, length, map, subst, sym}
 use Rattle.std.specs.List.{AllPairs}
 use Rattle.std.specs.List.Sorted.{IsPermutation}
 use Rattle.period_core.specs.declared.row.PeriodRow.{PeriodRow}
@@ -9,6 +9,13 @@ use Rattle.period_keys.specs.Repeats.{Repeats, key_row}
 use Rattle.period_keys.proofs.Leasts.{IsLeastOf-same}
 use Rattle.period_keys.proofs.SweepSteps.{keys_repeat}
 use Rattle.period_keys.proofs.sweep.rows_clash.Goals as goal
+
+-- there are no two places
+alone : (i j n : ℕ) → i < j → j < n → n < 2 → ⊥
+alone i j n before inside few = omega (arith, before, inside, few)
+
+pub returns-then-rows-lt2 : goal.returns-then-rows-lt2
+returns-then-rows-lt2 c = λ day (i, j, before, inside, both). alone i j (length c.args.rows.now) before inside c.if-rows-lt2.true
 
 pub first_repeat-requires : goal.first_repeat-requires
 first_repeat-requires c =

@@ -1,10 +1,10 @@
 use Rattle.std.proofs.lemmas.Bool.{false≢true}
-use Rattle.std.proofs.lemmas.Result.{err_from_is_err_and}
-use Rattle.std.proofs.Common.{◌≡◌, ◌∙◌, false, List, Ok, ap, inl, inr, map, subst, subst₂, sym}
-use Rattle.period_core.specs.Leasts.{MayAnswer, NoneApplies}
-use Rattle.sql_statements.specs.Plain.{plain}
+use Rattle.std.proofs.lemmas.Result.{IfErr-at_err, err_from_is_err_and}
+use Rattle.std.proofs.Common.{◌≡◌, ◌∙◌, false, List, Ok, Some, ap, inl, inr, map, subst, subst₂, sym}
+use Rattle.period_core.specs.Leasts.{MayAnswer}
 use Rattle.catalog_core.specs.Judged.{Holds}
-use Rattle.catalog_core.specs.change.Resolution.{ResolvesChange, change_conditions, empty_period, has_empty_row}
+use Rattle.catalog_core.specs.change.Resolution.{change_conditions, has_empty_row}
+use Rattle.catalog_core.specs.table.TableWords.{table_of}
 use Rattle.catalog_core.specs.declared.table.TableDef.{TableDef}
 use Rattle.catalog_core.specs.declared.table.catalog.Catalog.{Catalog}
 use Rattle.history_model.specs.Histories.{last_state}
@@ -16,8 +16,11 @@ use Rattle.script_engine.specs.engine.Ended.{HaveEnded}
 use Rattle.script_engine.specs.engine.EngineState.{EngineState}
 use Rattle.script_engine.specs.engine.Faults.{IsFault}
 use Rattle.script_engine.specs.engine.InMemory.{FollowCatalog, rows_in}
+use Rattle.script_engine.specs.engine.Planned.{IsResolved, planned_count, word_of}
 use Rattle.script_engine.specs.engine.Runs.{StepsTo}
 use Rattle.statement_reports.specs.declared.outcome.Outcome.{Outcome}
+use Rattle.statement_reports.specs.declared.outcome.Outcome.TheVariants.{Done}
+use Rattle.statement_reports.specs.declared.outcome.Word.{Word}
 use Rattle.script_engine.proofs.Changed.{changed_step, hold_before, lawful_before, resolved_table, unchanged_step, unlawful_step, unplanned_step, unresolved_step}
 use Rattle.script_engine.proofs.Indexed.{ended_there}
 use Rattle.script_engine.proofs.InMemory.{current-kept}
@@ -27,22 +30,25 @@ use Rattle.script_engine.proofs.SameInMemory.{failed_over, rows_memory, same_mem
 use Rattle.script_engine.proofs.engine.Engine.change.Goals as goal
 
 pub returns-in_err-change-clause-step : goal.returns-in_err-change-clause-step
-returns-in_err-change-clause-step g c usable history kept =
+returns-in_err-change-clause-step g c usable history kept s is =
     let p = err_from_is_err_and c.from_residual.result c.from_residual.ensures.1 in
-    rw (p.1, p.2) (let same : c.catalog.result.now.tables ≡ c.args.self.now.catalog.tables = ap (λ (k : Catalog). k.tables) c.catalog.ensures ∙ ap (λ s. s.catalog.tables) c.self.view_is in
-    unresolved_step g.S.Store history c.args.self.now (plain c.args.statement.now) c.requires kept c.in_err-change.field-0.0
-    (subst (λ (tables : List TableDef). MayAnswer (Holds (change_conditions tables (plain c.args.statement.now))) c.in_err-change.field-0.0) same c.in_err-change.ensures.refused))
+    rw (p.1, p.2) (unresolved_step g.S.Store history c.args.self.now s is.form kept c.in_err-change.field-0.0
+    (IfErr-at_err (MayAnswer (Holds (change_conditions c.args.self.now.catalog.tables s))) c.in_err-change.was is.refused))
 
 pub lawful_plan-requires : goal.lawful_plan-requires
 lawful_plan-requires g c =
+    let old : EngineState g.row.S.Denot = c.args.self.now in
+    let change = c.in_ok-change.change in
     let tables : c.catalog-catalog.result.now ≡ c.self.inside.store.catalog = c.catalog-catalog.ensures in
+    let judged : c.catalog-catalog.result.now ≡ old.catalog = tables ∙ ap (λ (e : EngineState g.row.S.Denot). e.catalog) c.self.view_is in
+    let (s, is) = c.requires in
     record {
       follow =
           subst (λ (k : Catalog). FollowCatalog k.tables c.as_slice.result.now) (sym tables)
           (subst (FollowCatalog c.self.inside.store.catalog.tables) (sym c.as_slice.ensures.value) c.self.invariant.0);
       defined =
-          resolved_table c.catalog-catalog.result.now.tables (plain c.args.statement.now) c.in_ok-change.change
-          (subst (λ (k : Catalog). ResolvesChange k.tables (plain c.args.statement.now) c.in_ok-change.change) (c.catalog.ensures ∙ sym tables) c.in_ok-change.ensures.resolved);
+          subst (λ (k : Catalog). (d : TableDef) × (table_of k.tables change.table ≡ Some d)) (sym judged)
+          (resolved_table old.catalog.tables s change (subst (IsResolved old.catalog.tables s c.args.word) c.in_ok-change.was is).change);
     }
 
 -- the plan is over the rows in memory
@@ -55,73 +61,61 @@ apply-requires g c =
     (subst (λ (ts : List RowsByKey). IsPlanOf change.action (rows_in ts change.table) plan) tables c.in_ok-plan.ensures.plan)
 
 pub returns-in_err-plan-clause-step : goal.returns-in_err-plan-clause-step
-returns-in_err-plan-clause-step g c usable history kept =
+returns-in_err-plan-clause-step g c usable history kept s is =
     let p = err_from_is_err_and c.from_residual-in_err-plan.result c.from_residual-in_err-plan.ensures.1 in
-    rw (p.1, p.2) (let s = plain c.args.statement.now in
-    let change = c.in_ok-change.change in
+    rw (p.1, p.2) (let change = c.in_ok-change.change in
     let refusal = c.in_err-plan.field-0.0 in
     let old : EngineState g.row.S.Denot = c.args.self.now in
-    let catalog : c.catalog.result.now ≡ old.catalog = c.catalog.ensures ∙ ap (λ (e : EngineState g.row.S.Denot). e.catalog) c.self.view_is in
+    let known : IsResolved old.catalog.tables s c.args.word (Ok change) = subst (IsResolved old.catalog.tables s c.args.word) c.in_ok-change.was is in
     let judged : c.catalog-catalog.result.now ≡ old.catalog = c.catalog-catalog.ensures ∙ ap (λ (e : EngineState g.row.S.Denot). e.catalog) c.self.view_is in
     let tables : map rows_by_key c.as_slice.result.now ≡ old.tables = ap (map rows_by_key) c.as_slice.ensures.value ∙ ap (λ (e : EngineState g.row.S.Denot). e.tables) c.self.view_is in
-    let sound = subst (λ (k : Catalog). NoneApplies (Holds (change_conditions k.tables s))) catalog c.in_ok-change.ensures.sound in
-    let empty = subst (λ (k : Catalog). (empty_period k.tables s).1 ≡ has_empty_row change.action) catalog c.in_ok-change.ensures.empty in
-    let resolved = subst (λ (k : Catalog). ResolvesChange k.tables s change) catalog c.in_ok-change.ensures.resolved in
     elim c.in_err-plan.ensures.refused [
-      | inl none ↦ unplanned_step g.S.Store history old s c.requires kept change sound empty refusal (inl none)
+      | inl none ↦ unplanned_step g.S.Store history old s known.form kept change known.sound known.empty refusal (inl none)
       | inr other ↦ elim other [
-        | inl memory ↦ unplanned_step g.S.Store history old s c.requires kept change sound empty refusal (inr (inl memory))
+        | inl memory ↦ unplanned_step g.S.Store history old s known.form kept change known.sound known.empty refusal (inr (inl memory))
         | inr unlawful ↦
-            unlawful_step g.S.Store history old s c.requires kept change sound empty refusal resolved unlawful.0
+            unlawful_step g.S.Store history old s known.form kept change known.sound known.empty refusal known.change unlawful.0
             (subst (λ (k : Catalog). IsFault k.tables (last_state history) change refusal) judged
             (unlawful.2 (last_state history)
-            (subst (λ (k : Catalog). IsLawfulState k.tables (last_state history)) (sym judged) (lawful_before g.S.Store history old s c.requires kept))
-            (subst₂ (λ (k : Catalog) (ts : List RowsByKey). HoldCurrent k.tables (last_state history) ts) (sym judged) (sym tables) (hold_before g.S.Store history old s c.requires kept))))
+            (subst (λ (k : Catalog). IsLawfulState k.tables (last_state history)) (sym judged) (lawful_before g.S.Store history old s known.form kept))
+            (subst₂ (λ (k : Catalog) (ts : List RowsByKey). HoldCurrent k.tables (last_state history) ts) (sym judged) (sym tables) (hold_before g.S.Store history old s known.form kept))))
       ]
     ])
 
 pub returns-clause-step : goal.returns-clause-step
-returns-clause-step g c usable history kept =
-    let s = plain c.args.statement.now in
+returns-clause-step g c usable history kept s is =
     let change = c.in_ok-change.change in
     let plan = c.in_ok-plan.plan in
     let old : EngineState g.row.S.Denot = c.args.self.now in
     let new : EngineState g.row.S.Denot = c.apply.new.self in
-    let catalog : c.catalog.result.now ≡ old.catalog = c.catalog.ensures ∙ ap (λ (e : EngineState g.row.S.Denot). e.catalog) c.self.view_is in
+    let known : IsResolved old.catalog.tables s c.args.word (Ok change) = subst (IsResolved old.catalog.tables s c.args.word) c.in_ok-change.was is in
     let judged : c.catalog-catalog.result.now ≡ old.catalog = c.catalog-catalog.ensures ∙ ap (λ (e : EngineState g.row.S.Denot). e.catalog) c.self.view_is in
     let tables : map rows_by_key c.as_slice.result.now ≡ old.tables = ap (map rows_by_key) c.as_slice.ensures.value ∙ ap (λ (e : EngineState g.row.S.Denot). e.tables) c.self.view_is in
     let of : IsPlanOf change.action (rows_in old.tables change.table) plan =
     subst (λ (ts : List RowsByKey). IsPlanOf change.action (rows_in ts change.table) plan) tables c.in_ok-plan.ensures.plan in
-    subst (λ (o : Outcome). StepsTo g.S.Store history s (Ok o) new) (sym c.done.ensures)
-    (changed_step g.S.Store history old s c.requires kept change
-    (subst (λ (k : Catalog). NoneApplies (Holds (change_conditions k.tables s))) catalog c.in_ok-change.ensures.sound)
-    (subst (λ (k : Catalog). (empty_period k.tables s).1 ≡ has_empty_row change.action) catalog c.in_ok-change.ensures.empty)
-    plan of new
-    (subst (λ (k : Catalog). ResolvesChange k.tables s change) catalog c.in_ok-change.ensures.resolved)
+    let told : Done c.args.word (planned_count change.action plan) ≡ Done (word_of change.action) (planned_count change.action plan) = ap (λ (w : Word). Done w (planned_count change.action plan)) known.told in
+    subst (λ (o : Outcome). StepsTo g.S.Store history s (Ok o) new) (sym (c.done.ensures change.action known.told ∙ told))
+    (changed_step g.S.Store history old s known.form kept change known.sound known.empty plan of new known.change
     (subst (λ (k : Catalog). IsLawfulChange k.tables (last_state history) change) judged
     (c.in_ok-plan.ensures.lawful (last_state history)
-    (subst (λ (k : Catalog). IsLawfulState k.tables (last_state history)) (sym judged) (lawful_before g.S.Store history old s c.requires kept))
-    (subst₂ (λ (k : Catalog) (ts : List RowsByKey). HoldCurrent k.tables (last_state history) ts) (sym judged) (sym tables) (hold_before g.S.Store history old s c.requires kept))))
+    (subst (λ (k : Catalog). IsLawfulState k.tables (last_state history)) (sym judged) (lawful_before g.S.Store history old s known.form kept))
+    (subst₂ (λ (k : Catalog) (ts : List RowsByKey). HoldCurrent k.tables (last_state history) ts) (sym judged) (sym tables) (hold_before g.S.Store history old s known.form kept))))
     (c.in_ok-apply.ensures.distinct usable kept.contents kept.stored)
     (c.in_ok-apply.ensures.changes usable kept.contents kept.stored).0
     c.in_ok-apply.ensures.made c.in_ok-apply.ensures.closed)
 
 pub returns-in_err-apply-clause-step : goal.returns-in_err-apply-clause-step
-returns-in_err-apply-clause-step g c usable history kept =
+returns-in_err-apply-clause-step g c usable history kept s is =
     let p = err_from_is_err_and c.from_residual-in_err-apply.result c.from_residual-in_err-apply.ensures.1 in
-    rw (p.1, p.2) (let s = plain c.args.statement.now in
-    let change = c.in_ok-change.change in
+    rw (p.1, p.2) (let change = c.in_ok-change.change in
     let plan = c.in_ok-plan.plan in
     let old : EngineState g.row.S.Denot = c.args.self.now in
     let new : EngineState g.row.S.Denot = c.apply.new.self in
-    let catalog : c.catalog.result.now ≡ old.catalog = c.catalog.ensures ∙ ap (λ (e : EngineState g.row.S.Denot). e.catalog) c.self.view_is in
+    let known : IsResolved old.catalog.tables s c.args.word (Ok change) = subst (IsResolved old.catalog.tables s c.args.word) c.in_ok-change.was is in
     let tables : map rows_by_key c.as_slice.result.now ≡ old.tables = ap (map rows_by_key) c.as_slice.ensures.value ∙ ap (λ (e : EngineState g.row.S.Denot). e.tables) c.self.view_is in
     let of : IsPlanOf change.action (rows_in old.tables change.table) plan =
     subst (λ (ts : List RowsByKey). IsPlanOf change.action (rows_in ts change.table) plan) tables c.in_ok-plan.ensures.plan in
-    unchanged_step g.S.Store history old s c.requires kept change
-    (subst (λ (k : Catalog). NoneApplies (Holds (change_conditions k.tables s))) catalog c.in_ok-change.ensures.sound)
-    (subst (λ (k : Catalog). (empty_period k.tables s).1 ≡ has_empty_row change.action) catalog c.in_ok-change.ensures.empty)
-    plan of new c.in_err-apply.field-0.0
+    unchanged_step g.S.Store history old s known.form kept change known.sound known.empty plan of new c.in_err-apply.field-0.0
     (record {
       stored = (c.in_err-apply.ensures.changes usable kept.contents kept.stored).1;
       current = current-kept kept.contents change.table old.tables new.tables c.in_err-apply.ensures.none kept.current;
@@ -141,10 +135,9 @@ returns-in_err-apply-clause-kept g c =
 pub returns-in_err-change-clause-refused : goal.returns-in_err-change-clause-refused
 returns-in_err-change-clause-refused g c =
     let p = err_from_is_err_and c.from_residual.result c.from_residual.ensures.1 in
-    rw (p.1, p.2) (let s = plain c.args.statement.now in
-    let same : c.catalog.result.now.tables ≡ c.args.self.now.catalog.tables = ap (λ (k : Catalog). k.tables) c.catalog.ensures ∙ ap (λ s. s.catalog.tables) c.self.view_is in
-    inl (unresolved c.args.self.now.catalog.tables c.args.self.now.clock s c.requires c.in_err-change.field-0.0
-    (subst (λ (tables : List TableDef). MayAnswer (Holds (change_conditions tables s)) c.in_err-change.field-0.0) same c.in_err-change.ensures.refused)))
+    rw (p.1, p.2) (λ s is.
+    inl (unresolved c.args.self.now.catalog.tables c.args.self.now.clock s is.form c.in_err-change.field-0.0
+    (IfErr-at_err (MayAnswer (Holds (change_conditions c.args.self.now.catalog.tables s))) c.in_err-change.was is.refused)))
 
 pub returns-in_err-change-clause-memory : goal.returns-in_err-change-clause-memory
 returns-in_err-change-clause-memory g c =
@@ -154,18 +147,16 @@ returns-in_err-change-clause-memory g c =
 pub returns-in_err-plan-clause-refused : goal.returns-in_err-plan-clause-refused
 returns-in_err-plan-clause-refused g c =
     let p = err_from_is_err_and c.from_residual-in_err-plan.result c.from_residual-in_err-plan.ensures.1 in
-    rw (p.1, p.2) (let s = plain c.args.statement.now in
+    rw (p.1, p.2) (λ s is.
     let change = c.in_ok-change.change in
     let refusal = c.in_err-plan.field-0.0 in
     let old : EngineState g.row.S.Denot = c.args.self.now in
-    let catalog : c.catalog.result.now ≡ old.catalog = c.catalog.ensures ∙ ap (λ (e : EngineState g.row.S.Denot). e.catalog) c.self.view_is in
-    let sound = subst (λ (k : Catalog). NoneApplies (Holds (change_conditions k.tables s))) catalog c.in_ok-change.ensures.sound in
-    let empty = subst (λ (k : Catalog). (empty_period k.tables s).1 ≡ has_empty_row change.action) catalog c.in_ok-change.ensures.empty in
+    let known : IsResolved old.catalog.tables s c.args.word (Ok change) = subst (IsResolved old.catalog.tables s c.args.word) c.in_ok-change.was is in
     elim c.in_err-plan.ensures.refused [
-      | inl none ↦ inl (unplanned old.catalog.tables old.clock s c.requires change.action sound empty refusal (inl none))
+      | inl none ↦ inl (unplanned old.catalog.tables old.clock s known.form change.action known.sound known.empty refusal (inl none))
       | inr other ↦ elim other [
-        | inl memory ↦ inl (unplanned old.catalog.tables old.clock s c.requires change.action sound empty refusal (inr (inl memory)))
-        | inr unlawful ↦ constrained old.catalog.tables old.clock s c.requires change.action sound empty refusal unlawful.0 unlawful.1
+        | inl memory ↦ inl (unplanned old.catalog.tables old.clock s known.form change.action known.sound known.empty refusal (inr (inl memory)))
+        | inr unlawful ↦ constrained old.catalog.tables old.clock s known.form change.action known.sound known.empty refusal unlawful.0 unlawful.1
       ]
     ])
 
@@ -177,16 +168,14 @@ returns-in_err-plan-clause-memory g c =
 pub returns-in_err-apply-clause-refused : goal.returns-in_err-apply-clause-refused
 returns-in_err-apply-clause-refused g c =
     let p = err_from_is_err_and c.from_residual-in_err-apply.result c.from_residual-in_err-apply.ensures.1 in
-    rw (p.1, p.2) (let s = plain c.args.statement.now in
+    rw (p.1, p.2) (λ s is.
     let change = c.in_ok-change.change in
     let plan = c.in_ok-plan.plan in
     let old : EngineState g.row.S.Denot = c.args.self.now in
-    let catalog : c.catalog.result.now ≡ old.catalog = c.catalog.ensures ∙ ap (λ (e : EngineState g.row.S.Denot). e.catalog) c.self.view_is in
-    let sound = subst (λ (k : Catalog). NoneApplies (Holds (change_conditions k.tables s))) catalog c.in_ok-change.ensures.sound in
-    let empty = subst (λ (k : Catalog). (empty_period k.tables s).1 ≡ has_empty_row change.action) catalog c.in_ok-change.ensures.empty in
+    let known : IsResolved old.catalog.tables s c.args.word (Ok change) = subst (IsResolved old.catalog.tables s c.args.word) c.in_ok-change.was is in
     let of = c.in_ok-plan.ensures.plan in
     failed_over old.catalog.tables old.clock s c.in_err-apply.field-0.0
-    (none_without_empty old.catalog.tables old.clock s c.requires change.action sound empty
+    (none_without_empty old.catalog.tables old.clock s known.form change.action known.sound known.empty
     (λ found. let off : has_empty_row change.action ≡ false = days-planned change.action of.listed plan of.plans in absurd (false≢true (sym off ∙ found))))
     c.in_err-apply.ensures.named)
 

@@ -1,11 +1,18 @@
-use Rattle.std.proofs.Common.{◌≡◌, ◌∙◌, ap, subst, sym}
-use Rattle.sql_statements.specs.Plain.{plain, plain_form, plain_query, plain_stored}
+use Rattle.std.proofs.Common.{◌≡◌, ◌∙◌, List, Result, ap, subst, subst₂, sym}
+use Rattle.std.proofs.lemmas.Result.{IfErr-weaker}
+use Rattle.period_core.specs.declared.refusal.Refusal.{Refusal}
+use Rattle.sql_statements.specs.Plain.{plain, plain_delete, plain_form, plain_query, plain_stored, plain_update}
 use Rattle.sql_statements.specs.Trees.{Statement}
 use Rattle.sql_statements.specs.Trees as statement
-use Rattle.catalog_core.specs.change.Resolution.{IsChange}
+use Rattle.catalog_core.specs.declared.change.Change.{Change}
+use Rattle.catalog_core.specs.declared.table.TableDef.{TableDef}
+use Rattle.catalog_core.specs.declared.table.catalog.Catalog.{Catalog}
+use Rattle.statement_reports.specs.declared.outcome.Word.TheVariants as word
+use Rattle.script_engine.specs.engine.Planned.{IsResolved}
 use Rattle.script_engine.specs.engine.Runs.{StepsTo}
 use Rattle.std.specs.Prelude.{IfErr}
 use Rattle.script_engine.specs.engine.Runs.{IsQuery, MayRefuseOver, MayRefuseQuery}
+use Rattle.script_engine.proofs.Resolved.{resolved_delete, resolved_insert, resolved_update}
 use Rattle.script_engine.proofs.engine.Engine.execute.Goals as goal
 
 pub returns-in-Sequenced-clause-step : goal.returns-in-Sequenced-clause-step
@@ -31,7 +38,85 @@ returns-in-Stored-clause-step g c usable history kept =
     subst (λ (s : Statement). StepsTo g.S.Store history s c.show.result c.show.new.self) said (c.show.ensures.step usable history kept)
 
 pub change-requires : goal.change-requires
-change-requires g c = subst IsChange (ap plain_form (sym c.in-Insert.is) ∙ c.form.ensures) tt
+change-requires g c =
+    let r : Result Change Refusal = c.resolve_insert-resolved.result in
+    let same : c.catalog.result.now.tables ≡ c.args.self.now.catalog.tables = ap (λ (k : Catalog). k.tables) c.catalog.ensures in
+    let said : statement.insert c.in-Insert.insert ≡ plain c.args.statement.now = ap plain_form (sym c.in-Insert.is) ∙ c.form.ensures in
+    let known : IsResolved c.args.self.now.catalog.tables (plain c.args.statement.now) word.Insert r =
+    subst₂ (λ (tables : List TableDef) (s : Statement). IsResolved tables s word.Insert r) same said (resolved_insert c.catalog.result.now.tables c.in-Insert.insert r c.resolve_insert-resolved.ensures.sound c.resolve_insert-resolved.ensures.resolved c.resolve_insert-resolved.ensures.empty c.resolve_insert-resolved.ensures.refused) in
+    (plain c.args.statement.now, known)
+
+pub returns-in-Insert-clause-step : goal.returns-in-Insert-clause-step
+returns-in-Insert-clause-step g c usable history kept =
+    let r : Result Change Refusal = c.resolve_insert-resolved.result in
+    let same : c.catalog.result.now.tables ≡ c.args.self.now.catalog.tables = ap (λ (k : Catalog). k.tables) c.catalog.ensures in
+    let said : statement.insert c.in-Insert.insert ≡ plain c.args.statement.now = ap plain_form (sym c.in-Insert.is) ∙ c.form.ensures in
+    let known : IsResolved c.args.self.now.catalog.tables (plain c.args.statement.now) word.Insert r =
+    subst₂ (λ (tables : List TableDef) (s : Statement). IsResolved tables s word.Insert r) same said (resolved_insert c.catalog.result.now.tables c.in-Insert.insert r c.resolve_insert-resolved.ensures.sound c.resolve_insert-resolved.ensures.resolved c.resolve_insert-resolved.ensures.empty c.resolve_insert-resolved.ensures.refused) in
+    c.change.ensures.step usable history kept (plain c.args.statement.now) known
+
+pub returns-in-Insert-clause-refused : goal.returns-in-Insert-clause-refused
+returns-in-Insert-clause-refused g c =
+    let r : Result Change Refusal = c.resolve_insert-resolved.result in
+    let same : c.catalog.result.now.tables ≡ c.args.self.now.catalog.tables = ap (λ (k : Catalog). k.tables) c.catalog.ensures in
+    let said : statement.insert c.in-Insert.insert ≡ plain c.args.statement.now = ap plain_form (sym c.in-Insert.is) ∙ c.form.ensures in
+    let known : IsResolved c.args.self.now.catalog.tables (plain c.args.statement.now) word.Insert r =
+    subst₂ (λ (tables : List TableDef) (s : Statement). IsResolved tables s word.Insert r) same said (resolved_insert c.catalog.result.now.tables c.in-Insert.insert r c.resolve_insert-resolved.ensures.sound c.resolve_insert-resolved.ensures.resolved c.resolve_insert-resolved.ensures.empty c.resolve_insert-resolved.ensures.refused) in
+    IfErr-weaker c.change.result _ (MayRefuseOver c.args.self.now.catalog.tables c.args.self.now.clock (plain c.args.statement.now)) (λ refusal may. may (plain c.args.statement.now) known) c.change.ensures.refused
+
+pub change-requires-in-Update : goal.change-requires-in-Update
+change-requires-in-Update g c =
+    let r : Result Change Refusal = c.resolve_update-resolved.result in
+    let same : c.catalog-in-Update.result.now.tables ≡ c.args.self.now.catalog.tables = ap (λ (k : Catalog). k.tables) c.catalog-in-Update.ensures in
+    let said : statement.update (plain_update c.in-Update.update) ≡ plain c.args.statement.now = ap plain_form (sym c.in-Update.is) ∙ c.form.ensures in
+    let known : IsResolved c.args.self.now.catalog.tables (plain c.args.statement.now) word.Update r =
+    subst₂ (λ (tables : List TableDef) (s : Statement). IsResolved tables s word.Update r) same said (resolved_update c.catalog-in-Update.result.now.tables (plain_update c.in-Update.update) r c.resolve_update-resolved.ensures.sound c.resolve_update-resolved.ensures.resolved c.resolve_update-resolved.ensures.refused) in
+    (plain c.args.statement.now, known)
+
+pub returns-in-Update-clause-step : goal.returns-in-Update-clause-step
+returns-in-Update-clause-step g c usable history kept =
+    let r : Result Change Refusal = c.resolve_update-resolved.result in
+    let same : c.catalog-in-Update.result.now.tables ≡ c.args.self.now.catalog.tables = ap (λ (k : Catalog). k.tables) c.catalog-in-Update.ensures in
+    let said : statement.update (plain_update c.in-Update.update) ≡ plain c.args.statement.now = ap plain_form (sym c.in-Update.is) ∙ c.form.ensures in
+    let known : IsResolved c.args.self.now.catalog.tables (plain c.args.statement.now) word.Update r =
+    subst₂ (λ (tables : List TableDef) (s : Statement). IsResolved tables s word.Update r) same said (resolved_update c.catalog-in-Update.result.now.tables (plain_update c.in-Update.update) r c.resolve_update-resolved.ensures.sound c.resolve_update-resolved.ensures.resolved c.resolve_update-resolved.ensures.refused) in
+    c.change-in-Update.ensures.step usable history kept (plain c.args.statement.now) known
+
+pub returns-in-Update-clause-refused : goal.returns-in-Update-clause-refused
+returns-in-Update-clause-refused g c =
+    let r : Result Change Refusal = c.resolve_update-resolved.result in
+    let same : c.catalog-in-Update.result.now.tables ≡ c.args.self.now.catalog.tables = ap (λ (k : Catalog). k.tables) c.catalog-in-Update.ensures in
+    let said : statement.update (plain_update c.in-Update.update) ≡ plain c.args.statement.now = ap plain_form (sym c.in-Update.is) ∙ c.form.ensures in
+    let known : IsResolved c.args.self.now.catalog.tables (plain c.args.statement.now) word.Update r =
+    subst₂ (λ (tables : List TableDef) (s : Statement). IsResolved tables s word.Update r) same said (resolved_update c.catalog-in-Update.result.now.tables (plain_update c.in-Update.update) r c.resolve_update-resolved.ensures.sound c.resolve_update-resolved.ensures.resolved c.resolve_update-resolved.ensures.refused) in
+    IfErr-weaker c.change-in-Update.result _ (MayRefuseOver c.args.self.now.catalog.tables c.args.self.now.clock (plain c.args.statement.now)) (λ refusal may. may (plain c.args.statement.now) known) c.change-in-Update.ensures.refused
+
+pub change-requires-in-Delete : goal.change-requires-in-Delete
+change-requires-in-Delete g c =
+    let r : Result Change Refusal = c.resolve_delete-resolved.result in
+    let same : c.catalog-in-Delete.result.now.tables ≡ c.args.self.now.catalog.tables = ap (λ (k : Catalog). k.tables) c.catalog-in-Delete.ensures in
+    let said : statement.delete (plain_delete c.in-Delete.delete) ≡ plain c.args.statement.now = ap plain_form (sym c.in-Delete.is) ∙ c.form.ensures in
+    let known : IsResolved c.args.self.now.catalog.tables (plain c.args.statement.now) word.Delete r =
+    subst₂ (λ (tables : List TableDef) (s : Statement). IsResolved tables s word.Delete r) same said (resolved_delete c.catalog-in-Delete.result.now.tables (plain_delete c.in-Delete.delete) r c.resolve_delete-resolved.ensures.sound c.resolve_delete-resolved.ensures.resolved c.resolve_delete-resolved.ensures.refused) in
+    (plain c.args.statement.now, known)
+
+pub returns-in-Delete-clause-step : goal.returns-in-Delete-clause-step
+returns-in-Delete-clause-step g c usable history kept =
+    let r : Result Change Refusal = c.resolve_delete-resolved.result in
+    let same : c.catalog-in-Delete.result.now.tables ≡ c.args.self.now.catalog.tables = ap (λ (k : Catalog). k.tables) c.catalog-in-Delete.ensures in
+    let said : statement.delete (plain_delete c.in-Delete.delete) ≡ plain c.args.statement.now = ap plain_form (sym c.in-Delete.is) ∙ c.form.ensures in
+    let known : IsResolved c.args.self.now.catalog.tables (plain c.args.statement.now) word.Delete r =
+    subst₂ (λ (tables : List TableDef) (s : Statement). IsResolved tables s word.Delete r) same said (resolved_delete c.catalog-in-Delete.result.now.tables (plain_delete c.in-Delete.delete) r c.resolve_delete-resolved.ensures.sound c.resolve_delete-resolved.ensures.resolved c.resolve_delete-resolved.ensures.refused) in
+    c.change-in-Delete.ensures.step usable history kept (plain c.args.statement.now) known
+
+pub returns-in-Delete-clause-refused : goal.returns-in-Delete-clause-refused
+returns-in-Delete-clause-refused g c =
+    let r : Result Change Refusal = c.resolve_delete-resolved.result in
+    let same : c.catalog-in-Delete.result.now.tables ≡ c.args.self.now.catalog.tables = ap (λ (k : Catalog). k.tables) c.catalog-in-Delete.ensures in
+    let said : statement.delete (plain_delete c.in-Delete.delete) ≡ plain c.args.statement.now = ap plain_form (sym c.in-Delete.is) ∙ c.form.ensures in
+    let known : IsResolved c.args.self.now.catalog.tables (plain c.args.statement.now) word.Delete r =
+    subst₂ (λ (tables : List TableDef) (s : Statement). IsResolved tables s word.Delete r) same said (resolved_delete c.catalog-in-Delete.result.now.tables (plain_delete c.in-Delete.delete) r c.resolve_delete-resolved.ensures.sound c.resolve_delete-resolved.ensures.resolved c.resolve_delete-resolved.ensures.refused) in
+    IfErr-weaker c.change-in-Delete.result _ (MayRefuseOver c.args.self.now.catalog.tables c.args.self.now.clock (plain c.args.statement.now)) (λ refusal may. may (plain c.args.statement.now) known) c.change-in-Delete.ensures.refused
 
 pub returns-in-Sequenced-clause-refused : goal.returns-in-Sequenced-clause-refused
 returns-in-Sequenced-clause-refused g c =

@@ -1,29 +1,40 @@
-use Rattle.std.proofs.Common.{◌≡◌, ◌∙◌, false, inl, inr, List, subst, sym}
+use Rattle.std.proofs.Common.{◌≡◌, ◌∙◌, false, inl, inr, List, refl, subst, sym}
 use Rattle.std.proofs.lemmas.Bool.{false≢true}
 use Rattle.std.proofs.lemmas.Result.{err_from_is_err_and}
 use Rattle.catalog_core.specs.change.Resolution.{has_empty_row}
+use Rattle.catalog_core.specs.declared.change.Action.{Action}
 use Rattle.period_core.specs.declared.version.VersionRow.{VersionRow}
 use Rattle.period_keys.specs.Planned.{IsPlanOf}
 use Rattle.script_engine.proofs.Indexed.{rows_of_table}
 use Rattle.script_engine.proofs.Refused.{days-planned}
 use Rattle.script_engine.proofs.engine.lawfulness.lawful_plan.Goals as goal
 
-pub returns-in_err-judge_change-clause-refused : goal.returns-in_err-judge_change-clause-refused
-returns-in_err-judge_change-clause-refused c =
-    let p = err_from_is_err_and c.from_residual-in_err-judge_change.result c.from_residual-in_err-judge_change.ensures.1 in
-    rw (p.1, p.2) (elim c.in_err-judge_change.ensures.fault [
+-- the plan is over the rows of the table that is judged
+pub returns-in_err-judge_plan-clause-refused : goal.returns-in_err-judge_plan-clause-refused
+returns-in_err-judge_plan-clause-refused c =
+    let p = err_from_is_err_and c.from_residual-in_err-judge_plan.result c.from_residual-in_err-judge_plan.ensures.1 in
+    let action : Action = c.args.change.action in
+    let planned : IsPlanOf action c.in-Some.table.now.rows c.in_ok-plan.plan =
+    subst (λ (rows : List VersionRow). IsPlanOf action rows c.in_ok-plan.plan) c.rows.ensures.rows c.in_ok-plan.ensures.plan in
+    rw (p.1, p.2) (elim c.in_err-judge_plan.ensures.fault [
       | inl memory ↦ inr (inl memory)
       | inr fault ↦ inr (inr (
         λ empty.
-            let days : has_empty_row c.args.change.now.action ≡ false = days-planned c.args.change.now.action c.in_ok-plan.ensures.plan.listed c.in_ok-plan.plan c.in_ok-plan.ensures.plan.plans in
+            let days : has_empty_row action ≡ false = days-planned action planned.listed c.in_ok-plan.plan planned.plans in
             false≢true (sym days ∙ empty),
         fault.0,
-        fault.1,
+        λ before. fault.1 c.args.change before refl planned,
       ))
     ])
 
 pub returns-clause-plan : goal.returns-clause-plan
 returns-clause-plan c =
-    let number = c.args.change.now.table in
-    subst (λ (rows : List VersionRow). IsPlanOf c.args.change.now.action rows c.in_ok-plan.plan)
+    let number = c.args.change.table in
+    subst (λ (rows : List VersionRow). IsPlanOf c.args.change.action rows c.in_ok-plan.plan)
     (c.rows.ensures.rows ∙ sym (rows_of_table c.args.tables.now number c.in-Some.table.now c.in-Some.ensures)) c.in_ok-plan.ensures.plan
+
+pub returns-clause-lawful : goal.returns-clause-lawful
+returns-clause-lawful c = λ before.
+    let action : Action = c.args.change.action in
+    c.in_ok-judge_plan.ensures.lawful c.args.change before refl
+    (subst (λ (rows : List VersionRow). IsPlanOf action rows c.in_ok-plan.plan) c.rows.ensures.rows c.in_ok-plan.ensures.plan)

@@ -3,7 +3,7 @@ use Rattle.std.specs.List.{filter, flat_map}
 use Rattle.history_model.specs.Portions.{plain_row, replacements}
 use Rattle.portion_dml.specs.Plans.{version_row}
 use Rattle.portion_dml.proofs.Daily.{touched as is_touched}
-use Rattle.portion_dml.proofs.plan.planned.Given as goal
+use Rattle.portion_dml.proofs.plan.plan_portion.Given as goal
 
 -- the versions so far that the action touches, and the rows in their place
 abbrev pub invariant-loop-row : goal.invariant-loop-row
