@@ -68,8 +68,7 @@
 //! version_store
 //! - `open`, `catalog`, `clock`, `rows` of `VersionStore`, `accept`: `stores::new_stores`,
 //!   `moves::moved_as_accepted`
-//! - `catalog`, `clock`, `rows`, `scan_current`, `refuse` of `OpenedStore`:
-//!   `stores::opened_and_refused`
+//! - `catalog`, `clock`, `refuse` of `OpenedStore`: `stores::opened_and_refused`
 //! - `add_table`, `advance`, `apply`, `reopen`, `close`: `stores::opened_again`
 //! - `scan`: `stores::windows`, `stores::a_visitor_that_refuses_the_third_row`
 //!

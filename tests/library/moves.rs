@@ -8,7 +8,7 @@ use script_engine::{Engine, Outcome};
 use sqlite::Connection;
 use std::alloc::Global;
 use std::test::Fail;
-use version_store::{KeptRows, VersionStore};
+use version_store::VersionStore;
 use version_tables::{Form, meta_rows, number_at, version_rows};
 
 type InMemory = Engine<MemoryStore>;
@@ -130,16 +130,15 @@ fn starts_that_meet(rt: HostRuntime) -> Result<(), Fail> {
 fn moved_as_accepted(rt: HostRuntime) -> Result<(), Fail> {
     let alloc = rt.alloc();
     let connection = old_store(alloc, CLOCK, &MEETING)?;
-    let Ok(mut store) = VersionStore::open(alloc, connection) else {
+    let Ok((store, lists)) = VersionStore::open(alloc, connection) else {
         return Err("the store is refused")?;
     };
-    let mut kept = KeptRows::new(alloc);
-    store.scan_current(alloc, 1, &mut kept)?;
-    assert!(rt; are_versions(alloc, kept.rows.as_slice(), &MOVED[1..])?);
+    assert_eq!(rt; lists.len(), 1);
+    assert!(rt; are_versions(alloc, lists[0].as_slice(), &MOVED)?);
     let mut connection = store.refuse();
     assert_eq!(rt; form_and_clock(&mut connection)?, (Form::Seconds.number(), CLOCK));
     assert!(rt; has_moments(&mut connection, &[(1, 2), (CLOCK, OPEN_END)])?);
-    let Ok(store) = VersionStore::open(alloc, connection) else {
+    let Ok((store, _lists)) = VersionStore::open(alloc, connection) else {
         return Err("the store is refused")?;
     };
     let Ok(store) = store.accept() else {

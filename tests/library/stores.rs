@@ -19,7 +19,7 @@ type Store = VersionStore<MemoryStore>;
 // kept.
 fn opened(alloc: Global, connection: Connection<MemoryStore>) -> Result<Store, Fail> {
     match VersionStore::open(alloc, connection) {
-        Ok(opened) => accepted(opened),
+        Ok((opened, _lists)) => accepted(opened),
         Err((refusal, _connection)) => Err(refusal)?,
     }
 }
@@ -136,7 +136,7 @@ fn opened_again(rt: HostRuntime) -> Result<(), Fail> {
     let mut store = store_of_moves(alloc)?;
     assert!(rt; has_moves(alloc, &mut store)?);
     let mut store = match store.reopen(alloc) {
-        Ok(opened) => accepted(opened)?,
+        Ok((opened, _lists)) => accepted(opened)?,
         Err((refusal, _connection)) => return Err(refusal)?,
     };
     assert!(rt; has_moves(alloc, &mut store)?);
@@ -145,22 +145,19 @@ fn opened_again(rt: HostRuntime) -> Result<(), Fail> {
     Ok(())
 }
 
-// What is opened shows its tables and its current rows, and is handed back as it was.
+// What is opened shows its tables and its versions, and is handed back as it was.
 #[test]
 fn opened_and_refused(rt: HostRuntime) -> Result<(), Fail> {
     let alloc = rt.alloc();
     let store = store_of_moves(alloc)?;
-    let mut opened_store = match store.reopen(alloc) {
-        Ok(opened) => opened,
+    let (opened_store, lists) = match store.reopen(alloc) {
+        Ok(found) => found,
         Err((refusal, _connection)) => return Err(refusal)?,
     };
     assert_eq!(rt; opened_store.catalog().len(), 1);
     assert_eq!(rt; opened_store.clock(), moment("2024-01-02 00:00:00")?);
-    let rows = opened_store.rows(alloc, 1)?;
-    assert!(rt; are_versions(alloc, rows.as_slice(), &MOVES)?);
-    let mut kept = KeptRows::new(alloc);
-    opened_store.scan_current(alloc, 1, &mut kept)?;
-    assert!(rt; are_versions(alloc, kept.rows.as_slice(), &MOVES[1..])?);
+    assert_eq!(rt; lists.len(), 1);
+    assert!(rt; are_versions(alloc, lists[0].as_slice(), &MOVES)?);
     let mut store = opened(alloc, opened_store.refuse())?;
     assert!(rt; has_moves(alloc, &mut store)?);
     Ok(())

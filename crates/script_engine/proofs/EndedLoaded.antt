@@ -19,19 +19,19 @@ use Rattle.period_core.specs.declared.version.VersionRow.{VersionRow}
 use Rattle.catalog_core.specs.table.TableWords.{table_of}
 use Rattle.ended_versions.specs.Packed.{AreEndedBy, Hold, PackedVersion, packed}
 use Rattle.ended_versions.proofs.PackedFacts.{OfColumns}
-use Rattle.version_store.specs.Contents.{AreRowsOf, Contents, TableVersion, of_table, version_in}
+use Rattle.version_store.specs.Contents.{Contents, TableVersion, of_table, version_in}
 use Rattle.version_store.specs.GoodStore.{HaveTables}
 use Rattle.script_engine.specs.engine.Ended.{AreInOrderOfEnds, HasEnded, HaveEnded, ended_in, ended_of, has_ended, table_ended}
 use Rattle.script_engine.proofs.Loaded.{none_there}
 
 -- those of a table's rows that have ended, in any order, in a list
-pub table_loaded : (c : Contents) (number : ℕ) (rows ended : List VersionRow) (list : List PackedVersion) → AreRowsOf c number rows → Hold list ended → IsPermutation (filter has_ended rows) ended → HasEnded c number list
+pub table_loaded : (c : Contents) (number : ℕ) (rows ended : List VersionRow) (list : List PackedVersion) → IsPermutation (of_table number c.versions) (map (version_in number) rows) → Hold list ended → IsPermutation (filter has_ended rows) ended → HasEnded c number list
 table_loaded c number rows ended list are held same = record {
   versions = ended;
   held = held;
   all =
       IsPermutation-trans (ended_of number c.versions) (map (version_in number) (filter has_ended rows)) (map (version_in number) ended)
-      (subst (IsPermutation (ended_of number c.versions)) (filter-map table_ended (version_in number) rows) (IsPermutation-filter table_ended (of_table number c.versions) (map (version_in number) rows) are.all))
+      (subst (IsPermutation (ended_of number c.versions)) (filter-map table_ended (version_in number) rows) (IsPermutation-filter table_ended (of_table number c.versions) (map (version_in number) rows) are))
       (IsPermutation-map (version_in number) (filter has_ended rows) ended same);
 }
 

@@ -1,91 +1,35 @@
 -- The rows in memory as they are loaded, table by table.
-use Rattle.std.proofs.Common.{◌≡◌, ◌<◌, ◌≤◌, ◌+◌, ◌==◌, ◌++◌, ◌∷◌, ◌∙◌, ℕ, zero, suc, Bool, true, false, List, [], None, Some, eqb-true, get_or, inl, inr, length, map, nat_lt, refl, sym, ap, ap₂, subst, subst₂, take, take_all, length-append, arith}
-use Rattle.std.specs.Prelude.{IsSome}
+use Rattle.std.proofs.Common.{◌≡◌, ◌<◌, ◌≤◌, ◌+◌, ◌==◌, ◌++◌, ◌∷◌, ◌∙◌, ℕ, zero, suc, Bool, true, false, List, [], None, Some, eqb-true, get_or, length, map, nat_lt, refl, sym, ap, ap₂, subst, take, take_all, length-append, arith}
 use Rattle.std.specs.List.{filter}
 use Rattle.std.specs.List.Sorted.{IsPermutation}
 use Rattle.std.specs.Option.{option_map_or}
 use Rattle.std.proofs.lemmas.Bool.Decides.{nat_tests}
 use Rattle.std.proofs.lemmas.List.{map-append, take_more}
-use Rattle.std.proofs.lemmas.List.Sorted.{IsPermutation-refl}
+use Rattle.std.proofs.lemmas.List.Sorted.{IsPermutation-map, IsPermutation-refl, IsPermutation-trans}
 use Rattle.std.proofs.lemmas.Option.{none-some, slice_get_past}
-use Rattle.sqlite_trees.proofs.ListLemmas.{all_weaker, filter_none}
-use Rattle.sqlite.specs.Effect.{Database}
-use Rattle.sqlite.specs.Store.{Ghosts}
-use Rattle.period_core.specs.declared.refusal.Refusal.{Refusal}
+use Rattle.sqlite_trees.proofs.ListLemmas.{IsPermutation-filter, all_weaker, filter-map, filter_none}
 use Rattle.period_core.specs.declared.version.VersionRow.{VersionRow}
 use Rattle.period_core.specs.Windows.{window_sees}
 use Rattle.period_core.specs.declared.window.Window.TheVariants.{Now}
 use Rattle.catalog_core.specs.declared.table.TableDef.{TableDef}
-use Rattle.catalog_core.specs.declared.table.catalog.Catalog.{Catalog}
 use Rattle.catalog_core.specs.table.TableWords.{table_of}
 use Rattle.period_keys.specs.Lawful.{key_positions}
 use Rattle.period_keys.specs.Rows.{RowsByKey}
-use Rattle.version_tables.specs.declared.form.Form.{Form}
-use Rattle.version_store.specs.Contents.{Contents, TableVersion, of_table}
+use Rattle.version_store.specs.Contents.{Contents, TableVersion, of_table, version_in}
 use Rattle.version_store.specs.GoodStore.{HaveTables}
-use Rattle.version_store.specs.StoreState.{IsFailure, IsOnlyRead, IsOpenedRead, IsUsable, OpenedRepresents, OpenedState, StoreRepresents, StoreState}
-use Rattle.version_store.specs.Units.{in_microseconds}
-use Rattle.version_store.specs.Written.{Has, HasIn}
+use Rattle.version_store.specs.Scans.{seen_of}
+use Rattle.script_engine.specs.engine.Ended.{is_current}
 use Rattle.script_engine.specs.engine.InMemory.{AreCurrentOf, HaveCurrentRows, keys_in, rows_in}
 
--- ---- what is only read
+-- ---- one table
 
-pub read_nothing : {S : Type 0} (g : Ghosts S) (store : StoreState S) → IsOnlyRead g store store
-read_nothing g store = record { catalog = refl; clock = refl; usable = λ usable. usable; same = λ usable. (refl, refl); faults = record { faults = omega arith; limit = refl } }
-
-pub read_more : {S : Type 0} (g : Ghosts S) (old middle new : StoreState S) → IsOnlyRead g old middle → IsOnlyRead g middle new → IsOnlyRead g old new
-read_more g old middle new first second = record {
-  catalog = second.catalog ∙ first.catalog;
-  clock = second.clock ∙ first.clock;
-  usable = λ usable. first.usable (second.usable usable);
-  same = λ usable.
-      let now = second.same usable in
-      let before = first.same (second.usable usable) in
-      (now.0 ∙ before.0, now.1 ∙ before.1);
-  faults = record {
-    faults = (let earlier = first.faults.faults in let later = second.faults.faults in omega arith);
-    limit = second.faults.limit ∙ first.faults.limit;
-  };
-}
-
--- what the store represented it goes on representing
-pub represents_still : {S : Type 0} (g : Ghosts S) (old new : StoreState S) (c : Contents) → IsOnlyRead g old new → IsUsable g new.connection → StoreRepresents g old c → StoreRepresents g new c
-represents_still g old new c read usable was =
-    let same = read.same usable in
-    record {
-      now = subst (λ db. Has db c) (sym same.0) was.now;
-      committed = same.1 ∙ was.committed ∙ sym same.0;
-      catalog = ap (λ k. k.tables) read.catalog ∙ was.catalog;
-      clock = read.clock ∙ was.clock;
-      dated = was.dated;
-    }
-
--- a fault since a call that read is one since it began
-pub failure_since : {S : Type 0} (g : Ghosts S) (old middle new : StoreState S) (refusal : Refusal) → IsOnlyRead g old middle → IsFailure g middle.connection new.connection refusal → IsFailure g old.connection new.connection refusal
-failure_since g old middle new refusal read (inl memory) = inl memory
-failure_since g old middle new refusal read (inr (inl more)) = inr (inl (let earlier = read.faults.faults in omega (arith, more, earlier)))
-failure_since g old middle new refusal read (inr (inr limit)) = inr (inr (subst IsSome read.faults.limit limit))
-
--- an opened store
-
-pub opened_nothing : {S : Type 0} (g : Ghosts S) (opened : OpenedState S) → IsOpenedRead g opened opened
-opened_nothing g opened = (read_nothing g opened.store, refl)
-
-pub opened_more : {S : Type 0} (g : Ghosts S) (old middle new : OpenedState S) → IsOpenedRead g old middle → IsOpenedRead g middle new → IsOpenedRead g old new
-opened_more g old middle new first second = (read_more g old.store middle.store new.store first.0 second.0, second.1 ∙ first.1)
-
-pub opened_still : {S : Type 0} (g : Ghosts S) (old new : OpenedState S) (c : Contents) → IsOpenedRead g old new → IsUsable g new.store.connection → OpenedRepresents g old c → OpenedRepresents g new c
-opened_still g old new c read usable was =
-    let same = read.0.same usable in
-    record {
-      counted = was.counted;
-      same = ap (λ (f : Form). in_microseconds f was.counted) read.1 ∙ was.same;
-      now = subst₂ (λ (f : Form) (db : Database). HasIn f db was.counted) (sym read.1) (sym same.0) was.now;
-      committed = same.1 ∙ was.committed ∙ sym same.0;
-      catalog = ap (λ (k : Catalog). k.tables) read.0.catalog ∙ was.catalog;
-      clock = read.0.clock ∙ was.clock;
-      dated = was.dated;
-    }
+-- those of a table's versions that are current, in any order
+pub current_loaded : (c : Contents) (number : ℕ) (rows loaded : List VersionRow) → IsPermutation (of_table number c.versions) (map (version_in number) rows) → IsPermutation (filter is_current rows) loaded → AreCurrentOf c number loaded
+current_loaded c number rows loaded are same =
+    let sees = λ (v : TableVersion). window_sees Now v.from v.to in
+    IsPermutation-trans (seen_of number Now c.versions) (map (version_in number) (filter is_current rows)) (map (version_in number) loaded)
+    (subst (IsPermutation (seen_of number Now c.versions)) (filter-map sees (version_in number) rows) (IsPermutation-filter sees (of_table number c.versions) (map (version_in number) rows) are))
+    (IsPermutation-map (version_in number) (filter is_current rows) loaded same)
 
 -- ---- the first tables
 

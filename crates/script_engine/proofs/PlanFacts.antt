@@ -1,5 +1,5 @@
 -- Plans over the current versions of a table: which versions they end, and what is counted of them.
-use Rattle.std.proofs.Common.{◌≡◌, ◌&&◌, ◌++◌, ◌∷◌, ◌∙◌, ℕ, Bool, true, false, Ok, append-nil, append_assoc, cond, fold, List, [], length, map, refl, sym, ap, subst}
+use Rattle.std.proofs.Common.{◌≡◌, ◌&&◌, ◌∷◌, ◌∙◌, ℕ, Bool, true, false, append-nil, cond, List, [], length, map, refl, sym, ap, subst}
 use Rattle.std.specs.List.{filter}
 use Rattle.std.specs.List.Sorted.{IsPermutation}
 use Rattle.std.proofs.lemmas.List.{length-map}
@@ -13,15 +13,14 @@ use Rattle.catalog_core.specs.declared.change.Action.{Action}
 use Rattle.catalog_core.specs.declared.change.Action.TheVariants.{Delete, Insert, Update}
 use Rattle.catalog_core.specs.declared.change.GivenRow.{GivenRow}
 use Rattle.catalog_core.specs.declared.change.Plan.{Plan}
-use Rattle.version_store.specs.Contents.{Contents, TableVersion, of_table, version_in}
-use Rattle.version_store.specs.Scans.{AreFirstSeen, Visits, seen_of}
+use Rattle.version_store.specs.Contents.{TableVersion, of_table, version_in}
+use Rattle.version_store.specs.Scans.{seen_of}
 use Rattle.history_model.specs.Left.{is_touched, its_row, touched_rows}
 use Rattle.history_model.specs.Portions.{added, plain_given, plain_row, touches}
 use Rattle.history_model.specs.Versions.{PlainVersion, current, plain_version}
 use Rattle.history_model.proofs.LeftFacts.{from_images, version_same}
 use Rattle.portion_dml.specs.Plans.{Plans, version_row}
 use Rattle.portion_dml.proofs.Planned.{none_touched}
-use Rattle.script_engine.specs.engine.InMemory.{AreCurrentOf}
 use Rattle.script_engine.specs.engine.Planned.{count_of, planned_count}
 
 -- ---- versions of a table as version rows
@@ -98,19 +97,3 @@ pub counted : (action : Action) (rows : List VersionRow) (versions : List PlainV
 counted (Insert given) rows versions plan listed are plans left = given_count given listed plan plans
 counted (Update portion assignments condition) rows versions plan listed are plans left = touched_count (Update portion assignments condition) rows listed versions plan are plans left
 counted (Delete portion condition) rows versions plan listed are plans left = touched_count (Delete portion condition) rows listed versions plan are plans left
-
--- ---- what a scan hands over
-
--- what keeps each row keeps them all
-kept_all : (before rows : List VersionRow) → fold (λ (kept : List VersionRow) (row : VersionRow). kept ++ row ∷ []) before rows ≡ before ++ rows
-kept_all before [] = sym (append-nil before)
-kept_all before (row ∷ rows) = kept_all (before ++ row ∷ []) rows ∙ append_assoc before (row ∷ []) rows
-
--- the rows that a scan of the current versions hands over are the current ones
-pub current_of_scan : {X : Type 0} (c : Contents) (table : ℕ) (old new : List VersionRow) (x : X) → old ≡ [] → Visits (λ (kept : List VersionRow) (row : VersionRow). kept ++ row ∷ []) c table Now old new (Ok x) → AreCurrentOf c table new
-current_of_scan c table old new x none visits =
-    let rows : List VersionRow = visits.0 in
-    let whole : visits.1 ≡ [] = visits.4 in
-    let is : new ≡ rows = visits.3 ∙ ap (λ (o : List VersionRow). fold (λ (kept : List VersionRow) (row : VersionRow). kept ++ row ∷ []) o rows) none ∙ kept_all [] rows in
-    let first : AreFirstSeen c table Now rows [] = subst (AreFirstSeen c table Now rows) whole visits.2 in
-    subst (AreCurrentOf c table) (sym is) (subst (IsPermutation (seen_of table Now c.versions)) (append-nil (map (version_in table) rows)) first.all)

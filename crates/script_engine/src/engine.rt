@@ -43,7 +43,7 @@ mod outcome;
 mod shown;
 mod stored;
 
-use crate::engine::closed::{add_versions, apply_closing, load_ended, remove_versions};
+use crate::engine::closed::{add_versions, apply_closing, remove_versions};
 use crate::engine::indexed::load_lawful;
 use crate::engine::lawfulness::lawful_plan;
 use crate::engine::needed::answer_of;
@@ -131,17 +131,14 @@ impl<S: Alter> Engine<S> {
         ensures settled { IfErr result (λ failed. failed.1.in_transaction ≡ false) }
         ensures named { IfErr result (λ failed. IsOpenRefusal failed.0) }
     {
-        let mut opened = match VersionStore::open(alloc, connection) {
-            Ok(opened) => opened,
+        let (opened, lists) = match VersionStore::open(alloc, connection) {
+            Ok(found) => found,
             Err(failed) => return Err(failed),
         };
-        let tables = match load_lawful(alloc, &mut opened) {
-            Ok(tables) => tables,
+        let clock = opened.clock();
+        let (tables, ended) = match load_lawful(alloc, opened.catalog(), clock, lists) {
+            Ok(loaded) => loaded,
             Err(refusal) => return Err((refusal, opened.refuse())),
-        };
-        let ended = match load_ended(alloc, &mut opened) {
-            Ok(ended) => ended,
-            Err(failure) => return Err((failure, opened.refuse())),
         };
         match opened.accept() {
             Ok(store) => Ok(Engine {

@@ -135,12 +135,12 @@ module _ (db : Database) (metas tables versions : List Row) (pm : IsPermutation 
         each = all-permutation says _ _ pv shown;
       })
 
-  pub judged_good : HasStoreTables db.schema → KeepsKeys db → (r : Result (Catalog × Form × ℤ) OpenFault) → IfOk r (λ found. SayRows metas tables versions found.0.tables found.1 found.2)
+  pub judged_good : HasStoreTables db.schema → KeepsKeys db → {L : Type 0} (r : Result (Catalog × Form × ℤ × L) OpenFault) → IfOk r (λ found. SayRows metas tables versions found.0.tables found.1 found.2)
       → IfOk r (λ found. (good : IsGoodStore NothingMore db) × (good.contents.tables ≡ found.0.tables) × (good.form ≡ found.1) × (good.contents.clock ≡ found.2))
   judged_good there keys (Err e) says = tt
   judged_good there keys (Ok found) says = points_hold there keys found.0.tables found.1 found.2 says
 
-  pub judged_bad : (r : Result (Catalog × Form × ℤ) OpenFault) → IfErr r (λ refusal. refusal ≡ BadStore → (known : List TableDef) (form : Form) (clock : ℤ) → ¬ SayRows metas tables versions known form clock)
+  pub judged_bad : {L : Type 0} (r : Result (Catalog × Form × ℤ × L) OpenFault) → IfErr r (λ refusal. refusal ≡ BadStore → (known : List TableDef) (form : Form) (clock : ℤ) → ¬ SayRows metas tables versions known form clock)
       → IfErr r (λ refusal. refusal ≡ BadStore → ¬ IsGoodStore NothingMore db)
   judged_bad (Ok found) none = tt
   judged_bad (Err e) none = λ bad good. points_fail good (none bad)
@@ -153,7 +153,7 @@ has_contents db good untied keyed = record {
   values = all_weaker (IsGoodVersionIn good.form good.contents.tables good.contents.clock) (λ (v : TableVersion). All IsColumnValue v.values) (λ v fine. fine.held) good.contents.versions good.versions;
 }
 
-pub found_contents : (db : Database) → AreUntied (db.trees 2) → AllByRecursion (λ r. is_int (rowid r) ≡ true) (db.trees 2) → (r : Result (Catalog × Form × ℤ) OpenFault)
+pub found_contents : (db : Database) → AreUntied (db.trees 2) → AllByRecursion (λ r. is_int (rowid r) ≡ true) (db.trees 2) → {L : Type 0} (r : Result (Catalog × Form × ℤ × L) OpenFault)
     → IfOk r (λ found. (good : IsGoodStore NothingMore db) × (good.contents.tables ≡ found.0.tables) × (good.form ≡ found.1) × (good.contents.clock ≡ found.2))
     → IfOk r (λ found. (good : IsGoodStore NothingMore db) × HasIn good.form db good.contents × (good.contents.tables ≡ found.0.tables) × (good.form ≡ found.1) × (good.contents.clock ≡ found.2))
 found_contents db untied keyed (Err e) says = tt

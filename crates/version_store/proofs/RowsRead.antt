@@ -6,7 +6,7 @@ use Rattle.sqlite.specs.declared.types.Value.TheVariants.{Blob, Int}
 use Rattle.version_tables.proofs.ColumnFacts.{same_int}
 use Rattle.version_tables.specs.Forms.{IsNumberIn}
 use Rattle.version_tables.specs.Good.{AreDays}
-use Rattle.version_tables.specs.Represents.{shown}
+use Rattle.version_tables.specs.Represents.{shown, stored}
 use Rattle.version_tables.specs.Rows.{AreBytesAt, IsNumberAt}
 use Rattle.version_store.specs.Contents.{IsDated, TableVersion}
 use Rattle.version_tables.specs.declared.form.Form.{Form}
@@ -58,3 +58,18 @@ module _ (row : Row) (v : TableVersion) (is : row ≡ shown (written_version v))
 
     pub to_in : (n : ℤ) × IsNumberAt row 4 n × IsNumberIn form n
     to_in = (v.to, number_in 4 v.to (omega arith, refl), number_of_end form v.to dated.to)
+
+-- the row of bt_version has them too
+module _ (row : Row) (v : TableVersion) (is : row ≡ stored (written_version v)) where
+  number_stored : (at : ℕ) (n : ℤ) → IsNumberAt (stored (written_version v)) at n → IsNumberAt row at n
+  number_stored at n there = rw is there
+
+  module _ (form : Form) (dated : IsDated (version_of form v)) where
+    pub days_stored : (s e : ℤ) × IsNumberAt row 2 s × IsNumberAt row 3 e × AreDays s e
+    days_stored = (v.start, v.end, number_stored 2 v.start (omega arith, refl), number_stored 3 v.end (omega arith, refl), dated.days)
+
+    pub from_stored : (n : ℤ) × IsNumberAt row 4 n × IsNumberIn form n
+    from_stored = (v.from, number_stored 4 v.from (omega arith, refl), number_of_moment form v.from dated.from)
+
+    pub to_stored : (n : ℤ) × IsNumberAt row 5 n × IsNumberIn form n
+    to_stored = (v.to, number_stored 5 v.to (omega arith, refl), number_of_end form v.to dated.to)

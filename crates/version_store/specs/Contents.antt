@@ -1,6 +1,8 @@
 -- What a store holds: the tables' definitions, the clock, the version rows.
-use Rattle.std.specs.Prelude.{◌==◌, ◌&&◌, ℕ, ℤ, Bool, List, [], map, filter}
+use Rattle.std.specs.Prelude.{◌≡◌, ◌==◌, ◌&&◌, ◌++◌, ◌∷◌, ℕ, ℤ, Bool, List, [], length, map}
+use Rattle.std.specs.Prelude.{filter}
 use Rattle.std.specs.Prelude.{IsPermutation, IsSorted}
+use Rattle.std.specs.Option.{option_map_or}
 use Rattle.std.specs.declared.cmp.Ordering.{Ordering}
 use Rattle.std.specs.List.{All, AllByRecursion}
 use Rattle.std.specs.Ordering.{on, then_cmp, int_cmp, is_eq}
@@ -11,6 +13,7 @@ use Rattle.period_core.specs.declared.row.PeriodRow.{PeriodRow}
 use Rattle.period_core.specs.declared.value.Value.{Value}
 use Rattle.period_core.specs.declared.version.VersionRow.{VersionRow}
 use Rattle.catalog_core.specs.declared.table.TableDef.{TableDef}
+use Rattle.catalog_core.specs.table.TableWords.{table_of}
 use Rattle.version_tables.specs.Good.{AreDays}
 
 -- a version of the table of a number: its values hold on the days from start on and before end, as
@@ -77,6 +80,25 @@ of_table table = filter (λ v. v.table == table)
 pub record AreRowsOf (c : Contents) (table : ℕ) (rows : List VersionRow) : Type 0 where
   pub all : IsPermutation (of_table table c.versions) (map (version_in table) rows)
   pub sorted : IsSorted version_cmp (map (version_in table) rows)
+
+-- the rows of the table of a number, of lists in the order of the tables; of a number without a
+-- list none
+abbrev pub rows_of_table : List (List VersionRow) → ℕ → List VersionRow
+rows_of_table lists number =
+    option_map_or (λ (rows : List VersionRow). rows) (table_of lists number) []
+
+-- the lists have the versions of each table, each once and in any order
+abbrev pub AreVersionsOf : Contents → List (List VersionRow) → Type 0
+AreVersionsOf c lists = (number : ℕ) → IsPermutation (of_table number c.versions)
+    (map (version_in number) (rows_of_table lists number))
+
+-- a row was added to the list of a table, and no other list changed
+pub record HasMore (number : ℕ) (row : VersionRow) (old new : List (List VersionRow)) : Type 0
+  where
+    pub count : length new ≡ length old
+    pub there : rows_of_table new number ≡ rows_of_table old number ++ row ∷ []
+    pub others : (other : ℕ) → (other ≡ number → ⊥)
+        → rows_of_table new other ≡ rows_of_table old other
 
 -- each value is one that a column holds
 abbrev pub HaveColumnValues : List TableVersion → Type 0

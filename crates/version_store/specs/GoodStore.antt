@@ -1,8 +1,9 @@
 -- Which databases are good stores, point by point.
 use Rattle.std.specs.Prelude.{◌≡◌, ◌≤◌, ◌+◌, ℤ, pos, true, false, List, [], ◌∷◌, ◌++◌}
-use Rattle.std.specs.Prelude.{length, Some}
+use Rattle.std.specs.Prelude.{ℕ, length, map, Some}
 use Rattle.std.specs.List.{All, AllByRecursion}
 use Rattle.period_core.specs.Encoding.{IsColumnValue}
+use Rattle.period_core.specs.declared.version.VersionRow.{VersionRow}
 use Rattle.catalog_core.specs.Limits.{most_tables}
 use Rattle.catalog_core.specs.table.TableWords.{table_of}
 use Rattle.catalog_core.specs.declared.table.TableDef.{TableDef}
@@ -10,15 +11,18 @@ use Rattle.sqlite.specs.Effect.{Database}
 use Rattle.sqlite.specs.Order.{Row}
 use Rattle.sqlite.specs.Tree.{IsAscending}
 use Rattle.sqlite.specs.declared.types.Value.TheVariants.{Int, Blob}
+use Rattle.version_tables.specs.Forms.{end_in, moment_in}
 use Rattle.version_tables.specs.Good.{AreDays, AreMoments, IsClock, SayClock}
 use Rattle.version_tables.specs.Represents.{Says, stored}
+use Rattle.version_tables.specs.Rows.{IsNumberAt}
 use Rattle.version_tables.specs.Tables.{HasStoreTables}
 use Rattle.version_tables.specs.declared.form.Form.{Form}
 use Rattle.version_tables.specs.declared.form.Form.TheVariants.{Microseconds}
-use Rattle.version_store.specs.Contents.{Contents, TableVersion, same_version}
+use Rattle.version_store.specs.Contents.{Contents, TableVersion, of_table, rows_of_table}
+use Rattle.version_store.specs.Contents.{same_version, version_in}
 use Rattle.catalog_core.specs.create.Lawful.{IsLawful}
 use Rattle.version_store.specs.RowValues.{are_row_values}
-use Rattle.version_store.specs.Units.{in_microseconds}
+use Rattle.version_store.specs.Units.{in_microseconds, version_of}
 use Rattle.version_store.specs.Written.{IsReadable, written_in, written_table, written_version}
 
 -- the version's table is there, its values are those of a row of it, its period is one of days, its
@@ -107,6 +111,29 @@ pub record AreTables (rows : List Row) (tables : List TableDef) : Type 0 where
 abbrev pub SaysVersion : Form → List TableDef → ℤ → Row → Type 0
 SaysVersion form tables clock row =
     (v : TableVersion) × (row ≡ stored (written_version v)) × IsGoodVersionIn form tables clock v
+
+-- the version row has the period and the system time of a row of bt_version, in microseconds
+pub record HasTimesOf (form : Form) (row : Row) (read : VersionRow) : Type 0 where
+  pub start : IsNumberAt row 2 read.period.start
+  pub end : IsNumberAt row 3 read.period.end
+  pub from : (n : ℤ) × IsNumberAt row 4 n × (read.from ≡ moment_in form n)
+  pub to : (n : ℤ) × IsNumberAt row 5 n × (read.to ≡ end_in form n)
+
+-- a row of bt_version is read as a version row of the table of a number: it is that of a good
+-- version, and the version row is this in microseconds
+abbrev pub IsReadAs : Form → List TableDef → ℤ → Row → ℕ → VersionRow → Type 0
+IsReadAs form tables clock row number read =
+    (v : TableVersion) × (row ≡ stored (written_version v)) × IsGoodVersionIn form tables clock v
+    × (version_in number read ≡ version_of form v)
+
+-- rows of bt_version are read as the version rows of each table
+pub record AreReadAs (form : Form) (tables : List TableDef) (clock : ℤ) (rows : List Row)
+    (lists : List (List VersionRow)) : Type 0 where
+  pub versions : List TableVersion
+  pub spelled : rows ≡ map (λ v. stored (written_version v)) versions
+  pub good : AllByRecursion (IsGoodVersionIn form tables clock) versions
+  pub listed : (number : ℕ) → map (version_in number) (rows_of_table lists number)
+      ≡ map (version_of form) (of_table number versions)
 
 -- the rows of all three
 pub record SayRows (metas tables versions : List Row) (known : List TableDef) (form : Form)

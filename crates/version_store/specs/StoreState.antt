@@ -100,10 +100,6 @@ pub record IsOnlyRead {S : Type 0} (g : Ghosts S) (old new : StoreState S) : Typ
       → IsAsBefore (state g old.connection) (state g new.connection)
   pub faults : KeepsFaults (state g old.connection) (state g new.connection)
 
--- the same of a store that was opened
-abbrev pub IsOpenedRead : {S : Type 0} → Ghosts S → OpenedState S → OpenedState S → Type 0
-IsOpenedRead g old new = IsOnlyRead g old.store new.store × (new.form ≡ old.form)
-
 -- out of memory, or another failure of the database
 abbrev pub IsStoreRefusal : Refusal → Type 0
 IsStoreRefusal refusal = (refusal ≡ Memory) ⊎ (refusal ≡ Store)

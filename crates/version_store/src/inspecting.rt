@@ -6,13 +6,16 @@ ghost use Rattle.sqlite.specs.State.{HasCleanDisk};
 ghost use Rattle.version_tables.specs.Good.{IsClock};
 ghost use Rattle.version_tables.specs.Steps.{Keeps};
 ghost use Rattle.version_tables.specs.Tables.{HasStoreTables};
+ghost use Rattle.version_store.specs.Contents.{AreVersionsOf, Contents};
 ghost use Rattle.version_store.specs.GoodStore.{AreLawful, IsGoodStore, NothingMore};
+ghost use Rattle.version_store.specs.Units.{in_microseconds};
 ghost use Rattle.version_store.specs.Written.{HasIn};
 ghost use Rattle.version_store.specs.declared.fault.OpenFault.TheVariants.{BadStore};
 
 use crate::fault::{OpenFault, StoreFault};
 use crate::judging::judge_rows;
 use catalog_core::Catalog;
+use period_core::{Items, VersionRow};
 use sqlite::Connection;
 use sqlite_trees::store::Alter;
 use std::alloc::Global;
@@ -21,12 +24,12 @@ use version_tables::{
     version_rows,
 };
 
-/// Judges a store that is there. On `Ok` it has its tables, its form and its clock, a number in the
-/// form's unit.
+/// Judges a store that is there. On `Ok` it has its tables, its form, its clock, a number in the
+/// form's unit, and the version rows of each table.
 pub(crate) fn inspect<S: Alter>(
     alloc: Global,
     connection: &mut Connection<S>,
-) -> Result<(Catalog, Form, i64), OpenFault>
+) -> Result<(Catalog, Form, i64, Vec<Items<VersionRow>>), OpenFault>
     requires { connection.old.in_transaction ≡ false }
     ensures good { HasCleanDisk (state S.Store connection.new)
         → IsTrue (state S.Store connection.new).is_open
@@ -36,6 +39,11 @@ pub(crate) fn inspect<S: Alter>(
         × HasIn good.form (state S.Store connection.old).now good.contents
         × (good.contents.tables ≡ found.0.tables) × (good.form ≡ found.1)
         × (good.contents.clock ≡ found.2)) }
+    ensures versions { HasCleanDisk (state S.Store connection.new)
+        → IsTrue (state S.Store connection.new).is_open
+        → IfOk result (λ found.
+        (c : Contents) → HasIn found.1 (state S.Store connection.old).now c
+        → AreVersionsOf (in_microseconds found.1 c) found.3.items) }
     ensures bad { HasCleanDisk (state S.Store connection.new)
         → IsTrue (state S.Store connection.new).is_open
         → HasStoreTables (state S.Store connection.old).now.schema
@@ -65,5 +73,5 @@ pub(crate) fn inspect<S: Alter>(
     if repeat_key(&versions) {
         return Err(OpenFault::BadStore);
     }
-    judge_rows(alloc, &metas, &tables, &versions)
+    judge_rows(alloc, &metas, &tables, versions)
 }

@@ -6,9 +6,10 @@ ghost use Rattle.period_core.specs.Calendar.{IsDayNumber};
 ghost use Rattle.period_core.specs.Encoding.{IsColumnValue};
 ghost use Rattle.version_tables.specs.Forms.{IsNumberIn, end_in, moment_in};
 ghost use Rattle.version_tables.specs.Good.{AreDays};
-ghost use Rattle.version_tables.specs.Represents.{shown};
+ghost use Rattle.version_tables.specs.Represents.{shown, stored};
 ghost use Rattle.version_tables.specs.Rows.{IsNumberAt};
 ghost use Rattle.version_store.specs.Contents.{IsDated, TableVersion, version_in};
+ghost use Rattle.version_store.specs.GoodStore.{HasTimesOf};
 ghost use Rattle.version_store.specs.Units.{version_of};
 ghost use Rattle.version_store.specs.Written.{written_version};
 ghost use Rattle.version_store.specs.declared.fault.StoreFault.TheVariants.{Database};
@@ -54,6 +55,24 @@ fn period_at(row: &Row, start: usize, end: usize) -> Option<Period>
         (λ period. IsNumberAt row.now start period.start × IsNumberAt row.now end period.end) }
 {
     Period::new(day_at(row, start)?, day_at(row, end)?)
+}
+
+/// The version row of these values that has the period and the system time of a row of bt_version,
+/// if its days and moments are there. Its numbers are in the form's unit.
+pub(crate) fn dated_row(form: Form, row: &Row, values: Values) -> Option<VersionRow>
+    ensures { MatchOption result
+        ((v : TableVersion) → IsDated (version_of form v) → row.now ≢ stored (written_version v))
+        (λ version. (version.values ≡ values) × HasTimesOf form row.now version) }
+{
+    let period = period_at(row, 2, 3)?;
+    let from = moment_at(row, form, 4)?;
+    let to = end_at(row, form, 5)?;
+    Some(VersionRow {
+        values,
+        period,
+        from,
+        to,
+    })
 }
 
 /// The version row that a row of the query shows: its values as bytes, its period, its moments. The

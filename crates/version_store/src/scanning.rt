@@ -8,7 +8,6 @@ ghost use Rattle.period_core.specs.Encoding.{IsColumnValue};
 ghost use Rattle.period_core.specs.declared.refusal.Refusal.TheVariants.{Memory};
 ghost use Rattle.period_core.specs.Windows.{window_sees};
 ghost use Rattle.period_core.specs.declared.version.VersionRow.{VersionRow as AnyRow};
-ghost use Rattle.period_core.specs.declared.window.Window.TheVariants.{Now};
 ghost use Rattle.sqlite.specs.Held.{state};
 ghost use Rattle.sqlite.specs.State.{HasCleanDisk};
 ghost use Rattle.version_tables.specs.Represents.{shown};
@@ -169,38 +168,6 @@ pub(crate) fn scan_rows<S: Alter, V: RowVisitor>(
         }
         None => Ok(()),
     }
-}
-
-/// Hands the current version rows of the table of a number over to the visitor, in order. The
-/// database is of the form.
-pub(crate) fn scan_current_rows<S: Alter, V: RowVisitor>(
-    alloc: Global,
-    form: Form,
-    connection: &mut Connection<S>,
-    table: u8,
-    visitor: &mut V,
-) -> Result<(), Refusal>
-    requires { connection.old.in_transaction ≡ false }
-    ensures visited { HasCleanDisk (state S.Store connection.new)
-        → (c : Contents) → HasIn form (state S.Store connection.old).now c
-        → Visits V.next (in_microseconds form c) table Now
-        (V.meaning visitor.old) (V.meaning visitor.new) result }
-    ensures why { IsUsable S.Store connection.new
-        → (c : Contents) → HasIn form (state S.Store connection.old).now c
-        → AreDated (in_microseconds form c).versions
-        → IfErr result (λ refusal. IsOwnRefusal V.may_refuse (V.answered visitor.new) refusal
-        ⊎ IsFailure S.Store connection.old connection.new refusal) }
-    ensures same { HasCleanDisk (state S.Store connection.new)
-        → Keeps (state S.Store connection.old) (state S.Store connection.new) }
-    ensures clean { HasCleanDisk (state S.Store connection.new)
-        → HasCleanDisk (state S.Store connection.old) }
-    ensures mode { connection.new.in_transaction ≡ false }
-    ensures faults { KeepsFaults (state S.Store connection.old) (state S.Store connection.new) }
-    ensures named { IfErr result (λ refusal. IsStoreRefusal refusal ⊎ V.may_refuse refusal) }
-    ensures answered { AnswersRefusal (V.answered visitor.old) (V.answered visitor.new) result }
-{
-    let current = Selection::EndingAt(form.open_end());
-    scan_selected(alloc, form, connection, table, current, visitor)
 }
 
 /// The version rows of the table of a number, in order. The database is of the form.

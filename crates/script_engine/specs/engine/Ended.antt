@@ -10,6 +10,10 @@ use Rattle.catalog_core.specs.table.TableWords.{table_of}
 use Rattle.ended_versions.specs.Packed.{AreEndedBy, AreOfColumns, Hold, PackedVersion, packed}
 use Rattle.version_store.specs.Contents.{Contents, TableVersion, of_table, version_in}
 
+-- the version is current: its system time ends at FOREVER
+abbrev pub is_current : VersionRow → Bool
+is_current version = int_eq version.to forever
+
 -- the version has ended: its system time does not end at FOREVER
 abbrev pub has_ended : VersionRow → Bool
 has_ended version = not (int_eq version.to forever)

@@ -9,8 +9,8 @@ use Rattle.period_keys.specs.Current.{HaveIndexes}
 use Rattle.period_keys.specs.Lawful.{key_positions}
 use Rattle.period_keys.specs.Rows.{RowsByKey}
 use Rattle.period_keys.specs.TableRows.{TableRows}
-use Rattle.version_store.specs.Contents.{Contents, version_in}
-use Rattle.version_store.specs.GoodStore.{AreLawful}
+use Rattle.version_store.specs.Contents.{AreVersionsOf, Contents, version_in}
+use Rattle.version_store.specs.GoodStore.{AreLawful, HaveTables}
 use Rattle.version_store.specs.Scans.{seen_of}
 use Rattle.script_engine.specs.engine.EngineState.{EngineState}
 
@@ -18,6 +18,14 @@ use Rattle.script_engine.specs.engine.EngineState.{EngineState}
 abbrev pub AreCurrentOf : Contents → ℕ → List VersionRow → Type 0
 AreCurrentOf c table rows =
     IsPermutation (seen_of table Now c.versions) (map (version_in table) rows)
+
+-- a catalog has the tables of the contents, and lists have their versions, table by table: what is
+-- read of a store that has these contents
+pub record AreReadOf (c : Contents) (tables : List TableDef) (lists : List (List VersionRow))
+    : Type 0 where
+  pub same : tables ≡ c.tables
+  pub versions : AreVersionsOf c lists
+  pub tabled : HaveTables c
 
 -- the rows in memory of the table of a number; of a number without a table none
 abbrev pub rows_in : List RowsByKey → ℕ → List VersionRow

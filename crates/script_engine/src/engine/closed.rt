@@ -2,7 +2,7 @@
 //! it.
 
 ghost use Rattle.std.specs.Prelude.{◌≡◌, ◌++◌, ◌∷◌, [], IfErr, IfOk, IfSome, IsPermutation, List};
-ghost use Rattle.std.specs.Prelude.{OnErr, OnOk, filter, map};
+ghost use Rattle.std.specs.Prelude.{OnErr, OnOk, map};
 ghost use Rattle.ended_versions.specs.Packed.{AreEndedBy, AreOfColumns, Hold, PackedVersion};
 ghost use Rattle.ended_versions.specs.Packed.{closed_at, packed};
 ghost use Rattle.period_core.specs.declared.version.VersionRow.{VersionRow as Version};
@@ -16,11 +16,9 @@ ghost use Rattle.period_keys.specs.Versions.{begun};
 ghost use Rattle.version_store.specs.Changed.{planned};
 ghost use Rattle.version_store.specs.Contents.{Contents};
 ghost use Rattle.version_store.specs.DistinctKeys.{HaveDistinctKeys};
-ghost use Rattle.version_store.specs.GoodStore.{HaveTables};
-ghost use Rattle.version_store.specs.StoreState.{Changes, IsOpenedRead, IsStoreRefusal, IsUsable};
-ghost use Rattle.version_store.specs.StoreState.{OpenedRepresents, StoreRepresents};
-ghost use Rattle.script_engine.specs.engine.Ended.{AllEndedBy, AreInOrderOfEnds, HasEnded};
-ghost use Rattle.script_engine.specs.engine.Ended.{HaveEnded, has_ended};
+ghost use Rattle.version_store.specs.StoreState.{Changes, IsStoreRefusal, IsUsable};
+ghost use Rattle.version_store.specs.StoreState.{StoreRepresents};
+ghost use Rattle.script_engine.specs.engine.Ended.{AreInOrderOfEnds};
 ghost use Rattle.script_engine.specs.engine.InMemory.{FollowCatalog};
 ghost use Rattle.script_engine.specs.engine.Stored.{WasUsable};
 
@@ -31,7 +29,7 @@ use period_core::{Items, Memory, Moment, Refusal, VersionRow};
 use period_keys::{TableIndex, positions_of};
 use sqlite_trees::store::Alter;
 use std::alloc::Global;
-use version_store::{OpenedStore, VersionStore};
+use version_store::VersionStore;
 
 /// Makes what `apply_plan` makes, and adds the versions that the plan ends to those of the table
 /// that have ended. On `Err` nothing is changed.
@@ -83,7 +81,7 @@ pub fn apply_closing<S: Alter>(
 // ---- a table more
 
 /// No versions of a table, to be found by its key.
-fn no_versions(alloc: Global, table: &TableDef) -> Result<EndedVersions, Memory>
+pub fn no_versions(alloc: Global, table: &TableDef) -> Result<EndedVersions, Memory>
     ensures { IfOk result (λ list. list ≡ []) }
 {
     let positions = positions_of(alloc, table, table.key.as_slice())?;
@@ -139,25 +137,17 @@ pub fn remove_versions(tables: &mut Vec<TableIndex>, ended: &mut Vec<EndedVersio
 
 // ---- loaded
 
-/// The versions that have ended, in the order in which they did.
-fn in_order_of_ends(alloc: Global, versions: Vec<VersionRow>) -> Result<Vec<VersionRow>, Memory>
-    ensures ended { IfOk result
-        (λ ended. IsPermutation (filter has_ended versions.items) ended.items) }
+/// The versions in the order in which they ended.
+fn in_order_of_ends(mut versions: Vec<VersionRow>) -> Result<Vec<VersionRow>, Memory>
+    ensures ended { IfOk result (λ ended. IsPermutation versions.items ended.items) }
     ensures ordered { IfOk result (λ ended. AreInOrderOfEnds ended.items) }
 {
-    let forever = Moment::forever();
-    let mut ended: Vec<VersionRow> = Vec::new(alloc);
-    for version in versions {
-        if version.to != forever {
-            ended.push(version)?;
-        }
-    }
-    ended.sort_by_key(|version| version.to)?;
-    Ok(ended)
+    versions.sort_by_key(|version| version.to)?;
+    Ok(versions)
 }
 
-/// The list, which has none yet, of the versions that have ended, if all did so by a moment.
-fn listed(
+/// The list, which has none yet, of versions that have ended, if all did so by a moment.
+pub fn listed(
     alloc: Global,
     mut list: EndedVersions,
     versions: Vec<VersionRow>,
@@ -165,10 +155,10 @@ fn listed(
 ) -> Result<Option<EndedVersions>, Memory>
     requires { list ≡ [] }
     ensures held { IfOk result (λ found. IfSome found (λ list. (ended : List Version)
-        × Hold list ended × IsPermutation (filter has_ended versions.items) ended)) }
+        × Hold list ended × IsPermutation versions.items ended)) }
     ensures before { IfOk result (λ found. IfSome found (AreEndedBy moment)) }
 {
-    let ended = in_order_of_ends(alloc, versions)?;
+    let ended = in_order_of_ends(versions)?;
     for version in &ended {
         if version.to > moment {
             return Ok(None);
@@ -176,51 +166,4 @@ fn listed(
         list.add(alloc, version, version.to)?;
     }
     Ok(Some(list))
-}
-
-/// The versions of the table of a number that have ended, read from an opened store. One that ended
-/// after the clock, which a good store has not, is a failure of it.
-fn load_table<S: Alter>(
-    alloc: Global,
-    store: &mut OpenedStore<S>,
-    number: u8,
-    list: EndedVersions,
-) -> Result<EndedVersions, Refusal>
-    requires { list ≡ [] }
-    ensures ended { IsUsable S.Store store.new.store.connection
-        → (c : Contents) → OpenedRepresents S.Store store.old c
-        → IfOk result (HasEnded c number) }
-    ensures before { IfOk result (AreEndedBy store.old.store.clock) }
-    ensures read { IsOpenedRead S.Store store.old store.new }
-    ensures named { IfErr result IsStoreRefusal }
-{
-    let versions = store.rows(alloc, number)?;
-    let found = listed(alloc, list, versions, store.clock())?;
-    match found {
-        Some(list) => Ok(list),
-        None => Err(Refusal::Store),
-    }
-}
-
-/// The versions of each table of an opened store that have ended, in the order of its catalog.
-/// Nothing is changed, and a store without tables is not refused.
-pub fn load_ended<S: Alter>(
-    alloc: Global,
-    store: &mut OpenedStore<S>,
-) -> Result<Vec<EndedVersions>, Refusal>
-    ensures loaded { IsUsable S.Store store.new.store.connection
-        → (c : Contents) → OpenedRepresents S.Store store.old c → HaveTables c
-        → IfOk result (λ lists. HaveEnded c lists.items) }
-    ensures before { IfOk result (λ lists. AllEndedBy store.old.store.clock lists.items) }
-    ensures read { IsOpenedRead S.Store store.old store.new }
-    ensures some { OnErr result (store.old.store.catalog.tables ≡ [] → ⊥) }
-    ensures named { IfErr result IsStoreRefusal }
-{
-    let mut lists = Vec::new(alloc);
-    for place in 0..store.catalog().len() {
-        let none = no_versions(alloc, &store.catalog().tables.as_slice()[place])?;
-        let list = load_table(alloc, store, place as u8 + 1, none)?;
-        lists.push(list)?;
-    }
-    Ok(lists)
 }

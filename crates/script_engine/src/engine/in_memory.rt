@@ -1,20 +1,23 @@
-//! The current rows of the tables, loaded from a store as it is opened.
+//! The versions of the tables in memory, loaded from what was read of a store as it was opened.
 
-ghost use Rattle.std.specs.Prelude.{◌≡◌, ◌++◌, [], IfErr, IfOk, OnErr, OnOk, length};
+ghost use Rattle.std.specs.Prelude.{◌≡◌, ◌++◌, ℕ, [], IfErr, IfOk, IsPermutation, List, OnErr};
+ghost use Rattle.std.specs.Prelude.{OnOk, filter, length};
+ghost use Rattle.ended_versions.specs.Packed.{AreEndedBy, Hold};
+ghost use Rattle.period_core.specs.declared.version.VersionRow.{VersionRow as Version};
 ghost use Rattle.period_keys.specs.Lawful.{key_positions};
 ghost use Rattle.period_keys.specs.Rows.{HasRows};
-ghost use Rattle.version_store.specs.Contents.{Contents};
-ghost use Rattle.version_store.specs.GoodStore.{HaveTables};
-ghost use Rattle.version_store.specs.StoreState.{IsOpenedRead, IsStoreRefusal, IsUsable};
-ghost use Rattle.version_store.specs.StoreState.{OpenedRepresents};
-ghost use Rattle.script_engine.specs.engine.InMemory.{AreCurrentOf, HaveCurrentRows};
+ghost use Rattle.version_store.specs.Contents.{Contents, rows_of_table};
+ghost use Rattle.version_store.specs.StoreState.{IsStoreRefusal};
+ghost use Rattle.script_engine.specs.engine.Ended.{AllEndedBy, HaveEnded, has_ended, is_current};
+ghost use Rattle.script_engine.specs.engine.InMemory.{AreReadOf, HaveCurrentRows};
 
-use catalog_core::TableDef;
-use period_core::{Items, Memory, Refusal, VersionRow};
+use crate::engine::closed::{listed, no_versions};
+use catalog_core::{Catalog, TableDef};
+use ended_versions::EndedVersions;
+use period_core::{Items, Memory, Moment, Refusal, VersionRow};
 use period_keys::{CurrentRows, positions_of};
-use sqlite_trees::store::Alter;
 use std::alloc::Global;
-use version_store::{KeptRows, OpenedStore};
+use std::mem;
 
 /// No rows of a table, by its key.
 fn no_rows(alloc: Global, table: &TableDef) -> Result<CurrentRows, Memory>
@@ -23,23 +26,6 @@ fn no_rows(alloc: Global, table: &TableDef) -> Result<CurrentRows, Memory>
 {
     let positions = positions_of(alloc, table, table.key.as_slice())?;
     Ok(CurrentRows::new(alloc, Items::from_vec(positions)))
-}
-
-/// The current versions of the table of a number, read from an opened store.
-fn current_versions<S: Alter>(
-    alloc: Global,
-    store: &mut OpenedStore<S>,
-    number: u8,
-) -> Result<Vec<VersionRow>, Refusal>
-    ensures current { IsUsable S.Store store.new.store.connection
-        → (c : Contents) → OpenedRepresents S.Store store.old c
-        → IfOk result (λ rows. AreCurrentOf c number rows.items) }
-    ensures read { IsOpenedRead S.Store store.old store.new }
-    ensures named { IfErr result IsStoreRefusal }
-{
-    let mut kept = KeptRows::new(alloc);
-    store.scan_current(alloc, number, &mut kept)?;
-    Ok(kept.rows)
 }
 
 /// Adds rows, one after the other.
@@ -52,46 +38,95 @@ fn add_each(alloc: Global, current: &mut CurrentRows, rows: Vec<VersionRow>) -> 
     Ok(())
 }
 
-/// The current rows of the table of a number, by its key.
-fn load_table<S: Alter>(
+/// The versions in two lists: the current ones, and those that have ended.
+fn parted(
     alloc: Global,
-    store: &mut OpenedStore<S>,
-    number: u8,
-    mut rows: CurrentRows,
-) -> Result<CurrentRows, Refusal>
-    requires { rows.rows ≡ [] }
-    ensures keys { IfOk result (λ loaded. loaded.positions ≡ rows.positions) }
-    ensures current { IsUsable S.Store store.new.store.connection
-        → (c : Contents) → OpenedRepresents S.Store store.old c
-        → IfOk result (λ loaded. AreCurrentOf c number loaded.rows) }
-    ensures read { IsOpenedRead S.Store store.old store.new }
-    ensures named { IfErr result IsStoreRefusal }
+    versions: Vec<VersionRow>,
+) -> Result<(Vec<VersionRow>, Vec<VersionRow>), Memory>
+    ensures current { IfOk result (λ found. found.0.items ≡ filter is_current versions.items) }
+    ensures ended { IfOk result (λ found. found.1.items ≡ filter has_ended versions.items) }
 {
-    let versions = current_versions(alloc, store, number)?;
-    add_each(alloc, &mut rows, versions)?;
-    Ok(rows)
+    let forever = Moment::forever();
+    let mut current: Vec<VersionRow> = Vec::new(alloc);
+    let mut ended: Vec<VersionRow> = Vec::new(alloc);
+    for version in versions {
+        if version.to == forever {
+            current.push(version)?;
+        } else {
+            ended.push(version)?;
+        }
+    }
+    Ok((current, ended))
 }
 
-/// The current rows of each table of an opened store, in the order of its catalog. Nothing is
-/// changed, and a store without tables is not refused.
-pub fn load<S: Alter>(
+/// The versions of a table: the current ones by its key, and those that have ended. One that ended
+/// after the clock, which a good store has not, is a failure of the store.
+fn load_table(
     alloc: Global,
-    store: &mut OpenedStore<S>,
-) -> Result<Vec<CurrentRows>, Refusal>
-    ensures loaded { IsUsable S.Store store.new.store.connection
-        → (c : Contents) → OpenedRepresents S.Store store.old c → HaveTables c
-        → IfOk result (λ tables. HaveCurrentRows c tables.items) }
+    table: &TableDef,
+    clock: Moment,
+    versions: Items<VersionRow>,
+) -> Result<(CurrentRows, EndedVersions), Refusal>
+    ensures keys { IfOk result (λ found. found.0.positions ≡ key_positions table.now) }
+    ensures current { IfOk result
+        (λ found. IsPermutation (filter is_current versions) found.0.rows) }
+    ensures ended { IfOk result (λ found. (ended : List Version)
+        × Hold found.1 ended × IsPermutation (filter has_ended versions) ended) }
+    ensures before { IfOk result (λ found. AreEndedBy clock found.1) }
+    ensures named { IfErr result IsStoreRefusal }
+{
+    let mut rows = no_rows(alloc, table)?;
+    let none = no_versions(alloc, table)?;
+    let (current, ended) = parted(alloc, versions.into_vec())?;
+    add_each(alloc, &mut rows, current)?;
+    let found = listed(alloc, none, ended, clock)?;
+    match found {
+        Some(list) => Ok((rows, list)),
+        None => Err(Refusal::Store),
+    }
+}
+
+/// Takes the rows of the table of a number out of the lists.
+fn take_rows(alloc: Global, lists: &mut Vec<Items<VersionRow>>, number: u8) -> Items<VersionRow>
+    ensures taken { result ≡ rows_of_table lists.old.items number }
+    ensures others { (other : ℕ) → (other ≡ number → ⊥)
+        → rows_of_table lists.new.items other ≡ rows_of_table lists.old.items other }
+{
+    if number == 0 {
+        return Items::empty(alloc);
+    }
+    let Some(list) = lists.get_mut(usize::from(number) - 1) else {
+        return Items::empty(alloc);
+    };
+    mem::replace(list, Items::empty(alloc))
+}
+
+/// The versions of each table of a catalog, in its order, by the lists that were read of a store:
+/// the current ones, and those that have ended by the clock. Without tables nothing is refused.
+pub fn load(
+    alloc: Global,
+    catalog: &Catalog,
+    clock: Moment,
+    mut lists: Vec<Items<VersionRow>>,
+) -> Result<(Vec<CurrentRows>, Vec<EndedVersions>), Refusal>
+    ensures current { (c : Contents) → AreReadOf c catalog.now.tables lists.items
+        → IfOk result (λ found. HaveCurrentRows c found.0.items) }
+    ensures ended { (c : Contents) → AreReadOf c catalog.now.tables lists.items
+        → IfOk result (λ found. HaveEnded c found.1.items) }
+    ensures before { IfOk result (λ found. AllEndedBy clock found.1.items) }
     ensures count { IfOk result
-        (λ tables. length tables.items ≡ length store.old.store.catalog.tables) }
-    ensures read { IsOpenedRead S.Store store.old store.new }
-    ensures some { OnErr result (store.old.store.catalog.tables ≡ [] → ⊥) }
+        (λ found. length found.0.items ≡ length catalog.now.tables) }
+    ensures some { OnErr result (catalog.now.tables ≡ [] → ⊥) }
     ensures named { IfErr result IsStoreRefusal }
 {
     let mut tables = Vec::new(alloc);
-    for place in 0..store.catalog().len() {
-        let none = no_rows(alloc, &store.catalog().tables.as_slice()[place])?;
-        let rows = load_table(alloc, store, place as u8 + 1, none)?;
+    let mut ended = Vec::new(alloc);
+    for place in 0..catalog.len() {
+        let versions = take_rows(alloc, &mut lists, place as u8 + 1);
+        let table = &catalog.tables.as_slice()[place];
+        let (rows, list) = load_table(alloc, table, clock, versions)?;
         tables.push(rows)?;
+        ended.push(list)?;
     }
-    Ok(tables)
+    Ok((tables, ended))
 }

@@ -16,21 +16,22 @@ ghost use Rattle.period_keys.specs.Versions.{begun};
 ghost use Rattle.version_store.specs.Changed.{planned};
 ghost use Rattle.version_store.specs.Contents.{Contents};
 ghost use Rattle.version_store.specs.DistinctKeys.{HaveDistinctKeys};
-ghost use Rattle.version_store.specs.GoodStore.{AreLawful, HaveTables};
-ghost use Rattle.version_store.specs.StoreState.{Changes, IsOpenRefusal, IsOpenedRead};
-ghost use Rattle.version_store.specs.StoreState.{IsStoreRefusal, IsUsable, OpenedRepresents};
-ghost use Rattle.version_store.specs.StoreState.{StoreRepresents};
+ghost use Rattle.version_store.specs.GoodStore.{AreLawful};
+ghost use Rattle.version_store.specs.StoreState.{Changes, IsOpenRefusal, IsStoreRefusal};
+ghost use Rattle.version_store.specs.StoreState.{IsUsable, StoreRepresents};
+ghost use Rattle.script_engine.specs.engine.Ended.{AllEndedBy, HaveEnded};
 ghost use Rattle.script_engine.specs.engine.Faults.{AreConstrained};
-ghost use Rattle.script_engine.specs.engine.InMemory.{FollowCatalog, HaveCurrentRows};
+ghost use Rattle.script_engine.specs.engine.InMemory.{AreReadOf, FollowCatalog, HaveCurrentRows};
 ghost use Rattle.script_engine.specs.engine.Stored.{WasUsable};
 
 use crate::engine::in_memory::load;
 use catalog_core::{Catalog, Plan, TableDef, of_number};
-use period_core::{Memory, Refusal};
+use ended_versions::EndedVersions;
+use period_core::{Items, Memory, Moment, Refusal, VersionRow};
 use period_keys::{CurrentRows, TableIndex, add_table, is_lawful, rows_of, tables_of};
 use sqlite_trees::store::Alter;
 use std::alloc::Global;
-use version_store::{OpenedStore, VersionStore};
+use version_store::VersionStore;
 
 /// The current rows of the table of a number.
 pub fn rows_of_number(tables: &[TableIndex], number: u8) -> Option<&CurrentRows>
@@ -89,39 +90,39 @@ pub fn remove_last(tables: &mut Vec<TableIndex>)
     let _last = tables.pop();
 }
 
-/// The tables of an opened store, with their current rows. A store in which two current rows share
-/// a key on some day, or a child row has no parent, is refused as a bad one. Nothing is changed,
-/// and a store without tables is not refused.
-pub fn load_lawful<S: Alter>(
+/// The tables of a catalog with their current rows, and the versions of each that have ended, by
+/// the lists that were read of a store. Where two current rows share a key on some day, or a child
+/// row has no parent, the store is refused as a bad one. A store without tables is not refused.
+pub fn load_lawful(
     alloc: Global,
-    store: &mut OpenedStore<S>,
-) -> Result<Vec<TableIndex>, Refusal>
-    requires { AreLawful [] store.old.store.catalog.tables }
-    ensures follow { IfOk result
-        (λ tables. FollowCatalog store.old.store.catalog.tables tables.items) }
-    ensures loaded { IsUsable S.Store store.new.store.connection
-        → (c : Contents) → OpenedRepresents S.Store store.old c → HaveTables c
-        → IfOk result (λ tables. HaveCurrentRows c (map rows_by_key tables.items)) }
-    ensures lawful { IsUsable S.Store store.new.store.connection
-        → (c : Contents) → OpenedRepresents S.Store store.old c → HaveTables c
+    catalog: &Catalog,
+    clock: Moment,
+    lists: Vec<Items<VersionRow>>,
+) -> Result<(Vec<TableIndex>, Vec<EndedVersions>), Refusal>
+    requires { AreLawful [] catalog.now.tables }
+    ensures follow { IfOk result (λ found. FollowCatalog catalog.now.tables found.0.items) }
+    ensures loaded { (c : Contents) → AreReadOf c catalog.now.tables lists.items
+        → IfOk result (λ found. HaveCurrentRows c (map rows_by_key found.0.items)) }
+    ensures ended { (c : Contents) → AreReadOf c catalog.now.tables lists.items
+        → IfOk result (λ found. HaveEnded c found.1.items) }
+    ensures before { IfOk result (λ found. AllEndedBy clock found.1.items) }
+    ensures lawful { (c : Contents) → AreReadOf c catalog.now.tables lists.items
         → OnOk result (AreConstrained c) }
-    ensures bad { IsUsable S.Store store.new.store.connection
-        → (c : Contents) → OpenedRepresents S.Store store.old c → HaveTables c
+    ensures bad { (c : Contents) → AreReadOf c catalog.now.tables lists.items
         → IfErr result (λ refusal. refusal ≡ BadStore → AreConstrained c → ⊥) }
-    ensures read { IsOpenedRead S.Store store.old store.new }
-    ensures some { OnErr result (store.old.store.catalog.tables ≡ [] → ⊥) }
+    ensures some { OnErr result (catalog.now.tables ≡ [] → ⊥) }
     ensures named { IfErr result IsOpenRefusal }
 {
-    let rows = load(alloc, store)?;
+    let (rows, ended) = load(alloc, catalog, clock, lists)?;
     if rows.is_empty() {
-        return Ok(Vec::new(alloc));
+        return Ok((Vec::new(alloc), ended));
     }
-    let tables = tables_of(alloc, store.catalog(), rows)?;
-    let lawful = is_lawful(alloc, store.catalog(), tables.as_slice())?;
+    let tables = tables_of(alloc, catalog, rows)?;
+    let lawful = is_lawful(alloc, catalog, tables.as_slice())?;
     if !lawful {
         return Err(Refusal::BadStore);
     }
-    Ok(tables)
+    Ok((tables, ended))
 }
 
 /// Makes what a plan says of the table of a number at the clock, in the store and in the table's

@@ -2,7 +2,6 @@
 
 ghost use Rattle.std.specs.Prelude.{◌≡◌, ◌≢◌, ◌⊎◌, [], false, IfErr, IfOk, IsOk, IsTrue};
 ghost use Rattle.period_core.specs.declared.refusal.Refusal.TheVariants.{BadStore};
-ghost use Rattle.period_core.specs.declared.window.Window.TheVariants.{Now};
 ghost use Rattle.sqlite.specs.Held.{state};
 ghost use Rattle.version_tables.specs.Making.{HasCounters};
 ghost use Rattle.version_tables.specs.Presence.{IsNoneThere};
@@ -10,23 +9,20 @@ ghost use Rattle.version_tables.specs.Steps.{IsAsBefore};
 ghost use Rattle.version_tables.specs.Tables.{no_schema};
 ghost use Rattle.version_tables.specs.declared.form.Form.{Form as AnyForm};
 ghost use Rattle.version_tables.specs.declared.form.Form.TheVariants.{Microseconds};
-ghost use Rattle.version_store.specs.Contents.{AreRowsOf, Contents, empty_contents};
+ghost use Rattle.version_store.specs.Contents.{AreVersionsOf, Contents, empty_contents};
 ghost use Rattle.version_store.specs.GoodStore.{AreGood, AreLawful, HaveTables, IsGoodStore};
 ghost use Rattle.version_store.specs.GoodStore.{NothingMore};
-ghost use Rattle.version_store.specs.Scans.{AnswersRefusal, IsOwnRefusal, Visits};
-ghost use Rattle.version_store.specs.StoreState.{IsFailure, IsMadeBehind, IsOpenRefusal};
-ghost use Rattle.version_store.specs.StoreState.{IsOpenedRead, IsOurs, IsStoreRefusal, IsUsable};
-ghost use Rattle.version_store.specs.StoreState.{OpenedRepresents, StoreRepresents};
+ghost use Rattle.version_store.specs.StoreState.{IsMadeBehind, IsOpenRefusal, IsOurs};
+ghost use Rattle.version_store.specs.StoreState.{IsStoreRefusal, IsUsable, OpenedRepresents};
+ghost use Rattle.version_store.specs.StoreState.{StoreRepresents};
 ghost use Rattle.version_store.specs.Units.{in_microseconds};
 ghost use Rattle.version_store.specs.Written.{HasIn};
 
 use crate::inspecting::inspect;
-use crate::scanning::{scan_current_rows, table_rows};
 use crate::store::VersionStore;
-use crate::visitor::RowVisitor;
 use crate::writing::write_move;
 use catalog_core::Catalog;
-use period_core::{Moment, Refusal, VersionRow};
+use period_core::{Items, Moment, Refusal, VersionRow};
 use sqlite::Connection;
 use sqlite_trees::store::Alter;
 use std::alloc::Global;
@@ -35,7 +31,7 @@ use version_tables::{Form, Presence, tables_there};
 
 /// A store as `VersionStore::open` gives it. Its definitions, its clock and each of its versions
 /// are those of a good store. Whether its current rows keep the keys and references of their tables
-/// is still to be judged, by whoever knows these; so it can only be read. `accept` gives the store
+/// is still to be judged, by whoever knows these; so it cannot be changed. `accept` gives the store
 /// for use, `refuse` gives the connection back. A database of form 1 is read in microseconds, and
 /// stays of form 1 until it is accepted.
 #[derive(Drop)]
@@ -67,40 +63,6 @@ impl<S: Alter> OpenedStore<S> {
         ensures { result ≡ self.now.store.clock }
     {
         self.store.clock()
-    }
-
-    /// The version rows of the table of a number, in order, as `VersionStore::rows` gives them.
-    /// Nothing is changed.
-    pub fn rows(&mut self, alloc: Global, table: u8) -> Result<Vec<VersionRow>, Refusal>
-        ensures rows { IsUsable S.Store self.new.store.connection
-            → (c : Contents) → OpenedRepresents S.Store self.old c
-            → IfOk result (λ rows. AreRowsOf c table rows.items) }
-        ensures read { IsOpenedRead S.Store self.old self.new }
-        ensures named { IfErr result IsStoreRefusal }
-    {
-        table_rows(alloc, self.form, &mut self.store.connection, table)
-    }
-
-    /// Hands the current version rows of the table of a number over to the visitor, as
-    /// `VersionStore::scan` does. Nothing is changed.
-    pub fn scan_current<V: RowVisitor>(
-        &mut self,
-        alloc: Global,
-        table: u8,
-        visitor: &mut V,
-    ) -> Result<(), Refusal>
-        ensures visited { IsUsable S.Store self.new.store.connection
-            → (c : Contents) → OpenedRepresents S.Store self.old c
-            → Visits V.next c table Now (V.meaning visitor.old) (V.meaning visitor.new) result }
-        ensures why { IsUsable S.Store self.new.store.connection
-            → (c : Contents) → OpenedRepresents S.Store self.old c
-            → IfErr result (λ refusal. IsOwnRefusal V.may_refuse (V.answered visitor.new) refusal
-            ⊎ IsFailure S.Store self.old.store.connection self.new.store.connection refusal) }
-        ensures read { IsOpenedRead S.Store self.old self.new }
-        ensures answered { AnswersRefusal (V.answered visitor.old) (V.answered visitor.new) result }
-        ensures named { IfErr result (λ refusal. IsStoreRefusal refusal ⊎ V.may_refuse refusal) }
-    {
-        scan_current_rows(alloc, self.form, &mut self.store.connection, table, visitor)
     }
 
     /// The store, for use: its keys and references were found kept. A database of form 1 is moved
@@ -150,39 +112,44 @@ impl<S: Alter> VersionStore<S> {
     /// it holds is then as it was closed, of form 1 in microseconds. Tables, indexes and views that
     /// others have behind the three do not count. Of three tables that are not as the store makes
     /// them, or stand behind tables of others, no more is said than that a refusal changes nothing.
-    /// On `Err` nothing is changed, the connection is handed back, and no transaction is open on
-    /// it.
+    /// Beside it are the version rows of each table, each list in any order: they are read as the
+    /// store is judged, and so once. On `Err` nothing is changed, the connection is handed back,
+    /// and no transaction is open on it.
     pub fn open(
         alloc: Global,
         mut connection: Connection<S>,
-    ) -> Result<OpenedStore<S>, (Refusal, Connection<S>)>
+    ) -> Result<(OpenedStore<S>, Vec<Items<VersionRow>>), (Refusal, Connection<S>)>
         requires { connection.in_transaction ≡ false }
-        ensures fresh { IfOk result (λ opened. IsUsable S.Store opened.store.connection
+        ensures fresh { IfOk result (λ found. IsUsable S.Store found.0.store.connection
             → (state S.Store connection).now.schema ≡ no_schema
-            → OpenedRepresents S.Store opened empty_contents) }
-        ensures beside { IfOk result (λ opened. IsUsable S.Store opened.store.connection
+            → OpenedRepresents S.Store found.0 empty_contents × (found.1.items ≡ [])) }
+        ensures beside { IfOk result (λ found. IsUsable S.Store found.0.store.connection
             → IsNoneThere (state S.Store connection).now.schema
             → HasCounters (state S.Store connection).now.schema
             → IsMadeBehind (state S.Store connection)
-            (state S.Store opened.store.connection)) }
-        ensures good { IfOk result (λ opened. IsUsable S.Store opened.store.connection
+            (state S.Store found.0.store.connection)) }
+        ensures good { IfOk result (λ found. IsUsable S.Store found.0.store.connection
             → IsOurs (state S.Store connection).now.schema
             → IsNoneThere (state S.Store connection).now.schema
             ⊎ ((good : IsGoodStore NothingMore (state S.Store connection).now)
-            × (good.form ≡ opened.form)
-            × OpenedRepresents S.Store opened (in_microseconds good.form good.contents))) }
-        ensures same { IfOk result (λ opened. IsUsable S.Store opened.store.connection
+            × (good.form ≡ found.0.form)
+            × OpenedRepresents S.Store found.0 (in_microseconds good.form good.contents)
+            × AreVersionsOf (in_microseconds good.form good.contents) found.1.items)) }
+        ensures same { IfOk result (λ found. IsUsable S.Store found.0.store.connection
             → (form : AnyForm) (c : Contents) → HasIn form (state S.Store connection).now c
-            → OpenedRepresents S.Store opened (in_microseconds form c)) }
-        ensures tabled { IfOk result (λ opened. IsUsable S.Store opened.store.connection
+            → OpenedRepresents S.Store found.0 (in_microseconds form c)) }
+        ensures versions { IfOk result (λ found. IsUsable S.Store found.0.store.connection
+            → (form : AnyForm) (c : Contents) → HasIn form (state S.Store connection).now c
+            → AreVersionsOf (in_microseconds form c) found.1.items) }
+        ensures tabled { IfOk result (λ found. IsUsable S.Store found.0.store.connection
             → (form : AnyForm) (c : Contents) → HasIn form (state S.Store connection).now c
             → HaveTables (in_microseconds form c)) }
-        ensures unchanged { IfOk result (λ opened. IsUsable S.Store opened.store.connection
-            → ((opened.store.catalog.tables ≡ []) × (opened.form ≡ Microseconds))
-            ⊎ IsAsBefore (state S.Store connection) (state S.Store opened.store.connection)) }
-        ensures empty { IfOk result (λ opened. IsNoneThere (state S.Store connection).now.schema
-            → (opened.store.catalog.tables ≡ []) × (opened.form ≡ Microseconds)) }
-        ensures lawful { IfOk result (λ opened. AreLawful [] opened.store.catalog.tables) }
+        ensures unchanged { IfOk result (λ found. IsUsable S.Store found.0.store.connection
+            → ((found.0.store.catalog.tables ≡ []) × (found.0.form ≡ Microseconds))
+            ⊎ IsAsBefore (state S.Store connection) (state S.Store found.0.store.connection)) }
+        ensures empty { IfOk result (λ found. IsNoneThere (state S.Store connection).now.schema
+            → (found.0.store.catalog.tables ≡ []) × (found.0.form ≡ Microseconds)) }
+        ensures lawful { IfOk result (λ found. AreLawful [] found.0.store.catalog.tables) }
         ensures bad { IfErr result (λ failed. IsUsable S.Store failed.1 → failed.0 ≡ BadStore
             → (¬ IsNoneThere (state S.Store connection).now.schema)
             × ¬ IsGoodStore NothingMore (state S.Store connection).now) }
@@ -197,22 +164,22 @@ impl<S: Alter> VersionStore<S> {
         let _settled = connection.is_autocommit();
         match tables_there(&connection) {
             Presence::Missing => match VersionStore::create(alloc, connection) {
-                Ok(store) => Ok(OpenedStore {
-                    store,
-                    form: Form::Microseconds,
-                }),
+                Ok(store) => {
+                    let form = Form::Microseconds;
+                    Ok((OpenedStore { store, form }, Vec::new(alloc)))
+                }
                 Err(failed) => Err(failed),
             },
             Presence::Partial => Err((Refusal::BadStore, connection)),
             Presence::Whole => match inspect(alloc, &mut connection) {
-                Ok((catalog, form, number)) => match form.moment(number) {
+                Ok((catalog, form, number, versions)) => match form.moment(number) {
                     Some(clock) => {
                         let store = VersionStore {
                             connection,
                             catalog,
                             clock,
                         };
-                        Ok(OpenedStore { store, form })
+                        Ok((OpenedStore { store, form }, versions))
                     }
                     None => Err((Refusal::BadStore, connection)),
                 },
@@ -223,10 +190,16 @@ impl<S: Alter> VersionStore<S> {
 
     /// Closes the store and opens it again, with the same tables, clock and versions. A store whose
     /// contents are good is not refused as a bad one.
-    pub fn reopen(self, alloc: Global) -> Result<OpenedStore<S>, (Refusal, Connection<S>)>
-        ensures same { IfOk result (λ opened. IsUsable S.Store opened.store.connection
+    pub fn reopen(
+        self,
+        alloc: Global,
+    ) -> Result<(OpenedStore<S>, Vec<Items<VersionRow>>), (Refusal, Connection<S>)>
+        ensures same { IfOk result (λ found. IsUsable S.Store found.0.store.connection
             → (c : Contents) → StoreRepresents S.Store self c
-            → OpenedRepresents S.Store opened c) }
+            → OpenedRepresents S.Store found.0 c) }
+        ensures versions { IfOk result (λ found. IsUsable S.Store found.0.store.connection
+            → (c : Contents) → StoreRepresents S.Store self c
+            → AreVersionsOf c found.1.items) }
         ensures kept { IfErr result (λ failed. IsUsable S.Store failed.1
             → (c : Contents) → StoreRepresents S.Store self c → AreGood NothingMore c
             → failed.0 ≢ BadStore) }

@@ -1,82 +1,81 @@
 use Rattle.std.proofs.Common.{◌≡◌, ◌∙◌, [], List, ap, inl, inr, map, subst, sym}
 use Rattle.sqlite.specs.Effect.{Database}
 use Rattle.sqlite.specs.Held.{Held, state}
+use Rattle.sqlite.specs.Store.{Ghosts}
 use Rattle.history_model.specs.Histories.{History}
 use Rattle.period_keys.specs.Current.{rows_by_key}
 use Rattle.period_keys.specs.Rows.{RowsByKey}
+use Rattle.period_core.specs.declared.version.VersionRow.{VersionRow}
 use Rattle.catalog_core.specs.declared.table.catalog.Catalog.{Catalog}
 use Rattle.version_tables.proofs.ColumnFacts.{never}
 use Rattle.version_tables.specs.Steps.{IsAsBefore}
-use Rattle.version_store.specs.Contents.{Contents}
-use Rattle.version_store.specs.StoreState.{IsUsable, OpenedRepresents}
+use Rattle.version_store.specs.Contents.{AreVersionsOf, Contents, empty_contents}
+use Rattle.version_store.specs.GoodStore.{HaveTables}
+use Rattle.version_store.specs.StoreState.{IsUsable, OpenedRepresents, OpenedState}
 use Rattle.version_store.specs.Units.{in_microseconds}
 use Rattle.version_store.specs.Written.{HasIn}
 use Rattle.version_store.proofs.Opens.{has_contents}
+use Rattle.version_store.proofs.ReadRows.{none_of_nothing}
 use Rattle.script_engine.specs.engine.EngineState.{EngineState, engine_of}
+use Rattle.script_engine.specs.engine.InMemory.{AreReadOf}
 use Rattle.script_engine.specs.engine.Stored.{EngineRepresents}
 use Rattle.script_engine.proofs.NewStore.{new_store}
 use Rattle.ended_versions.specs.Packed.{PackedVersion}
 use Rattle.script_engine.proofs.Openings.{all_points, good_history, good_tables, its_contents, other_points}
-use Rattle.script_engine.proofs.Loaded.{opened_more, opened_still}
 use Rattle.script_engine.proofs.engine.Engine.open.Goals as goal
+
+-- what was read of an opened store is that of the contents that it represents
+read_of : {S : Type 0} (g : Ghosts S) (opened : OpenedState S) (catalog : Catalog) (lists : List (List VersionRow)) (d : Contents) → catalog ≡ opened.store.catalog → OpenedRepresents g opened d → AreVersionsOf d lists → HaveTables d → AreReadOf d catalog.tables lists
+read_of g opened catalog lists d is stored versions tabled = record { same = ap (λ (k : Catalog). k.tables) is ∙ stored.catalog; versions = versions; tabled = tabled }
 
 pub returns-in-Ok-accept-clause-opened : goal.returns-in-Ok-accept-clause-opened
 returns-in-Ok-accept-clause-opened g c = λ usable history stands.
-    let rows : List RowsByKey = map rows_by_key c.in-Ok-load_lawful.tables.items in
-    let lists : List (List PackedVersion) = c.in-Ok-load_ended.ended.items in
-    let first = c.in-Ok-load_lawful.ensures.read in
-    let second = c.in-Ok-load_ended.ensures.read in
-    let read = opened_more g.S.Store c.in-Ok.opened c.load_lawful.new.store c.load_ended.new.store first second in
-    let loaded = c.in-Ok-accept.ensures.usable usable in
-    let judged = second.0.usable loaded in
-    let before = first.0.usable judged in
-    let new : EngineState g.row.S.Denot = engine_of c.in-Ok-accept.store rows lists in
-    let kept = λ (d : Contents) (stored : OpenedRepresents g.S.Store c.in-Ok.opened d). c.in-Ok-accept.ensures.accepted usable d (opened_still g.S.Store c.in-Ok.opened c.load_ended.new.store d read loaded stored) in
-    let middle = λ (d : Contents) (stored : OpenedRepresents g.S.Store c.in-Ok.opened d). opened_still g.S.Store c.in-Ok.opened c.load_lawful.new.store d first judged stored in
+    let rows : List RowsByKey = map rows_by_key c.in-Ok-load_lawful.loaded.0.items in
+    let ended : List (List PackedVersion) = c.in-Ok-load_lawful.loaded.1.items in
+    let before = c.in-Ok-accept.ensures.usable usable in
+    let new : EngineState g.row.S.Denot = engine_of c.in-Ok-accept.store rows ended in
+    let read = read_of g.S.Store c.in-Ok.found.0 c.catalog.result.now c.in-Ok.found.1.items in
     elim stands [
       | inl fresh ↦
           (let stored = c.in-Ok.ensures.fresh before fresh.0 in
+          let its = read empty_contents c.catalog.ensures stored.0 (none_of_nothing c.in-Ok.found.1.items stored.1) tt in
           subst (λ (h : History). EngineRepresents g.S.Store h new) (sym fresh.1)
           (new_store g.S.Store new (record {
-            stored = kept _ stored;
-            current = c.in-Ok-load_lawful.ensures.loaded judged _ stored tt;
-            ended = c.in-Ok-load_ended.ensures.loaded loaded _ (middle _ stored) tt;
+            stored = c.in-Ok-accept.ensures.accepted usable empty_contents stored.0;
+            current = c.in-Ok-load_lawful.ensures.loaded empty_contents its;
+            ended = c.in-Ok-load_lawful.ensures.ended empty_contents its;
           })))
       | inr it ↦
           (let d = in_microseconds it.0 it.1 in
           let stored = c.in-Ok.ensures.same before it.0 it.1 it.2 in
-          let tabled = c.in-Ok.ensures.tabled before it.0 it.1 it.2 in
+          let its = read d c.catalog.ensures stored (c.in-Ok.ensures.versions before it.0 it.1 it.2) (c.in-Ok.ensures.tabled before it.0 it.1 it.2) in
           record {
             contents = d;
-            stored = kept d stored;
+            stored = c.in-Ok-accept.ensures.accepted usable d stored;
             said = it.3;
-            current = c.in-Ok-load_lawful.ensures.loaded judged d stored tabled;
-            ended = c.in-Ok-load_ended.ensures.loaded loaded d (middle d stored) tabled;
+            current = c.in-Ok-load_lawful.ensures.loaded d its;
+            ended = c.in-Ok-load_lawful.ensures.ended d its;
           })
     ]
 
 pub returns-in-Ok-accept-clause-good : goal.returns-in-Ok-accept-clause-good
 returns-in-Ok-accept-clause-good g c = λ usable ours.
-    let rows : List RowsByKey = map rows_by_key c.in-Ok-load_lawful.tables.items in
-    let lists : List (List PackedVersion) = c.in-Ok-load_ended.ended.items in
-    let first = c.in-Ok-load_lawful.ensures.read in
-    let second = c.in-Ok-load_ended.ensures.read in
-    let read = opened_more g.S.Store c.in-Ok.opened c.load_lawful.new.store c.load_ended.new.store first second in
-    let loaded = c.in-Ok-accept.ensures.usable usable in
-    let judged = second.0.usable loaded in
-    let before = first.0.usable judged in
-    let new : EngineState g.row.S.Denot = engine_of c.in-Ok-accept.store rows lists in
+    let rows : List RowsByKey = map rows_by_key c.in-Ok-load_lawful.loaded.0.items in
+    let ended : List (List PackedVersion) = c.in-Ok-load_lawful.loaded.1.items in
+    let before = c.in-Ok-accept.ensures.usable usable in
+    let new : EngineState g.row.S.Denot = engine_of c.in-Ok-accept.store rows ended in
     elim (c.in-Ok.ensures.good before ours) [
       | inl none ↦ inl none
       | inr it ↦
           let d = its_contents it.0 in
-          let lawful = c.in-Ok-load_lawful.ensures.lawful judged d it.2 (good_tables it.0) in
+          let its = read_of g.S.Store c.in-Ok.found.0 c.catalog.result.now c.in-Ok.found.1.items d c.catalog.ensures it.2 it.3 (good_tables it.0) in
+          let lawful = c.in-Ok-load_lawful.ensures.lawful d its in
           inr (
             all_points it.0 lawful,
             good_history g.S.Store new _ it.0 lawful (record {
-              stored = c.in-Ok-accept.ensures.accepted usable d (opened_still g.S.Store c.in-Ok.opened c.load_ended.new.store d read loaded it.2);
-              current = c.in-Ok-load_lawful.ensures.loaded judged d it.2 (good_tables it.0);
-              ended = c.in-Ok-load_ended.ensures.loaded loaded d (opened_still g.S.Store c.in-Ok.opened c.load_lawful.new.store d first judged it.2) (good_tables it.0);
+              stored = c.in-Ok-accept.ensures.accepted usable d it.2;
+              current = c.in-Ok-load_lawful.ensures.loaded d its;
+              ended = c.in-Ok-load_lawful.ensures.ended d its;
             }),
           )
     ]
@@ -84,19 +83,12 @@ returns-in-Ok-accept-clause-good g c = λ usable ours.
 -- a store that cannot be moved is as it was opened
 pub returns-in-Err-accept-clause-none : goal.returns-in-Err-accept-clause-none
 returns-in-Err-accept-clause-none g c = λ usable.
-    let read = opened_more g.S.Store c.in-Ok.opened c.load_lawful.new.store c.load_ended.new.store c.in-Ok-load_lawful.ensures.read c.in-Ok-load_ended.ensures.read in
-    let judged = c.in-Err-accept.ensures.was_usable usable in
-    let before = read.0.usable judged in
+    let before = c.in-Err-accept.ensures.was_usable usable in
     let moved = c.in-Err-accept.ensures.none usable in
-    let loaded = read.0.same judged in
     elim (c.in-Ok.ensures.unchanged before) [
-      | inl new ↦ absurd (never (c.in-Err-accept.ensures.unwritten (read.1 ∙ new.1)).0)
-      | inr same ↦ (moved.0 ∙ loaded.0 ∙ same.0, moved.1 ∙ loaded.1 ∙ same.1)
+      | inl new ↦ absurd (never (c.in-Err-accept.ensures.unwritten new.1).0)
+      | inr same ↦ (moved.0 ∙ same.0, moved.1 ∙ same.1)
     ]
-
--- the versions that have ended are refused for memory, or by a failure
-pub returns-in-Err-load_ended-clause-bad : goal.returns-in-Err-load_ended-clause-bad
-returns-in-Err-load_ended-clause-bad g c = λ handed bad. absurd (elim c.in-Err-load_ended.ensures.named [ inl memory ↦ cc | inr failed ↦ cc ])
 
 -- a store that is not good for its first five points is not good
 pub returns-in-Err-clause-bad : goal.returns-in-Err-clause-bad
@@ -107,11 +99,9 @@ returns-in-Err-clause-bad g c = λ usable bad.
 -- nor is one of which point 6 does not hold
 pub returns-in-Err-load_lawful-clause-bad : goal.returns-in-Err-load_lawful-clause-bad
 returns-in-Err-load_lawful-clause-bad g c = λ handed bad.
-    let usable = subst (IsUsable g.S.Store) c.refuse.ensures.same handed in
-    let read = c.in-Err-load_lawful.ensures.read in
-    let before = read.0.usable usable in
+    let before = subst (IsUsable g.S.Store) c.refuse.ensures.same handed in
     let old : Database = (state g.S.Store c.args.connection).now in
-    let some : c.in-Ok.opened.store.catalog.tables ≡ [] → ⊥ = c.in-Err-load_lawful.ensures.some in (
+    let some : c.in-Ok.found.0.store.catalog.tables ≡ [] → ⊥ = λ none. c.in-Err-load_lawful.ensures.some (ap (λ (k : Catalog). k.tables) c.catalog.ensures ∙ none) in (
       λ none. some (c.in-Ok.ensures.empty none).0,
       λ good.
           let five = other_points good in
@@ -120,39 +110,26 @@ returns-in-Err-load_lawful-clause-bad g c = λ handed bad.
             | inl none ↦ absurd (some (c.in-Ok.ensures.empty none).0)
             | inr it ↦ elim (c.in-Ok.ensures.unchanged before) [
               | inl empty ↦ absurd (some empty.0)
-              | inr same ↦ let its = subst (λ (d : Database). HasIn c.in-Ok.opened.form d it.2.counted) same.0 it.2.now in has_contents old five its.rows.untied its.rows.keyed
+              | inr same ↦ let its = subst (λ (d : Database). HasIn c.in-Ok.found.0.form d it.2.counted) same.0 it.2.now in has_contents old five its.rows.untied its.rows.keyed
             ]
           ] in
+          let d = its_contents five in
           let stored = c.in-Ok.ensures.same before five.form five.contents has in
-          c.in-Err-load_lawful.ensures.bad usable (its_contents five) stored (good_tables five) bad good.constrained,
+          let its = read_of g.S.Store c.in-Ok.found.0 c.catalog.result.now c.in-Ok.found.1.items d c.catalog.ensures stored (c.in-Ok.ensures.versions before five.form five.contents has) (good_tables five) in
+          c.in-Err-load_lawful.ensures.bad d its bad good.constrained,
     )
 
 -- a store that is refused has tables, so it was not made anew, and it was read alone
 pub returns-in-Err-load_lawful-clause-none : goal.returns-in-Err-load_lawful-clause-none
 returns-in-Err-load_lawful-clause-none g c = λ handed.
     let usable = subst (IsUsable g.S.Store) c.refuse.ensures.same handed in
-    let read = c.in-Err-load_lawful.ensures.read in
-    let loaded = read.0.same usable in
-    elim (c.in-Ok.ensures.unchanged (read.0.usable usable)) [
-      | inl empty ↦ absurd (c.in-Err-load_lawful.ensures.some empty.0)
-      | inr same ↦ subst (λ (k : Held g.row.S.Denot). IsAsBefore (state g.S.Store c.args.connection) (state g.S.Store k)) (sym c.refuse.ensures.same) (loaded.0 ∙ same.0, loaded.1 ∙ same.1)
-    ]
-
-pub returns-in-Err-load_ended-clause-none : goal.returns-in-Err-load_ended-clause-none
-returns-in-Err-load_ended-clause-none g c = λ handed.
-    let usable = subst (IsUsable g.S.Store) c.refuse-in-Err-load_ended.ensures.same handed in
-    let read = opened_more g.S.Store c.in-Ok.opened c.load_lawful.new.store c.load_ended.new.store c.in-Ok-load_lawful.ensures.read c.in-Err-load_ended.ensures.read in
-    let loaded = read.0.same usable in
-    elim (c.in-Ok.ensures.unchanged (read.0.usable usable)) [
-      | inl empty ↦ absurd (c.in-Err-load_ended.ensures.some (ap (λ (k : Catalog). k.tables) c.in-Ok-load_lawful.ensures.read.0.catalog ∙ empty.0))
-      | inr same ↦ subst (λ (k : Held g.row.S.Denot). IsAsBefore (state g.S.Store c.args.connection) (state g.S.Store k)) (sym c.refuse-in-Err-load_ended.ensures.same) (loaded.0 ∙ same.0, loaded.1 ∙ same.1)
+    elim (c.in-Ok.ensures.unchanged usable) [
+      | inl empty ↦ absurd (c.in-Err-load_lawful.ensures.some (ap (λ (k : Catalog). k.tables) c.catalog.ensures ∙ empty.0))
+      | inr same ↦ subst (λ (k : Held g.row.S.Denot). IsAsBefore (state g.S.Store c.args.connection) (state g.S.Store k)) (sym c.refuse.ensures.same) same
     ]
 
 pub returns-in-Err-load_lawful-clause-named : goal.returns-in-Err-load_lawful-clause-named
 returns-in-Err-load_lawful-clause-named g c = c.in-Err-load_lawful.ensures.named
-
-pub returns-in-Err-load_ended-clause-named : goal.returns-in-Err-load_ended-clause-named
-returns-in-Err-load_ended-clause-named g c = inr c.in-Err-load_ended.ensures.named
 
 pub returns-in-Err-accept-clause-named : goal.returns-in-Err-accept-clause-named
 returns-in-Err-accept-clause-named g c = inr c.in-Err-accept.ensures.named

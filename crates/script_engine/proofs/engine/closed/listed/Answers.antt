@@ -1,12 +1,11 @@
 use Rattle.std.proofs.Common.{◌≡◌, ◌≤ℤ◌, ◌+◌, ◌++◌, ◌∷◌, [], ◌∙◌, List, ap, map, subst, sym, take}
-use Rattle.std.specs.Prelude.{filter}
 use Rattle.std.specs.List.Sorted.{IsPermutation}
 use Rattle.std.proofs.lemmas.List.{map-append, take_more, take_all}
 use Rattle.std.proofs.lemmas.List.Elements.{All-nil, All-push}
 use Rattle.period_core.specs.declared.version.VersionRow.{VersionRow}
 use Rattle.ended_versions.specs.Packed.{AreEndedBy, AreOfColumns, PackedVersion, packed}
 use Rattle.ended_versions.proofs.PackedFacts.{OfColumns}
-use Rattle.script_engine.specs.engine.Ended.{AreInOrderOfEnds, has_ended}
+use Rattle.script_engine.specs.engine.Ended.{AreInOrderOfEnds}
 use Rattle.script_engine.proofs.EndedLoaded.{ended_so_far, not_later}
 use Rattle.script_engine.proofs.engine.closed.listed.Goals as goal
 
@@ -48,7 +47,7 @@ returns-clause-held c =
     let all : take c.loop-version.version-index ended ≡ ended = take_all c.loop-version.version-index ended c.loop-version-test.false in (
       ended,
       record { same = sym (inv.made ∙ ap (map packed) all); held = subst AreOfColumns all inv.held },
-      subst (IsPermutation (filter has_ended c.args.versions.items)) (sym c.deref-version-items.ensures.value) c.in_ok-ended.ensures.ended,
+      subst (IsPermutation c.args.versions.items) (sym c.deref-version-items.ensures.value) c.in_ok-ended.ensures.ended,
     )
 
 pub returns-clause-before : goal.returns-clause-before

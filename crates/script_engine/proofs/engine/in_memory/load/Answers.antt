@@ -1,48 +1,68 @@
-use Rattle.std.proofs.Common.{◌≡◌, ◌<◌, ◌≤◌, ◌+◌, ◌++◌, ◌∷◌, ◌∙◌, ℕ, List, [], ap, arith, get_or, length, length-append, subst, sym}
+use Rattle.std.proofs.Common.{◌≡◌, ◌<◌, ◌≤◌, ◌+◌, ◌++◌, ◌∷◌, ◌∙◌, ℕ, List, [], ap, arith, get_or, length, length-append, map, subst, sym}
+use Rattle.std.specs.List.Sorted.{IsPermutation}
+use Rattle.std.proofs.lemmas.List.Elements.{All-push}
 use Rattle.catalog_core.specs.declared.table.TableDef.{TableDef}
-use Rattle.catalog_core.specs.declared.table.catalog.Catalog.{Catalog}
+use Rattle.ended_versions.specs.Packed.{AreEndedBy}
+use Rattle.period_core.specs.declared.version.VersionRow.{VersionRow}
 use Rattle.period_keys.specs.Lawful.{key_positions}
-use Rattle.script_engine.proofs.Loaded.{AreLoaded, all_loaded, one_loaded, opened_more, opened_still}
+use Rattle.version_store.specs.Contents.{Contents, of_table, rows_of_table, version_in}
+use Rattle.script_engine.specs.engine.Ended.{AllEndedBy}
+use Rattle.script_engine.specs.engine.InMemory.{AreReadOf}
+use Rattle.script_engine.proofs.EndedLoaded.{table_loaded}
+use Rattle.script_engine.proofs.EndedLoaded.{AreLoaded as AreEndedLoaded, all_loaded as all_ended, one_loaded as one_ended}
+use Rattle.script_engine.proofs.Loaded.{AreLoaded, all_loaded, current_loaded, one_loaded}
 use Rattle.script_engine.proofs.engine.in_memory.load.Goals as goal
 
 pub loop-place-preserved : goal.loop-place-preserved
-loop-place-preserved g c =
-    let place = c.loop-place.place in
-    let read = c.in_ok-rows.ensures.read in
-    let before = c.loop-place.invariant.read in
+loop-place-preserved c =
+    let place : ℕ = c.loop-place.place in
+    let inv = c.loop-place.invariant in
+    let lists : List (List VersionRow) = c.args.lists.items in
+    let versions : List VersionRow = c.take_rows-versions.result in
+    let given : versions ≡ rows_of_table lists (place + 1) = c.take_rows-versions.ensures.taken ∙ inv.left (place + 1) (omega arith) in
+    let ends : c.len-place-end.result ≡ length c.args.catalog.now.tables = c.len-place-end.ensures in
+    let inside : place < length c.args.catalog.now.tables = omega (arith, c.loop-place-test.true, ends) in
+    let table : TableDef = c.index-as_slice-place.result in
+    let of_contents = λ (d : Contents) (read : AreReadOf d c.args.catalog.now.tables lists).
+    subst (λ (l : List VersionRow). IsPermutation (of_table (place + 1) d.versions) (map (version_in (place + 1)) l)) (sym given) (read.versions (place + 1)) in
     record {
-      read = opened_more g.S.Store c.args.store.now c.loop-place.store c.load_table.new.store before read;
       long =
-          (let was = c.loop-place.invariant.long in
+          (let was = inv.long in
           let more : length c.push.new.self.items ≡ length (c.loop-place.tables.items ++ c.in_ok-rows.rows ∷ []) = ap length c.in_ok-push.ensures.items in
           omega (arith, was, more, length-append c.loop-place.tables.items (c.in_ok-rows.rows ∷ [])));
-      below =
-          (let ends : c.len-place-end.result ≡ length c.args.store.now.store.catalog.tables = c.len-place-end.ensures ∙ ap (λ (k : Catalog). length k.tables) c.catalog.ensures in
-          let inside = c.loop-place-test.true in
-          omega (arith, inside, ends));
-      loaded = λ usable d stored.
-          let was = c.loop-place.invariant.loaded (read.0.usable usable) d stored in
-          let mid = opened_still g.S.Store c.args.store.now c.loop-place.store d before (read.0.usable usable) stored in
-          let ends : c.len-place-end.result ≡ length d.tables = c.len-place-end.ensures ∙ ap (λ (k : Catalog). length k.tables) c.catalog.ensures ∙ ap length stored.catalog in
-          let inside : place < length d.tables = subst (λ (n : ℕ). place < n) ends c.loop-place-test.true in
-          let definition : TableDef = c.index-as_slice-place.result in
-          let tables : c.as_slice.result.now ≡ d.tables = c.as_slice.ensures ∙ ap (λ (k : Catalog). k.tables) c.catalog-in-loop-place.ensures ∙ mid.catalog in
-          let key : c.in_ok-rows.rows.positions ≡ key_positions (get_or d.tables place definition) =
-          c.in_ok-rows.ensures.keys ∙ c.in_ok-none.ensures.keys ∙ ap key_positions (c.index-as_slice-place.is ∙ ap (λ (l : List TableDef). get_or l place definition) tables) in
+      below = omega (arith, inside);
+      left = λ number above. c.take_rows-versions.ensures.others number (λ same. omega (arith, above, same)) ∙ inv.left number (omega (arith, above));
+      current = λ d read.
+          let size : place < length d.tables = subst (λ (l : List TableDef). place < length l) read.same inside in
+          let tables : c.as_slice.result.now ≡ d.tables = c.as_slice.ensures ∙ read.same in
+          let key : c.in_ok-rows.rows.positions ≡ key_positions (get_or d.tables place table) =
+          c.in_ok-rows.ensures.keys ∙ ap key_positions (c.index-as_slice-place.is ∙ ap (λ (l : List TableDef). get_or l place table) tables) in
           subst (AreLoaded d (place + 1)) (sym c.in_ok-push.ensures.items)
-          (one_loaded d place c.loop-place.tables.items c.in_ok-rows.rows definition was inside key (c.in_ok-rows.ensures.current usable d mid));
+          (one_loaded d place c.loop-place.tables.items c.in_ok-rows.rows table (inv.current d read) size key
+          (current_loaded d (place + 1) versions c.in_ok-rows.rows.rows (of_contents d read) c.in_ok-rows.ensures.current));
+      ended = λ d read.
+          let held = c.in_ok-rows.ensures.ended in
+          subst (AreEndedLoaded d (place + 1)) (sym c.in_ok-push-2.ensures.items)
+          (one_ended d place c.loop-place.ended.items c.in_ok-rows.list (inv.ended d read)
+          (table_loaded d (place + 1) versions held.0 c.in_ok-rows.list (of_contents d read) held.1 held.2));
+      before = subst (AllEndedBy c.args.clock) (sym c.in_ok-push-2.ensures.items)
+          (All-push (AreEndedBy c.args.clock) c.loop-place.ended.items c.in_ok-rows.list inv.before c.in_ok-rows.ensures.before);
     }
 
 pub returns-clause-count : goal.returns-clause-count
-returns-clause-count g c =
-    let ends : c.len-place-end.result ≡ length c.args.store.now.store.catalog.tables = c.len-place-end.ensures ∙ ap (λ (k : Catalog). length k.tables) c.catalog.ensures in
+returns-clause-count c =
     let long = c.loop-place.invariant.long in
     let below = c.loop-place.invariant.below in
-    omega (arith, long, below, c.loop-place-test.false, ends)
+    omega (arith, long, below, c.loop-place-test.false, c.len-place-end.ensures)
 
-pub returns-clause-loaded : goal.returns-clause-loaded
-returns-clause-loaded g c usable d stored tabled =
+pub returns-clause-current : goal.returns-clause-current
+returns-clause-current c d read =
     let place = c.loop-place.place in
-    let ends : c.len-place-end.result ≡ length d.tables = c.len-place-end.ensures ∙ ap (λ (k : Catalog). length k.tables) c.catalog.ensures ∙ ap length stored.catalog in
-    let all : length d.tables ≤ place = omega (arith, c.loop-place-test.false, ends) in
-    all_loaded d place c.loop-place.tables.items all (c.loop-place.invariant.loaded usable d stored) tabled
+    let all : length d.tables ≤ place = subst (λ (l : List TableDef). length l ≤ place) read.same (omega (arith, c.loop-place-test.false, c.len-place-end.ensures)) in
+    all_loaded d place c.loop-place.tables.items all (c.loop-place.invariant.current d read) read.tabled
+
+pub returns-clause-ended : goal.returns-clause-ended
+returns-clause-ended c d read =
+    let place = c.loop-place.place in
+    let all : length d.tables ≤ place = subst (λ (l : List TableDef). length l ≤ place) read.same (omega (arith, c.loop-place-test.false, c.len-place-end.ensures)) in
+    all_ended d place c.loop-place.ended.items all (c.loop-place.invariant.ended d read) read.tabled

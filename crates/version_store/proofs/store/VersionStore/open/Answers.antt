@@ -10,7 +10,7 @@ use Rattle.version_tables.specs.declared.presence.Presence.TheVariants.{Missing,
 use Rattle.version_store.proofs.Opens.{are_dated, good_dated, have_tables, same_contents}
 use Rattle.version_store.proofs.Opened.{opened_new}
 use Rattle.version_store.proofs.Units.{tables_in}
-use Rattle.version_store.specs.Contents.{empty_contents}
+use Rattle.version_store.specs.Contents.{AreVersionsOf, empty_contents}
 use Rattle.version_store.specs.GoodStore.{AreLawful}
 use Rattle.version_store.specs.Units.{in_microseconds}
 use Rattle.version_store.specs.Written.{HasIn}
@@ -26,7 +26,10 @@ pub returns-in-Ok-clause-good : goal.returns-in-Ok-clause-good
 returns-in-Ok-clause-good g c = λ usable ours. inl (c.in-Missing.ensures.missing.0 refl)
 
 pub returns-in-Ok-clause-fresh : goal.returns-in-Ok-clause-fresh
-returns-in-Ok-clause-fresh g c = λ usable none. opened_new g.S.Store c.in-Ok.store empty_contents (c.in-Ok.ensures.fresh usable none)
+returns-in-Ok-clause-fresh g c = λ usable none. (opened_new g.S.Store c.in-Ok.store empty_contents (c.in-Ok.ensures.fresh usable none), c.new.ensures.items)
+
+pub returns-in-Ok-clause-versions : goal.returns-in-Ok-clause-versions
+returns-in-Ok-clause-versions g c = λ usable form d has. absurd (not_both_ways c.args.connection.schema (c.in-Missing.ensures.missing.0 refl) (store_is_whole c.args.connection.schema has.rows.schema))
 
 pub returns-in-Ok-clause-same : goal.returns-in-Ok-clause-same
 returns-in-Ok-clause-same g c = λ usable form d has. absurd (not_both_ways c.args.connection.schema (c.in-Missing.ensures.missing.0 refl) (store_is_whole c.args.connection.schema has.rows.schema))
@@ -84,7 +87,17 @@ returns-in-Some-clause-good g c = λ usable ours.
         clock = clock ∙ ap₂ moment_in (sym found.3) (sym found.4);
         dated = good_dated found.0;
       },
+      subst (λ (f : Form). AreVersionsOf (in_microseconds f found.0.contents) c.in-Ok-inspect.versions.items) (sym found.3)
+          (c.in-Ok-inspect.ensures.versions usable.0 usable.1 found.0.contents (subst (λ (f : Form). HasIn f (state g.S.Store c.args.connection).now found.0.contents) found.3 found.1)),
     )
+
+pub returns-in-Some-clause-versions : goal.returns-in-Some-clause-versions
+returns-in-Some-clause-versions g c = λ usable form d is.
+    let old = (state g.S.Store c.args.connection).now in
+    let found = c.in-Ok-inspect.ensures.good usable.0 usable.1 is.rows.schema in
+    let forms : form ≡ c.in-Ok-inspect.form = sym (same_contents old found.0.form form found.0.contents d found.1 is).1 ∙ found.3 in
+    subst (λ (f : Form). AreVersionsOf (in_microseconds f d) c.in-Ok-inspect.versions.items) (sym forms)
+    (c.in-Ok-inspect.ensures.versions usable.0 usable.1 d (subst (λ (f : Form). HasIn f old d) forms is))
 
 pub returns-in-Some-clause-same : goal.returns-in-Some-clause-same
 returns-in-Some-clause-same g c = λ usable form d is.

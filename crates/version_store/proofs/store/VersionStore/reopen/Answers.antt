@@ -3,6 +3,7 @@ use Rattle.std.specs.Prelude.{IfErr}
 use Rattle.std.proofs.lemmas.Result.{IfOk-weaker}
 use Rattle.sqlite.specs.Held.{Held, state}
 use Rattle.version_tables.specs.declared.form.Form.TheVariants.{Microseconds}
+use Rattle.version_store.specs.Contents.{AreVersionsOf, Contents}
 use Rattle.version_store.specs.StoreState.{OpenedRepresents}
 use Rattle.version_store.specs.Written.{Has}
 use Rattle.version_store.proofs.Units.{same_units}
@@ -23,6 +24,12 @@ returns-clause-kept g c =
 
 pub returns-clause-same : goal.returns-clause-same
 returns-clause-same g c =
-    IfOk-weaker c.open.result _ _ (λ opened same usable d stands.
+    IfOk-weaker c.open.result _ _ (λ found same usable d stands.
     let has = subst (λ (h : Held _). Has (state g.S.Store h).now d) (sym c.close-connection.ensures.same) stands.now in
-    subst (OpenedRepresents g.S.Store opened) (same_units d) (same usable Microseconds d has)) c.open.ensures.same
+    subst (OpenedRepresents g.S.Store found.0) (same_units d) (same usable Microseconds d has)) c.open.ensures.same
+
+pub returns-clause-versions : goal.returns-clause-versions
+returns-clause-versions g c =
+    IfOk-weaker c.open.result _ _ (λ found same usable d stands.
+    let has = subst (λ (h : Held _). Has (state g.S.Store h).now d) (sym c.close-connection.ensures.same) stands.now in
+    subst (λ (e : Contents). AreVersionsOf e found.1.items) (same_units d) (same usable Microseconds d has)) c.open.ensures.versions
