@@ -41,13 +41,20 @@ def scattered(count):
     return numbers
 
 
+def counted_run(program, words, file, **streams):
+    """A run of the program under valgrind, which writes the file, and how many instructions it needed."""
+    ran = subprocess.run(
+        ['valgrind', '--tool=callgrind', f'--callgrind-out-file={file}', program, *words],
+        stderr=subprocess.PIPE, text=True, check=False, **streams)
+    collected = re.search(r'Collected : (\d+)', ran.stderr)
+    return ran, int(collected.group(1)) if collected else 0
+
+
 def instructions(folder, script):
     """How many instructions the program needs for a script, in which no statement is refused."""
-    file, counted = folder / 'script.sql', folder / 'counted'
+    file = folder / 'script.sql'
     file.write_text(script)
-    ran = subprocess.run(
-        ['valgrind', '--tool=callgrind', f'--callgrind-out-file={counted}', PROGRAM, 'run', file],
-        stdout=subprocess.PIPE, stderr=subprocess.PIPE, text=True, check=False)
+    ran, count = counted_run(PROGRAM, ['run', file], folder / 'counted', stdout=subprocess.PIPE)
     if ran.returncode != 0 or 'refused' in ran.stdout:
         sys.exit(f'{sys.argv[0]}: a statement was refused, or the program failed:\n{ran.stderr[-500:]}')
-    return int(re.search(r'Collected : (\d+)', ran.stderr).group(1))
+    return count
