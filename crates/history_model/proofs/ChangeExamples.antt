@@ -1,20 +1,20 @@
 -- Worked rows of UPDATE and DELETE: a day, the rows in the place of one, the versions that a history leaves, windows.
-use Rattle.std.proofs.Common.{◌≡◌, ℕ, ℤ, pos, false, List, [], ◌∷◌, Some, None, refl, arith}
+use Rattle.std.proofs.Common.{◌≡◌, ℕ, ℤ, pos, List, [], ◌∷◌, Some, None, refl, arith}
 use Rattle.std.proofs.lemmas.Int.{ints}
 use Rattle.period_core.proofs.Periods.{period_over}
 use Rattle.period_core.specs.Moments.{forever}
 use Rattle.period_core.specs.declared.period.Period.{Period}
 use Rattle.period_core.specs.declared.value.Value.{Value}
 use Rattle.period_core.specs.declared.value.Value.TheVariants.{Int}
-use Rattle.period_core.specs.declared.window.Window.TheVariants.{AsOf, Between, FromTo, Now}
+use Rattle.period_core.specs.declared.window.Window.TheVariants.{AsOf, Now}
 use Rattle.catalog_core.specs.declared.change.Action.{Action}
-use Rattle.catalog_core.specs.declared.change.Action.TheVariants.{Delete, Insert, Update}
+use Rattle.catalog_core.specs.declared.change.Action.TheVariants.{Insert, Update}
 use Rattle.catalog_core.specs.declared.change.Assignment.{Assignment}
 use Rattle.catalog_core.specs.declared.change.Change.{Change}
 use Rattle.history_model.specs.Effects.{Kept, effect, traced}
 use Rattle.history_model.specs.Histories.{Advanced, Changed, History, new_database}
-use Rattle.history_model.specs.Left.{closed_at, versions_of}
-use Rattle.history_model.specs.Portions.{PlainRow, replacements, touches}
+use Rattle.history_model.specs.Left.{versions_of}
+use Rattle.history_model.specs.Portions.{PlainRow, replacements}
 use Rattle.history_model.specs.SystemWindows.{SeesThrough}
 use Rattle.history_model.specs.Versions.{PlainVersion, last_moment}
 
@@ -41,20 +41,11 @@ inserting = record { table = 1; action = Insert (record { values = worker; start
 abbrev updating : Change
 updating = record { table = 1; action = update }
 
-abbrev deleting : Change
-deleting = record { table = 1; action = Delete (Some portion) None }
-
 -- ---- a day
 
 -- the row is changed on the portion's last day, and not at its end
 last_day : effect updating 1 (pos 14) (worker ∷ []) ≡ promoted ∷ []
 last_day = refl
-
-at_its_end : effect updating 1 (pos 15) (worker ∷ []) ≡ worker ∷ []
-at_its_end = refl
-
-removed : effect deleting 1 (pos 12) (worker ∷ []) ≡ []
-removed = refl
 
 -- each row keeps its origin, also where two become equal
 origins : traced update (pos 12) (worker ∷ promoted ∷ []) ≡ record { origin = Kept worker; row = promoted } ∷ record { origin = Kept promoted; row = promoted } ∷ []
@@ -68,10 +59,6 @@ over values start end = record { values = values; start = pos start; end = pos e
 -- what lies before the portion and from its end on keeps the old values
 split : replacements update (over worker 10 20) ≡ over worker 10 12 ∷ over worker 15 20 ∷ over promoted 12 15 ∷ []
 split = refl
-
--- a row that meets the portion only at an edge is not touched
-ends_at_start : touches update (over worker 10 12) ≡ false
-ends_at_start = refl
 
 -- ---- a history: INSERT at moment 100, and at 200 an UPDATE of a portion
 
@@ -89,10 +76,6 @@ left_behind : versions_of history 1
     ≡ version worker 10 20 100 (pos 200) ∷ version worker 10 12 200 forever ∷ version worker 15 20 200 forever ∷ version promoted 12 15 200 forever ∷ []
 left_behind = refl
 
--- a version that is closed as it begins is not kept
-not_kept : closed_at (pos 200) (version worker 10 12 200 forever) ≡ []
-not_kept = refl
-
 -- ---- windows
 
 pub sees_now : SeesThrough history Now (pos 12) 1 promoted
@@ -100,10 +83,3 @@ sees_now = (last_moment, omega (arith, ints), refl, (0, omega arith, refl))
 
 pub saw : SeesThrough history (AsOf (pos 199)) (pos 12) 1 worker
 saw = (pos 199, omega (arith, ints), refl, (0, omega arith, refl))
-
-between : SeesThrough history (Between (pos 200) (pos 200)) (pos 12) 1 promoted
-between = (pos 200, omega (arith, ints), (omega (arith, ints), omega (arith, ints)), (0, omega arith, refl))
-
--- FROM m TO m sees nothing
-nothing : (values : List Value) → SeesThrough history (FromTo (pos 200) (pos 200)) (pos 12) 1 values → ⊥
-nothing values (moment, before, (low, high), there) = omega (arith, ints)

@@ -10,10 +10,9 @@ use Rattle.period_core.specs.declared.value.Value.{Value}
 use Rattle.period_core.specs.declared.value.Value.TheVariants.{Int}
 use Rattle.period_core.specs.declared.version.VersionRow.{VersionRow}
 use Rattle.period_core.specs.declared.window.Window.TheVariants.{Now}
-use Rattle.history_model.specs.Versions.{current, last_moment, values_at}
-use Rattle.history_model.specs.Effects.{effect}
+use Rattle.history_model.specs.Versions.{last_moment}
 use Rattle.history_model.specs.Moved.{moved_version}
-use Rattle.history_model.specs.Histories.{Advanced, Asked, Changed, History, clock_of, last_state, new_database, opened, state_at, with_event}
+use Rattle.history_model.specs.Histories.{Asked, Changed, History, last_state, new_database, opened, state_at, with_event}
 use Rattle.catalog_core.specs.declared.change.Action.TheVariants.{Insert}
 use Rattle.catalog_core.specs.declared.change.Change.{Change}
 use Rattle.catalog_core.specs.declared.change.GivenRow.{GivenRow}
@@ -26,9 +25,6 @@ use Rattle.history_model.specs.OrdinaryQuery.{InAnswerOn}
 abbrev worker : List Value
 worker = Int (pos 1) ∷ Int (pos 3) ∷ []
 
-abbrev other : List Value
-other = Int (pos 2) ∷ Int (pos 3) ∷ []
-
 -- from day 10 on and before day 20
 abbrev given : GivenRow
 given = record { values = worker; start = pos 10; end = pos 20 }
@@ -36,33 +32,12 @@ given = record { values = worker; start = pos 10; end = pos 20 }
 abbrev inserted : Change
 inserted = record { table = 1; action = Insert (given ∷ []) }
 
--- the row is there on its last day
-last_day : effect inserted 1 (pos 19) (other ∷ []) ≡ other ∷ worker ∷ []
-last_day = refl
-
 abbrev history : History
 history = with_event (with_event (opened new_database) (Changed (pos 0) inserted)) Asked
-
--- AT moves the clock
-abbrev later : History
-later = with_event (with_event (opened new_database) (Advanced (pos 5))) (Changed (pos 5) inserted)
-
-moved : clock_of later ≡ pos 5
-moved = refl
 
 -- a version that began at the moment 2 and ended at 4 is held as of 2 and 3 alone, on its days alone
 abbrev ended : VersionRow
 ended = record { values = worker; period = period_over (pos 10) (pos 20) refl; from = pos 2; to = pos 4 }
-
-as_it_begins : values_at (ended ∷ []) (pos 2) (pos 15) ≡ worker ∷ []
-as_it_begins = refl
-
-as_it_ends : values_at (ended ∷ []) (pos 4) (pos 15) ≡ []
-as_it_ends = refl
-
--- and it is not current
-not_current : current (ended ∷ record ended { to = forever } ∷ []) ≡ record ended { to = forever } ∷ []
-not_current = refl
 
 -- moved from seconds it begins and ends where its seconds begin, and an open version stays open
 in_moments : moved_version ended ≡ record ended { from = pos 2_000_000; to = pos 4_000_000 }

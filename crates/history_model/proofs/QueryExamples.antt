@@ -1,6 +1,6 @@
 -- Worked rows of the ordinary query on a day: a join, a union, a difference and an intersection, over
 -- lists of period rows and over a history.
-use Rattle.std.proofs.Common.{◌∷◌, ◌++◌, ℕ, pos, true, List, [], inr, codes, refl, arith}
+use Rattle.std.proofs.Common.{◌∷◌, ◌++◌, ℕ, pos, true, List, [], codes, refl, arith}
 use Rattle.std.proofs.lemmas.Bool.{and_from}
 use Rattle.period_core.proofs.Periods.{period_over}
 use Rattle.period_core.specs.declared.period.Period.{Period}
@@ -10,7 +10,7 @@ use Rattle.period_core.specs.declared.value.Value.TheVariants.{Int, Text}
 use Rattle.period_core.specs.declared.window.Window.{Window}
 use Rattle.period_core.specs.declared.window.Window.TheVariants.{Now, AsOf}
 use Rattle.sql_statements.specs.declared.statement.Comparison.TheVariants.{Equal}
-use Rattle.sql_statements.specs.declared.tree.SetOperator.TheVariants.{Union, Except, Intersect}
+use Rattle.sql_statements.specs.declared.tree.SetOperator.TheVariants.{Except, Intersect}
 use Rattle.sql_statements.specs.declared.tree.Tree.TheVariants.{Test}
 use Rattle.catalog_core.proofs.lemmas.conditions.Truth.{test_truth}
 use Rattle.catalog_core.specs.Conditions.{compares, meets}
@@ -81,14 +81,6 @@ in_join = (
 -- on day 10 the first does not hold any more
 not_in_join : (row : List Value) → InAnswerOver (one joined) tables (pos 10) row → ⊥
 not_in_join row (values, (first, rest, (place, inside, is), others, made), met, its) = omega arith
-
--- a union with the same select holds it, from either side; the difference does not
-in_union : InAnswerOver (both Union (one joined) (one joined)) tables (pos 6) answer_row
-in_union = inr in_join
-
-not_in_difference
-    : InAnswerOver (both Except (one joined) (one joined)) tables (pos 6) answer_row → ⊥
-not_in_difference h = h.1 in_join
 
 -- the text and the number of the second list's rows, which hold on day 10 too
 abbrev second : Select

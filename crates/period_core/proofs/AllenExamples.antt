@@ -17,9 +17,3 @@ meets = refl
 
 starting : said (period_over (pos 10) (pos 30) refl) ≡ true ∷ false ∷ false ∷ false ∷ false ∷ false ∷ false ∷ []
 starting = refl
-
-equal : said (period_over (pos 10) (pos 20) refl) ≡ true ∷ true ∷ true ∷ false ∷ false ∷ false ∷ false ∷ []
-equal = refl
-
-met_by : said (period_over (pos 5) (pos 10) refl) ≡ false ∷ false ∷ false ∷ false ∷ true ∷ false ∷ true ∷ []
-met_by = refl

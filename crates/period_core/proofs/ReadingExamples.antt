@@ -1,5 +1,5 @@
 -- Worked texts of days and moments, read by computation.
-use Rattle.std.proofs.Common.{◌≡◌, refl, codes, pos, Some, None}
+use Rattle.std.proofs.Common.{◌≡◌, refl, codes, pos, Some}
 use Rattle.period_core.specs.TextReading.{date_at, date_parts_of, day_of_text, fraction_at, is_date, is_time, moment_of_text, six_of, time_at, time_parts_of}
 
 -- ---- days
@@ -7,10 +7,6 @@ use Rattle.period_core.specs.TextReading.{date_at, date_parts_of, day_of_text, f
 leap_day-read : day_of_text (codes "2000-02-29") ≡ Some (pos 11_016)
 unfolding day_of_text date_at date_parts_of is_date
 leap_day-read = refl
-
-slashes-none : day_of_text (codes "2010/01/01") ≡ None
-unfolding day_of_text date_at
-slashes-none = refl
 
 -- ---- moments
 
@@ -25,13 +21,3 @@ last_second-read = refl
 half-read : moment_of_text (codes "1970-01-01 00:00:00.5") ≡ Some (pos 500_000)
 unfolding moment_of_text date_at time_at fraction_at date_parts_of time_parts_of six_of is_date is_time
 half-read = refl
-
--- a point has digits behind it
-point-none : moment_of_text (codes "1970-01-01 00:00:00.") ≡ None
-unfolding moment_of_text date_at time_at fraction_at date_parts_of time_parts_of
-point-none = refl
-
--- and no more than six
-seven_digits-none : moment_of_text (codes "1970-01-01 00:00:00.1234567") ≡ None
-unfolding moment_of_text date_at time_at fraction_at date_parts_of time_parts_of
-seven_digits-none = refl
