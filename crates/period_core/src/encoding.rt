@@ -28,13 +28,17 @@ pub(crate) const TEXT: u8 = 2;
 /// What stands before a date.
 pub(crate) const DATE: u8 = 3;
 
+/// How many bytes an integer takes, with what stands before it.
+const INTEGER_BYTES: usize = 9;
+
 /// The bytes of the values, one after the other; no values have no bytes. An `Err` says that memory
 /// was refused.
 pub fn encode_values(alloc: Global, values: &[Value]) -> Result<Vec<u8>, Memory>
     ensures bytes { IfOk result (λ bytes. bytes.items ≡ encoded values.now) }
     ensures held { IfOk result (λ _. All IsColumnValue values.now) }
 {
-    let mut bytes = Vec::new(alloc);
+    // (room for integers, so that most rows take one allocation)
+    let mut bytes = Vec::with_capacity(alloc, values.len().saturating_mul(INTEGER_BYTES))?;
     for value in values {
         push_value(&mut bytes, value)?;
     }
