@@ -1,10 +1,10 @@
 -- Worked rows: which refusal a whole script has, a refused statement, moments, and an answer of one row.
-use Rattle.std.proofs.Common.{◌≡◌, ◌<◌, ◌≤◌, ◌+◌, ◌<ℤ◌, ◌≤ℤ◌, ◌-ℤ◌, ◌∙◌, ◌∷◌, [], ℕ, ℤ, pos, List, Some, Ok, Err, true, false, codes, length, refl, ap, inl, inr, arith, ◌++◌, lit≤}
+use Rattle.std.proofs.Common.{◌≡◌, ◌<◌, ◌≤◌, ◌+◌, ◌<ℤ◌, ◌≤ℤ◌, ◌-ℤ◌, ◌∙◌, ◌∷◌, [], ℤ, pos, List, Some, Err, true, codes, refl, ap, inl, inr, arith, ◌++◌, lit≤}
 use Rattle.std.proofs.lemmas.Int.{ints}
 use Rattle.period_core.specs.Codes.{code_of}
 use Rattle.period_core.proofs.Periods.{are_ends, period_over}
 use Rattle.period_core.specs.declared.answer.Answer.{Answer}
-use Rattle.period_core.specs.declared.refusal.Refusal.TheVariants.{BadToken, Memory, MomentBack, ScriptTooLarge, Store, UnknownTable}
+use Rattle.period_core.specs.declared.refusal.Refusal.TheVariants.{Memory, MomentBack, Store, UnknownTable}
 use Rattle.period_core.specs.declared.row.PeriodRow.{PeriodRow}
 use Rattle.period_core.specs.declared.value.Value.{Value}
 use Rattle.period_core.specs.declared.value.Value.TheVariants.{Int}
@@ -13,35 +13,16 @@ use Rattle.temporal_model.proofs.Certificate.{shortest}
 use Rattle.temporal_model.proofs.Members.{Contains-here, Contains-one}
 use Rattle.temporal_model.proofs.Snapshots.{held, in_snapshot}
 use Rattle.sql_statements.specs.Lexis as lexis
-use Rattle.sql_statements.specs.Lexis.{first_lexeme}
-use Rattle.sql_statements.specs.declared.token.TokenKind.TheVariants.{Word}
 use Rattle.sql_statements.specs.Trees.{Delete}
 use Rattle.sql_statements.specs.Trees as statement
 use Rattle.catalog_core.specs.change.PortionChanges.{lacks_named}
 use Rattle.catalog_core.specs.change.Resolution.{change_conditions, empty_period}
 use Rattle.catalog_core.specs.table.TableWords.{number_of, table_of_name}
 use Rattle.catalog_core.proofs.lemmas.judged.Least.{first_least}
-use Rattle.history_model.specs.Histories.{Advanced, History, new_database, opened, with_event}
+use Rattle.history_model.specs.Histories.{new_database, opened}
 use Rattle.script_engine.specs.Headline.{IsSequencedAnswer}
 use Rattle.script_engine.specs.engine.Runs.{MayRefuseMoment, Step}
-use Rattle.statement_reports.specs.declared.outcome.Outcome.{Outcome}
-use Rattle.statement_reports.specs.declared.outcome.Outcome.TheVariants.{Done}
 use Rattle.statement_reports.specs.declared.outcome.Word.TheVariants as word
-use Rattle.script_engine.specs.script.Script.{ScriptApplies, most_bytes}
-
--- ---- whole scripts
-
--- a letter, a space, and a byte that begins no token
-bad_third : ScriptApplies (codes "A ?") (BadToken 2)
-unfolding first_lexeme lib.Utf8.encode
-bad_third = (omega arith, (codes "A ?", (refl, refl)), lexis.StopsFrom.token Word 1 refl (lexis.StopsFrom.blank 1 refl (lexis.StopsFrom.here refl)))
-
--- one byte more than a script may have, and as many
-too_large : (script : List ℕ) → length script ≡ most_bytes + 1 → ScriptApplies script ScriptTooLarge
-too_large script e = omega arith
-
-not_too_large : (script : List ℕ) → length script ≡ most_bytes → ScriptApplies script ScriptTooLarge → ⊥
-not_too_large script e h = omega arith
 
 -- ---- a refused statement
 
@@ -78,20 +59,6 @@ back_not_for_memory : MayRefuseMoment (pos 5) (pos 4) Memory → ⊥
 back_not_for_memory (inl bad) = absurd cc
 back_not_for_memory (inr (inl back)) = absurd cc
 back_not_for_memory (inr (inr failed)) = let late : pos 5 ≤ℤ pos 4 = failed.1 in omega (arith, ints)
-
--- ---- AT
-
--- the clock at the moment 5
-abbrev at_five : History
-at_five = with_event (opened new_database) (Advanced (pos 5))
-
--- a later moment is accepted
-later_moment : Step (opened new_database) (statement.at (pos 5)) (Ok (Done word.At 0)) at_five
-later_moment = (λ refusal h. elim h [ inl both ↦ (let off : false ≡ true = both.1 in absurd cc) | inr nothing ↦ nothing ], record { done = refl; after = refl })
-
--- an earlier one is not
-earlier_moment : (outcome : Outcome) (new : History) → Step at_five (statement.at (pos 4)) (Ok outcome) new → ⊥
-earlier_moment outcome new step = step.0 MomentBack (inl (refl, refl))
 
 -- ---- answers
 

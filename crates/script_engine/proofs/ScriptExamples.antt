@@ -3,7 +3,7 @@ use Rattle.std.proofs.Common.{◌≡◌, ◌≤◌, ◌∷◌, ◌++◌, ◌∙�
 use Rattle.std.proofs.lemmas.Bool.{false≢true}
 use Rattle.period_core.specs.Leasts.{MayAnswer, NoneApplies}
 use Rattle.period_core.specs.declared.refusal.Refusal.{Refusal}
-use Rattle.period_core.specs.declared.refusal.Refusal.TheVariants.{BadDate, BadMoment, LimitReached, NumberRange, Syntax, UnknownTable}
+use Rattle.period_core.specs.declared.refusal.Refusal.TheVariants.{BadDate, BadMoment, NumberRange, Syntax, UnknownTable}
 use Rattle.sql_front.specs.Depth.{room}
 use Rattle.sql_front.specs.Grammar.{IsStatement}
 use Rattle.sql_statements.specs.Lexemes.{Lexeme}
@@ -37,16 +37,6 @@ use Rattle.script_engine.specs.script.Check.{IsCheckOf}
 use Rattle.script_engine.specs.script.Script.{IsCutInto, IsOverlong, IsRunOf, PieceStep, TextApplies}
 use Rattle.script_engine.proofs.PieceFacts.{none_of_text}
 use Rattle.script_engine.proofs.ScriptFacts.{none_of_script}
-
--- ---- how long a piece may be
-
--- one token more than a piece may have
-overlong : (piece : List Lexeme) → length piece ≡ 10_001 → TextApplies piece LimitReached
-overlong piece e = inl (omega arith, refl)
-
--- as many
-not_overlong : (piece : List Lexeme) → length piece ≡ 10_000 → IsOverlong piece → ⊥
-not_overlong piece e long = omega arith
 
 -- ---- pieces that are read as a statement
 

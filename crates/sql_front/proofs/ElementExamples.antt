@@ -1,15 +1,13 @@
 -- Worked rows of CREATE TABLE's elements.
-use Rattle.std.proofs.Common.{ℕ, List, [], ◌∷◌, ◌++◌, None, codes, refl, arith}
+use Rattle.std.proofs.Common.{ℕ, List, [], ◌∷◌, ◌++◌, None, codes, refl}
 use Rattle.sql_statements.specs.declared.create.TypeName.TheVariants.{Integer, Date}
 use Rattle.sql_statements.specs.declared.token.TokenKind.TheVariants.{Word, Symbol}
 use Rattle.sql_statements.specs.Lexemes.{Lexeme}
 use Rattle.sql_statements.specs.Names.{is_plain_word}
 use Rattle.sql_statements.specs.Words.{is_reserved}
-use Rattle.sql_statements.specs.Elements.{HasElement}
 use Rattle.sql_front.specs.reading.Leaves.{name_read, number_read}
 use Rattle.sql_front.specs.reading.ElementReaders.{create_read, elements_read, element_read, column_element_read, not_null_read, key_element_read, reference_element_read, reference_list_read, versioning_read, without_overlaps_read, all_and_last_read, type_read, length_read, generated_read, row_end_read, one_more_name, leading_names_read, more_names_read, pair_read, some_period_read, period_element_read, system_element_read, created_table_read, key_list_read, last_period_read, parent_read, timestamp_read}
 use Rattle.sql_front.specs.reading.Reading.{bounded_read}
-use Rattle.sql_front.specs.Builders.{table_of}
 use Rattle.sql_front.proofs.ReadGrammar.{IsCreate}
 use Rattle.sql_statements.specs.declared.create.CreateTable.{CreateTable}
 use Rattle.sql_front.proofs.ElementsRead.{reads_create}
@@ -58,11 +56,3 @@ a_table = record {
 table_spelled : IsCreate (first_elements ++ last_element) a_table
 unfolding create_read created_table_read elements_read element_read column_element_read type_read timestamp_read length_read not_null_read generated_read row_end_read key_element_read key_list_read all_and_last_read without_overlaps_read reference_element_read parent_read reference_list_read last_period_read leading_names_read more_names_read one_more_name versioning_read some_period_read period_element_read system_element_read pair_read bounded_read name_read number_read is_plain_word is_reserved
 table_spelled = whole_found reads_create (first_elements ++ last_element) a_table refl
-
--- this table has an element
-table_has_element : HasElement a_table
-table_has_element = omega arith
-
--- the table of no elements has none
-no_element_of_none : HasElement (table_of (codes "T", ([], tt))) → ⊥
-no_element_of_none has = omega (arith, has)

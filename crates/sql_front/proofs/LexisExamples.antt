@@ -4,7 +4,7 @@ use Rattle.std.specs.Prelude.{codes}
 use Rattle.sql_statements.specs.declared.token.TokenKind.TheVariants.{Word, Number, Symbol}
 use Rattle.sql_statements.specs.Lexemes.{Lexeme}
 use Rattle.sql_statements.specs.Lexis as lexis
-use Rattle.sql_statements.specs.Lexis.{first_lexeme, quoted_size, TokensOf, StopsAt, byte_order_mark_size}
+use Rattle.sql_statements.specs.Lexis.{first_lexeme, TokensOf, byte_order_mark_size}
 use Rattle.sql_front.specs.Pieces as pieces
 use Rattle.sql_front.specs.Pieces.{HasPieces}
 
@@ -12,11 +12,6 @@ use Rattle.sql_front.specs.Pieces.{HasPieces}
 number_and_word : TokensOf (codes "12a") (record { kind = Number; text = codes "12"; start = 0; end = 2 } ∷ record { kind = Word; text = codes "a"; start = 2; end = 3 } ∷ [])
 unfolding first_lexeme
 number_and_word = lexis.TokensFrom.token Number 2 refl (lexis.TokensFrom.token Word 1 refl lexis.TokensFrom.ended)
-
--- a text has no end
-no_end : StopsAt (codes "N 'ab''") 2
-unfolding first_lexeme quoted_size
-no_end = lexis.StopsFrom.token Word 1 refl (lexis.StopsFrom.blank 1 refl (lexis.StopsFrom.here refl))
 
 semicolon : Lexeme
 semicolon = record { kind = Symbol; text = codes ";"; start = 0; end = 1 }

@@ -1,6 +1,5 @@
 -- Worked rows of period predicates, in the conditions of stored queries.
 use Rattle.std.proofs.Common.{pos, List, [], ◌∷◌, Some, None, codes, refl}
-use Rattle.period_core.specs.TextReading.{date_at, date_parts_of, day_of_text, is_date}
 use Rattle.period_core.specs.declared.value.Value.TheVariants as value
 use Rattle.sql_statements.specs.declared.statement.Comparison.TheVariants.{Equal}
 use Rattle.sql_statements.specs.declared.statement.Operand.TheVariants.{Column, Literal}
@@ -8,22 +7,21 @@ use Rattle.sql_statements.specs.declared.statement.PeriodOperand.{PeriodOperand}
 use Rattle.sql_statements.specs.declared.statement.PeriodOperand.TheVariants.{Named}
 use Rattle.sql_statements.specs.declared.statement.PeriodPredicate.TheVariants.{Equals, Overlaps}
 use Rattle.sql_statements.specs.declared.statement.StoredTest.{StoredTest}
-use Rattle.sql_statements.specs.declared.statement.StoredTest.TheVariants.{ContainsDay, Periods, Values}
+use Rattle.sql_statements.specs.declared.statement.StoredTest.TheVariants.{Periods, Values}
 use Rattle.sql_statements.specs.Lexemes.{Lexeme}
 use Rattle.sql_statements.specs.Names.{is_plain_word}
 use Rattle.sql_statements.specs.Words.{is_reserved}
 use Rattle.sql_statements.specs.Trees.{Condition, Statement, all, any, conditions_of, negated, stored, test}
 use Rattle.sql_front.specs.Grammar.{IsStatement}
-use Rattle.sql_front.specs.reading.LeafValues.{day_of_token, day_value}
-use Rattle.sql_front.specs.reading.Leaves.{date_read, literal_read, name_read, number_read, unsigned_read}
+use Rattle.sql_front.specs.reading.Leaves.{literal_read, name_read, number_read, unsigned_read}
 use Rattle.sql_front.specs.reading.ConditionReaders.{column_read, compare_read, comparison_read, condition_read, conjunction_read, factor_read, inner_read, operand_read, test_read, where_read}
 use Rattle.sql_front.specs.reading.PredicateReaders.{begins_contains_date, period_operand_read, predicate_ahead, predicate_read, relation_behind_column, relation_read, relation_word, stored_test_read, dates_read}
 use Rattle.sql_front.specs.reading.WindowReaders.{for_window_read}
 use Rattle.sql_front.specs.reading.StatementReaders.{statement_read, stored_read, stored_table_read, later_statement_read, query_statement_read}
 use Rattle.sql_front.specs.reading.Reading.{bounded_read}
 use Rattle.sql_front.proofs.Spelling.{spelled_if_read}
-use Rattle.sql_front.proofs.StatementExamples.{digits, quoted_text, sign, word}
-use Rattle.sql_front.proofs.QueryExamples.{column, column_of, condition_of}
+use Rattle.sql_front.proofs.StatementExamples.{digits, sign, word}
+use Rattle.sql_front.proofs.QueryExamples.{column}
 use Rattle.sql_front.proofs.WindowExamples.{stored_from}
 
 -- SELECT * FROM T WHERE
@@ -39,22 +37,6 @@ p = Named (column (codes "P"))
 
 abbrev q : PeriodOperand
 q = Named (column (codes "Q"))
-
-abbrev t_p : PeriodOperand
-t_p = Named (column_of (codes "T") (codes "P"))
-
--- ---- a period and a day
-
--- SELECT * FROM T WHERE T.P CONTAINS DATE '2011-02-03'
-abbrev holding : List Lexeme
-holding = asking (word (codes "T") ∷ sign (codes ".") ∷ word (codes "P") ∷ word (codes "CONTAINS") ∷ word (codes "DATE") ∷ quoted_text (codes "'2011-02-03'") ∷ [])
-
-abbrev holding_tree : Statement
-holding_tree = asked (condition_of (ContainsDay t_p (pos 15_008)))
-
-holding_spelled : IsStatement holding holding_tree
-unfolding statement_read later_statement_read query_statement_read stored_read stored_table_read for_window_read where_read condition_read conjunction_read factor_read test_read stored_test_read predicate_ahead relation_behind_column relation_word predicate_read period_operand_read dates_read begins_contains_date column_read date_read day_value day_of_token day_of_text date_at date_parts_of is_date name_read bounded_read is_plain_word is_reserved
-holding_spelled = spelled_if_read 0 holding holding_tree refl refl refl refl
 
 -- ---- predicates beside comparisons
 

@@ -1,6 +1,5 @@
 -- Worked rows of AT and of sequenced queries: items, new names, joins and chains.
-use Rattle.std.proofs.Common.{ℕ, pos, List, [], ◌∷◌, Option, Some, None, codes, refl}
-use Rattle.period_core.specs.TextReading.{date_at, date_parts_of, fraction_at, is_date, is_time, moment_of_text, six_of, time_at, time_parts_of}
+use Rattle.std.proofs.Common.{ℕ, List, [], ◌∷◌, Option, Some, None, codes, refl}
 use Rattle.sql_statements.specs.declared.statement.ColumnReference.{ColumnReference}
 use Rattle.sql_statements.specs.declared.statement.Compare.{Compare}
 use Rattle.sql_statements.specs.declared.statement.Comparison.{Comparison}
@@ -11,31 +10,16 @@ use Rattle.sql_statements.specs.declared.statement.TableReference.{TableReferenc
 use Rattle.sql_statements.specs.Lexemes.{Lexeme}
 use Rattle.sql_statements.specs.Names.{is_plain_word}
 use Rattle.sql_statements.specs.Words.{is_reserved}
-use Rattle.sql_statements.specs.Trees.{Condition, JoinChain, Statement, all, any, at, combined, conditions_of, last, sequenced, simple, test}
+use Rattle.sql_statements.specs.Trees.{Condition, JoinChain, Statement, all, any, combined, conditions_of, last, sequenced, simple, test}
 use Rattle.sql_front.specs.Grammar.{IsStatement}
-use Rattle.sql_front.specs.reading.LeafValues.{clock_of_token, clock_value, moment_of_token}
-use Rattle.sql_front.specs.reading.Leaves.{clock_moment_read, name_read}
+use Rattle.sql_front.specs.reading.Leaves.{name_read}
 use Rattle.sql_front.specs.reading.ConditionReaders.{column_read, compare_read, comparison_read, condition_read, conjunction_read, factor_read, operand_read, test_read, where_read}
 use Rattle.sql_front.specs.reading.WindowReaders.{for_window_read}
 use Rattle.sql_front.specs.reading.QueryReaders.{chain_read, item_read, join_read, joins_read, new_name_read, primary_read, query_read, reference_read, select_read, sequenced_read, step_read, steps_read, selected_read, from_read, joined_read, intersections_read, term_read}
-use Rattle.sql_front.specs.reading.ChangeReaders.{at_read}
 use Rattle.sql_front.specs.reading.StatementReaders.{statement_read, later_statement_read, query_statement_read}
 use Rattle.sql_front.specs.reading.Reading.{bounded_read}
 use Rattle.sql_front.proofs.Spelling.{spelled_if_read}
-use Rattle.sql_front.proofs.StatementExamples.{quoted_text, sign, word}
-
--- ---- the moment
-
--- AT TIMESTAMP '2011-01-02 03:04:05.25'
-abbrev clock : List Lexeme
-clock = word (codes "AT") ∷ word (codes "TIMESTAMP") ∷ quoted_text (codes "'2011-01-02 03:04:05.25'") ∷ []
-
-abbrev clocked : Statement
-clocked = at (pos 1_293_937_445_250_000)
-
-clock_spelled : IsStatement clock clocked
-unfolding statement_read later_statement_read query_statement_read at_read clock_moment_read clock_value clock_of_token moment_of_token moment_of_text date_at time_at fraction_at date_parts_of time_parts_of six_of is_date is_time
-clock_spelled = spelled_if_read 0 clock clocked refl refl refl refl
+use Rattle.sql_front.proofs.StatementExamples.{sign, word}
 
 -- ---- columns and new names
 

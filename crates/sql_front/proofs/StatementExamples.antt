@@ -1,27 +1,24 @@
 -- Worked rows of statements.
-use Rattle.std.proofs.Common.{ℕ, pos, neg_ℤ, List, [], ◌∷◌, ◌++◌, Some, None, codes, refl}
+use Rattle.std.proofs.Common.{ℕ, pos, List, [], ◌∷◌, ◌++◌, Some, None, codes, refl}
 use Rattle.period_core.specs.declared.value.Value.TheVariants as value
 use Rattle.sql_statements.specs.declared.statement.Compare.{Compare}
 use Rattle.sql_statements.specs.declared.statement.Comparison.TheVariants.{Equal}
 use Rattle.sql_statements.specs.declared.statement.Operand.TheVariants.{Column, Literal}
 use Rattle.sql_statements.specs.declared.token.TokenKind.TheVariants.{Word, Number, Text, Symbol}
-use Rattle.sql_statements.specs.declared.tree.SetOperator.TheVariants.{Except, Intersect, Union}
+use Rattle.sql_statements.specs.declared.tree.SetOperator.TheVariants.{Except, Intersect}
 use Rattle.sql_statements.specs.Lexemes.{Lexeme}
 use Rattle.sql_statements.specs.Names.{is_plain_word}
 use Rattle.sql_statements.specs.Words.{is_reserved}
-use Rattle.sql_statements.specs.Trees.{Condition, Query, Select, Statement, all, any, combined, conditions_of, insert, last, negated, sequenced, simple, step, test, update, delete}
+use Rattle.sql_statements.specs.Trees.{Condition, Query, Select, Statement, all, any, combined, conditions_of, last, negated, sequenced, simple, step, test, delete}
 use Rattle.sql_front.specs.Grammar.{IsStatement}
-use Rattle.sql_front.specs.PieceRefusals.{SpellsNone}
-use Rattle.period_core.specs.TextReading.{date_at, date_parts_of, day_of_text, is_date}
-use Rattle.sql_front.specs.reading.LeafValues.{day_of_token, day_value}
-use Rattle.sql_front.specs.reading.Leaves.{date_read, literal_read, name_read, number_read, tuple_read, unsigned_read}
+use Rattle.sql_front.specs.reading.Leaves.{literal_read, name_read, number_read, unsigned_read}
 use Rattle.sql_front.specs.reading.ConditionReaders.{column_read, compare_read, comparison_read, condition_read, conjunction_read, factor_read, operand_read, test_read, where_read}
 use Rattle.sql_front.specs.reading.WindowReaders.{for_window_read}
-use Rattle.sql_front.specs.reading.QueryReaders.{chain_read, inner_query_read, item_read, joins_read, new_name_read, operator_read, primary_read, query_read, reference_read, select_read, sequenced_read, step_read, steps_read, selected_read, from_read, intersection_read, intersections_read, term_read}
-use Rattle.sql_front.specs.reading.ChangeReaders.{assignment_read, columns_read, delete_read, in_portion_read, insert_read, portion_read, update_read, named_portion_read, bounds_read, inserted_read, values_read, deleted_read, set_read}
+use Rattle.sql_front.specs.reading.QueryReaders.{chain_read, item_read, joins_read, new_name_read, operator_read, primary_read, query_read, reference_read, select_read, sequenced_read, step_read, steps_read, selected_read, from_read, intersection_read, intersections_read, term_read}
+use Rattle.sql_front.specs.reading.ChangeReaders.{delete_read, portion_read, deleted_read}
 use Rattle.sql_front.specs.reading.StatementReaders.{statement_read, later_statement_read, query_statement_read}
 use Rattle.sql_front.specs.reading.Reading.{bounded_read}
-use Rattle.sql_front.proofs.Spelling.{none_if_unread, spelled_if_read}
+use Rattle.sql_front.proofs.Spelling.{spelled_if_read}
 
 -- ---- tokens
 
@@ -50,30 +47,7 @@ selected column table = record {
   condition = None;
 }
 
--- without DISTINCT, which no SELECT of columns lacks
-abbrev undistinct : List Lexeme
-undistinct = word (codes "VALIDTIME") ∷ word (codes "SELECT") ∷ word (codes "ENO") ∷ word (codes "FROM") ∷ word (codes "EMP") ∷ []
-
-undistinct_spells_none : SpellsNone undistinct
-unfolding statement_read later_statement_read query_statement_read sequenced_read query_read term_read primary_read select_read selected_read from_read
-undistinct_spells_none = none_if_unread undistinct refl
-
 -- ---- set operators
-
--- parentheses make UNION, which else comes after EXCEPT, its right side
-abbrev grouped : List Lexeme
-grouped =
-    word (codes "VALIDTIME") ∷ select (codes "A") (codes "T") ++ word (codes "EXCEPT") ∷ sign (codes "(") ∷ select (codes "A") (codes "U")
-    ++ word (codes "UNION") ∷ select (codes "A") (codes "V") ++ sign (codes ")") ∷ []
-
-abbrev grouping : Query
-grouping =
-    combined (simple (selected (codes "A") (codes "T")))
-    (step Except (combined (simple (selected (codes "A") (codes "U"))) (step Union (simple (selected (codes "A") (codes "V"))) last)) last)
-
-parentheses_group : IsStatement grouped (sequenced grouping)
-unfolding statement_read later_statement_read query_statement_read sequenced_read query_read inner_query_read term_read intersections_read primary_read operator_read steps_read step_read select_read selected_read from_read item_read chain_read joins_read reference_read new_name_read for_window_read where_read column_read name_read bounded_read is_plain_word is_reserved
-parentheses_group = spelled_if_read 1 grouped (sequenced grouping) refl refl refl refl
 
 -- INTERSECT binds tighter than EXCEPT, which stands before it
 abbrev tighter : List Lexeme
@@ -120,44 +94,3 @@ deleted = delete (record {
 and_binds_tighter_than_or : IsStatement deletion deleted
 unfolding statement_read later_statement_read query_statement_read delete_read deleted_read portion_read where_read condition_read conjunction_read factor_read test_read compare_read operand_read comparison_read column_read literal_read unsigned_read number_read name_read bounded_read is_plain_word is_reserved
 and_binds_tighter_than_or = spelled_if_read 0 deletion deleted refl refl refl refl
-
--- ---- changes
-
--- INSERT INTO EMP VALUES (22217, -3, 'it''s', DATE '2010-01-01')
-abbrev insertion : List Lexeme
-insertion =
-    word (codes "INSERT") ∷ word (codes "INTO") ∷ word (codes "EMP") ∷ word (codes "VALUES")
-    ∷ sign (codes "(") ∷ digits (codes "22217") ∷ sign (codes ",") ∷ sign (codes "-") ∷ digits (codes "3")
-    ∷ sign (codes ",") ∷ quoted_text (codes "'it''s'") ∷ sign (codes ",") ∷ word (codes "DATE") ∷ quoted_text (codes "'2010-01-01'")
-    ∷ sign (codes ")") ∷ []
-
-abbrev inserted : Statement
-inserted = insert (record {
-  table = codes "EMP";
-  columns = None;
-  rows = (value.Int (pos 22217) ∷ value.Int (neg_ℤ (pos 3)) ∷ value.Text (codes "it's") ∷ value.Date (pos 14_610) ∷ []) ∷ [];
-})
-
-insertion_spelled : IsStatement insertion inserted
-unfolding statement_read later_statement_read query_statement_read insert_read inserted_read values_read columns_read name_read tuple_read literal_read unsigned_read number_read date_read day_value day_of_token day_of_text date_at date_parts_of is_date bounded_read is_plain_word is_reserved
-insertion_spelled = spelled_if_read 0 insertion inserted refl refl refl refl
-
--- UPDATE EMP FOR PORTION OF EMP_PERIOD FROM DATE '2010-01-01' TO DATE '2011-01-01' SET DNO = 4
-abbrev change : List Lexeme
-change =
-    word (codes "UPDATE") ∷ word (codes "EMP")
-    ∷ word (codes "FOR") ∷ word (codes "PORTION") ∷ word (codes "OF") ∷ word (codes "EMP_PERIOD")
-    ∷ word (codes "FROM") ∷ word (codes "DATE") ∷ quoted_text (codes "'2010-01-01'") ∷ word (codes "TO") ∷ word (codes "DATE") ∷ quoted_text (codes "'2011-01-01'")
-    ∷ word (codes "SET") ∷ word (codes "DNO") ∷ sign (codes "=") ∷ digits (codes "4") ∷ []
-
-abbrev changed : Statement
-changed = update (record {
-  table = codes "EMP";
-  portion = Some (record { period = codes "EMP_PERIOD"; from = pos 14_610; to = pos 14_975 });
-  assignments = record { column = codes "DNO"; value = value.Int (pos 4) } ∷ [];
-  condition = None;
-})
-
-change_spelled : IsStatement change changed
-unfolding statement_read later_statement_read query_statement_read update_read set_read portion_read in_portion_read named_portion_read bounds_read assignment_read where_read name_read literal_read unsigned_read number_read date_read day_value day_of_token day_of_text date_at date_parts_of is_date bounded_read is_plain_word is_reserved
-change_spelled = spelled_if_read 0 change changed refl refl refl refl

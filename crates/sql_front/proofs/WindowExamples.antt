@@ -1,19 +1,18 @@
 -- Worked rows of system-time windows: AS OF, FROM and TO, BETWEEN and AND, of a stored query's table and of a reference.
 use Rattle.std.proofs.Common.{pos, List, [], ◌∷◌, ◌++◌, Some, None, codes, refl}
 use Rattle.period_core.specs.TextReading.{date_at, date_parts_of, fraction_at, is_date, is_time, moment_of_text, time_at, time_parts_of}
-use Rattle.sql_statements.specs.declared.statement.SystemTime.{SystemTime}
-use Rattle.sql_statements.specs.declared.statement.SystemTime.TheVariants.{AsOf, Between, FromTo}
+use Rattle.sql_statements.specs.declared.statement.SystemTime.TheVariants.{Between, FromTo}
 use Rattle.sql_statements.specs.Lexemes.{Lexeme}
 use Rattle.sql_statements.specs.Names.{is_plain_word}
 use Rattle.sql_statements.specs.Words.{is_reserved}
 use Rattle.sql_statements.specs.Trees.{Statement, stored}
 use Rattle.sql_front.specs.Grammar.{IsStatement}
-use Rattle.sql_front.specs.reading.LeafValues.{clock_of_token, clock_value, moment_of_token, moment_value}
-use Rattle.sql_front.specs.reading.Leaves.{clock_moment_read, moment_read, name_read}
+use Rattle.sql_front.specs.reading.LeafValues.{moment_of_token, moment_value}
+use Rattle.sql_front.specs.reading.Leaves.{moment_read, name_read}
 use Rattle.sql_front.specs.reading.ConditionReaders.{column_read, where_read}
 use Rattle.sql_front.specs.reading.WindowReaders.{for_window_read, window_read, two_moments_read}
 use Rattle.sql_front.specs.reading.QueryReaders.{chain_read, item_read, joins_read, new_name_read, primary_read, query_read, reference_read, select_read, sequenced_read, step_read, steps_read, selected_read, from_read, intersections_read, term_read}
-use Rattle.sql_front.specs.reading.StatementReaders.{statement_read, stored_read, stored_table_read, later_statement_read, query_statement_read}
+use Rattle.sql_front.specs.reading.StatementReaders.{statement_read, later_statement_read, query_statement_read}
 use Rattle.sql_front.specs.reading.Reading.{bounded_read}
 use Rattle.sql_front.proofs.Spelling.{spelled_if_read}
 use Rattle.sql_front.proofs.StatementExamples.{quoted_text, sign, word}
@@ -29,10 +28,6 @@ earlier = word (codes "TIMESTAMP") ∷ quoted_text (codes "'2024-01-01 00:00:00'
 abbrev later : List Lexeme
 later = word (codes "TIMESTAMP") ∷ quoted_text (codes "'2024-01-03 12:30:15'") ∷ []
 
--- FOR SYSTEM_TIME AS OF
-abbrev as_of : List Lexeme → List Lexeme
-as_of moment = word (codes "FOR") ∷ word (codes "SYSTEM_TIME") ∷ word (codes "AS") ∷ word (codes "OF") ∷ moment
-
 -- FOR SYSTEM_TIME FROM and TO
 abbrev from_to : List Lexeme → List Lexeme → List Lexeme
 from_to start end = word (codes "FOR") ∷ word (codes "SYSTEM_TIME") ∷ word (codes "FROM") ∷ start ++ word (codes "TO") ∷ end
@@ -46,20 +41,6 @@ between start end = word (codes "FOR") ∷ word (codes "SYSTEM_TIME") ∷ word (
 -- SELECT * FROM T
 abbrev pub stored_from : List Lexeme → List Lexeme
 stored_from rest = word (codes "SELECT") ∷ sign (codes "*") ∷ word (codes "FROM") ∷ word (codes "T") ∷ rest
-
-abbrev stored_in : SystemTime → Statement
-stored_in window = stored (record { table = codes "T"; window = Some window; condition = None })
-
--- SELECT * FROM T FOR SYSTEM_TIME AS OF TIMESTAMP '2024-01-01 00:00:00'
-abbrev state : List Lexeme
-state = stored_from (as_of earlier)
-
-abbrev state_tree : Statement
-state_tree = stored_in (AsOf (pos 1_704_067_200_000_000))
-
-state_spelled : IsStatement state state_tree
-unfolding statement_read later_statement_read query_statement_read stored_read stored_table_read for_window_read window_read two_moments_read clock_moment_read clock_value clock_of_token moment_of_token moment_of_text date_at time_at fraction_at date_parts_of time_parts_of is_date is_time where_read name_read is_plain_word is_reserved
-state_spelled = spelled_if_read 0 state state_tree refl refl refl refl
 
 -- ---- the window of a reference, before its new name
 
