@@ -78,12 +78,7 @@ pub fn is_same_word(text: &str, want: &str) -> bool
 fn is_among(text: &str, words: &[&str]) -> bool
     ensures { result ≡ list_any (λ word. bytes_eq (folded text.now) (folded word.now)) words.now }
 {
-    for word in words {
-        if is_same_word(text, word) {
-            return true;
-        }
-    }
-    false
+    words.iter().any(|word| is_same_word(text, word))
 }
 
 /// Whether this word, in any case, is reserved, so that it is no name.
