@@ -71,7 +71,8 @@ static RESERVED: [&str; 57] = [
 pub fn is_same_word(text: &str, want: &str) -> bool
     ensures { result ≡ bytes_eq (folded text.now) (folded want.now) }
 {
-    text.eq_ignore_ascii_case(want)
+    // (most are of another length, which is seen without a call)
+    text.len() == want.len() && text.eq_ignore_ascii_case(want)
 }
 
 /// Whether it is one of these words.
