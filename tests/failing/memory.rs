@@ -273,8 +273,8 @@ fn reopen_refused(
     wanted: &Shown,
     first: u64,
 ) -> Result<bool, Fail> {
-    let opened_store = match VersionStore::open(alloc, connection) {
-        Ok(opened_store) => opened_store,
+    let (opened_store, _versions) = match VersionStore::open(alloc, connection) {
+        Ok(found) => found,
         Err((refusal, _connection)) => return Err(refusal)?,
     };
     let store = match opened_store.accept() {
@@ -285,7 +285,7 @@ fn reopen_refused(
     let result = store.reopen(alloc);
     let refused = refusals_end();
     let connection = match result {
-        Ok(store) => store.refuse(),
+        Ok((store, _versions)) => store.refuse(),
         Err((Refusal::Memory, connection)) => connection,
         Err((_refusal, _connection)) => return Err("a reopen is refused otherwise")?,
     };
