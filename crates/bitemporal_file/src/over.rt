@@ -57,9 +57,11 @@ fn run_store<S: Alter, K: Kept<S> + Reported + Drop, Q: Scripts, R: Read, W: Wri
         (LeadsDatabase S.Store connection ended.1)
         (map (Q.content scripts.now) (map string_bytes files.now)) (R.remaining input.old)
         reporter.old ended.0 reporter.new) }
+    ensures closed { IfOk result (λ ended. ended.1.in_transaction ≡ false) }
     ensures low { reporter.old.worst ≤ 3 → reporter.new.worst ≤ 3 }
     ensures refused { IfErr result (λ failed.
-        RefusesStore S.Store connection failed.0 failed.1 × (reporter.new ≡ reporter.old)) }
+        RefusesStore S.Store connection failed.0 failed.1
+        × (reporter.new ≡ reporter.old) × (input.new ≡ input.old)) }
 {
     let mut engine = Engine::open(alloc, connection)?;
     let ended =
