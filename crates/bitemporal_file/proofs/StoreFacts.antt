@@ -1,5 +1,5 @@
 -- A store that is opened, run over and closed.
-use Rattle.std.proofs.Common.{◌≡◌, ◌==◌, ◌∷◌, ◌∙◌, ℕ, Bool, List, [], Option, None, Some, Result, Ok, Err, arith, length, map, false, true, refl}
+use Rattle.std.proofs.Common.{◌≡◌, ◌==◌, ◌∷◌, ◌∙◌, ℕ, Bool, List, [], Option, None, Some, Result, arith, length, map, false, true, refl}
 use Rattle.std.proofs.lemmas.Bool.{eqb-true}
 use Rattle.std.specs.Io.Buffered.{reader_buffer, reader_capacity, reader_inner, reader_remaining}
 use Rattle.std.specs.Io.KnownBytes.{prepend_known}
@@ -8,16 +8,12 @@ use Rattle.period_core.specs.declared.refusal.Refusal.{Refusal}
 use Rattle.sql_statements.specs.Lexemes.{Lexeme}
 use Rattle.history_model.specs.Histories.{History}
 use Rattle.command_line.specs.declared.fault.RunFault.{RunFault}
+use Rattle.command_line.specs.declared.file_command.Asked.{Asked}
 use Rattle.bitemporal_file.specs.Sessions.{LeadsThrough}
 use Rattle.bitemporal_file.specs.ScriptRuns.{LeadsTo}
 use Rattle.sqlite.specs.Held.{Held}
 use Rattle.sqlite.specs.Store.{Ghosts}
-use Rattle.statement_reports.specs.AuditedReport.{entry_text}
-use Rattle.statement_reports.specs.Report.{text_of}
-use Rattle.script_engine.specs.script.AuditedRuns.{AuditedPieceStep}
-use Rattle.script_engine.specs.script.Script.{PieceStep}
-use Rattle.bitemporal_file.specs.Reporting.{entry_status, refused_entry, result_status}
-use Rattle.bitemporal_file.specs.StoreRuns.{LeadsDatabase, RunsAs, RunsGiven, RunsScripts, RunsSession, Uses}
+use Rattle.bitemporal_file.specs.StoreRuns.{RunsAsked, RunsGiven, RunsScripts, RunsSession}
 use Rattle.bitemporal_file.specs.declared.reporter.Reporter.{Reporter}
 
 -- what a reader has of which nothing was read yet
@@ -52,13 +48,7 @@ module _ {K W : Type 0} (IsStep : History → List Lexeme → K → History → 
   given_so Second so [] known old ended new (runs, parts, ends, led) = (runs, parts, ends, so (λ history last. LeadsThrough IsStep refused 0 history runs last) led)
   given_so Second so (reader ∷ readers) known old ended new (runs, are, ends, led) = (runs, are, ends, so (λ history last. LeadsTo IsStep history runs last) led)
 
--- with audits, as it is asked
-module _ {S W : Type 0} (g : Ghosts S) (contents : W → Option (List ℕ)) (Opens Keeps : Held S → Type 0) (readers : List (Option (List ℕ))) (known other : Option (List ℕ)) (start : Reporter W) (audits : Bool) (old : Reporter W) (result : Result ℕ RunFault) (new : Reporter W) where
-  pub uses_audited : other ≡ known → audits ≡ true →
-      Uses g Opens Keeps (λ opened ended closed last. RunsGiven AuditedPieceStep refused_entry contents entry_text entry_status (LeadsDatabase g opened closed) readers other start ended last) old result new → Uses g Opens Keeps (RunsAs g contents audits readers known start) old result new
-  uses_audited same is used = rw (is, ← same) used
-
-  -- and without
-  pub uses_plain : other ≡ known → audits ≡ false →
-      Uses g Opens Keeps (λ opened ended closed last. RunsGiven PieceStep (λ refusal. Err refusal) contents text_of result_status (LeadsDatabase g opened closed) readers other start ended last) old result new → Uses g Opens Keeps (RunsAs g contents audits readers known start) old result new
-  uses_plain same is used = rw (is, ← same) used
+-- what is known of the input, in other words
+pub runs_known : {S W : Type 0} (g : Ghosts S) (contents : W → Option (List ℕ)) (Opens Keeps : Held S → Type 0) (content_of : List ℕ → Option (List ℕ)) (known other : Option (List ℕ)) (asked : Asked) (old : Reporter W) (result : Result ℕ RunFault) (new : Reporter W) → other ≡ known →
+    RunsAsked g contents Opens Keeps content_of other asked old result new → RunsAsked g contents Opens Keeps content_of known asked old result new
+runs_known g contents Opens Keeps content_of known other asked old result new same ran = rw (← same) ran

@@ -106,13 +106,13 @@ Uses {S} g Opens Keeps Runs old (Err fault) new =
     ⊎ ((ended : Result Bool RunFault) × (closed : Held S) × Runs opened ended closed new
     × IfErr ended (λ cause. cause ≡ fault))))
 
--- what is asked for is run over the store that is named: how a name is opened and how its database
--- is closed, which bytes the names of scripts have, and what is known of the input
-abbrev pub RunsAsked : {S W : Type 0} → Ghosts S → (W → Option (List ℕ))
-    → (List ℕ → Held S → Type 0) → (Held S → Type 0) → (List ℕ → Option (List ℕ))
-    → Option (List ℕ) → Asked → Reporter W → Result ℕ RunFault → Reporter W → Type 0
+-- what is asked for is run over a store: how it is opened and how it is closed, which bytes the
+-- names of scripts have, and what is known of the input
+abbrev pub RunsAsked : {S W : Type 0} → Ghosts S → (W → Option (List ℕ)) → (Held S → Type 0)
+    → (Held S → Type 0) → (List ℕ → Option (List ℕ)) → Option (List ℕ) → Asked → Reporter W
+    → Result ℕ RunFault → Reporter W → Type 0
 RunsAsked g contents Opens Keeps content_of known asked old =
-    Uses g (Opens (string_bytes asked.store)) Keeps
+    Uses g Opens Keeps
     (RunsAs g contents asked.audits (map content_of (map string_bytes asked.files.items)) known
     (record old { stops = asked.stops }))
     old

@@ -20,4 +20,4 @@ mod stores;
 
 pub use program::{is_called, run_file_program};
 pub use reporter::Reporter;
-pub use stores::{StoreFiles, Stores};
+pub use stores::StoreFiles;

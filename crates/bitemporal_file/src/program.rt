@@ -3,22 +3,23 @@
 ghost use Rattle.std.specs.Prelude.{◌≡◌, ◌≤◌, ◌⊎◌, ℕ, IfOk, None, Result, false, map};
 ghost use Rattle.std.specs.String.{string_bytes};
 ghost use Rattle.clap.specs.Words.{matches_of};
+ghost use Rattle.sqlite_wal.specs.Files.{image_at};
 ghost use Rattle.command_line.specs.FileCommand.{Asks, bitemporal_file};
 ghost use Rattle.command_line.specs.declared.fault.RunFault.{RunFault};
 ghost use Rattle.command_line.specs.declared.file_command.Asked.{Asked};
 ghost use Rattle.bitemporal_file.specs.Reporting.{IsUnused};
+ghost use Rattle.bitemporal_file.specs.StoreFiles.{Finds, IsInFiles};
 ghost use Rattle.bitemporal_file.specs.StoreRuns.{RunsAsked, exit_status};
 
 use crate::listing::list_store;
 use crate::over::{end_over, run_over};
 use crate::reporter::Reporter;
-use crate::stores::Stores;
+use crate::stores::{Filed, StoreFiles};
 use command_line::{
     Asked, CommandFault, ProgramName, RunFault, Scripts, Tracked, asked_by, end_in, show,
 };
-use period_core::Refusal;
-use script_engine::{Entry, Outcome};
-use sqlite::Alter;
+use sqlite::Start;
+use sqlite_trees::store::Store;
 use std::alloc::Global;
 use std::io::{BufReader, Read, Write};
 
@@ -34,9 +35,9 @@ pub fn is_called(words: &[String]) -> bool {
 }
 
 // Lists the tables of the store. Gives the exit status.
-fn list_asked<S: Alter, P: Stores<S>, W: Write>(
+fn list_asked<S: Start, W: Write>(
     alloc: Global,
-    stores: &mut P,
+    stores: &mut StoreFiles<'_, S>,
     asked: &Asked,
     out: &mut W,
 ) -> Result<u8, RunFault>
@@ -56,11 +57,10 @@ fn list_asked<S: Alter, P: Stores<S>, W: Write>(
     }
 }
 
-// Lists the tables, or runs what is asked for, with an audit of each answer or without. Gives the
-// exit status.
-fn run_asked<S: Alter, P: Stores<S>, Q: Scripts, R: Read, W: Write>(
+// Lists the tables, or runs what is asked for. Gives the exit status.
+fn run_asked<S: Start, Q: Scripts, R: Read, W: Write>(
     alloc: Global,
-    stores: &mut P,
+    stores: &mut StoreFiles<'_, S>,
     scripts: &Q,
     asked: &Asked,
     input: &mut Tracked<R>,
@@ -68,35 +68,28 @@ fn run_asked<S: Alter, P: Stores<S>, Q: Scripts, R: Read, W: Write>(
 ) -> Result<u8, RunFault>
     requires { reporter.old.fault ≡ None }
     ensures ran { asked.now.lists ≡ false
-        → RunsAsked S.Store W.contents (P.opens stores.old) (P.keeps stores.new)
+        → RunsAsked ⟦<Filed<S> as Store>⟧ W.contents (Finds (image_at S.Start)) IsInFiles
         (Q.content scripts.now) (R.remaining input.old.inner) asked.now
         reporter.old result reporter.new }
     ensures low { reporter.old.worst ≤ 3 → IfOk result (λ status. status ≤ 3) }
 {
     if asked.lists {
-        return list_asked::<S, P, W>(alloc, stores, asked, &mut reporter.out);
+        return list_asked::<S, W>(alloc, stores, asked, &mut reporter.out);
     }
     let Ok(mut input) = BufReader::new(alloc, input) else {
         return Err(RunFault::Memory);
     };
-    if asked.audits {
-        return run_over::<S, Entry, P, Q, _, W>(
-            alloc, stores, scripts, asked, &mut input, reporter,
-        );
-    }
-    run_over::<S, Result<Outcome, Refusal>, P, Q, _, W>(
-        alloc, stores, scripts, asked, &mut input, reporter,
-    )
+    run_over::<S, Q, _, W>(alloc, stores, scripts, asked, &mut input, reporter)
 }
 
 /// Does what the words ask for: runs scripts over the store that they name, those in files or a
 /// session of `input`, and reports each statement as soon as it is done; or lists the store's
 /// tables; or shows help or the version. Gives the exit status: 0 to 3 as `bitemporal` does, for
 /// all scripts together. With 2 `err` gets a text that says why.
-pub fn run_file_program<S: Alter, P: Stores<S>, Q: Scripts, R: Read, W: Write, E: Write>(
+pub fn run_file_program<S: Start, Q: Scripts, R: Read, W: Write, E: Write>(
     alloc: Global,
     words: &[String],
-    stores: &mut P,
+    stores: &mut StoreFiles<'_, S>,
     scripts: &Q,
     input: &mut Tracked<R>,
     report: &mut Reporter<W>,
@@ -111,7 +104,7 @@ pub fn run_file_program<S: Alter, P: Stores<S>, Q: Scripts, R: Read, W: Write, E
     ensures runs { ((result ≤ 2) × (stores.new ≡ stores.old) × (input.new ≡ input.old))
         ⊎ ((asked : Asked) × Asks (matches_of bitemporal_file (map string_bytes words.now)) asked
         × (asked.lists ≡ false → (ended : Result ℕ RunFault) × (result ≡ exit_status ended)
-        × RunsAsked S.Store W.contents (P.opens stores.old) (P.keeps stores.new)
+        × RunsAsked ⟦<Filed<S> as Store>⟧ W.contents (Finds (image_at S.Start)) IsInFiles
         (Q.content scripts.now) (R.remaining input.old.inner) asked report.old ended report.new)) }
 {
     let program = ProgramName::BitemporalFile;
@@ -122,7 +115,7 @@ pub fn run_file_program<S: Alter, P: Stores<S>, Q: Scripts, R: Read, W: Write, E
         }
         Err(CommandFault::Memory) => return end_in(alloc, program, err, RunFault::Memory),
     };
-    match run_asked::<S, P, Q, R, W>(alloc, stores, scripts, &asked, input, report) {
+    match run_asked::<S, Q, R, W>(alloc, stores, scripts, &asked, input, report) {
         Ok(status) => status,
         Err(fault) => end_in(alloc, program, err, fault),
     }

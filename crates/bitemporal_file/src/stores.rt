@@ -1,41 +1,15 @@
 //! Where the stores of a command line are: the database files that their names open.
 
-ghost use Rattle.std.specs.Prelude.{◌≡◌, List, ℕ, IfOk, OnOk, false};
+ghost use Rattle.std.specs.Prelude.{◌≡◌, IfOk, OnOk, false};
 ghost use Rattle.sqlite_wal.specs.Files.{image_at};
-ghost use Rattle.sqlite.specs.Held.{Held};
 ghost use Rattle.bitemporal_file.specs.StoreFiles.{Finds, IsInFiles};
 
 use command_line::RunFault;
 use period_core::Refusal;
-use sqlite::{Alter, Connection, Error, ErrorCode, FileFrom, FileStore, Start};
+use sqlite::{Connection, Error, ErrorCode, FileFrom, FileStore, Start};
 use std::fs;
 use std::io::ErrorKind;
 use std::mem::ManuallyDrop;
-
-/// Databases by their names. One of them is opened, and closed or given up.
-pub trait Stores<S: Alter> {
-    // The name opens this connection.
-    ghost opens: { Self → List ℕ → Held S → Type 0 };
-
-    // What this connection has committed is in its database.
-    ghost keeps: { Self → Held S → Type 0 };
-
-    /// A connection to the database of that name. Where it is not there, it is made, if it may be.
-    /// On `Err` there is no file that was not there before.
-    fn open_store(&mut self, name: &str, may_make: bool) -> Result<Connection<S>, RunFault>
-        ensures settled { IfOk result (λ connection. connection.in_transaction ≡ false) }
-        ensures opened { IfOk result (opens self.old name.now) };
-
-    /// Whether the database was made as it was opened.
-    fn is_new(&self) -> bool;
-
-    /// Closes a connection, with all that is committed in its database.
-    fn close_store(&mut self, connection: Connection<S>) -> Result<(), RunFault>
-        ensures { OnOk result (keeps self.new connection) };
-
-    /// Gives a connection up, as the program ends: no file is left that was not there before.
-    fn give_up(&mut self, name: &str, connection: Connection<S>);
-}
 
 // Which files of a store are there.
 #[derive(Clone, Copy)]
@@ -109,8 +83,11 @@ fn files_there(rt: &HostRuntime, name: &str) -> Present {
     }
 }
 
-/// The database files of the system. What they hold at first is what `S` stands for, whatever that
-/// is: a program has `Unknown` for it.
+/// A database in files of which `S` says what they held.
+pub(crate) type Filed<S> = FileStore<FileFrom<S>>;
+
+/// The database files of the system, of which one is opened by its name, and closed or given up.
+/// What they hold at first is what `S` stands for, whatever that is: a program has `Unknown` for it.
 #[derive(Drop)]
 pub struct StoreFiles<'a, S: Start> {
     rt: &'a HostRuntime,
@@ -132,16 +109,17 @@ impl<'a, S: Start> StoreFiles<'a, S> {
     }
 }
 
-impl<S: Start> Stores<FileStore<FileFrom<S>>> for StoreFiles<'_, S> {
-    ghost opens = { λ _ _ connection. Finds (image_at S.Start) connection };
-
-    ghost keeps = { λ _ connection. IsInFiles connection };
-
-    fn open_store(
+impl<S: Start> StoreFiles<'_, S> {
+    /// A connection to the database of that name. Where it is not there, it is made, if it may be.
+    /// On `Err` there is no file that was not there before. Only one is ever opened.
+    pub(crate) fn open_store(
         &mut self,
         name: &str,
         may_make: bool,
-    ) -> Result<Connection<FileStore<FileFrom<S>>>, RunFault> {
+    ) -> Result<Connection<Filed<S>>, RunFault>
+        ensures settled { IfOk result (λ connection. connection.in_transaction ≡ false) }
+        ensures opened { IfOk result (Finds (image_at S.Start)) }
+    {
         self.before = files_there(self.rt, name);
         if !may_make && !self.before.store {
             return Err(RunFault::NoStore);
@@ -164,27 +142,27 @@ impl<S: Start> Stores<FileStore<FileFrom<S>>> for StoreFiles<'_, S> {
         }
     }
 
-    fn is_new(&self) -> bool {
+    /// Whether the database was made as it was opened.
+    pub(crate) fn is_new(&self) -> bool {
         !self.before.store
     }
 
-    fn close_store(
-        &mut self,
-        connection: Connection<FileStore<FileFrom<S>>>,
-    ) -> Result<(), RunFault>
-        ensures { OnOk result (IsInFiles connection) }
-    {
-        match connection.close_files() {
-            Ok(_) => Ok(()),
-            Err((_, store)) => {
-                drop(store.close());
-                Err(RunFault::Script(Refusal::Store))
-            }
-        }
-    }
-
-    fn give_up(&mut self, name: &str, connection: Connection<FileStore<FileFrom<S>>>) {
+    /// Gives a connection up, as the program ends: no file is left that was not there before.
+    pub(crate) fn give_up(&self, name: &str, connection: Connection<Filed<S>>) {
         let _connection = ManuallyDrop::new(connection);
         remove_new(self.rt, name, self.before);
+    }
+}
+
+/// Closes a connection, with all that is committed in its database file.
+pub(crate) fn close_store<S: Start>(connection: Connection<Filed<S>>) -> Result<(), RunFault>
+    ensures { OnOk result (IsInFiles connection) }
+{
+    match connection.close_files() {
+        Ok(_) => Ok(()),
+        Err((_, store)) => {
+            drop(store.close());
+            Err(RunFault::Script(Refusal::Store))
+        }
     }
 }

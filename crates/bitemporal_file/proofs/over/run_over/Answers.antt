@@ -1,4 +1,4 @@
-use Rattle.std.proofs.Common.{List, ℕ, inl, inr, refl, subst}
+use Rattle.std.proofs.Common.{inl, inr, refl}
 use Rattle.std.proofs.lemmas.Result.{err_from_is_err_and}
 use Rattle.bitemporal_file.proofs.over.run_over.Goals as goal
 
@@ -9,14 +9,11 @@ returns-in_err-connection-clause-ran g c =
 
 pub returns-in_err-end_over-in-Ok-clause-ran : goal.returns-in_err-end_over-in-Ok-clause-ran
 returns-in_err-end_over-in-Ok-clause-ran g c =
-    let opened = subst (λ (name : List ℕ). g.P.Stores.opens c.args.stores.now name c.in_ok-connection.connection) c.as_str-name.ensures.value c.in_ok-connection.ensures.opened in
-    let ran = rw c.as_slice-files.ensures.value at c.in-Ok.ensures.ran in
     let p = err_from_is_err_and c.from_residual-in_err-end_over-in-Ok.result c.from_residual-in_err-end_over-in-Ok.ensures.1 in
-    rw (p.1, p.2) (inr (c.in_ok-connection.connection, opened, inr (c.in-Ok.ended, c.in-Ok.connection, ran, c.in_err-end_over-in-Ok.ensures.fault)))
+    rw (p.1, p.2) (inr (c.in_ok-connection.connection, c.in_ok-connection.ensures.opened, inr (c.in-Ok.ended, c.in-Ok.connection, c.in-Ok.ensures.ran, c.in_err-end_over-in-Ok.ensures.fault)))
 
 pub returns-in_ok-end_over-in-Ok-clause-ran : goal.returns-in_ok-end_over-in-Ok-clause-ran
 returns-in_ok-end_over-in-Ok-clause-ran g c =
-    let opened = subst (λ (name : List ℕ). g.P.Stores.opens c.args.stores.now name c.in_ok-connection.connection) c.as_str-name.ensures.value c.in_ok-connection.ensures.opened in
     let (goes_on, whole) = c.in_ok-end_over-in-Ok.ensures.whole in
-    let ran = rw (c.as_slice-files.ensures.value, whole) at c.in-Ok.ensures.ran in
-    (c.in_ok-connection.connection, c.in-Ok.connection, opened, c.in_ok-end_over-in-Ok.ensures.kept, (goes_on, ran), refl)
+    let ran = rw whole at c.in-Ok.ensures.ran in
+    (c.in_ok-connection.connection, c.in-Ok.connection, c.in_ok-connection.ensures.opened, c.in_ok-end_over-in-Ok.ensures.kept, (goes_on, ran), refl)
