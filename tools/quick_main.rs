@@ -8,7 +8,7 @@
 use bitemporal_file::{Reporter, StoreFiles, is_called, run_file_program};
 use command_line::{Tracked, words_of};
 use command_tool::run_program;
-use sqlite::{File, FileStore, Unknown};
+use sqlite::Unknown;
 use std::env;
 use std::fs;
 use std::process::ExitCode;
@@ -38,7 +38,7 @@ fn main(rt: HostRuntime) -> ExitCode {
         Ok(words) if is_called(words.as_slice()) => {
             let mut stores = StoreFiles::new(&rt, Unknown);
             let mut report = Reporter::new(alloc, rt.stdout());
-            run_file_program::<FileStore<File>, _, _, _, _, _>(
+            run_file_program(
                 alloc,
                 words.as_slice(),
                 &mut stores,

@@ -43,8 +43,8 @@ fn run_files<S: Alter, K: Kept<S> + Reported + Drop, Q: Scripts, R: Read, W: Wri
     run_all::<S, K, Q, W>(alloc, engine, scripts, files, reporter)
 }
 
-// The same over the store of a connection, a new one where there is none. Gives the connection back.
-// An `Err` says why the store is not opened: it changes nothing, and nothing is read.
+// The same over the store of a connection, a new one where there is none. Gives the connection
+// back. An `Err` says why the store is not opened: it changes nothing, and nothing is read.
 fn run_store<S: Alter, K: Kept<S> + Reported + Drop, Q: Scripts, R: Read, W: Write>(
     alloc: Global,
     connection: Connection<S>,
@@ -67,8 +67,7 @@ fn run_store<S: Alter, K: Kept<S> + Reported + Drop, Q: Scripts, R: Read, W: Wri
         × (reporter.new ≡ reporter.old) × (input.new ≡ input.old)) }
 {
     let mut engine = Engine::open(alloc, connection)?;
-    let ended =
-        run_files::<S, K, Q, R, W>(alloc, &mut engine, scripts, files, input, reporter);
+    let ended = run_files::<S, K, Q, R, W>(alloc, &mut engine, scripts, files, input, reporter);
     Ok((ended, engine.close()))
 }
 
@@ -100,8 +99,8 @@ fn run_opened<S: Alter, Q: Scripts, R: Read, W: Write>(
     )
 }
 
-/// Closes the store after what was done over it. Where that failed before any statement was run, and
-/// the store is new, no file of it stays.
+/// Closes the store after what was done over it. Where that failed before any statement was run,
+/// and the store is new, no file of it stays.
 pub(crate) fn end_over<S: Start, T: Drop>(
     stores: &StoreFiles<'_, S>,
     name: &str,

@@ -66,8 +66,8 @@ fn run_part<S: Alter, K: Kept<S> + Reported + Drop, W: Write>(
     }
 }
 
-/// Runs the parts of an input, each up to its semicolon, as they are read. Says whether the run came
-/// to the input's end.
+/// Runs the parts of an input, each up to its semicolon, as they are read. Says whether the run
+/// came to the input's end.
 pub(crate) fn run_parts<S: Alter, K: Kept<S> + Reported + Drop, R: Read, W: Write>(
     alloc: Global,
     engine: &mut Engine<S>,

@@ -87,7 +87,7 @@ fn files_there(rt: &HostRuntime, name: &str) -> Present {
 pub(crate) type Filed<S> = FileStore<FileFrom<S>>;
 
 /// The database files of the system, of which one is opened by its name, and closed or given up.
-/// What they hold at first is what `S` stands for, whatever that is: a program has `Unknown` for it.
+/// What they hold at first is what `S` stands for, whatever that is: a program has `Unknown`.
 #[derive(Drop)]
 pub struct StoreFiles<'a, S: Start> {
     rt: &'a HostRuntime,

@@ -2,7 +2,8 @@
 
 ghost use Rattle.std.specs.Prelude.{◌≡◌, [], IfOk, codes, false, map, unwrap_or};
 ghost use Rattle.std.specs.String.{string_bytes};
-ghost use Rattle.clap.specs.Words.{all_of, app_of, first_of, found_of, matches_of, rows_of, rule_of};
+ghost use Rattle.clap.specs.Words.{all_of, app_of, first_of, found_of, matches_of, rows_of};
+ghost use Rattle.clap.specs.Words.{rule_of};
 ghost use Rattle.command_line.specs.FileCommand.{Asks, bitemporal_file, flag_word, scripts_word};
 ghost use Rattle.command_line.specs.FileCommand.{store_word, tables_flag};
 
