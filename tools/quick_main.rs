@@ -5,9 +5,10 @@
 //! otherwise since no crate of the repository has it.
 #![tactic(auto)]
 
-use bitemporal_file::{is_called, run_file_program};
+use bitemporal_file::{Reporter, StoreFiles, is_called, run_file_program};
 use command_line::{Tracked, words_of};
 use command_tool::run_program;
+use sqlite::Unknown;
 use std::env;
 use std::fs;
 use std::process::ExitCode;
@@ -24,7 +25,8 @@ fn kept(rt: &HostRuntime, words: &[String]) -> Option<u8> {
 }
 
 fn main(rt: HostRuntime) -> ExitCode {
-    let words = words_of(rt.alloc(), env::args(&rt));
+    let alloc = rt.alloc();
+    let words = words_of(alloc, env::args(&rt));
     if let Ok(words) = &words {
         if let Some(status) = kept(&rt, words.as_slice()) {
             return ExitCode::from(status);
@@ -32,12 +34,21 @@ fn main(rt: HostRuntime) -> ExitCode {
     }
     let mut input = Tracked::new(rt.stdin());
     let mut err = Tracked::new(rt.stderr());
-    let mut out = rt.stdout();
     let status = match words {
         Ok(words) if is_called(words.as_slice()) => {
-            run_file_program(&rt, words.as_slice(), &mut input, &mut out, &mut err)
+            let mut stores = StoreFiles::new(&rt, Unknown);
+            let mut report = Reporter::new(alloc, rt.stdout());
+            run_file_program(
+                alloc,
+                words.as_slice(),
+                &mut stores,
+                &rt,
+                &mut input,
+                &mut report,
+                &mut err,
+            )
         }
-        words => run_program(rt.alloc(), words, &rt, &mut input, &mut out, &mut err),
+        words => run_program(alloc, words, &rt, &mut input, &mut rt.stdout(), &mut err),
     };
     ExitCode::from(status)
 }

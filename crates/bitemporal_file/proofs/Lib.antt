@@ -1,4 +1,5 @@
 mod Told
 mod RunFacts
 mod SessionFacts
+mod StoreFacts
 mod PartExamples

@@ -2,3 +2,5 @@ pub mod Reporting
 pub mod ScriptRuns
 pub mod Parts
 pub mod Sessions
+pub mod StoreRuns
+pub mod StoreFiles

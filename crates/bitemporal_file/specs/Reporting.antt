@@ -19,6 +19,16 @@ result_status result = if is_err result then 1 else 0
 abbrev pub entry_status : Entry → ℕ
 entry_status entry = if fails_audit entry.audit then 3 else result_status entry.result
 
+-- what is told of a statement with audits that is refused as it is read
+abbrev pub refused_entry : Refusal → Entry
+refused_entry refusal = record { result = Err refusal; audit = None }
+
+-- a report of nothing yet
+pub record IsUnused {W : Type 0} (reporter : Reporter W) : Type 0 where
+  pub next : reporter.next ≡ 1
+  pub worst : reporter.worst ≡ 0
+  pub fault : reporter.fault ≡ None
+
 -- the fault of a report
 abbrev pub IsReportFault : RunFault → Type 0
 IsReportFault fault = (fault ≡ Memory) ⊎ (fault ≡ Write)

@@ -18,7 +18,7 @@ use std::io::{ErrorKind, Read};
 const MOST_READS: usize = 1001;
 
 /// Where in a script one is, behind some of its bytes.
-#[derive(Clone, Copy, Debug, PartialEq, Eq)]
+#[derive(Clone, Copy, PartialEq)]
 pub(crate) enum Place {
     /// Outside of texts and comments.
     Outside,
@@ -60,7 +60,7 @@ fn after_outside(dash: Place, byte: u8) -> Place
 }
 
 /// A part of a session.
-#[derive(Drop, Debug)]
+#[derive(Drop)]
 pub(crate) struct Part {
     /// Its bytes, with its semicolon.
     pub(crate) bytes: Vec<u8>,

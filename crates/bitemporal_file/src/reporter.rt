@@ -1,12 +1,12 @@
 //! What writes the report of a run as it goes: the records of a statement as soon as it is done.
 
-ghost use Rattle.std.specs.Prelude.{◌≡◌, ◌≤◌, ◌+◌, ℕ, Err, IfErr, List, None, OnOk};
+ghost use Rattle.std.specs.Prelude.{◌≡◌, ◌≤◌, ◌+◌, ℕ, Err, IfErr, List, OnOk};
 ghost use Rattle.std.specs.Io.KnownBytes.{Appends};
 ghost use Rattle.period_core.specs.declared.refusal.Refusal.{Refusal};
 ghost use Rattle.statement_reports.specs.AuditedReport.{entry_text};
 ghost use Rattle.statement_reports.specs.Report.{text_of};
-ghost use Rattle.bitemporal_file.specs.Reporting.{IsReportFault, Tells, entry_status};
-ghost use Rattle.bitemporal_file.specs.Reporting.{result_status};
+ghost use Rattle.bitemporal_file.specs.Reporting.{IsReportFault, IsUnused, Tells, entry_status};
+ghost use Rattle.bitemporal_file.specs.Reporting.{refused_entry, result_status};
 
 use command_line::{RunFault, has_failed};
 use period_core::Refusal;
@@ -17,7 +17,7 @@ use std::alloc::Global;
 use std::io::Write;
 
 /// What a report tells of a statement.
-pub trait Reported {
+pub(crate) trait Reported {
     /// Its records as the statement of a number.
     ghost text: { ℕ → Self → List ℕ };
 
@@ -78,7 +78,7 @@ impl Reported for Entry {
 
     ghost status_of = { entry_status };
 
-    ghost refused = { λ refusal. record { result = Err refusal; audit = None } };
+    ghost refused = { refused_entry };
 
     fn write_records<W: Write>(
         &self,
@@ -126,17 +126,14 @@ pub struct Reporter<W> {
 
 impl<W> Reporter<W> {
     /// A report of nothing yet, whose first statement has the number 1.
-    pub fn new(alloc: Global, out: W, stops: bool) -> Reporter<W>
+    pub fn new(alloc: Global, out: W) -> Reporter<W>
         ensures out { result.out ≡ out }
-        ensures stops { result.stops ≡ stops }
-        ensures next { result.next ≡ 1 }
-        ensures worst { result.worst ≡ 0 }
-        ensures fault { result.fault ≡ None }
+        ensures unused { IsUnused result }
     {
         Reporter {
             alloc,
             out,
-            stops,
+            stops: false,
             next: 1,
             worst: 0,
             fault: None,

@@ -1,22 +1,17 @@
-//! Runs of scripts, one after the other, over one store.
+//! Runs of scripts, one after the other.
 
-ghost use Rattle.std.specs.Prelude.{◌≡◌, ◌≤◌, ◌∷◌, [], List, None, map};
-ghost use Rattle.std.specs.Prelude.{IfErr, IfOk, false};
+ghost use Rattle.std.specs.Prelude.{◌≡◌, ◌∷◌, [], List, None, map};
 ghost use Rattle.std.specs.String.{string_bytes};
-ghost use Rattle.sqlite.specs.Held.{state};
-ghost use Rattle.version_tables.specs.Steps.{IsAsBefore};
-ghost use Rattle.version_store.specs.StoreState.{IsOpenRefusal, IsUsable};
+ghost use Rattle.version_store.specs.StoreState.{IsUsable};
 ghost use Rattle.history_model.specs.Histories.{History};
-ghost use Rattle.period_core.specs.declared.refusal.Refusal.TheVariants.{BadStore};
-ghost use Rattle.script_engine.specs.engine.Stored.{DatabaseRepresents, EngineRepresents};
-ghost use Rattle.script_engine.specs.engine.Stored.{IsBadStore, RepresentsSome, WasUsable};
+ghost use Rattle.script_engine.specs.engine.Stored.{EngineRepresents, RepresentsSome, WasUsable};
 ghost use Rattle.bitemporal_file.specs.ScriptRuns.{AreOfReaders, Ends, LeadsTo, ScriptRun};
 
 use crate::reporter::{Reported, Reporter};
 use command_line::{RunFault, Scripts, Tracked, read_script};
 use period_core::Refusal;
 use script_engine::{Engine, Kept, MOST_BYTES, run_over};
-use sqlite::{Alter, Connection};
+use sqlite::Alter;
 use std::alloc::Global;
 use std::io::{Read, Write};
 
@@ -75,8 +70,8 @@ fn run_named<S: Alter, K: Kept<S> + Reported + Drop, Q: Scripts, W: Write>(
     }
 }
 
-// Runs the scripts that are named, in order.
-fn run_all<S: Alter, K: Kept<S> + Reported + Drop, Q: Scripts, W: Write>(
+/// Runs the scripts that are named, in order. Says whether all came to their ends.
+pub(crate) fn run_all<S: Alter, K: Kept<S> + Reported + Drop, Q: Scripts, W: Write>(
     alloc: Global,
     engine: &mut Engine<S>,
     scripts: &Q,
@@ -99,42 +94,4 @@ fn run_all<S: Alter, K: Kept<S> + Reported + Drop, Q: Scripts, W: Write>(
         }
     }
     Ok(true)
-}
-
-/// Runs the scripts that are named, one after the other, over the store of a connection, a new one
-/// where there is none, and reports each statement as soon as it is done. Gives the connection
-/// back. An `Err` says why the store is not opened: it changes nothing, and nothing is read.
-pub fn run_store<S: Alter, K: Kept<S> + Reported + Drop, Q: Scripts, W: Write>(
-    alloc: Global,
-    connection: Connection<S>,
-    scripts: &Q,
-    names: &[String],
-    reporter: &mut Reporter<W>,
-) -> Result<(Result<bool, RunFault>, Connection<S>), (Refusal, Connection<S>)>
-    requires settled { connection.in_transaction ≡ false }
-    requires fresh { reporter.old.fault ≡ None }
-
-    // Whatever history the database stood for, the scripts are run one after the other from it on,
-    // and the database then stands for the history to which they led: so it is for the next call.
-    ensures ran { IfOk result (λ ended. let readers =
-        map (Q.content scripts.now) (map string_bytes names.now) in
-        (runs : List (ScriptRun K)) × AreOfReaders readers runs
-        × Ends W.contents K.text K.status_of readers reporter.old runs ended.0 reporter.new
-        × (IsUsable S.Store ended.1
-        → (history : History) → DatabaseRepresents history (state S.Store connection).now
-        → (last : History) × LeadsTo K.is_step history runs last
-        × DatabaseRepresents last (state S.Store ended.1).now)) }
-    ensures closed { IfOk result (λ ended. ended.1.in_transaction ≡ false) }
-    ensures low { reporter.old.worst ≤ 3 → reporter.new.worst ≤ 3 }
-
-    ensures named { IfErr result (λ failed. IsOpenRefusal failed.0) }
-    ensures bad { IfErr result (λ failed. IsUsable S.Store failed.1 → failed.0 ≡ BadStore
-        → IsBadStore (state S.Store connection).now) }
-    ensures none { IfErr result (λ failed. IsUsable S.Store failed.1
-        → IsAsBefore (state S.Store connection) (state S.Store failed.1)) }
-    ensures same { IfErr result (λ _. reporter.new ≡ reporter.old) }
-{
-    let mut engine = Engine::open(alloc, connection)?;
-    let ended = run_all::<S, K, Q, W>(alloc, &mut engine, scripts, names, reporter);
-    Ok((ended, engine.close()))
 }

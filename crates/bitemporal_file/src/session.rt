@@ -1,15 +1,11 @@
 //! A session: the parts of one input, each run as soon as it is read.
 
-ghost use Rattle.std.specs.Prelude.{◌≡◌, ◌<◌, ◌≤◌, List, None, IfErr, IfOk, IfSome, false};
-ghost use Rattle.std.specs.Prelude.{length};
-ghost use Rattle.sqlite.specs.Held.{state};
-ghost use Rattle.version_tables.specs.Steps.{IsAsBefore};
-ghost use Rattle.version_store.specs.StoreState.{IsOpenRefusal, IsUsable};
+ghost use Rattle.std.specs.Prelude.{◌≡◌, ◌<◌, List, None, IfErr, IfOk, IfSome, length};
+ghost use Rattle.version_store.specs.StoreState.{IsUsable};
 ghost use Rattle.history_model.specs.Histories.{History};
 ghost use Rattle.command_line.specs.declared.fault.RunFault.TheVariants.{Script};
-ghost use Rattle.period_core.specs.declared.refusal.Refusal.TheVariants.{BadStore, ScriptTooLarge};
-ghost use Rattle.script_engine.specs.engine.Stored.{DatabaseRepresents, EngineRepresents};
-ghost use Rattle.script_engine.specs.engine.Stored.{IsBadStore, RepresentsSome, WasUsable};
+ghost use Rattle.period_core.specs.declared.refusal.Refusal.TheVariants.{ScriptTooLarge};
+ghost use Rattle.script_engine.specs.engine.Stored.{EngineRepresents, RepresentsSome, WasUsable};
 ghost use Rattle.script_engine.specs.script.Script.{most_bytes};
 ghost use Rattle.bitemporal_file.specs.Reporting.{EndsWith, TellsAll};
 ghost use Rattle.bitemporal_file.specs.ScriptRuns.{ScriptRun, results_of};
@@ -20,7 +16,7 @@ use crate::reporter::{Reported, Reporter};
 use command_line::RunFault;
 use period_core::Refusal;
 use script_engine::{Engine, Kept, Listener, run_over};
-use sqlite::{Alter, Connection};
+use sqlite::Alter;
 use std::alloc::Global;
 use std::io::{Read, Write};
 
@@ -70,8 +66,9 @@ fn run_part<S: Alter, K: Kept<S> + Reported + Drop, W: Write>(
     }
 }
 
-// Runs the parts of an input, one after the other. Says whether the run came to the input's end.
-fn run_parts<S: Alter, K: Kept<S> + Reported + Drop, R: Read, W: Write>(
+/// Runs the parts of an input, each up to its semicolon, as they are read. Says whether the run
+/// came to the input's end.
+pub(crate) fn run_parts<S: Alter, K: Kept<S> + Reported + Drop, R: Read, W: Write>(
     alloc: Global,
     engine: &mut Engine<S>,
     input: &mut R,
@@ -104,41 +101,4 @@ fn run_parts<S: Alter, K: Kept<S> + Reported + Drop, R: Read, W: Write>(
         };
     }
     Err(RunFault::Read)
-}
-
-/// Runs a session over the store of a connection, a new one where there is none: each part of the
-/// input, up to its semicolon, is run as soon as it is read, and its statement is reported as soon
-/// as it is done. Gives the connection back. An `Err` says why the store is not opened: it changes
-/// nothing, and nothing is read.
-pub fn run_session<S: Alter, K: Kept<S> + Reported + Drop, R: Read, W: Write>(
-    alloc: Global,
-    connection: Connection<S>,
-    input: &mut R,
-    reporter: &mut Reporter<W>,
-) -> Result<(Result<bool, RunFault>, Connection<S>), (Refusal, Connection<S>)>
-    requires settled { connection.in_transaction ≡ false }
-    requires fresh { reporter.old.fault ≡ None }
-
-    // Whatever history the database stood for, the parts are run one after the other from it on,
-    // and the database then stands for the history to which they led: so it is for the next call.
-    ensures ran { IfOk result (λ ended. (runs : List (ScriptRun K))
-        × ArePartsOf (R.remaining input.old) runs ended.0
-        × EndsWith W.contents K.text K.status_of reporter.old (results_of runs) ended.0 reporter.new
-        × (IsUsable S.Store ended.1
-        → (history : History) → DatabaseRepresents history (state S.Store connection).now
-        → (last : History) × LeadsThrough K.is_step K.refused 0 history runs last
-        × DatabaseRepresents last (state S.Store ended.1).now)) }
-    ensures closed { IfOk result (λ ended. ended.1.in_transaction ≡ false) }
-    ensures low { reporter.old.worst ≤ 3 → reporter.new.worst ≤ 3 }
-
-    ensures named { IfErr result (λ failed. IsOpenRefusal failed.0) }
-    ensures bad { IfErr result (λ failed. IsUsable S.Store failed.1 → failed.0 ≡ BadStore
-        → IsBadStore (state S.Store connection).now) }
-    ensures none { IfErr result (λ failed. IsUsable S.Store failed.1
-        → IsAsBefore (state S.Store connection) (state S.Store failed.1)) }
-    ensures same { IfErr result (λ _. (reporter.new ≡ reporter.old) × (input.new ≡ input.old)) }
-{
-    let mut engine = Engine::open(alloc, connection)?;
-    let ended = run_parts::<S, K, R, W>(alloc, &mut engine, input, reporter);
-    Ok((ended, engine.close()))
 }

@@ -1,21 +1,23 @@
 //! Where the stores of a command line are: the database files that their names open.
 
-ghost use Rattle.std.specs.Prelude.{◌≡◌, IfOk, false};
+ghost use Rattle.std.specs.Prelude.{◌≡◌, IfOk, OnOk, false};
+ghost use Rattle.sqlite_wal.specs.Files.{image_at};
+ghost use Rattle.bitemporal_file.specs.StoreFiles.{Finds, IsInFiles};
 
 use command_line::RunFault;
 use period_core::Refusal;
-use sqlite::{Connection, Error, ErrorCode, File, FileStore, Unknown};
+use sqlite::{Connection, Error, ErrorCode, FileFrom, FileStore, Start};
 use std::fs;
 use std::io::ErrorKind;
 use std::mem::ManuallyDrop;
 
-/// Which files of a store are there.
-#[derive(Clone, Copy, Debug, PartialEq, Eq)]
-pub struct Present {
-    /// The file itself.
-    pub store: bool,
-    /// The log beside it.
-    pub log: bool,
+// Which files of a store are there.
+#[derive(Clone, Copy)]
+struct Present {
+    // The file itself.
+    store: bool,
+    // The log beside it.
+    log: bool,
 }
 
 // Why a database did not open.
@@ -67,8 +69,8 @@ fn remove_new(rt: &HostRuntime, name: &str, before: Present) {
     }
 }
 
-/// Which files of the store of that name are there.
-pub fn files_there(rt: &HostRuntime, name: &str) -> Present {
+// Which files of the store of that name are there.
+fn files_there(rt: &HostRuntime, name: &str) -> Present {
     match place_of(rt, name) {
         Some((place, log)) => Present {
             store: is_there(rt, place.as_str()),
@@ -81,45 +83,86 @@ pub fn files_there(rt: &HostRuntime, name: &str) -> Present {
     }
 }
 
-/// A connection to the database of that name, which is made where it is not there. On `Err` there
-/// is no file that was not there before.
-pub fn open_store(
-    rt: &HostRuntime,
-    name: &str,
+/// A database in files of which `S` says what they held.
+pub(crate) type Filed<S> = FileStore<FileFrom<S>>;
+
+/// The database files of the system, of which one is opened by its name, and closed or given up.
+/// What they hold at first is what `S` stands for, whatever that is: a program has `Unknown`.
+#[derive(Drop)]
+pub struct StoreFiles<'a, S: Start> {
+    rt: &'a HostRuntime,
+    start: Option<S>,
     before: Present,
-) -> Result<Connection<FileStore<File>>, RunFault>
-    ensures { IfOk result (λ connection. connection.in_transaction ≡ false) }
-{
-    match Connection::open_from(rt, name, false, Unknown) {
-        Ok(connection) => Ok(connection),
-        Err((error, left)) => {
-            let fault = fault_of(error);
-            // The files stay open and locked until the process ends, which is soon: so no other
-            // program has them when they are removed.
-            let _left = ManuallyDrop::new(left);
-            if fault != RunFault::Locked {
-                remove_new(rt, name, before);
-            }
-            Err(fault)
+}
+
+impl<'a, S: Start> StoreFiles<'a, S> {
+    /// The files of the system, of which none is open.
+    pub fn new(rt: &'a HostRuntime, start: S) -> StoreFiles<'a, S> {
+        StoreFiles {
+            rt,
+            start: Some(start),
+            before: Present {
+                store: true,
+                log: true,
+            },
         }
     }
 }
 
-/// Gives a connection up, as the program ends: no file is left that was not there before.
-pub fn give_up(
-    rt: &HostRuntime,
-    name: &str,
-    before: Present,
-    connection: Connection<FileStore<File>>,
-) {
-    let _connection = ManuallyDrop::new(connection);
-    remove_new(rt, name, before);
+impl<S: Start> StoreFiles<'_, S> {
+    /// A connection to the database of that name. Where it is not there, it is made, if it may be.
+    /// On `Err` there is no file that was not there before. Only one is ever opened.
+    pub(crate) fn open_store(
+        &mut self,
+        name: &str,
+        may_make: bool,
+    ) -> Result<Connection<Filed<S>>, RunFault>
+        ensures settled { IfOk result (λ connection. connection.in_transaction ≡ false) }
+        ensures opened { IfOk result (Finds (image_at S.Start)) }
+    {
+        self.before = files_there(self.rt, name);
+        if !may_make && !self.before.store {
+            return Err(RunFault::NoStore);
+        }
+        let Some(start) = self.start.take() else {
+            return Err(RunFault::NoStore);
+        };
+        match Connection::open_from(self.rt, name, false, start) {
+            Ok(connection) => Ok(connection),
+            Err((error, left)) => {
+                let fault = fault_of(error);
+                // The files stay open and locked until the process ends, which is soon: so no
+                // other program has them when they are removed.
+                let _left = ManuallyDrop::new(left);
+                if fault != RunFault::Locked {
+                    remove_new(self.rt, name, self.before);
+                }
+                Err(fault)
+            }
+        }
+    }
+
+    /// Whether the database was made as it was opened.
+    pub(crate) fn is_new(&self) -> bool {
+        !self.before.store
+    }
+
+    /// Gives a connection up, as the program ends: no file is left that was not there before.
+    pub(crate) fn give_up(&self, name: &str, connection: Connection<Filed<S>>) {
+        let _connection = ManuallyDrop::new(connection);
+        remove_new(self.rt, name, self.before);
+    }
 }
 
-/// Closes a connection, with all that is committed in the store's own file.
-pub fn close_store(connection: Connection<FileStore<File>>) -> Result<(), RunFault> {
-    match connection.close() {
-        Ok(()) => Ok(()),
-        Err(_) => Err(RunFault::Script(Refusal::Store)),
+/// Closes a connection, with all that is committed in its database file.
+pub(crate) fn close_store<S: Start>(connection: Connection<Filed<S>>) -> Result<(), RunFault>
+    ensures { OnOk result (IsInFiles connection) }
+{
+    match connection.close_files() {
+        Ok(_) => Ok(()),
+        Err((_, store)) => {
+            drop(store.close());
+            Err(RunFault::Script(Refusal::Store))
+        }
     }
 }

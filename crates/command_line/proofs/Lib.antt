@@ -1,4 +1,5 @@
 pub mod CommandLines
 mod ReadFacts
+mod FileFacts
 mod LineFacts
 mod LineExamples

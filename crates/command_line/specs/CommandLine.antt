@@ -39,9 +39,13 @@ bitemporal =
     (with_subcommand (requiring (versioned (new_app (codes "bitemporal")))) run_command.top)
     (script_command (codes "check")).top
 
--- the flag --audit is set
+-- the flag of this name is set
+abbrev pub IsSet : Text → List Row → Type 0
+IsSet name rows = first_of name rows ≡ Some (codes "true")
+
+-- --audit is set
 abbrev pub IsAudited : List Row → Type 0
-IsAudited rows = first_of (codes "audit") rows ≡ Some (codes "true")
+IsAudited = IsSet (codes "audit")
 
 -- the mode that a subcommand with its matches chooses
 abbrev pub IsMode : Text × List Row → Mode → Type 0

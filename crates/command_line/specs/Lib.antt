@@ -1,4 +1,5 @@
 pub mod CommandLine
+pub mod FileCommand
 pub mod Reading
 pub mod Audits
 pub mod Lines

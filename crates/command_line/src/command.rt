@@ -7,7 +7,7 @@ ghost use Rattle.std.specs.String.{string_bytes};
 ghost use Rattle.clap.specs.Words.{app_of, fault_of, first_of, found_of, kind_of, rows_of, rule_of};
 ghost use Rattle.clap.specs.Words.{subcommand_of};
 ghost use Rattle.clap.specs.declared.builder.Command.TheViews.{out-Command};
-ghost use Rattle.command_line.specs.CommandLine.{AsksFor, Chooses, IsAudited, IsMode};
+ghost use Rattle.command_line.specs.CommandLine.{AsksFor, Chooses, IsMode, IsSet};
 ghost use Rattle.command_line.specs.CommandLine.{audit_flag};
 ghost use Rattle.command_line.specs.CommandLine.{bitemporal, file_word, run_command};
 ghost use Rattle.command_line.specs.CommandLine.{script_command};
@@ -118,17 +118,18 @@ fn command<'a>(alloc: Global, after: &'a str) -> Result<Command<'a>, AllocError>
     Ok(whole)
 }
 
-// The first value of an argument.
-fn value_of<'a>(matches: &ArgMatches<'a>, id: &str) -> Option<&'a str>
+/// The first value of an argument.
+pub(crate) fn value_of<'a>(matches: &ArgMatches<'a>, id: &str) -> Option<&'a str>
     ensures { option_map (λ s. s.now) result ≡ first_of id.now (rows_of (found_of matches.now)) }
 {
     matches.get_str(id)
 }
 
-fn is_audited(matches: &ArgMatches<'_>) -> bool
-    ensures { IsTrue result ↔ IsAudited (rows_of (found_of matches.now)) }
+/// Whether the flag of this name is set.
+pub(crate) fn is_set(matches: &ArgMatches<'_>, name: &str) -> bool
+    ensures { IsTrue result ↔ IsSet name.now (rows_of (found_of matches.now)) }
 {
-    match value_of(matches, "audit") {
+    match value_of(matches, name) {
         Some(value) => value == "true",
         None => false,
     }
@@ -140,7 +141,7 @@ fn mode_of(name: &str, matches: &ArgMatches<'_>) -> Option<Mode>
     ensures other { IfNone result ((name.now ≢ codes "run") × (name.now ≢ codes "check")) }
 {
     match name {
-        "run" if is_audited(matches) => Some(Mode::RunAudited),
+        "run" if is_set(matches, "audit") => Some(Mode::RunAudited),
         "run" => Some(Mode::Run),
         "check" => Some(Mode::Check),
         _ => None,

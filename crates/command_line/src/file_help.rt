@@ -1,7 +1,4 @@
-//! The texts of the program's help.
-
-/// The version that `--version` prints behind the program's name.
-pub const VERSION: &str = "0.1.0";
+//! The texts of the second program's help.
 
 /// What the program is.
 pub const ABOUT: &str =
@@ -13,9 +10,6 @@ pub const STORE_HELP: &str = "The file of the store, which is made where it is n
 /// What FILE is.
 pub const FILE_HELP: &str =
     "The scripts, run in this order; without one, a session of standard input";
-
-/// What `--audit` does.
-pub const AUDIT_HELP: &str = "Checks each answer day by day, and reports what that finds";
 
 /// What `--stop` does.
 pub const STOP_HELP: &str = "Runs nothing behind the first statement that is refused";

@@ -1,0 +1,54 @@
+-- A store that is opened, run over and closed.
+use Rattle.std.proofs.Common.{◌≡◌, ◌==◌, ◌∷◌, ◌∙◌, ℕ, Bool, List, [], Option, None, Some, Result, arith, length, map, false, true, refl}
+use Rattle.std.proofs.lemmas.Bool.{eqb-true}
+use Rattle.std.specs.Io.Buffered.{reader_buffer, reader_capacity, reader_inner, reader_remaining}
+use Rattle.std.specs.Io.KnownBytes.{prepend_known}
+use Rattle.std.specs.declared.io.buffered.BufReader.{BufReader}
+use Rattle.period_core.specs.declared.refusal.Refusal.{Refusal}
+use Rattle.sql_statements.specs.Lexemes.{Lexeme}
+use Rattle.history_model.specs.Histories.{History}
+use Rattle.command_line.specs.declared.fault.RunFault.{RunFault}
+use Rattle.command_line.specs.declared.file_command.Asked.{Asked}
+use Rattle.bitemporal_file.specs.Sessions.{LeadsThrough}
+use Rattle.bitemporal_file.specs.ScriptRuns.{LeadsTo}
+use Rattle.sqlite.specs.Held.{Held}
+use Rattle.sqlite.specs.Store.{Ghosts}
+use Rattle.bitemporal_file.specs.StoreRuns.{RunsAsked, RunsGiven, RunsScripts, RunsSession}
+use Rattle.bitemporal_file.specs.declared.reporter.Reporter.{Reporter}
+
+-- what a reader has of which nothing was read yet
+pub buffered : {T A : Type 0} (remaining : T → Option (List ℕ)) (reader : BufReader T A) (inner : T) → reader_inner reader ≡ inner → reader_buffer reader ≡ [] → reader_capacity reader ≡ 8192 → reader_remaining remaining reader ≡ remaining inner
+buffered remaining reader inner within empty capacity =
+    let whole : reader_remaining remaining reader ≡ prepend_known [] (remaining inner) = rw (capacity, empty, within) refl in
+    whole ∙ nothing_before (remaining inner)
+  where
+    nothing_before : (known : Option (List ℕ)) → prepend_known [] known ≡ known
+    nothing_before None = refl
+    nothing_before (Some bytes) = refl
+
+module _ {K W X : Type 0} (IsStep : History → List Lexeme → K → History → Type 0) (refused : Refusal → K) (contents : W → Option (List ℕ)) (text : ℕ → K → List ℕ) (status : K → ℕ) (First : (History → History → Type 0) → Type 0) where
+  -- no script is named
+  pub given_session : (bytes : X → List ℕ) (content : List ℕ → Option (List ℕ)) (files : List X) (known : Option (List ℕ)) (old : Reporter W) (ended : Result Bool RunFault) (new : Reporter W) → (length files == 0) ≡ true → RunsSession IsStep refused contents text status First known old ended new →
+      RunsGiven IsStep refused contents text status First (map content (map bytes files)) known old ended new
+  given_session bytes content [] known old ended new none run = run
+  given_session bytes content (file ∷ files) known old ended new none run =
+      let is : length (file ∷ files) ≡ 0 = eqb-true (length (file ∷ files)) 0 none in
+      absurd (omega (arith, is))
+
+  -- one is
+  pub given_scripts : (bytes : X → List ℕ) (content : List ℕ → Option (List ℕ)) (files : List X) (known : Option (List ℕ)) (old : Reporter W) (ended : Result Bool RunFault) (new : Reporter W) → (length files == 0) ≡ false →
+      RunsScripts IsStep refused contents text status First (map content (map bytes files)) old ended new → RunsGiven IsStep refused contents text status First (map content (map bytes files)) known old ended new
+  given_scripts bytes content [] known old ended new some run = let no : ⊥ = cc in absurd no
+  given_scripts bytes content (file ∷ files) known old ended new some run = run
+
+module _ {K W : Type 0} (IsStep : History → List Lexeme → K → History → Type 0) (refused : Refusal → K) (contents : W → Option (List ℕ)) (text : ℕ → K → List ℕ) (status : K → ℕ) (First : (History → History → Type 0) → Type 0) where
+  -- what its steps led to, in other words
+  pub given_so : (Second : (History → History → Type 0) → Type 0) → ((Led : History → History → Type 0) → First Led → Second Led) → (readers : List (Option (List ℕ))) (known : Option (List ℕ)) (old : Reporter W) (ended : Result Bool RunFault) (new : Reporter W) →
+      RunsGiven IsStep refused contents text status First readers known old ended new → RunsGiven IsStep refused contents text status Second readers known old ended new
+  given_so Second so [] known old ended new (runs, parts, ends, led) = (runs, parts, ends, so (λ history last. LeadsThrough IsStep refused 0 history runs last) led)
+  given_so Second so (reader ∷ readers) known old ended new (runs, are, ends, led) = (runs, are, ends, so (λ history last. LeadsTo IsStep history runs last) led)
+
+-- what is known of the input, in other words
+pub runs_known : {S W : Type 0} (g : Ghosts S) (contents : W → Option (List ℕ)) (Opens Keeps : Held S → Type 0) (content_of : List ℕ → Option (List ℕ)) (known other : Option (List ℕ)) (asked : Asked) (old : Reporter W) (result : Result ℕ RunFault) (new : Reporter W) → other ≡ known →
+    RunsAsked g contents Opens Keeps content_of other asked old result new → RunsAsked g contents Opens Keeps content_of known asked old result new
+runs_known g contents Opens Keeps content_of known other asked old result new same ran = rw (← same) ran

@@ -1,0 +1,17 @@
+use Rattle.std.proofs.Common.{subst}
+use Rattle.version_store.specs.StoreState.{IsUsable}
+use Rattle.history_model.specs.Histories.{History}
+use Rattle.bitemporal_file.specs.StoreRuns.{LeadsDatabase, LeadsEngine}
+use Rattle.bitemporal_file.proofs.RunFacts.{stands_for}
+use Rattle.bitemporal_file.proofs.StoreFacts.{given_so}
+use Rattle.bitemporal_file.proofs.over.run_store.Goals as goal
+
+pub returns-clause-ran : goal.returns-clause-ran
+returns-clause-ran g c =
+    given_so g.K.Kept.is_step g.K.Reported.refused g.W.Write.contents g.K.Reported.text g.K.Reported.status_of (LeadsEngine g.S.Store c.in_ok-engine.engine c.run_files-ended.new.engine) (LeadsDatabase g.S.Store c.args.connection c.close.result)
+    (λ (Led : History → History → Type 0) led usable history stands.
+    let engine_usable = subst (IsUsable g.S.Store) c.close.ensures.same usable in
+    let opened = c.in_ok-engine.ensures.opened (c.run_files-ended.ensures.usable engine_usable) history stands in
+    let (last, leads, represents) = led engine_usable history opened in
+    (last, leads, stands_for g.S.Store last c.run_files-ended.new.engine c.close.result c.close.ensures.same represents))
+    _ _ c.args.reporter.now c.run_files-ended.result c.run_files-ended.new.reporter c.run_files-ended.ensures.ran

@@ -1,0 +1,156 @@
+//! Runs over a store: it is opened, used and closed.
+
+ghost use Rattle.std.specs.Prelude.{◌≡◌, ◌≤◌, IfErr, IfOk, None, Ok, OnOk, false, map};
+ghost use Rattle.std.specs.String.{string_bytes};
+ghost use Rattle.script_engine.specs.engine.Stored.{WasUsable};
+ghost use Rattle.sqlite_wal.specs.Files.{image_at};
+ghost use Rattle.bitemporal_file.specs.StoreFiles.{Finds, IsInFiles};
+ghost use Rattle.bitemporal_file.specs.StoreRuns.{LeadsDatabase, LeadsEngine, RefusesStore};
+ghost use Rattle.bitemporal_file.specs.StoreRuns.{RunsAs, RunsAsked, RunsGiven};
+
+use crate::reporter::{Reported, Reporter};
+use crate::runs::run_all;
+use crate::session::run_parts;
+use crate::stores::{Filed, StoreFiles, close_store};
+use command_line::{Asked, RunFault, Scripts};
+use period_core::Refusal;
+use script_engine::{Engine, Entry, Kept, Outcome};
+use sqlite::{Alter, Connection, Start};
+use sqlite_trees::store::Store;
+use std::alloc::Global;
+use std::io::{Read, Write};
+
+// Runs the scripts in files, or else a session of the input, and reports each statement.
+fn run_files<S: Alter, K: Kept<S> + Reported + Drop, Q: Scripts, R: Read, W: Write>(
+    alloc: Global,
+    engine: &mut Engine<S>,
+    scripts: &Q,
+    files: &[String],
+    input: &mut R,
+    reporter: &mut Reporter<W>,
+) -> Result<bool, RunFault>
+    requires { reporter.old.fault ≡ None }
+    ensures ran { RunsGiven K.is_step K.refused W.contents K.text K.status_of
+        (LeadsEngine S.Store engine.old engine.new)
+        (map (Q.content scripts.now) (map string_bytes files.now)) (R.remaining input.old)
+        reporter.old result reporter.new }
+    ensures low { reporter.old.worst ≤ 3 → reporter.new.worst ≤ 3 }
+    ensures usable { WasUsable S.Store engine.old.connection engine.new.connection }
+{
+    if files.is_empty() {
+        return run_parts::<S, K, R, W>(alloc, engine, input, reporter);
+    }
+    run_all::<S, K, Q, W>(alloc, engine, scripts, files, reporter)
+}
+
+// The same over the store of a connection, a new one where there is none. Gives the connection
+// back. An `Err` says why the store is not opened: it changes nothing, and nothing is read.
+fn run_store<S: Alter, K: Kept<S> + Reported + Drop, Q: Scripts, R: Read, W: Write>(
+    alloc: Global,
+    connection: Connection<S>,
+    scripts: &Q,
+    files: &[String],
+    input: &mut R,
+    reporter: &mut Reporter<W>,
+) -> Result<(Result<bool, RunFault>, Connection<S>), (Refusal, Connection<S>)>
+    requires settled { connection.in_transaction ≡ false }
+    requires fresh { reporter.old.fault ≡ None }
+    ensures ran { IfOk result (λ ended.
+        RunsGiven K.is_step K.refused W.contents K.text K.status_of
+        (LeadsDatabase S.Store connection ended.1)
+        (map (Q.content scripts.now) (map string_bytes files.now)) (R.remaining input.old)
+        reporter.old ended.0 reporter.new) }
+    ensures closed { IfOk result (λ ended. ended.1.in_transaction ≡ false) }
+    ensures low { reporter.old.worst ≤ 3 → reporter.new.worst ≤ 3 }
+    ensures refused { IfErr result (λ failed.
+        RefusesStore S.Store connection failed.0 failed.1
+        × (reporter.new ≡ reporter.old) × (input.new ≡ input.old)) }
+{
+    let mut engine = Engine::open(alloc, connection)?;
+    let ended = run_files::<S, K, Q, R, W>(alloc, &mut engine, scripts, files, input, reporter);
+    Ok((ended, engine.close()))
+}
+
+// The same with an audit of each answer, or without.
+fn run_opened<S: Alter, Q: Scripts, R: Read, W: Write>(
+    alloc: Global,
+    connection: Connection<S>,
+    scripts: &Q,
+    asked: &Asked,
+    input: &mut R,
+    reporter: &mut Reporter<W>,
+) -> Result<(Result<bool, RunFault>, Connection<S>), (Refusal, Connection<S>)>
+    requires settled { connection.in_transaction ≡ false }
+    requires fresh { reporter.old.fault ≡ None }
+    ensures ran { IfOk result (λ ended. RunsAs S.Store W.contents asked.now.audits
+        (map (Q.content scripts.now) (map string_bytes asked.now.files.items))
+        (R.remaining input.old) reporter.old connection ended.0 ended.1 reporter.new) }
+    ensures low { reporter.old.worst ≤ 3 → reporter.new.worst ≤ 3 }
+    ensures refused { IfErr result (λ failed.
+        RefusesStore S.Store connection failed.0 failed.1
+        × (reporter.new ≡ reporter.old) × (input.new ≡ input.old)) }
+{
+    let files = asked.files.as_slice();
+    if asked.audits {
+        return run_store::<S, Entry, Q, R, W>(alloc, connection, scripts, files, input, reporter);
+    }
+    run_store::<S, Result<Outcome, Refusal>, Q, R, W>(
+        alloc, connection, scripts, files, input, reporter,
+    )
+}
+
+/// Closes the store after what was done over it. Where that failed before any statement was run,
+/// and the store is new, no file of it stays.
+pub(crate) fn end_over<S: Start, T: Drop>(
+    stores: &StoreFiles<'_, S>,
+    name: &str,
+    is_unused: bool,
+    ended: Result<T, RunFault>,
+    connection: Connection<Filed<S>>,
+) -> Result<(), RunFault>
+    ensures kept { OnOk result (IsInFiles connection) }
+    ensures whole { OnOk result ((value : T) × (ended ≡ Ok value)) }
+    ensures fault { IfErr result (λ fault. IfErr ended (λ cause. cause ≡ fault)) }
+{
+    match ended {
+        Ok(_) => close_store(connection),
+        Err(fault) if is_unused && stores.is_new() => {
+            stores.give_up(name, connection);
+            Err(fault)
+        }
+        Err(fault) => {
+            let _ = close_store(connection);
+            Err(fault)
+        }
+    }
+}
+
+/// Runs what is asked for over the store that is named. Gives the exit status.
+pub(crate) fn run_over<S: Start, Q: Scripts, R: Read, W: Write>(
+    alloc: Global,
+    stores: &mut StoreFiles<'_, S>,
+    scripts: &Q,
+    asked: &Asked,
+    input: &mut R,
+    reporter: &mut Reporter<W>,
+) -> Result<u8, RunFault>
+    requires { reporter.old.fault ≡ None }
+    ensures ran { RunsAsked ⟦<Filed<S> as Store>⟧ W.contents (Finds (image_at S.Start)) IsInFiles
+        (Q.content scripts.now) (R.remaining input.old) asked.now
+        reporter.old result reporter.new }
+    ensures low { reporter.old.worst ≤ 3 → IfOk result (λ status. status ≤ 3) }
+{
+    let name = asked.store.as_str();
+    let connection = stores.open_store(name, true)?;
+    reporter.stops = asked.stops;
+    match run_opened::<Filed<S>, Q, R, W>(alloc, connection, scripts, asked, input, reporter) {
+        Ok((ended, connection)) => {
+            end_over(stores, name, reporter.is_unused, ended, connection)?;
+            Ok(reporter.worst)
+        }
+        Err((refusal, connection)) => {
+            stores.give_up(name, connection);
+            Err(RunFault::Script(refusal))
+        }
+    }
+}
