@@ -11,7 +11,7 @@ use period_core::{Moment, Refusal, VersionRow, Window};
 use sqlite::Connection;
 use std::alloc::Global;
 use std::test::Fail;
-use version_store::{KeptRows, OpenedStore, RowVisitor, VersionStore};
+use version_store::{RowCollector, OpenedStore, RowVisitor, VersionStore};
 
 type Store = VersionStore<MemoryStore>;
 
@@ -165,7 +165,7 @@ fn opened_and_refused(rt: HostRuntime) -> Result<(), Fail> {
 
 // The versions of EMP that a window sees.
 fn seen(alloc: Global, store: &mut Store, window: Window) -> Result<Vec<VersionRow>, Fail> {
-    let mut kept = KeptRows::new(alloc);
+    let mut kept = RowCollector::new(alloc);
     store.scan(alloc, 1, window, &mut kept)?;
     Ok(kept.rows)
 }

@@ -14,14 +14,14 @@ use crate::session::run_parts;
 use crate::stores::{Filed, StoreFiles, close_store};
 use command_line::{Asked, RunFault, Scripts};
 use period_core::Refusal;
-use script_engine::{Engine, Entry, Kept, Outcome};
+use script_engine::{Engine, Entry, Outcome, PieceResult};
 use sqlite::{Alter, Connection, Start};
 use sqlite_trees::store::Store;
 use std::alloc::Global;
 use std::io::{Read, Write};
 
 // Runs the scripts in files, or else a session of the input, and reports each statement.
-fn run_files<S: Alter, K: Kept<S> + Reported + Drop, Q: Scripts, R: Read, W: Write>(
+fn run_files<S: Alter, K: PieceResult<S> + Reported + Drop, Q: Scripts, R: Read, W: Write>(
     alloc: Global,
     engine: &mut Engine<S>,
     scripts: &Q,
@@ -45,7 +45,7 @@ fn run_files<S: Alter, K: Kept<S> + Reported + Drop, Q: Scripts, R: Read, W: Wri
 
 // The same over the store of a connection, a new one where there is none. Gives the connection
 // back. An `Err` says why the store is not opened: it changes nothing, and nothing is read.
-fn run_store<S: Alter, K: Kept<S> + Reported + Drop, Q: Scripts, R: Read, W: Write>(
+fn run_store<S: Alter, K: PieceResult<S> + Reported + Drop, Q: Scripts, R: Read, W: Write>(
     alloc: Global,
     connection: Connection<S>,
     scripts: &Q,

@@ -10,13 +10,13 @@ ghost use Rattle.bitemporal_file.specs.ScriptRuns.{AreOfReaders, Ends, LeadsTo, 
 use crate::reporter::{Reported, Reporter};
 use command_line::{RunFault, Scripts, Tracked, read_script};
 use period_core::Refusal;
-use script_engine::{Engine, Kept, MOST_BYTES, run_over};
+use script_engine::{Engine, MOST_BYTES, PieceResult, run_over};
 use sqlite::Alter;
 use std::alloc::Global;
 use std::io::{Read, Write};
 
 // Runs the script that a reader has, and reports it. Says whether the run came to its end.
-fn run_script<S: Alter, K: Kept<S> + Reported + Drop, R: Read, W: Write>(
+fn run_script<S: Alter, K: PieceResult<S> + Reported + Drop, R: Read, W: Write>(
     alloc: Global,
     engine: &mut Engine<S>,
     input: &mut Tracked<R>,
@@ -44,7 +44,7 @@ fn run_script<S: Alter, K: Kept<S> + Reported + Drop, R: Read, W: Write>(
 }
 
 // Runs the script that is named.
-fn run_named<S: Alter, K: Kept<S> + Reported + Drop, Q: Scripts, W: Write>(
+fn run_named<S: Alter, K: PieceResult<S> + Reported + Drop, Q: Scripts, W: Write>(
     alloc: Global,
     engine: &mut Engine<S>,
     scripts: &Q,
@@ -71,7 +71,7 @@ fn run_named<S: Alter, K: Kept<S> + Reported + Drop, Q: Scripts, W: Write>(
 }
 
 /// Runs the scripts that are named, in order. Says whether all came to their ends.
-pub(crate) fn run_all<S: Alter, K: Kept<S> + Reported + Drop, Q: Scripts, W: Write>(
+pub(crate) fn run_all<S: Alter, K: PieceResult<S> + Reported + Drop, Q: Scripts, W: Write>(
     alloc: Global,
     engine: &mut Engine<S>,
     scripts: &Q,

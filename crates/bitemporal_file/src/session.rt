@@ -15,7 +15,7 @@ use crate::parts::read_part;
 use crate::reporter::{Reported, Reporter};
 use command_line::RunFault;
 use period_core::Refusal;
-use script_engine::{Engine, Kept, Listener, run_over};
+use script_engine::{Engine, Listener, PieceResult, run_over};
 use sqlite::Alter;
 use std::alloc::Global;
 use std::io::{Read, Write};
@@ -36,7 +36,7 @@ fn placed(start: usize, refusal: Refusal) -> Option<Refusal>
 
 // Runs a part as a script of its own, and reports it. Where it is refused as a whole, that is told
 // as the refusal of one statement; only a part that is too large ends the session.
-fn run_part<S: Alter, K: Kept<S> + Reported + Drop, W: Write>(
+fn run_part<S: Alter, K: PieceResult<S> + Reported + Drop, W: Write>(
     alloc: Global,
     engine: &mut Engine<S>,
     start: usize,
@@ -68,7 +68,7 @@ fn run_part<S: Alter, K: Kept<S> + Reported + Drop, W: Write>(
 
 /// Runs the parts of an input, each up to its semicolon, as they are read. Says whether the run
 /// came to the input's end.
-pub(crate) fn run_parts<S: Alter, K: Kept<S> + Reported + Drop, R: Read, W: Write>(
+pub(crate) fn run_parts<S: Alter, K: PieceResult<S> + Reported + Drop, R: Read, W: Write>(
     alloc: Global,
     engine: &mut Engine<S>,
     input: &mut R,

@@ -18,14 +18,14 @@ use Rattle.sql_statements.specs.declared.statement.StoredTest.TheVariants.{Conta
 use Rattle.catalog_core.specs.change.Insertion.{is_of_other_kind, is_too_long}
 use Rattle.catalog_core.specs.query.Refusals.{are_matching, are_of_period}
 use Rattle.catalog_core.specs.query.Scopes.{is_qualified, matches_in}
-use Rattle.catalog_core.specs.query.Selection.{names_no_value}
+use Rattle.catalog_core.specs.query.Selection.{names_non_value_column}
 use Rattle.catalog_core.specs.table.Kinds.{differ, kind_of_value}
 use Rattle.catalog_core.specs.table.Matches.{is_matching}
 use Rattle.catalog_core.specs.table.TableWords.{def_kind, def_matches}
 use Rattle.catalog_core.specs.declared.flaw.Flaw.{Flaw}
-use Rattle.catalog_core.specs.declared.flaw.Flaw.TheVariants.{Unknown, Ambiguous, NoValue}
+use Rattle.catalog_core.specs.declared.flaw.Flaw.TheVariants.{Unknown, Ambiguous, NotValueColumn}
 use Rattle.catalog_core.specs.declared.flaw.Flaw.TheVariants.{OtherKind, TooLong, Empty}
-use Rattle.catalog_core.specs.declared.table.matching.Matching.TheVariants.{Nothing, Several}
+use Rattle.catalog_core.specs.declared.table.match_counts.MatchCount.TheVariants.{Zero, Many}
 use Rattle.catalog_core.specs.declared.table.ValueKind.{ValueKind}
 use Rattle.catalog_core.specs.declared.table.TableDef.{TableDef}
 
@@ -34,9 +34,9 @@ use Rattle.catalog_core.specs.declared.table.TableDef.{TableDef}
 -- a column that the table lacks, one that several match, one that is no value column; under
 -- another qualifier than the table's name, a name matches nothing
 unfoldable pub is_flawed_column : Flaw → TableDef → ColumnReference → Bool
-is_flawed_column Unknown t r = are_matching Nothing (matches_in t.name t r)
-is_flawed_column Ambiguous t r = are_matching Several (matches_in t.name t r)
-is_flawed_column NoValue t r = are_of_period (matches_in t.name t r)
+is_flawed_column Unknown t r = are_matching Zero (matches_in t.name t r)
+is_flawed_column Ambiguous t r = are_matching Many (matches_in t.name t r)
+is_flawed_column NotValueColumn t r = are_of_period (matches_in t.name t r)
 is_flawed_column _ t r = false
 
 -- ==== SET ====
@@ -44,9 +44,9 @@ is_flawed_column _ t r = false
 -- a column that is set, and its value: also one of another kind, or a longer text than the column
 -- takes
 unfoldable pub is_flawed_set : Flaw → TableDef → Assignment → Bool
-is_flawed_set Unknown t a = is_matching Nothing (def_matches t a.column)
-is_flawed_set Ambiguous t a = is_matching Several (def_matches t a.column)
-is_flawed_set NoValue t a = names_no_value t a.column
+is_flawed_set Unknown t a = is_matching Zero (def_matches t a.column)
+is_flawed_set Ambiguous t a = is_matching Many (def_matches t a.column)
+is_flawed_set NotValueColumn t a = names_non_value_column t a.column
 is_flawed_set OtherKind t a = is_of_other_kind t (a.column, a.value)
 is_flawed_set TooLong t a = is_too_long t (a.column, a.value)
 is_flawed_set Empty t a = false
@@ -54,7 +54,7 @@ is_flawed_set Empty t a = false
 -- a column that is set more than once
 unfoldable pub is_set_again : List Assignment → Assignment → Bool
 is_set_again assignments a =
-    is_matching Several
+    is_matching Many
     (count_by (λ (other : Assignment). bytes_eq a.column other.column) assignments)
 
 -- some column is set more than once

@@ -1,12 +1,12 @@
 pub mod Limits
-pub mod Judged
+pub mod RefusalConditions
 pub mod Conditions
 pub mod table
 pub mod create
 pub mod change
 pub mod query
 pub mod Flaws
-pub mod Numbering
+pub mod Positions
 pub mod Placing
 pub mod SystemWindows
 pub mod stored

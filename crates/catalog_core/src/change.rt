@@ -1,9 +1,9 @@
 //! Changes with positions in place of names.
 
-pub mod given_rows;
 pub mod insert_names;
 pub mod insert_places;
 pub mod insert_values;
+pub mod inserted_rows;
 pub mod insertion;
 pub mod portion_changes;
 pub mod resolution;
@@ -14,7 +14,7 @@ use period_core::{Day, Items, Period, PeriodRow, Value, Values, VersionRow};
 /// A row of INSERT: its values in the order of the value columns, and the start and the end of its
 /// period. Its end may be at or before its start: then the change is refused.
 #[derive(Drop)]
-pub struct GivenRow {
+pub struct InsertedRow {
     pub values: Values,
     pub start: Day,
     pub end: Day,
@@ -31,7 +31,7 @@ pub struct Assignment {
 #[derive(Drop)]
 pub enum Action {
     /// Adds the rows.
-    Insert(Items<GivenRow>),
+    Insert(Items<InsertedRow>),
     /// In the portion, sets these values in the rows that meet the condition.
     Update(Option<Period>, Items<Assignment>, Option<Cond>),
     /// In the portion, removes the rows that meet the condition.

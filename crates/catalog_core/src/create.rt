@@ -4,16 +4,16 @@ ghost use Rattle.std.specs.Prelude.{◌≡◌, IfErr, IfOk, MatchOption, OnOk, t
 ghost use Rattle.period_core.specs.Leasts.{IsLeast, MayAnswer, NoneApplies};
 ghost use Rattle.catalog_core.specs.create.Creation.{create_conditions};
 ghost use Rattle.catalog_core.specs.create.Definition.{Defines};
-ghost use Rattle.catalog_core.specs.Judged.{Holds, first_holding};
+ghost use Rattle.catalog_core.specs.RefusalConditions.{Holds, first_holding};
 ghost use Rattle.catalog_core.specs.table.TableWords.{has_date_period, has_distinct_names};
 
-pub mod building;
+pub mod builder;
 pub mod lawful;
 pub mod names;
 pub mod period_counts;
 pub mod shape;
 
-use crate::create::building::build;
+use crate::create::builder::build;
 use crate::create::names::{
     exceeds_limits, is_ambiguous, is_there, keys_period_column, lacks_name, lacks_parent,
     repeats_name,

@@ -13,9 +13,9 @@ ghost use Rattle.catalog_core.specs.Flaws.{is_set_again, sets_twice, side_kind, 
 
 use crate::change::insert_values::is_longer;
 use crate::query::seen::{count_in, is_qualified, names_period_in};
-use crate::table::columns::names_no_value;
+use crate::table::columns::names_non_value_column;
 use crate::table::kinds::{def_kind, differ, kind_of_value};
-use crate::table::matching::{Matching, def_matches};
+use crate::table::match_counts::{MatchCount, def_matches};
 use crate::table::{TableDef, ValueKind};
 use period_core::Value;
 use sql_statements::{
@@ -30,7 +30,7 @@ pub enum Flaw {
     /// A column's name that several columns have.
     Ambiguous,
     /// A period or system column where a value column has to stand.
-    NoValue,
+    NotValueColumn,
     /// A value or a comparison over two kinds.
     OtherKind,
     /// A text that its column does not take.
@@ -77,9 +77,9 @@ impl Flaw {
         ensures { result ≡ is_flawed_column self table.now column.now }
     {
         match self {
-            Flaw::Unknown => Matching::Nothing.takes(count_in(&table.name, table, column)),
-            Flaw::Ambiguous => Matching::Several.takes(count_in(&table.name, table, column)),
-            Flaw::NoValue => names_period_in(&table.name, table, column),
+            Flaw::Unknown => MatchCount::Zero.is(count_in(&table.name, table, column)),
+            Flaw::Ambiguous => MatchCount::Many.is(count_in(&table.name, table, column)),
+            Flaw::NotValueColumn => names_period_in(&table.name, table, column),
             Flaw::OtherKind | Flaw::TooLong | Flaw::Empty => false,
         }
     }
@@ -90,9 +90,9 @@ impl Flaw {
         ensures { result ≡ is_flawed_set self table.now set.now }
     {
         match self {
-            Flaw::Unknown => Matching::Nothing.takes(def_matches(table, &set.column)),
-            Flaw::Ambiguous => Matching::Several.takes(def_matches(table, &set.column)),
-            Flaw::NoValue => names_no_value(table, &set.column),
+            Flaw::Unknown => MatchCount::Zero.is(def_matches(table, &set.column)),
+            Flaw::Ambiguous => MatchCount::Many.is(def_matches(table, &set.column)),
+            Flaw::NotValueColumn => names_non_value_column(table, &set.column),
             Flaw::OtherKind => is_of_other_kind(table, &set.column, &set.value),
             Flaw::TooLong => is_too_long(table, &set.column, &set.value),
             Flaw::Empty => false,
@@ -256,7 +256,7 @@ fn is_set_again(assignments: &[Assignment], set: &Assignment) -> bool
             count += 1;
         }
     }
-    Matching::Several.takes(count)
+    MatchCount::Many.is(count)
 }
 
 /// Whether some column is set more than once.

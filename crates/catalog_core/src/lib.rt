@@ -13,8 +13,8 @@
 //!   `Flaw`, with a part of a sequenced query one of `Faults`;
 //! - a test of a condition: `CompareValues` in `condition.rt` or `VersionTest` in `stored.rt`, its
 //!   truth in `specs/Conditions` or `specs/stored/StoredAnswers`, its flaws in `specs/Flaws`, and
-//!   its positions in `specs/Numbering` or `specs/stored/StoredQueries`;
-//! - a column type: `ColumnKind` and `ValueKind`, `specs/table/Kinds`, `create/building.rt` and
+//!   its positions in `specs/Positions` or `specs/stored/StoredQueries`;
+//! - a column type: `ColumnKind` and `ValueKind`, `specs/table/Kinds`, `create/builder.rt` and
 //!   `create/lawful.rt`, and its number in `bytes/`.
 #![tactic(auto)]
 
@@ -24,7 +24,7 @@ mod condition;
 mod create;
 mod flaw;
 mod limits;
-mod numbering;
+mod positions;
 mod query;
 mod stored;
 mod system_window;
@@ -34,12 +34,12 @@ pub use bytes::laws::definition_reads_back;
 pub use bytes::{decode_def, encode_def};
 pub use change::portion_changes::{resolve_delete, resolve_update};
 pub use change::resolution::{resolve_change, resolve_insert};
-pub use change::{Action, Assignment, Change, GivenRow, Plan};
+pub use change::{Action, Assignment, Change, InsertedRow, Plan};
 pub use condition::{Comparand, CompareValues, Cond, holds, is_allowed};
 pub use create::define;
 pub use create::lawful::lawful;
 pub use limits::MOST_TABLES;
-pub use query::fitting::fits;
+pub use query::fit::fits;
 pub use query::resolution::{resolve_query, resolve_sequenced};
 pub use query::resolved::{Query, QueryReference, Select, Tables};
 pub use query::{AnswerColumn, resolved};

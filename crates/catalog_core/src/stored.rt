@@ -6,8 +6,8 @@ ghost use Rattle.catalog_core.specs.Conditions.{is_satisfied};
 ghost use Rattle.catalog_core.specs.stored.StoredAnswers.{is_shown, passes_test, relates};
 ghost use Rattle.catalog_core.specs.stored.StoredAnswers.{side_period};
 
+pub mod conditions;
 pub mod resolution;
-pub mod tests;
 
 use crate::condition::{CompareValues, compares};
 use period_core::{Day, Period, VersionRow, Window};

@@ -11,7 +11,7 @@ use Rattle.std.specs.Prelude.{Box, option_map, unwrap_or}
 use Rattle.std.specs.Box.{box_value}
 use Rattle.std.proofs.lemmas.Option.{same_Some}
 use Rattle.clap.proofs.OnLiterals.{clap_on_literals}
-use Rattle.command_line.specs.CommandLine.{AsksFor, AuditsFile, Chooses, IsMode, bitemporal, has_hyphen}
+use Rattle.command_line.specs.CommandLine.{IsCommandLineFor, AuditsFile, Chooses, IsMode, bitemporal, has_hyphen}
 use Rattle.command_line.specs.declared.command.Mode.{Mode}
 use Rattle.command_line.specs.declared.command.Mode.TheVariants.{Run, RunAudited, Check}
 
@@ -96,7 +96,7 @@ read_audit program word (dashes ∷ name ∷ other ∷ more) file (inl (flag, no
 read_audit program word rest file (inr (flag, (plain, named))) = rw (flag, named) (named-audit_behind program word plain)
 
 -- a line of the stated forms is read as what it asks for
-pub read_as : (words : List Text) (mode : Mode) (file : Option Text) → AsksFor words mode file → IsReadAs words mode file
+pub read_as : (words : List Text) (mode : Mode) (file : Option Text) → IsCommandLineFor words mode file → IsReadAs words mode file
 read_as [] mode file asks = absurd asks
 read_as (program ∷ []) mode file asks = absurd asks
 read_as (program ∷ sub ∷ []) Run file asks = rw (asks.0, asks.1) (none_named-run program)

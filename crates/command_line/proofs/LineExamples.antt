@@ -8,7 +8,7 @@ use Rattle.clap.specs.declared.builder.value_parser.Reading.{Reading}
 use Rattle.clap.specs.declared.parser.matches.ValueSource.{ValueSource}
 use Rattle.period_core.specs.declared.refusal.Refusal.TheVariants.{BadStore, BadToken}
 use Rattle.command_line.specs.CommandLine.{Chooses}
-use Rattle.command_line.specs.Lines.{IsTold, fault_line}
+use Rattle.command_line.specs.Lines.{IsReported, fault_line}
 use Rattle.command_line.specs.declared.command.Mode.TheVariants.{Run, RunAudited}
 use Rattle.command_line.specs.declared.fault.RunFault.TheVariants.{Script, Read, Write}
 use Rattle.command_line.specs.declared.fault.ProgramName.TheVariants.{Bitemporal, BitemporalFile}
@@ -28,10 +28,10 @@ writer-line : fault_line Bitemporal Write ≡ codes "bitemporal: cannot write th
 writer-line = refl
 
 -- a line is told whole, or in part by a writer that failed
-part_of_line : IsTold true (Some (codes "a")) (Some (codes "abitem")) (fault_line Bitemporal Read)
+part_of_line : IsReported true (Some (codes "a")) (Some (codes "abitem")) (fault_line Bitemporal Read)
 part_of_line = inr (refl, (5, refl))
 
-no_part_of_line : IsTold false (Some []) (Some []) (fault_line Bitemporal Read) → ⊥
+no_part_of_line : IsReported false (Some []) (Some []) (fault_line Bitemporal Read) → ⊥
 no_part_of_line (inl told) = cc
 no_part_of_line (inr told) = cc
 

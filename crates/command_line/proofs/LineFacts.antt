@@ -1,7 +1,7 @@
 -- The lines of standard error, byte by byte.
 use Rattle.std.proofs.Common.{◌≡◌, ◌++◌, ℕ, Bool, List, Option, inl, inr, refl, subst, codes, append_assoc}
 use Rattle.std.specs.Fmt.{digits}
-use Rattle.command_line.specs.Lines.{IsTold, MayBeToldAs, fault_line, told_without}
+use Rattle.command_line.specs.Lines.{IsReported, MayBeReportedAs, fault_line, without_memory}
 use Rattle.command_line.specs.declared.fault.ProgramName.{ProgramName}
 use Rattle.command_line.specs.declared.fault.ProgramName.TheVariants.{Bitemporal, BitemporalFile}
 use Rattle.command_line.specs.declared.fault.RunFault.{RunFault}
@@ -20,7 +20,7 @@ pub joined : (a b c d e f g h : List ℕ) → a ++ (b ++ (c ++ (d ++ (e ++ (f ++
 joined a b c d e f g h = simp append_assoc
 
 -- what is told without memory may be told
-pub may_without : (fault : RunFault) → MayBeToldAs fault (told_without fault)
+pub may_without : (fault : RunFault) → MayBeReportedAs fault (without_memory fault)
 may_without (Script refusal) = inr (tt, refl)
 may_without Memory = inl refl
 may_without Words = inl refl
@@ -30,6 +30,6 @@ may_without NoStore = inl refl
 may_without Locked = inl refl
 
 -- a fault whose line is the bytes written
-pub told_by : (program : ProgramName) (fault told : RunFault) (has_failed : Bool) (old new : Option (List ℕ)) (line : List ℕ) → line ≡ fault_line program told → MayBeToldAs fault told
-    → IsTold has_failed old new line → (told : RunFault) × MayBeToldAs fault told × IsTold has_failed old new (fault_line program told)
-told_by program fault told has_failed old new line is may written = (told, may, subst (IsTold has_failed old new) is written)
+pub told_by : (program : ProgramName) (fault told : RunFault) (has_failed : Bool) (old new : Option (List ℕ)) (line : List ℕ) → line ≡ fault_line program told → MayBeReportedAs fault told
+    → IsReported has_failed old new line → (told : RunFault) × MayBeReportedAs fault told × IsReported has_failed old new (fault_line program told)
+told_by program fault told has_failed old new line is may written = (told, may, subst (IsReported has_failed old new) is written)

@@ -78,13 +78,13 @@ AuditsFile (word ∷ rest) file =
     ⊎ ((rest ≡ codes "--audit" ∷ []) × NamesFile (word ∷ []) file)
 
 -- a subcommand, and the words behind it
-abbrev pub AsksBy : Text → List Text → Mode → Option Text → Type 0
-AsksBy subcommand rest Run file = (subcommand ≡ codes "run") × NamesFile rest file
-AsksBy subcommand rest RunAudited file = (subcommand ≡ codes "run") × AuditsFile rest file
-AsksBy subcommand rest Check file = (subcommand ≡ codes "check") × NamesFile rest file
+abbrev pub IsSubcommandFor : Text → List Text → Mode → Option Text → Type 0
+IsSubcommandFor subcommand rest Run file = (subcommand ≡ codes "run") × NamesFile rest file
+IsSubcommandFor subcommand rest RunAudited file = (subcommand ≡ codes "run") × AuditsFile rest file
+IsSubcommandFor subcommand rest Check file = (subcommand ≡ codes "check") × NamesFile rest file
 
 -- the program's name, the subcommand of the mode, and the file or none
-abbrev pub AsksFor : List Text → Mode → Option Text → Type 0
-AsksFor [] mode file = ⊥
-AsksFor (program ∷ []) mode file = ⊥
-AsksFor (program ∷ subcommand ∷ rest) mode file = AsksBy subcommand rest mode file
+abbrev pub IsCommandLineFor : List Text → Mode → Option Text → Type 0
+IsCommandLineFor [] mode file = ⊥
+IsCommandLineFor (program ∷ []) mode file = ⊥
+IsCommandLineFor (program ∷ subcommand ∷ rest) mode file = IsSubcommandFor subcommand rest mode file

@@ -53,26 +53,26 @@ words_fault InvalidData = Words
 words_fault _ = Memory
 
 -- PROGRAM: and a text
-abbrev pub told_text : ProgramName → List ℕ → List ℕ
-told_text program text = program_text program ++ codes ": " ++ text ++ codes "\n"
+abbrev pub message_line : ProgramName → List ℕ → List ℕ
+message_line program text = program_text program ++ codes ": " ++ text ++ codes "\n"
 
 -- the line of a fault
 abbrev pub fault_line : ProgramName → RunFault → List ℕ
 fault_line program (Script refusal) = refusal_line program refusal
 fault_line program Memory = refusal_line program OutOfMemory
-fault_line program Words = told_text program (codes "a word of the command line is not UTF-8")
-fault_line program Read = told_text program (codes "cannot read the script")
-fault_line program Write = told_text program (codes "cannot write the report")
-fault_line program NoStore = told_text program (codes "cannot open the store")
-fault_line program Locked = told_text program (codes "another program has the store open")
+fault_line program Words = message_line program (codes "a word of the command line is not UTF-8")
+fault_line program Read = message_line program (codes "cannot read the script")
+fault_line program Write = message_line program (codes "cannot write the report")
+fault_line program NoStore = message_line program (codes "cannot open the store")
+fault_line program Locked = message_line program (codes "another program has the store open")
 
 -- known bytes grow by the first bytes of the line, all of them or fewer
 abbrev pub GetsFrontOf : Option (List ℕ) → Option (List ℕ) → List ℕ → Type 0
 GetsFrontOf old new line = (count : ℕ) × Appends old new (take count line)
 
 -- known bytes grow by the line; or, where a write failed, by a front of it
-abbrev pub IsTold : Bool → Option (List ℕ) → Option (List ℕ) → List ℕ → Type 0
-IsTold has_failed old new line =
+abbrev pub IsReported : Bool → Option (List ℕ) → Option (List ℕ) → List ℕ → Type 0
+IsReported has_failed old new line =
     Appends old new line ⊎ ((has_failed ≡ true) × GetsFrontOf old new line)
 
 -- the fault is that of a refused script, whose line takes memory
@@ -81,10 +81,10 @@ IsOfScript (Script refusal) = ⊤
 IsOfScript _ = ⊥
 
 -- a fault is told by its own line, or that of a refused script as out of memory
-abbrev pub MayBeToldAs : RunFault → RunFault → Type 0
-MayBeToldAs fault told = (told ≡ fault) ⊎ (IsOfScript fault × (told ≡ Memory))
+abbrev pub MayBeReportedAs : RunFault → RunFault → Type 0
+MayBeReportedAs fault told = (told ≡ fault) ⊎ (IsOfScript fault × (told ≡ Memory))
 
 -- how a fault is told without memory
-abbrev pub told_without : RunFault → RunFault
-told_without (Script refusal) = Memory
-told_without fault = fault
+abbrev pub without_memory : RunFault → RunFault
+without_memory (Script refusal) = Memory
+without_memory fault = fault

@@ -7,7 +7,7 @@ ghost use Rattle.std.specs.String.{string_bytes};
 ghost use Rattle.clap.specs.Words.{app_of, fault_of, first_of, found_of, kind_of, rows_of, rule_of};
 ghost use Rattle.clap.specs.Words.{subcommand_of};
 ghost use Rattle.clap.specs.declared.builder.Command.TheViews.{out-Command};
-ghost use Rattle.command_line.specs.CommandLine.{AsksFor, Chooses, IsMode, IsSet};
+ghost use Rattle.command_line.specs.CommandLine.{IsCommandLineFor, Chooses, IsMode, IsSet};
 ghost use Rattle.command_line.specs.CommandLine.{audit_flag};
 ghost use Rattle.command_line.specs.CommandLine.{bitemporal, file_word, run_command};
 ghost use Rattle.command_line.specs.CommandLine.{script_command};
@@ -167,7 +167,7 @@ pub fn command_line<S: AsStr>(
 ) -> Result<(Mode, Option<String>), CommandFault>
     // Lines of these forms are accepted.
     ensures accepts { (mode : Mode) (file : Option (List ℕ))
-        → AsksFor (map S.text words.now) mode file
+        → IsCommandLineFor (map S.text words.now) mode file
         → MatchResult result
         (λ chosen. (chosen.0 ≡ mode) × (option_map string_bytes chosen.1 ≡ file))
         (λ fault. fault ≡ CommandFault.Memory) }

@@ -4,7 +4,7 @@ ghost use Rattle.std.specs.Prelude.{◌≡◌, [], IfOk, Some};
 ghost use Rattle.std.specs.String.{string_bytes};
 ghost use Rattle.std.specs.IoError.{error_kind};
 ghost use Rattle.command_line.specs.Lines.{detail_of, fault_line, line_of, offset_of};
-ghost use Rattle.command_line.specs.Lines.{program_text, refusal_line, told_without, words_fault};
+ghost use Rattle.command_line.specs.Lines.{program_text, refusal_line, without_memory, words_fault};
 
 use period_core::Refusal;
 use statement_reports::ReportFault;
@@ -127,7 +127,7 @@ fn offset_line(
 /// The line of a fault, which takes no memory: in the place of a refusal's line that of out of
 /// memory.
 pub(crate) fn ready_line(program: ProgramName, fault: RunFault) -> &'static [u8]
-    ensures { result.now ≡ fault_line program (told_without fault) }
+    ensures { result.now ≡ fault_line program (without_memory fault) }
 {
     match program {
         ProgramName::Bitemporal => match fault {

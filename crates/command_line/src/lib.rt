@@ -14,22 +14,22 @@
 
 mod audits;
 mod command;
-mod ending;
+mod exit;
 mod fault;
 mod file_command;
 mod file_help;
 mod help;
-mod reading;
+mod script_reader;
 mod scripts;
 mod tracked;
 mod words;
 
 pub use audits::has_failed;
 pub use command::{CommandFault, Mode, command_line};
-pub use ending::{end_in, show};
+pub use exit::{end_in, show};
 pub use fault::{ProgramName, RunFault};
 pub use file_command::{Asked, asked_by};
-pub use reading::read_script;
+pub use script_reader::read_script;
 pub use scripts::Scripts;
 pub use tracked::Tracked;
 pub use words::words_of;

@@ -4,13 +4,13 @@ use Rattle.sqlite.specs.Effect.{Database}
 use Rattle.sqlite.specs.Schema.{Schema}
 use Rattle.period_core.specs.declared.refusal.Refusal.{Refusal}
 use Rattle.period_core.specs.declared.refusal.Refusal.TheVariants.{BadStore}
-use Rattle.version_tables.specs.Presence.{IsNoneThere}
+use Rattle.version_tables.specs.Presence.{HasNoStoreTable}
 use Rattle.version_tables.specs.Tables.{no_schema}
 use Rattle.script_engine.specs.engine.Stored.{IsBadStore}
 use Rattle.script_engine.specs.script.Script.{MayRefuseNewRun, MayRefuseRun}
 
-none_there : (s : Schema) → s ≡ no_schema → IsNoneThere s
-none_there s same = subst IsNoneThere (sym same) (record { meta = refl; table = refl; version = refl })
+none_there : (s : Schema) → s ≡ no_schema → HasNoStoreTable s
+none_there s same = subst HasNoStoreTable (sym same) (record { meta = refl; table = refl; version = refl })
 
 pub never_bad : (script : List ℕ) (refusal : Refusal) (db : Database) → db.schema ≡ no_schema → MayRefuseRun script refusal → (refusal ≡ BadStore → IsBadStore db) → MayRefuseNewRun script refusal
 never_bad script refusal db new (inl may) bad = inl may

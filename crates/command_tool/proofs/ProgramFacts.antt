@@ -1,7 +1,7 @@
 -- How runs of the program end.
 use Rattle.std.proofs.Common.{◌≡◌, ◌≤◌, ℕ, Bool, List, Option, None, Some, Result, Ok, Err, MatchResult, true, arith, inl, inr, refl, subst, sym}
 use Rattle.std.specs.Io.KnownBytes.{Keeps}
-use Rattle.command_line.specs.Lines.{IsTold, MayBeToldAs, fault_line}
+use Rattle.command_line.specs.Lines.{IsReported, MayBeReportedAs, fault_line}
 use Rattle.command_tool.specs.Program.{EndsWell, MayEndIn, MayEndSilently, ProgramRun}
 use Rattle.clap.specs.declared.error.Error.{Error}
 use Rattle.command_line.specs.declared.command.CommandFault.TheVariants.{Clap, Memory as OutOfMemory}
@@ -22,8 +22,8 @@ memory_instead mode script read_failed old new fault (inr failed) = inr (failed.
 
 -- the line that is told is that of a fault in which the run may end
 pub line_told : (mode : Mode) (script : Option (List ℕ)) (read_failed : Bool) (old new before after : Option (List ℕ)) (err_failed : Bool) (fault : RunFault)
-    → MayEndIn mode script read_failed old new fault → (told : RunFault) × MayBeToldAs fault told × IsTold err_failed before after (fault_line Bitemporal told)
-    → (told : RunFault) × MayEndIn mode script read_failed old new told × IsTold err_failed before after (fault_line Bitemporal told)
+    → MayEndIn mode script read_failed old new fault → (told : RunFault) × MayBeReportedAs fault told × IsReported err_failed before after (fault_line Bitemporal told)
+    → (told : RunFault) × MayEndIn mode script read_failed old new told × IsReported err_failed before after (fault_line Bitemporal told)
 line_told mode script read_failed old new before after err_failed fault ended (told, inl same, line) =
     (told, subst (MayEndIn mode script read_failed old new) (sym same) ended, line)
 line_told mode script read_failed old new before after err_failed fault ended (told, inr memory, line) =
@@ -31,7 +31,7 @@ line_told mode script read_failed old new before after err_failed fault ended (t
 
 -- a run that ends in a fault before its script gave anything
 pub ends_silently : (r : ProgramRun) (fault : RunFault) → r.status ≡ 2 → MayEndSilently r.mode r.script r.read_failed fault → Keeps r.out_before r.out_after
-    → (told : RunFault) × MayBeToldAs fault told × IsTold r.err_failed r.err_before r.err_after (fault_line Bitemporal told) → EndsWell r
+    → (told : RunFault) × MayBeReportedAs fault told × IsReported r.err_failed r.err_before r.err_after (fault_line Bitemporal told) → EndsWell r
 ends_silently r fault status silent kept told =
     let bound : r.status ≤ 3 = omega (arith, status) in
     (bound, (λ other. absurd (other status)), (λ _. line_told r.mode r.script r.read_failed r.out_before r.out_after r.err_before r.err_after r.err_failed fault (inl (silent, kept)) told), (λ _. (status, kept)))
@@ -49,8 +49,8 @@ silent_if_failed mode script read_failed Locked may = may
 pub ends_if_failed : (r : ProgramRun) → EndsWell r → EndsWell (record r { read_failed = true })
 ends_if_failed r (bound, reported, faulty, refused) = (bound, reported, (λ status. go (faulty status)), refused)
   where
-    go : (fault : RunFault) × MayEndIn r.mode r.script r.read_failed r.out_before r.out_after fault × IsTold r.err_failed r.err_before r.err_after (fault_line Bitemporal fault)
-        → (fault : RunFault) × MayEndIn r.mode r.script true r.out_before r.out_after fault × IsTold r.err_failed r.err_before r.err_after (fault_line Bitemporal fault)
+    go : (fault : RunFault) × MayEndIn r.mode r.script r.read_failed r.out_before r.out_after fault × IsReported r.err_failed r.err_before r.err_after (fault_line Bitemporal fault)
+        → (fault : RunFault) × MayEndIn r.mode r.script true r.out_before r.out_after fault × IsReported r.err_failed r.err_before r.err_after (fault_line Bitemporal fault)
     go (fault, inl silent, line) = (fault, inl (silent_if_failed r.mode r.script r.read_failed fault silent.0, silent.1), line)
     go (fault, inr failed, line) = (fault, inr failed, line)
 

@@ -14,7 +14,7 @@ use Rattle.statement_reports.specs.Report.{report}
 use Rattle.script_engine.specs.script.Script.{IsRunOf, MayRefuseNewRun, MayRefuseScript}
 use Rattle.script_engine.specs.script.Script.{ScriptApplies, most_bytes}
 use Rattle.command_line.specs.Audits.{fails_audit}
-use Rattle.command_line.specs.Lines.{IsTold, fault_line}
+use Rattle.command_line.specs.Lines.{IsReported, fault_line}
 use Rattle.command_line.specs.Reading.{read_of}
 use Rattle.command_line.specs.declared.command.Mode.{Mode}
 use Rattle.command_line.specs.declared.command.Mode.TheVariants.{Run, RunAudited, Check}
@@ -138,7 +138,7 @@ EndsInReport r = r.status ≢ 2
 abbrev pub EndsInFault : ProgramRun → Type 0
 EndsInFault r = r.status ≡ 2 → (fault : RunFault)
     × MayEndIn r.mode r.script r.read_failed r.out_before r.out_after fault
-    × IsTold r.err_failed r.err_before r.err_after (fault_line Bitemporal fault)
+    × IsReported r.err_failed r.err_before r.err_after (fault_line Bitemporal fault)
 
 -- a script that is refused as a whole ends with status 2, and the output got nothing
 abbrev pub EndsRefused : ProgramRun → Type 0

@@ -3,7 +3,7 @@
 ghost use Rattle.std.specs.Prelude.{◌≡◌, ◌≤◌, ℕ, List, Option, IfErr, IfOk, map};
 ghost use Rattle.std.specs.String.{string_bytes};
 ghost use Rattle.std.specs.Io.KnownBytes.{Keeps};
-ghost use Rattle.command_line.specs.CommandLine.{AsksFor};
+ghost use Rattle.command_line.specs.CommandLine.{IsCommandLineFor};
 ghost use Rattle.command_tool.specs.Program.{EndsWell, may_fail, script_of};
 
 use crate::tool::run_tool;
@@ -28,7 +28,7 @@ pub fn run_program<S: Scripts, R: Read, W: Write, E: Write>(
     ensures lost { IfErr words (λ _. (result ≡ 2)
         × Keeps (W.contents out.old) (W.contents out.new)) }
     ensures runs { IfOk words (λ said. (mode : Mode) (file : Option (List ℕ))
-        → AsksFor (map string_bytes said.items) mode file
+        → IsCommandLineFor (map string_bytes said.items) mode file
         → EndsWell (record {
           mode = mode;
           script = script_of (S.content scripts.now) (R.remaining input.old.inner) file;

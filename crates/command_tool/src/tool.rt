@@ -8,7 +8,7 @@ ghost use Rattle.command_tool.specs.Program.{EndsWell, GivesResults, IsOfReport,
 ghost use Rattle.command_tool.specs.Program.{MayEndIn, MayFailSilently, Reports, ReportsText};
 ghost use Rattle.command_tool.specs.Program.{read_limit};
 
-use crate::told::Told;
+use crate::mode_results::ModeResult;
 use command_line::{Mode, ProgramName, RunFault, Tracked, end_in, read_script};
 use period_core::Refusal;
 use script_engine::{Entry, MOST_BYTES, Outcome};
@@ -72,7 +72,7 @@ fn report_in<R: Read, W: Write>(
 }
 
 // Writes the report of what the script tells. Gives the exit status.
-fn report<K: Told + Drop, R: Read, W: Write>(
+fn report<K: ModeResult + Drop, R: Read, W: Write>(
     alloc: Global,
     input: &mut Tracked<R>,
     out: &mut W,

@@ -13,7 +13,7 @@ use Rattle.catalog_core.specs.declared.change.Assignment.{Assignment}
 use Rattle.catalog_core.specs.declared.change.Change.{Change}
 use Rattle.history_model.specs.Effects.{Kept, effect, traced}
 use Rattle.history_model.specs.Histories.{Advanced, Changed, History, new_database}
-use Rattle.history_model.specs.Left.{versions_of}
+use Rattle.history_model.specs.HistoryVersions.{versions_of}
 use Rattle.history_model.specs.Portions.{PlainRow, replacements}
 use Rattle.history_model.specs.SystemWindows.{SeesThrough}
 use Rattle.history_model.specs.Versions.{PlainVersion, last_moment}

@@ -10,18 +10,18 @@ use Rattle.catalog_core.specs.declared.change.Action.{Action}
 use Rattle.catalog_core.specs.declared.change.Change.{Change}
 use Rattle.history_model.specs.Effects.{rows_after}
 use Rattle.history_model.specs.Histories.{Changed, Database, History, catalog_of, state_at, versions_in, with_event}
-use Rattle.history_model.specs.Left.{Makes, MakesIf, versions_after}
-use Rattle.history_model.specs.Represents.{IsChangedBy, IsLeftBy, IsRecord, Represents}
+use Rattle.history_model.specs.HistoryVersions.{AppliesAction, AppliesActionIf, versions_after}
+use Rattle.history_model.specs.Represents.{IsChangedBy, HasVersionsOf, IsRecord, Represents}
 use Rattle.history_model.specs.Versions.{IsRecorded, plain_version, values_at}
 use Rattle.history_model.proofs.HistoryLemmas.{catalog_of-event, clock_of-event, state_at-changed_earlier, state_at-changed_later}
-use Rattle.history_model.proofs.LeftFacts.{left_more}
+use Rattle.history_model.proofs.HistoryVersionFacts.{left_more}
 use Rattle.history_model.proofs.Lists.{flat_map-permutation}
 use Rattle.history_model.proofs.Moments.{Sound, after_earlier, after_later, after_sound, plain_sound, rows_after-permutation, seen, sound_plain, values_at-seen}
 use Rattle.history_model.proofs.VersionFacts.{values_at-permutation}
 
 -- ---- versions that an action makes
 
-module _ (clock : ℤ) (action : Action) (old new : List VersionRow) (makes : Makes clock action old new) where
+module _ (clock : ℤ) (action : Action) (old new : List VersionRow) (makes : AppliesAction clock action old new) where
   new_seen : (moment day : ℤ) → IsPermutation (values_at new moment day) (flat_map (seen moment day) (versions_after clock action (map plain_version old)))
   new_seen moment day =
       subst (λ l. IsPermutation l (flat_map (seen moment day) (versions_after clock action (map plain_version old)))) (sym (values_at-seen new moment day))
@@ -52,14 +52,14 @@ module _ (clock : ℤ) (action : Action) (old new : List VersionRow) (makes : Ma
 
 module _ (history : History) (old new : Database) (change : Change) (changed : IsChangedBy change old new) where
   daily_at : IsRecord old → Represents history old → (table : ℕ) (moment day : ℤ) → moment <ℤ forever → (b : Bool) → nat_eq table change.table ≡ b
-      → MakesIf b old.clock change.action (versions_in old table) (versions_in new table)
+      → AppliesActionIf b old.clock change.action (versions_in old table) (versions_in new table)
       → IsPermutation (values_at (versions_in new table) moment day) (state_at (with_event history (Changed old.clock change)) moment table day)
   daily_at sound kept table moment day before b here makes = by_lt_z moment old.clock earlier later
     where
       held : IsPermutation (values_at (versions_in old table) moment day) (state_at history moment table day)
       held = kept.daily table moment day before
 
-      go_earlier : (b : Bool) → MakesIf b old.clock change.action (versions_in old table) (versions_in new table) → moment <ℤ old.clock
+      go_earlier : (b : Bool) → AppliesActionIf b old.clock change.action (versions_in old table) (versions_in new table) → moment <ℤ old.clock
           → IsPermutation (values_at (versions_in new table) moment day) (state_at history moment table day)
       go_earlier true makes early =
           IsPermutation-trans (values_at (versions_in new table) moment day) (values_at (versions_in old table) moment day) (state_at history moment table day)
@@ -68,7 +68,7 @@ module _ (history : History) (old new : Database) (change : Change) (changed : I
           IsPermutation-trans (values_at (versions_in new table) moment day) (values_at (versions_in old table) moment day) (state_at history moment table day)
           (values_at-permutation (versions_in new table) (versions_in old table) moment day makes) held
 
-      go_later : (b : Bool) → MakesIf b old.clock change.action (versions_in old table) (versions_in new table) → old.clock ≤ℤ moment
+      go_later : (b : Bool) → AppliesActionIf b old.clock change.action (versions_in old table) (versions_in new table) → old.clock ≤ℤ moment
           → IsPermutation (values_at (versions_in new table) moment day) (cond b (rows_after change.action day (state_at history moment table day)) (state_at history moment table day))
       go_later true makes late =
           IsPermutation-trans (values_at (versions_in new table) moment day) (rows_after change.action day (values_at (versions_in old table) moment day)) (rows_after change.action day (state_at history moment table day))
@@ -102,13 +102,13 @@ module _ (history : History) (old new : Database) (change : Change) (changed : I
     recorded = λ table. subst (λ (c : ℤ). All (IsRecorded c) (versions_in new table)) (sym changed.clock) (go table (nat_eq table change.table) (changed.versions table));
   }
     where
-      go : (table : ℕ) (b : Bool) → MakesIf b old.clock change.action (versions_in old table) (versions_in new table) → All (IsRecorded old.clock) (versions_in new table)
+      go : (table : ℕ) (b : Bool) → AppliesActionIf b old.clock change.action (versions_in old table) (versions_in new table) → All (IsRecorded old.clock) (versions_in new table)
       go table true makes = makes_sound old.clock change.action (versions_in old table) (versions_in new table) makes sound.before (sound.recorded table)
       go table false makes =
           All-permutation (IsRecorded old.clock) (versions_in old table) (versions_in new table) (IsPermutation-sym (versions_in new table) (versions_in old table) makes) (sound.recorded table)
 
-  left : IsLeftBy history old → IsLeftBy (with_event history (Changed old.clock change)) new
+  left : HasVersionsOf history old → HasVersionsOf (with_event history (Changed old.clock change)) new
   left was table = left_more history old.clock change table (versions_in old table) (versions_in new table) (was table) (changed.versions table)
 
-  pub change_represented : (IsRecord old → Represents history old → Represents (with_event history (Changed old.clock change)) new × IsRecord new) × (IsLeftBy history old → IsLeftBy (with_event history (Changed old.clock change)) new)
+  pub change_represented : (IsRecord old → Represents history old → Represents (with_event history (Changed old.clock change)) new × IsRecord new) × (HasVersionsOf history old → HasVersionsOf (with_event history (Changed old.clock change)) new)
   change_represented = (λ sound kept. (represented sound kept, recorded sound), left)

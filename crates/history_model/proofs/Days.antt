@@ -11,9 +11,9 @@ use Rattle.period_core.specs.declared.row.PeriodRow.{PeriodRow}
 use Rattle.period_core.specs.declared.value.Value.{Value}
 use Rattle.temporal_model.specs.Snapshot.{covers_day, values_on}
 use Rattle.catalog_core.specs.Conditions.{meets_any}
-use Rattle.history_model.specs.Effects.{Traced, acts_on, given_covers, given_of, given_row, in_portion, kept, rows_after, with_set}
+use Rattle.history_model.specs.Effects.{Traced, acts_on, inserted_covers, inserted_by, inserted_row, in_portion, kept, rows_after, with_set}
 use Rattle.history_model.specs.Portions.{PlainRow, leftovers, meets_portion, part, plain_given, plain_row, replacements, touches, within}
-use Rattle.catalog_core.specs.declared.change.GivenRow.{GivenRow}
+use Rattle.catalog_core.specs.declared.change.InsertedRow.{InsertedRow}
 use Rattle.catalog_core.specs.declared.change.Action.{Action}
 use Rattle.catalog_core.specs.declared.change.Action.TheVariants.{Insert, Update, Delete}
 use Rattle.history_model.proofs.Lists.{filtered, flat_map-of_map, one_if}
@@ -41,12 +41,12 @@ kept_rows : (rows : List (List Value)) → map (λ (t : Traced). t.row) (map kep
 kept_rows [] = refl
 kept_rows (row ∷ rows) = ap (λ l. row ∷ l) (kept_rows rows)
 
-given_shown : (n : ℕ) (given : List GivenRow) (day : ℤ) → map (λ (t : Traced). t.row) (map given_row (filter (given_covers day) (enumerate_from n given))) ≡ flat_map (shown day) (map plain_given given)
+given_shown : (n : ℕ) (given : List InsertedRow) (day : ℤ) → map (λ (t : Traced). t.row) (map inserted_row (filter (inserted_covers day) (enumerate_from n given))) ≡ flat_map (shown day) (map plain_given given)
 given_shown n [] day = refl
 given_shown n (g ∷ given) day = go (covers_day g.start g.end day) (given_shown (n + 1) given day)
   where
-    go : (b : Bool) → map (λ (t : Traced). t.row) (map given_row (filter (given_covers day) (enumerate_from (n + 1) given))) ≡ flat_map (shown day) (map plain_given given)
-        → map (λ (t : Traced). t.row) (map given_row (cond b ((n, g) ∷ filter (given_covers day) (enumerate_from (n + 1) given)) (filter (given_covers day) (enumerate_from (n + 1) given))))
+    go : (b : Bool) → map (λ (t : Traced). t.row) (map inserted_row (filter (inserted_covers day) (enumerate_from (n + 1) given))) ≡ flat_map (shown day) (map plain_given given)
+        → map (λ (t : Traced). t.row) (map inserted_row (cond b ((n, g) ∷ filter (inserted_covers day) (enumerate_from (n + 1) given)) (filter (inserted_covers day) (enumerate_from (n + 1) given))))
         ≡ one_if b g.values ++ flat_map (shown day) (map plain_given given)
     go true ih = ap (λ l. g.values ∷ l) ih
     go false ih = ih
@@ -56,9 +56,9 @@ all_kept [] = refl
 all_kept (row ∷ rows) = ap (λ l. row ∷ l) (all_kept rows)
 
 -- what the action makes of a day's rows: what it makes of each, and the given rows that hold on the day
-pub rows_after-made : (action : Action) (day : ℤ) (rows : List (List Value)) → rows_after action day rows ≡ flat_map (made action day) rows ++ flat_map (shown day) (map plain_given (given_of action))
+pub rows_after-made : (action : Action) (day : ℤ) (rows : List (List Value)) → rows_after action day rows ≡ flat_map (made action day) rows ++ flat_map (shown day) (map plain_given (inserted_by action))
 rows_after-made (Insert given) day rows =
-    map-append (λ (t : Traced). t.row) (map kept rows) (map given_row (filter (given_covers day) (enumerate_from 0 given)))
+    map-append (λ (t : Traced). t.row) (map kept rows) (map inserted_row (filter (inserted_covers day) (enumerate_from 0 given)))
     ∙ ap₂ (λ (a b : List (List Value)). a ++ b) (kept_rows rows ∙ sym (all_kept rows)) (given_shown 0 given day)
 rows_after-made (Update portion assignments condition) day rows = each rows ∙ sym (append-nil (flat_map (made (Update portion assignments condition) day) rows))
   where

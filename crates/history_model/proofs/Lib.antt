@@ -3,12 +3,12 @@ pub mod HistoryLemmas
 pub mod VersionFacts
 pub mod Days
 pub mod Moments
-pub mod LeftFacts
+pub mod HistoryVersionFacts
 pub mod Changes
 pub mod Shown
 pub mod MovedFacts
 pub mod ModelExamples
 pub mod ChangeExamples
-pub mod Sights
+pub mod Visible
 pub mod Parts
 pub mod QueryExamples

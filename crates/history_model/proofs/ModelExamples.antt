@@ -12,10 +12,10 @@ use Rattle.period_core.specs.declared.version.VersionRow.{VersionRow}
 use Rattle.period_core.specs.declared.window.Window.TheVariants.{Now}
 use Rattle.history_model.specs.Versions.{last_moment}
 use Rattle.history_model.specs.Moved.{moved_version}
-use Rattle.history_model.specs.Histories.{Asked, Changed, History, last_state, new_database, opened, state_at, with_event}
+use Rattle.history_model.specs.Histories.{Queried, Changed, History, last_state, new_database, opened, state_at, with_event}
 use Rattle.catalog_core.specs.declared.change.Action.TheVariants.{Insert}
 use Rattle.catalog_core.specs.declared.change.Change.{Change}
-use Rattle.catalog_core.specs.declared.change.GivenRow.{GivenRow}
+use Rattle.catalog_core.specs.declared.change.InsertedRow.{InsertedRow}
 use Rattle.catalog_core.specs.declared.query.resolved.Select.{Select}
 use Rattle.catalog_core.specs.declared.table.ValueKind.TheVariants.{Integer}
 use Rattle.catalog_core.specs.query.Queries.{one}
@@ -26,14 +26,14 @@ abbrev worker : List Value
 worker = Int (pos 1) ∷ Int (pos 3) ∷ []
 
 -- from day 10 on and before day 20
-abbrev given : GivenRow
+abbrev given : InsertedRow
 given = record { values = worker; start = pos 10; end = pos 20 }
 
 abbrev inserted : Change
 inserted = record { table = 1; action = Insert (given ∷ []) }
 
 abbrev history : History
-history = with_event (with_event (opened new_database) (Changed (pos 0) inserted)) Asked
+history = with_event (with_event (opened new_database) (Changed (pos 0) inserted)) Queried
 
 -- a version that began at the moment 2 and ended at 4 is held as of 2 and 3 alone, on its days alone
 abbrev ended : VersionRow

@@ -15,8 +15,8 @@ use Rattle.period_core.specs.declared.version.VersionRow.{VersionRow}
 use Rattle.period_core.specs.declared.window.Window.TheVariants.{AsOf, Now}
 use Rattle.temporal_model.specs.Snapshot.{covers_day}
 use Rattle.catalog_core.specs.declared.change.Action.{Action}
-use Rattle.history_model.specs.Effects.{given_of, rows_after}
-use Rattle.history_model.specs.Left.{begun_at, closed_at, is_touched, its_row, left_of, touched_rows, versions_after}
+use Rattle.history_model.specs.Effects.{inserted_by, rows_after}
+use Rattle.history_model.specs.HistoryVersions.{begun_at, closed_at, is_touched, its_row, remains_of, touched_rows, versions_after}
 use Rattle.history_model.specs.Portions.{PlainRow, added, plain_given, replacements, touches}
 use Rattle.history_model.specs.Versions.{IsRecorded, PlainVersion, is_seen, plain_version, values_at}
 use Rattle.history_model.proofs.Days.{and_parts, made, rows_after-made, shown, spared_shown, touched_shown}
@@ -134,7 +134,7 @@ placed clock moment day action v b =
 
 -- what is left of a version shows, with the rows in its place, what the action makes of what it showed
 in_its_place : (clock moment day : ℤ) → clock ≤ℤ moment → moment <ℤ forever → (action : Action) (v : PlainVersion) → Sound clock v
-    → flat_map (seen moment day) (left_of clock action v) ++ cond (is_touched action v) (flat_map (shown day) (replacements action (its_row v))) []
+    → flat_map (seen moment day) (remains_of clock action v) ++ cond (is_touched action v) (flat_map (shown day) (replacements action (its_row v))) []
     ≡ flat_map (made action day) (seen moment day v)
 in_its_place clock moment day late before action v r =
     elim (open_or_not clock moment day late before v r) [
@@ -165,7 +165,7 @@ in_its_place clock moment day late before action v r =
         ∙ sym (ap (flat_map (made action day)) is)
 
 -- before the clock it shows what it showed
-left_earlier : (clock moment day : ℤ) → moment <ℤ clock → moment <ℤ forever → (action : Action) (v : PlainVersion) → flat_map (seen moment day) (left_of clock action v) ≡ seen moment day v
+left_earlier : (clock moment day : ℤ) → moment <ℤ clock → moment <ℤ forever → (action : Action) (v : PlainVersion) → flat_map (seen moment day) (remains_of clock action v) ≡ seen moment day v
 left_earlier clock moment day early before action v = go (is_touched action v) refl
   where
     go : (b : Bool) → is_touched action v ≡ b → flat_map (seen moment day) (cond b (closed_at clock v) (v ∷ [])) ≡ seen moment day v
@@ -189,17 +189,17 @@ apart {X} {Y} f g (x ∷ xs) =
 
 -- what the versions show after a change: what is left, and what is added
 after_seen : (clock moment day : ℤ) (action : Action) (old : List PlainVersion) → flat_map (seen moment day) (versions_after clock action old)
-    ≡ flat_map (λ v. flat_map (seen moment day) (left_of clock action v)) old ++ flat_map (λ row. seen moment day (begun_at clock row)) (added action (touched_rows action old))
+    ≡ flat_map (λ v. flat_map (seen moment day) (remains_of clock action v)) old ++ flat_map (λ row. seen moment day (begun_at clock row)) (added action (touched_rows action old))
 after_seen clock moment day action old =
-    flat_map-append (seen moment day) (flat_map (left_of clock action) old) (map (begun_at clock) (added action (touched_rows action old)))
-    ∙ ap₂ (λ (a b : List (List Value)). a ++ b) (flat_map-nested (seen moment day) (left_of clock action) old) (flat_map-of_map (seen moment day) (begun_at clock) (added action (touched_rows action old)))
+    flat_map-append (seen moment day) (flat_map (remains_of clock action) old) (map (begun_at clock) (added action (touched_rows action old)))
+    ∙ ap₂ (λ (a b : List (List Value)). a ++ b) (flat_map-nested (seen moment day) (remains_of clock action) old) (flat_map-of_map (seen moment day) (begun_at clock) (added action (touched_rows action old)))
 
 -- what the added rows show
 added_shown : (day : ℤ) (action : Action) (old : List PlainVersion) → flat_map (shown day) (added action (touched_rows action old))
-    ≡ flat_map (shown day) (map plain_given (given_of action)) ++ flat_map (λ v. cond (is_touched action v) (flat_map (shown day) (replacements action (its_row v))) []) old
+    ≡ flat_map (shown day) (map plain_given (inserted_by action)) ++ flat_map (λ v. cond (is_touched action v) (flat_map (shown day) (replacements action (its_row v))) []) old
 added_shown day action old =
-    flat_map-append (shown day) (map plain_given (given_of action)) (flat_map (replacements action) (touched_rows action old))
-    ∙ ap (λ l. flat_map (shown day) (map plain_given (given_of action)) ++ l)
+    flat_map-append (shown day) (map plain_given (inserted_by action)) (flat_map (replacements action) (touched_rows action old))
+    ∙ ap (λ l. flat_map (shown day) (map plain_given (inserted_by action)) ++ l)
     (flat_map-nested (shown day) (replacements action) (touched_rows action old)
     ∙ flat_map-of_map (λ row. flat_map (shown day) (replacements action row)) its_row (filter (is_touched action) old)
     ∙ chosen (is_touched action) (λ v. flat_map (shown day) (replacements action (its_row v))) old)
@@ -208,11 +208,11 @@ added_shown day action old =
 pub after_later : (clock moment day : ℤ) → clock ≤ℤ moment → moment <ℤ forever → (action : Action) (old : List PlainVersion) → All (Sound clock) old
     → IsPermutation (flat_map (seen moment day) (versions_after clock action old)) (rows_after action day (flat_map (seen moment day) old))
 after_later clock moment day late before action old sound =
-    let left : PlainVersion → List (List Value) = λ v. flat_map (seen moment day) (left_of clock action v) in
+    let left : PlainVersion → List (List Value) = λ v. flat_map (seen moment day) (remains_of clock action v) in
     let new : PlainVersion → List (List Value) = λ v. cond (is_touched action v) (flat_map (shown day) (replacements action (its_row v))) [] in
     let L : List (List Value) = flat_map left old in
     let R : List (List Value) = flat_map new old in
-    let G : List (List Value) = flat_map (shown day) (map plain_given (given_of action)) in
+    let G : List (List Value) = flat_map (shown day) (map plain_given (inserted_by action)) in
     let W : List (List Value) = flat_map (made action day) (flat_map (seen moment day) old) in
     let parts : flat_map (seen moment day) (versions_after clock action old) ≡ L ++ (G ++ R) =
     after_seen clock moment day action old
@@ -237,14 +237,14 @@ pub after_earlier : (clock moment day : ℤ) → moment <ℤ clock → moment <�
 after_earlier clock moment day early before action old =
     after_seen clock moment day action old
     ∙ ap₂ (λ (a b : List (List Value)). a ++ b)
-    (flat_map-same (λ v. flat_map (seen moment day) (left_of clock action v)) (seen moment day) (left_earlier clock moment day early before action) old)
+    (flat_map-same (λ v. flat_map (seen moment day) (remains_of clock action v)) (seen moment day) (left_earlier clock moment day early before action) old)
     (flat_map-none (λ row. seen moment day (begun_at clock row)) (begun_earlier clock moment day early) (added action (touched_rows action old)))
     ∙ append-nil (flat_map (seen moment day) old)
 
 -- what an action makes of a day's rows in another order
 pub rows_after-permutation : (action : Action) (day : ℤ) (xs ys : List (List Value)) → IsPermutation xs ys → IsPermutation (rows_after action day xs) (rows_after action day ys)
 rows_after-permutation action day xs ys p =
-    let G : List (List Value) = flat_map (shown day) (map plain_given (given_of action)) in
+    let G : List (List Value) = flat_map (shown day) (map plain_given (inserted_by action)) in
     subst (λ l. IsPermutation l (rows_after action day ys)) (sym (rows_after-made action day xs))
     (subst (IsPermutation (flat_map (made action day) xs ++ G)) (sym (rows_after-made action day ys))
     (IsPermutation-append_left G (flat_map (made action day) xs) (flat_map (made action day) ys) (flat_map-permutation (made action day) xs ys p)))
@@ -262,17 +262,17 @@ closed_sound clock v r = go (int_eq v.from clock) refl
         let lasts : v.from <ℤ clock = omega (arith, ints) in
         All-put (Sound clock) (record v { to = clock }) [] (record { lasts = lasts; begun = r.begun; ended = inr (omega (arith, ints)) }) (All-nothing (Sound clock))
 
-left_sound : (clock : ℤ) (action : Action) (v : PlainVersion) → Sound clock v → All (Sound clock) (left_of clock action v)
+left_sound : (clock : ℤ) (action : Action) (v : PlainVersion) → Sound clock v → All (Sound clock) (remains_of clock action v)
 left_sound clock action v r = go (is_touched action v)
   where
     go : (b : Bool) → All (Sound clock) (cond b (closed_at clock v) (v ∷ []))
     go true = closed_sound clock v r
     go false = All-put (Sound clock) v [] r (All-nothing (Sound clock))
 
-all_left_sound : (clock : ℤ) (action : Action) (vs : List PlainVersion) → All (Sound clock) vs → All (Sound clock) (flat_map (left_of clock action) vs)
+all_left_sound : (clock : ℤ) (action : Action) (vs : List PlainVersion) → All (Sound clock) vs → All (Sound clock) (flat_map (remains_of clock action) vs)
 all_left_sound clock action [] h = h
 all_left_sound clock action (v ∷ vs) h =
-    All-joined (Sound clock) (left_of clock action v) (flat_map (left_of clock action) vs) (left_sound clock action v (All-head (Sound clock) v vs h)) (all_left_sound clock action vs (All-tail (Sound clock) v vs h))
+    All-joined (Sound clock) (remains_of clock action v) (flat_map (remains_of clock action) vs) (left_sound clock action v (All-head (Sound clock) v vs h)) (all_left_sound clock action vs (All-tail (Sound clock) v vs h))
 
 begun_sound : (clock : ℤ) → clock <ℤ forever → (rows : List PlainRow) → All (Sound clock) (map (begun_at clock) rows)
 begun_sound clock before [] = All-nothing (Sound clock)
@@ -281,5 +281,5 @@ begun_sound clock before (row ∷ rows) =
 
 pub after_sound : (clock : ℤ) → clock <ℤ forever → (action : Action) (old : List PlainVersion) → All (Sound clock) old → All (Sound clock) (versions_after clock action old)
 after_sound clock before action old sound =
-    All-joined (Sound clock) (flat_map (left_of clock action) old) (map (begun_at clock) (added action (touched_rows action old)))
+    All-joined (Sound clock) (flat_map (remains_of clock action) old) (map (begun_at clock) (added action (touched_rows action old)))
     (all_left_sound clock action old sound) (begun_sound clock before (added action (touched_rows action old)))

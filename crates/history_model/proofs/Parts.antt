@@ -14,18 +14,18 @@ use Rattle.sql_statements.specs.declared.tree.SetOperator.{SetOperator}
 use Rattle.sql_statements.specs.declared.tree.SetOperator.TheVariants.{Union, Except, Intersect}
 use Rattle.catalog_core.specs.declared.query.resolved.QueryReference.{QueryReference}
 use Rattle.catalog_core.specs.query.Queries.{Query, one, both, rows_for}
-use Rattle.history_model.specs.OrdinaryQuery.{InAnswerOver, InCombined, InProduct, InQuery, Sights, TableSights}
+use Rattle.history_model.specs.OrdinaryQuery.{InAnswerOver, InCombined, InProduct, InQuery, VisibleRows, VisibleInTables}
 use Rattle.history_model.specs.Slices.{AreCutTo, HasReferences, InSlice, IsPartOver, Slice, SlicesMakeTheWhole, all_rows, slices_from}
-use Rattle.history_model.proofs.Sights.{query_seen}
+use Rattle.history_model.proofs.Visible.{query_seen}
 
 -- ---- a query gives nothing where none of its references sees anything
 
 -- some reference sees some row
-abbrev SeesSome : Sights → Type 0
+abbrev SeesSome : VisibleRows → Type 0
 SeesSome Sees = (reference : QueryReference) × (values : List Value) × Sees reference values
 
 of_product
-    : (Sees : Sights) (references : List QueryReference) → references ≢ [] → (values : List Value)
+    : (Sees : VisibleRows) (references : List QueryReference) → references ≢ [] → (values : List Value)
     → InProduct Sees references values → SeesSome Sees
 of_product Sees [] named values h = absurd (named refl)
 of_product Sees (reference ∷ more) named values (first, rest, sees, others, is) = (reference, first, sees)
@@ -38,7 +38,7 @@ of_combined Except A B row X left right (a, none) = left a
 of_combined Intersect A B row X left right (a, b) = left a
 
 of_query
-    : (Sees : Sights) (query : Query) → HasReferences query → (row : List Value)
+    : (Sees : VisibleRows) (query : Query) → HasReferences query → (row : List Value)
     → InQuery Sees query row → SeesSome Sees
 of_query Sees (one select) named row (values, product, met, its) = of_product Sees select.references named values product
 of_query Sees (both operator left right) (a, b) row h =
@@ -54,7 +54,7 @@ module _ (query : Query) (named : HasReferences query) (tables : List (List Peri
       → (day : ℤ) → InSlice slice day → (row : List Value)
       → (InAnswerOver query cuts day row ↔ InAnswerOver query tables day row)
   same_inside slice cuts cut day inside row =
-      query_seen (TableSights cuts day) (TableSights tables day) query
+      query_seen (VisibleInTables cuts day) (VisibleInTables tables day) query
       (λ reference among values. (
         λ h. ((cut reference day values).0 h).1,
         λ h. (cut reference day values).1 (inside, h),
@@ -65,7 +65,7 @@ module _ (query : Query) (named : HasReferences query) (tables : List (List Peri
       : (slice : Slice) (cuts : List (List PeriodRow)) → AreCutTo slice tables cuts
       → (day : ℤ) (row : List Value) → InAnswerOver query cuts day row → InSlice slice day
   given_inside slice cuts cut day row h =
-      let (reference, values, sees) = of_query (TableSights cuts day) query named row h in
+      let (reference, values, sees) = of_query (VisibleInTables cuts day) query named row h in
       ((cut reference day values).0 sees).0
 
   of_part
@@ -142,7 +142,7 @@ pub slices_make_the_whole : SlicesMakeTheWhole
 slices_make_the_whole query tables parts borders named each day row = (
   of_parts query named tables (slices_from _ borders) parts each day row,
   λ h.
-      let (reference, values, sees) = of_query (TableSights tables day) query named row h in
+      let (reference, values, sees) = of_query (VisibleInTables tables day) query named row h in
       let is_day = InSnapshot-IsDay (rows_for tables reference) day values sees in
       in_parts query named tables borders _ parts each day is_day.0 is_day.1 row h,
 )

@@ -19,7 +19,7 @@ use Rattle.history_model.specs.Versions.{IsRecorded, is_seen, last_moment, value
 use Rattle.history_model.proofs.Days.{and_parts}
 use Rattle.history_model.proofs.VersionFacts.{both, same_number}
 use Rattle.history_model.specs.Histories.{Database, History, state_at, versions_in}
-use Rattle.history_model.specs.SystemWindows.{LooksAt, SeesThrough}
+use Rattle.history_model.specs.SystemWindows.{CoversMoment, SeesThrough}
 use Rattle.history_model.specs.Represents.{IsRecord, Represents}
 
 -- ---- members of what a window sees
@@ -83,7 +83,7 @@ from_lt a b h = grind (arith, ints)
 
 -- a moment at which the window looks and the version stands
 abbrev Meeting : Window → VersionRow → Type 0
-Meeting window v = (m : ℤ) × (m <ℤ forever) × LooksAt window m × (window_sees (AsOf m) v.from v.to ≡ true)
+Meeting window v = (m : ℤ) × (m <ℤ forever) × CoversMoment window m × (window_sees (AsOf m) v.from v.to ≡ true)
 
 at_moment : (v : VersionRow) (m : ℤ) → v.from ≤ℤ m → m <ℤ v.to → window_sees (AsOf m) v.from v.to ≡ true
 at_moment v m a b = both (int_le v.from m) (int_lt m v.to) (le_test v.from m a) (lt_test m v.to b)
@@ -129,7 +129,7 @@ meeting clock (Between a b) v before r h =
     let mt : m <ℤ v.to = elim is [ inl e ↦ omega (arith, ints) | inr e ↦ omega (arith, ints) ] in
     (m, omega (arith, ints), (i, mb), at_moment v m j mt)
 
-looked : (clock : ℤ) (window : Window) (v : VersionRow) (m : ℤ) → clock <ℤ forever → IsRecorded clock v → LooksAt window m → window_sees (AsOf m) v.from v.to ≡ true → window_sees window v.from v.to ≡ true
+looked : (clock : ℤ) (window : Window) (v : VersionRow) (m : ℤ) → clock <ℤ forever → IsRecorded clock v → CoversMoment window m → window_sees (AsOf m) v.from v.to ≡ true → window_sees window v.from v.to ≡ true
 looked clock Now v m before r looks h =
     let last : m ≡ last_moment = looks in
     let (p, q) = and_parts (int_le v.from m) (int_lt m v.to) h in
@@ -153,13 +153,13 @@ looked clock (Between a b) v m before r (i, j) h =
 -- what a window sees on a day of versions is what these hold at the moments that it looks at
 pub seen_at_moments : (clock : ℤ) (versions : List VersionRow) → clock <ℤ forever → All (IsRecorded clock) versions → (day : ℤ) (state : ℤ → List (List Value))
     → ((moment : ℤ) → moment <ℤ forever → IsPermutation (values_at versions moment day) (state moment)) → (window : Window) (values : List Value)
-    → (Contains (values_seen window versions day) values ↔ ((moment : ℤ) × (moment <ℤ forever) × LooksAt window moment × Contains (state moment) values))
+    → (Contains (values_seen window versions day) values ↔ ((moment : ℤ) × (moment <ℤ forever) × CoversMoment window moment × Contains (state moment) values))
 seen_at_moments clock versions before recorded day state daily window values = (there, back)
   where
     of : (v : VersionRow) → Contains versions v → IsRecorded clock v
     of v c = member (IsRecorded clock) versions recorded v c
 
-    there : Contains (values_seen window versions day) values → (moment : ℤ) × (moment <ℤ forever) × LooksAt window moment × Contains (state moment) values
+    there : Contains (values_seen window versions day) values → (moment : ℤ) × (moment <ℤ forever) × CoversMoment window moment × Contains (state moment) values
     there c =
         let s : SeenIn window versions day values = from_seen window versions day values c in
         let v : VersionRow = s.version in
@@ -169,7 +169,7 @@ seen_at_moments clock versions before recorded day state daily window values = (
         in_seen (AsOf m) versions day v s.there (both (window_sees (AsOf m) v.from v.to) (covers_day v.period.start v.period.end day) stands covers) in
         (m, below, looks, subst (λ (z : List Value). Contains (state m) z) s.its (Contains-permutation (values_at versions m day) (state m) v.values (daily m below) here))
 
-    back : (moment : ℤ) × (moment <ℤ forever) × LooksAt window moment × Contains (state moment) values → Contains (values_seen window versions day) values
+    back : (moment : ℤ) × (moment <ℤ forever) × CoversMoment window moment × Contains (state moment) values → Contains (values_seen window versions day) values
     back (m, below, looks, held) =
         let here : Contains (values_at versions m day) values = Contains-permutation (state m) (values_at versions m day) values (IsPermutation-sym (values_at versions m day) (state m) (daily m below)) held in
         let s : SeenIn (AsOf m) versions day values = from_seen (AsOf m) versions day values here in

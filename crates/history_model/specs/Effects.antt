@@ -10,7 +10,7 @@ use Rattle.catalog_core.specs.Conditions.{meets_any}
 use Rattle.catalog_core.specs.declared.condition.CompareValues.{CompareValues}
 use Rattle.sql_statements.specs.declared.tree.Tree.{Tree}
 use Rattle.catalog_core.specs.declared.change.Assignment.{Assignment}
-use Rattle.catalog_core.specs.declared.change.GivenRow.{GivenRow}
+use Rattle.catalog_core.specs.declared.change.InsertedRow.{InsertedRow}
 use Rattle.catalog_core.specs.declared.change.Action.{Action}
 use Rattle.catalog_core.specs.declared.change.Action.TheVariants.{Delete, Insert, Update}
 use Rattle.catalog_core.specs.declared.change.Change.{Change}
@@ -32,18 +32,18 @@ kept row = record { origin = Kept row; row = row }
 -- ---- INSERT
 
 -- the rows that an action gives
-abbrev pub given_of : Action → List GivenRow
-given_of (Insert given) = given
-given_of (Update portion assignments condition) = []
-given_of (Delete portion condition) = []
+abbrev pub inserted_by : Action → List InsertedRow
+inserted_by (Insert given) = given
+inserted_by (Update portion assignments condition) = []
+inserted_by (Delete portion condition) = []
 
 -- the i-th given row
-abbrev pub given_row : ℕ × GivenRow → Traced
-given_row (i, given) = record { origin = Given i; row = given.values }
+abbrev pub inserted_row : ℕ × InsertedRow → Traced
+inserted_row (i, given) = record { origin = Given i; row = given.values }
 
 -- the i-th given row holds on the day
-abbrev pub given_covers : ℤ → ℕ × GivenRow → Bool
-given_covers day (i, given) = covers_day given.start given.end day
+abbrev pub inserted_covers : ℤ → ℕ × InsertedRow → Bool
+inserted_covers day (i, given) = covers_day given.start given.end day
 
 -- ---- UPDATE and DELETE
 
@@ -75,7 +75,7 @@ updated portion assignments condition day row = record {
 -- the rows that the action makes of a day's rows, each with its origin
 abbrev pub traced : Action → ℤ → List (List Value) → List Traced
 traced (Insert given) day rows =
-    map kept rows ++ map given_row (filter (given_covers day) (enumerate_from 0 given))
+    map kept rows ++ map inserted_row (filter (inserted_covers day) (enumerate_from 0 given))
 traced (Update portion assignments condition) day rows =
     map (updated portion assignments condition day) rows
 traced (Delete portion condition) day rows =

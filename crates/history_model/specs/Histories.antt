@@ -31,7 +31,7 @@ pub data Event : Type 0 where
   Advanced : (moment : ℤ) → Event
   Created : (definition : TableDef) → Event
   Changed : (moment : ℤ) (change : Change) → Event
-  Asked : Event
+  Queried : Event
 
 -- what there was at first, and what was done since, the oldest first
 pub record History : Type 0 where
@@ -52,7 +52,7 @@ abbrev pub clock_after : ℤ → Event → ℤ
 clock_after clock (Advanced moment) = moment
 clock_after clock (Created definition) = clock
 clock_after clock (Changed moment change) = clock
-clock_after clock Asked = clock
+clock_after clock Queried = clock
 
 -- the opening's clock, or the moment of the last AT
 abbrev pub clock_of : History → ℤ
@@ -63,14 +63,14 @@ abbrev pub created_by : Event → Option TableDef
 created_by (Advanced moment) = None
 created_by (Created definition) = Some definition
 created_by (Changed moment change) = None
-created_by Asked = None
+created_by Queried = None
 
 -- the change of an event that was made by the moment
 abbrev pub changed_until : ℤ → Event → Option Change
 changed_until moment (Advanced at) = None
 changed_until moment (Created definition) = None
 changed_until moment (Changed at change) = cond (int_le at moment) (Some change) None
-changed_until moment Asked = None
+changed_until moment Queried = None
 
 -- the definitions of the opening's tables, then of those that were created
 abbrev pub catalog_of : History → List TableDef
@@ -102,7 +102,7 @@ AreInOrder clock (Advanced moment ∷ events) =
     (clock ≤ℤ moment) × (moment <ℤ forever) × AreInOrder moment events
 AreInOrder clock (Created definition ∷ events) = AreInOrder clock events
 AreInOrder clock (Changed moment change ∷ events) = (moment ≡ clock) × AreInOrder clock events
-AreInOrder clock (Asked ∷ events) = AreInOrder clock events
+AreInOrder clock (Queried ∷ events) = AreInOrder clock events
 
 -- a history as statements make it, over an opening as a store may have it
 pub record IsInOrder (history : History) : Type 0 where

@@ -10,11 +10,11 @@ use Rattle.temporal_model.specs.Snapshot.{values_on}
 use Rattle.catalog_core.specs.declared.change.Change.{Change}
 use Rattle.catalog_core.specs.declared.table.TableDef.{TableDef}
 use Rattle.history_model.specs.Effects.{effect}
-use Rattle.history_model.specs.Histories.{Advanced, Asked, Changed, Created, Database, Event}
+use Rattle.history_model.specs.Histories.{Advanced, Queried, Changed, Created, Database, Event}
 use Rattle.history_model.specs.Histories.{History, IsInOrder, catalog_of, clock_of, opened}
 use Rattle.history_model.specs.Histories.{state_at, versions_in, with_event}
-use Rattle.history_model.specs.Left.{AreLeftBy}
-use Rattle.history_model.specs.Represents.{IsChangedBy, IsLeftBy, IsRecord, Represents}
+use Rattle.history_model.specs.HistoryVersions.{AreVersionsOf}
+use Rattle.history_model.specs.Represents.{IsChangedBy, HasVersionsOf, IsRecord, Represents}
 use Rattle.history_model.specs.SystemWindows.{SeesThrough}
 use Rattle.history_model.specs.Versions.{IsRecorded, current, row_of, values_at, values_seen}
 
@@ -43,20 +43,21 @@ ChangesAreRepresented =
     (history : History) (old new : Database) (change : Change) → IsChangedBy change old new
     → (IsRecord old → Represents history old
     → Represents (with_event history (Changed old.clock change)) new × IsRecord new)
-    × (IsLeftBy history old → IsLeftBy (with_event history (Changed old.clock change)) new)
+    × (HasVersionsOf history old
+    → HasVersionsOf (with_event history (Changed old.clock change)) new)
 
 -- the versions that a history leaves of a table hold its state as of every moment on every day
 abbrev pub VersionsHoldTheStates : Type 0
 VersionsHoldTheStates =
     (history : History) (table : ℕ) (versions : List VersionRow) → IsInOrder history
-    → AreLeftBy history table versions → (moment day : ℤ) → moment <ℤ forever
+    → AreVersionsOf history table versions → (moment day : ℤ) → moment <ℤ forever
     → IsPermutation (values_at versions moment day) (state_at history moment table day)
 
 -- a history leaves one list of versions of a table, up to its order
 abbrev pub HistoriesLeaveOneList : Type 0
 HistoriesLeaveOneList =
     (history : History) (table : ℕ) (versions others : List VersionRow)
-    → AreLeftBy history table versions → AreLeftBy history table others
+    → AreVersionsOf history table versions → AreVersionsOf history table others
     → IsPermutation versions others
 
 -- what a reference sees through a window, of the versions that are kept, is each row of the states
@@ -111,4 +112,4 @@ EarlierStatesStay =
 abbrev pub QueriesChangeNothing : Type 0
 QueriesChangeNothing =
     (history : History)
-    → KeepsClock history Asked × KeepsCatalog history Asked × KeepsStates history Asked
+    → KeepsClock history Queried × KeepsCatalog history Queried × KeepsStates history Queried

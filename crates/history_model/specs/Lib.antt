@@ -5,7 +5,7 @@ pub mod Histories
 pub mod SystemWindows
 pub mod OrdinaryQuery
 pub mod Slices
-pub mod Left
+pub mod HistoryVersions
 pub mod Represents
 pub mod Moved
 pub mod Laws

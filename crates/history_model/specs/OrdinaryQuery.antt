@@ -19,11 +19,11 @@ use Rattle.history_model.specs.Histories.{History}
 use Rattle.history_model.specs.SystemWindows.{SeesThrough}
 
 -- for each table reference the set of rows that it sees
-abbrev pub Sights : Type 1
-Sights = QueryReference → List Value → Type 0
+abbrev pub VisibleRows : Type 1
+VisibleRows = QueryReference → List Value → Type 0
 
 -- a combined row: the values of a row of each reference's set, one after the other
-abbrev pub InProduct : Sights → List QueryReference → List Value → Type 0
+abbrev pub InProduct : VisibleRows → List QueryReference → List Value → Type 0
 InProduct Sees [] values = values ≡ []
 InProduct Sees (reference ∷ more) values =
     (first : List Value) × (rest : List Value)
@@ -42,7 +42,7 @@ abbrev pub IsProjection : List AnswerColumn → List Value → List Value → Ty
 IsProjection items values row = read_items items values ≡ map Some row
 
 -- a select's set: the combined rows that meet every ON and WHERE, projected
-abbrev pub InSelect : Sights → Select → List Value → Type 0
+abbrev pub InSelect : VisibleRows → Select → List Value → Type 0
 InSelect Sees select row =
     (values : List Value)
     × InProduct Sees select.references values × IsTrue (meets_all select.conjuncts values)
@@ -56,7 +56,7 @@ InCombined Except Left Right row = Left row × (Right row → ⊥)
 InCombined Intersect Left Right row = Left row × Right row
 
 -- a query's set
-abbrev pub InQuery : Sights → Query → List Value → Type 0
+abbrev pub InQuery : VisibleRows → Query → List Value → Type 0
 InQuery Sees (one select) row = InSelect Sees select row
 InQuery Sees (both operator left right) row =
     InCombined operator (InQuery Sees left) (InQuery Sees right) row
@@ -64,20 +64,20 @@ InQuery Sees (both operator left right) row =
 -- ---- over lists of period rows
 
 -- what a reference sees on a day: the snapshot of the list in its place
-abbrev pub TableSights : List (List PeriodRow) → ℤ → Sights
-TableSights tables day reference values = InSnapshot (rows_for tables reference) day values
+abbrev pub VisibleInTables : List (List PeriodRow) → ℤ → VisibleRows
+VisibleInTables tables day reference values = InSnapshot (rows_for tables reference) day values
 
 -- the query's set on a day
 abbrev pub InAnswerOver : Query → List (List PeriodRow) → ℤ → List Value → Type 0
-InAnswerOver query tables day row = InQuery (TableSights tables day) query row
+InAnswerOver query tables day row = InQuery (VisibleInTables tables day) query row
 
 -- ---- over a history
 
 -- what a reference sees on a day, through its window
-abbrev pub HistorySights : History → ℤ → Sights
-HistorySights history day reference values =
+abbrev pub VisibleInHistory : History → ℤ → VisibleRows
+VisibleInHistory history day reference values =
     SeesThrough history reference.window day reference.table values
 
 -- the query's set on a day
 abbrev pub InAnswerOn : History → Query → ℤ → List Value → Type 0
-InAnswerOn history query day row = InQuery (HistorySights history day) query row
+InAnswerOn history query day row = InQuery (VisibleInHistory history day) query row

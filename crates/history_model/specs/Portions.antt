@@ -7,10 +7,10 @@ use Rattle.period_core.specs.declared.period.Period.{Period}
 use Rattle.period_core.specs.declared.row.PeriodRow.{PeriodRow}
 use Rattle.period_core.specs.declared.value.Value.{Value}
 use Rattle.catalog_core.specs.Conditions.{meets_any}
-use Rattle.catalog_core.specs.declared.change.GivenRow.{GivenRow}
+use Rattle.catalog_core.specs.declared.change.InsertedRow.{InsertedRow}
 use Rattle.catalog_core.specs.declared.change.Action.{Action}
 use Rattle.catalog_core.specs.declared.change.Action.TheVariants.{Delete, Insert, Update}
-use Rattle.history_model.specs.Effects.{given_of, with_set}
+use Rattle.history_model.specs.Effects.{inserted_by, with_set}
 
 -- values from a day on and before an end: a row with no proof inside
 pub record PlainRow : Type 0 where
@@ -22,7 +22,7 @@ abbrev pub plain_row : PeriodRow → PlainRow
 plain_row row =
     record { values = row.values; start = row.period.start; end = row.period.end }
 
-abbrev pub plain_given : GivenRow → PlainRow
+abbrev pub plain_given : InsertedRow → PlainRow
 plain_given given = record { values = given.values; start = given.start; end = given.end }
 
 -- the portion and the row's period share a day; without a portion they do
@@ -67,4 +67,4 @@ replacements (Delete portion condition) row = leftovers portion row
 -- the rows that the action adds: those that it gives, and those in the place of each touched row
 abbrev pub added : Action → List PlainRow → List PlainRow
 added action touched =
-    map plain_given (given_of action) ++ flat_map (replacements action) touched
+    map plain_given (inserted_by action) ++ flat_map (replacements action) touched

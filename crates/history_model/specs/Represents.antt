@@ -5,7 +5,7 @@ use Rattle.period_core.specs.Moments.{forever}
 use Rattle.catalog_core.specs.declared.change.Change.{Change}
 use Rattle.history_model.specs.Histories.{Database, History, catalog_of, clock_of, state_at}
 use Rattle.history_model.specs.Histories.{versions_in}
-use Rattle.history_model.specs.Left.{AreLeftBy, MakesIf}
+use Rattle.history_model.specs.HistoryVersions.{AreVersionsOf, AppliesActionIf}
 use Rattle.history_model.specs.Versions.{IsRecorded, values_at}
 
 -- what is kept is what the history says: its clock, its tables, and as of each moment on each day
@@ -18,8 +18,9 @@ pub record Represents (history : History) (database : Database) : Type 0 where
       (values_at (versions_in database table) moment day) (state_at history moment table day)
 
 -- what is kept of each table is what the history leaves of it, up to its order
-abbrev pub IsLeftBy : History → Database → Type 0
-IsLeftBy history database = (table : ℕ) → AreLeftBy history table (versions_in database table)
+abbrev pub HasVersionsOf : History → Database → Type 0
+HasVersionsOf history database =
+    (table : ℕ) → AreVersionsOf history table (versions_in database table)
 
 -- the clock is before FOREVER, each table has its versions, and each version is as a store with
 -- this clock may have it
@@ -34,5 +35,5 @@ pub record IsChangedBy (change : Change) (old new : Database) : Type 0 where
   pub catalog : new.catalog ≡ old.catalog
   pub lists : length new.versions ≡ length old.versions
   pub versions : (table : ℕ)
-      → MakesIf (table == change.table) old.clock change.action
+      → AppliesActionIf (table == change.table) old.clock change.action
       (versions_in old table) (versions_in new table)

@@ -7,16 +7,16 @@ use Rattle.period_core.specs.declared.window.Window.TheVariants.{AsOf, Between, 
 use Rattle.history_model.specs.Histories.{History, state_at}
 use Rattle.history_model.specs.Versions.{last_moment}
 
--- the moments that a window looks at; without FOR SYSTEM_TIME it is the last one
-abbrev pub LooksAt : Window → ℤ → Type 0
-LooksAt Now moment = moment ≡ last_moment
-LooksAt (AsOf at) moment = moment ≡ at
-LooksAt (FromTo start end) moment = (start ≤ℤ moment) × (moment <ℤ end)
-LooksAt (Between start last) moment = (start ≤ℤ moment) × (moment ≤ℤ last)
+-- the moments that a window covers; without FOR SYSTEM_TIME it is the last one
+abbrev pub CoversMoment : Window → ℤ → Type 0
+CoversMoment Now moment = moment ≡ last_moment
+CoversMoment (AsOf at) moment = moment ≡ at
+CoversMoment (FromTo start end) moment = (start ≤ℤ moment) × (moment <ℤ end)
+CoversMoment (Between start last) moment = (start ≤ℤ moment) × (moment ≤ℤ last)
 
 -- what a reference sees through a window on a day: each row that its table had on it at some
--- moment, before FOREVER, that the window looks at
+-- moment, before FOREVER, that the window covers
 abbrev pub SeesThrough : History → Window → ℤ → ℕ → List Value → Type 0
 SeesThrough history window day table values =
-    (moment : ℤ) × (moment <ℤ forever) × LooksAt window moment
+    (moment : ℤ) × (moment <ℤ forever) × CoversMoment window moment
     × Contains (state_at history moment table day) values

@@ -6,8 +6,8 @@ use Rattle.period_core.specs.declared.value.Value.TheVariants.{Int}
 use Rattle.temporal_model.proofs.Members.{Contains-here, Contains-one, Contains-there}
 use Rattle.catalog_core.specs.declared.change.Action.TheVariants.{Insert, Update}
 use Rattle.catalog_core.specs.declared.change.Assignment.{Assignment}
-use Rattle.catalog_core.specs.declared.change.GivenRow.{GivenRow}
-use Rattle.history_model.specs.Effects.{Given, Kept, Traced, given_row, kept, traced}
+use Rattle.catalog_core.specs.declared.change.InsertedRow.{InsertedRow}
+use Rattle.history_model.specs.Effects.{Given, Kept, Traced, inserted_row, kept, traced}
 use Rattle.period_keys.specs.Days.{LacksParent}
 use Rattle.period_keys.specs.Keys.{values_at}
 use Rattle.period_keys.specs.Lawful.{OriginsShareKey}
@@ -15,7 +15,7 @@ use Rattle.period_keys.specs.Lawful.{OriginsShareKey}
 abbrev worker : (number department : ℤ) → List Value
 worker number department = Int number ∷ Int department ∷ []
 
-abbrev given : GivenRow
+abbrev given : InsertedRow
 given = record { values = worker (pos 1) (pos 3); start = pos 10; end = pos 20 }
 
 origins_apart : (values : List Value) (i : ℕ) → Kept values ≡ Given i → ⊥
@@ -25,7 +25,7 @@ origins_apart values i e = cc
 same_row_clashes : OriginsShareKey (0 ∷ []) (traced (Insert (given ∷ [])) (pos 12) (worker (pos 1) (pos 3) ∷ []))
 same_row_clashes =
     let old : Traced = kept (worker (pos 1) (pos 3)) in
-    let new : Traced = given_row (0, given) in
+    let new : Traced = inserted_row (0, given) in
     (old, new, Contains-here old (new ∷ []), Contains-there old (new ∷ []) new (Contains-here new []), origins_apart (worker (pos 1) (pos 3)) 0, refl)
 
 -- SET gives the first column the value 1

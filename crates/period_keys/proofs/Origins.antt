@@ -10,8 +10,8 @@ use Rattle.temporal_model.proofs.Members.{Contains-cons_cases, Contains-nil, Con
 use Rattle.temporal_model.proofs.Rearranged.{IsPermutation-filter}
 use Rattle.catalog_core.specs.declared.change.Action.{Action}
 use Rattle.catalog_core.specs.declared.change.Action.TheVariants.{Delete, Insert, Update}
-use Rattle.catalog_core.specs.declared.change.GivenRow.{GivenRow}
-use Rattle.history_model.specs.Effects.{Given, Kept, Origin, Traced, acts_on, given_covers, given_row, kept, rows_after, traced, updated}
+use Rattle.catalog_core.specs.declared.change.InsertedRow.{InsertedRow}
+use Rattle.history_model.specs.Effects.{Given, Kept, Origin, Traced, acts_on, inserted_covers, inserted_row, kept, rows_after, traced, updated}
 use Rattle.period_keys.specs.Days.{ShareKey}
 use Rattle.period_keys.specs.Keys.{SomePair, values_at}
 use Rattle.period_keys.specs.Lawful.{OriginsShareKey}
@@ -97,19 +97,19 @@ Differ rows = SomePair (λ (v w : List Value). v ≡ w) rows → ⊥
 kept_differ : (rows : List (List Value)) → Differ rows → SomePair SameOrigin (map kept rows) → ⊥
 kept_differ rows apart h = apart (pair_weaker (λ v w. Kept v ≡ Kept w) (λ v w. v ≡ w) kept_apart rows (pair_of_map SameOrigin kept rows h))
 
-given_differ : (day : ℤ) (given : List GivenRow) → SomePair SameOrigin (map given_row (filter (given_covers day) (enumerate_from 0 given))) → ⊥
+given_differ : (day : ℤ) (given : List InsertedRow) → SomePair SameOrigin (map inserted_row (filter (inserted_covers day) (enumerate_from 0 given))) → ⊥
 given_differ day given h =
-    let listed : List (ℕ × GivenRow) = enumerate_from 0 given in
-    numbers_differ 0 given (pair_of_filter (given_covers day) (λ a b. SameOrigin (given_row a) (given_row b)) (SameNumber {X = GivenRow}) (λ a b t u e. given_apart a.0 b.0 e) listed
-    (pair_of_map SameOrigin given_row (filter (given_covers day) listed) h))
+    let listed : List (ℕ × InsertedRow) = enumerate_from 0 given in
+    numbers_differ 0 given (pair_of_filter (inserted_covers day) (λ a b. SameOrigin (inserted_row a) (inserted_row b)) (SameNumber {X = InsertedRow}) (λ a b t u e. given_apart a.0 b.0 e) listed
+    (pair_of_map SameOrigin inserted_row (filter (inserted_covers day) listed) h))
 
 -- rows at two places have two origins
 origins_differ : (action : Action) (day : ℤ) (rows : List (List Value)) → Differ rows → SomePair SameOrigin (traced action day rows) → ⊥
 origins_differ (Insert given) day rows apart h =
-    let shown : List (ℕ × GivenRow) = filter (given_covers day) (enumerate_from 0 given) in
-    elim (SomePair-append SameOrigin (map kept rows) (map given_row shown) h) [
+    let shown : List (ℕ × InsertedRow) = filter (inserted_covers day) (enumerate_from 0 given) in
+    elim (SomePair-append SameOrigin (map kept rows) (map inserted_row shown) h) [
       | inl left ↦ kept_differ rows apart left
-      | inr (inl cross) ↦ (let p = from_map kept rows cross.0 cross.2 in let q = from_map given_row shown cross.1 cross.3 in
+      | inr (inl cross) ↦ (let p = from_map kept rows cross.0 cross.2 in let q = from_map inserted_row shown cross.1 cross.3 in
           no_common p.0 q.0.0 (ap (λ (t : Traced). t.origin) p.2 ∙ cross.4 ∙ sym (ap (λ (t : Traced). t.origin) q.2)))
       | inr (inr right) ↦ given_differ day given right
     ]
@@ -159,7 +159,7 @@ of_origins positions action day rows after moved clean =
 
 pub traced_moved : (action : Action) (day : ℤ) (xs ys : List (List Value)) → IsPermutation xs ys → IsPermutation (traced action day xs) (traced action day ys)
 traced_moved (Insert given) day xs ys moved =
-    IsPermutation-append_left (map given_row (filter (given_covers day) (enumerate_from 0 given))) (map kept xs) (map kept ys) (IsPermutation-map kept xs ys moved)
+    IsPermutation-append_left (map inserted_row (filter (inserted_covers day) (enumerate_from 0 given))) (map kept xs) (map kept ys) (IsPermutation-map kept xs ys moved)
 traced_moved (Update portion assignments condition) day xs ys moved = IsPermutation-map (updated portion assignments condition day) xs ys moved
 traced_moved (Delete portion condition) day xs ys moved =
     let stays : List Value → Bool = λ row. not (acts_on portion condition day row) in

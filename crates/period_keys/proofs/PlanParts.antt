@@ -9,8 +9,8 @@ use Rattle.std.proofs.lemmas.List.Sorted.{IsPermutation-filter_both}
 use Rattle.period_core.specs.declared.version.VersionRow.{VersionRow}
 use Rattle.catalog_core.specs.declared.change.Action.{Action}
 use Rattle.catalog_core.specs.declared.change.Plan.{Plan}
-use Rattle.catalog_core.specs.declared.change.GivenRow.{GivenRow}
-use Rattle.history_model.specs.Effects.{given_of}
+use Rattle.catalog_core.specs.declared.change.InsertedRow.{InsertedRow}
+use Rattle.history_model.specs.Effects.{inserted_by}
 use Rattle.history_model.specs.Portions.{PlainRow, added, plain_given, plain_row, replacements, touches}
 use Rattle.portion_dml.specs.Plans.{Plans, version_row}
 use Rattle.period_keys.specs.Planned.{IsPlanOf}
@@ -22,11 +22,11 @@ abbrev pub joined : Plan → Plan → Plan
 joined p q = record { ended = p.ended ++ q.ended; added = p.added ++ q.added }
 
 -- what an action that gives no rows adds
-added_by : (action : Action) (rows : List PlainRow) → given_of action ≡ [] → added action rows ≡ flat_map (replacements action) rows
-added_by action rows none = ap (λ (given : List GivenRow). map plain_given given ++ flat_map (replacements action) rows) none
+added_by : (action : Action) (rows : List PlainRow) → inserted_by action ≡ [] → added action rows ≡ flat_map (replacements action) rows
+added_by action rows none = ap (λ (given : List InsertedRow). map plain_given given ++ flat_map (replacements action) rows) none
 
 -- one list after another
-pub plans_joined : (action : Action) (xs ys : List VersionRow) (p q : Plan) → given_of action ≡ [] → Plans action xs p → Plans action ys q → Plans action (xs ++ ys) (joined p q)
+pub plans_joined : (action : Action) (xs ys : List VersionRow) (p q : Plan) → inserted_by action ≡ [] → Plans action xs p → Plans action ys q → Plans action (xs ++ ys) (joined p q)
 plans_joined action xs ys p q none first second = record {
   ended = ap (λ (l : List VersionRow). l ++ q.ended) first.ended ∙ ap (λ (l : List VersionRow). filter (touched action) xs ++ l) second.ended ∙ sym (filter-append (touched action) xs ys);
   added =
@@ -39,7 +39,7 @@ plans_joined action xs ys p q none first second = record {
       ∙ sym (added_by action (map version_row (p.ended ++ q.ended)) none);
 }
 
-pub plans_nothing : (action : Action) → given_of action ≡ [] → Plans action [] (record { ended = []; added = [] })
+pub plans_nothing : (action : Action) → inserted_by action ≡ [] → Plans action [] (record { ended = []; added = [] })
 plans_nothing action none = record { ended = refl; added = sym (added_by action [] none) }
 
 -- rows that the action does not touch make no difference

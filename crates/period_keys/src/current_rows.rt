@@ -161,7 +161,7 @@ impl CurrentRows {
     }
 
     /// Takes back what `add_all` added. It takes no memory.
-    pub fn take_added(&mut self, moment: Moment, keys: &[Key], rows: &[PeriodRow])
+    pub fn undo_add(&mut self, moment: Moment, keys: &[Key], rows: &[PeriodRow])
         requires { keys.now ≡ map (key_values self.old.positions) rows.now }
         ensures same { self.new.positions ≡ self.old.positions }
         ensures rows { (rest : List Version)

@@ -6,7 +6,7 @@ ghost use Rattle.std.specs.List.Sorted.{IsSorted};
 ghost use Rattle.std.specs.Ordering.{nat_cmp};
 ghost use Rattle.catalog_core.specs.change.Resolution.{has_empty_row};
 ghost use Rattle.catalog_core.specs.Conditions.{meets};
-ghost use Rattle.history_model.specs.Effects.{given_of};
+ghost use Rattle.history_model.specs.Effects.{inserted_by};
 ghost use Rattle.history_model.specs.Portions.{touches};
 ghost use Rattle.period_core.specs.declared.version.VersionRow.{VersionRow as Version};
 ghost use Rattle.portion_dml.specs.Plans.{Plans, version_row};
@@ -40,7 +40,7 @@ pub fn plan_change(alloc: Global, current: &CurrentRows, action: Action) -> Resu
 
 // The plan of an action that gives no rows, by the key that its condition fixes, or over all rows.
 fn plan_by_condition(alloc: Global, current: &CurrentRows, action: &Action) -> Result<Plan, Memory>
-    requires { given_of action.now ≡ [] }
+    requires { inserted_by action.now ≡ [] }
     ensures { IfOk result (λ plan. IsPlanOf action.now current.now.rows plan) }
 {
     let Some(condition) = condition_of(action) else {
@@ -54,7 +54,7 @@ fn plan_by_condition(alloc: Global, current: &CurrentRows, action: &Action) -> R
 
 // The same over all rows.
 fn plan_over_all(alloc: Global, current: &CurrentRows, action: &Action) -> Result<Plan, Memory>
-    requires { given_of action.now ≡ [] }
+    requires { inserted_by action.now ≡ [] }
     ensures { IfOk result (λ plan. Plans action.now current.now.rows plan) }
 {
     let mut plan = Plan {
@@ -75,7 +75,7 @@ fn plan_of_key(
     key: &Key,
     action: &Action,
 ) -> Result<Plan, Memory>
-    requires { given_of action.now ≡ [] }
+    requires { inserted_by action.now ≡ [] }
     ensures { IfOk result
         (λ plan. Plans action.now (rows_of_key current.now key.now) plan) }
 {
@@ -88,7 +88,7 @@ fn plan_of_key(
 // The same over the rows of a key, of which, where they are many, those are looked at that share a
 // day with the portion.
 fn plan_of_group(alloc: Global, group: &KeyRows, action: &Action) -> Result<Plan, Memory>
-    requires { given_of action.now ≡ [] }
+    requires { inserted_by action.now ≡ [] }
     ensures { IfOk result (λ plan. Plans action.now group.now.rows.items plan) }
 {
     let Some(portion) = portion_of(action) else {
@@ -120,7 +120,7 @@ fn plan_at(
     places: &[usize],
     action: &Action,
 ) -> Result<Plan, Memory>
-    requires given { given_of action.now ≡ [] }
+    requires given { inserted_by action.now ≡ [] }
     requires ascending { IsSorted nat_cmp places.now }
     requires others { (place : ℕ) (d : Version) → place < length rows.now
         → touches action.now (version_row (slice_index_or rows.now place d)) ≡ true
@@ -158,7 +158,7 @@ fn plan_one(
     action: &Action,
     plan: &mut Plan,
 ) -> Result<(), Memory>
-    requires given { given_of action.now ≡ [] }
+    requires given { inserted_by action.now ≡ [] }
     requires at { at < length rows.now }
     ensures { OnOk result ((before : List Version) (d : Version)
         → Plans action.now before plan.old
@@ -181,7 +181,7 @@ fn append_plan(plan: &mut Plan, other: Plan) -> Result<(), Memory>
 
 // The condition of an action, if it has one.
 fn condition_of(action: &Action) -> Option<&Cond>
-    ensures given { IfSome result (λ condition. given_of action.now ≡ []) }
+    ensures given { IfSome result (λ condition. inserted_by action.now ≡ []) }
     ensures met { IfSome result (λ condition. (version : Version)
         → touches action.now (version_row version) ≡ true
         → meets condition.now version.values ≡ true) }

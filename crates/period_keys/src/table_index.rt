@@ -137,14 +137,14 @@ impl TableIndex {
         self.rows.add_all(alloc, moment, by_key, rows)?;
         let by_each = keys.by_each.as_slice();
         if let Err(refused) = add_to_each(alloc, self.indexes.as_mut_slice(), by_each, rows) {
-            self.rows.take_added(moment, by_key, rows);
+            self.rows.undo_add(moment, by_key, rows);
             return Err(refused);
         }
         Ok(())
     }
 
     /// Takes back what `add_all` added. It takes no memory.
-    pub fn take_added(&mut self, moment: Moment, keys: &TouchedKeys, rows: &[PeriodRow])
+    pub fn undo_add(&mut self, moment: Moment, keys: &TouchedKeys, rows: &[PeriodRow])
         requires keys { AreTouchedKeys self.old rows.now keys.now }
         requires there { (rest : List Version)
             × IsPermutation self.old.rows (map (begun moment) rows.now ++ rest) }
@@ -152,7 +152,7 @@ impl TableIndex {
             → IsPermutation self.old.rows (map (begun moment) rows.now ++ rest)
             → HasTableRows rest self.old self.new }
     {
-        self.rows.take_added(moment, keys.by_key.as_slice(), rows);
+        self.rows.undo_add(moment, keys.by_key.as_slice(), rows);
         take_from_each(self.indexes.as_mut_slice(), keys.by_each.as_slice(), rows);
     }
 

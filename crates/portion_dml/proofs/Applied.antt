@@ -13,11 +13,11 @@ use Rattle.period_core.specs.declared.version.VersionRow.{VersionRow}
 use Rattle.period_core.specs.declared.window.Window.TheVariants.{Now}
 use Rattle.catalog_core.specs.declared.change.Action.{Action}
 use Rattle.history_model.specs.Effects.{rows_after}
-use Rattle.history_model.specs.Left.{Makes, begun_at, closed_at, is_touched, its_row, left_of, touched_rows, versions_after}
+use Rattle.history_model.specs.HistoryVersions.{AppliesAction, begun_at, closed_at, is_touched, its_row, remains_of, touched_rows, versions_after}
 use Rattle.history_model.specs.Portions.{PlainRow, added, plain_row, touches}
 use Rattle.history_model.specs.Versions.{IsRecorded, PlainVersion, current, plain_version, values_at}
 use Rattle.history_model.proofs.Changes.{makes_earlier, makes_later}
-use Rattle.history_model.proofs.LeftFacts.{versions_after-permutation}
+use Rattle.history_model.proofs.HistoryVersionFacts.{versions_after-permutation}
 use Rattle.history_model.proofs.Lists.{All-passed, exchange, filter-whole}
 use Rattle.portion_dml.specs.Laws.{IsApplied}
 use Rattle.portion_dml.specs.Plans.{version_row}
@@ -53,18 +53,18 @@ nothing_left : {X : Type 0} (ys : List X) → IsPermutation [] ys → ys ≡ []
 nothing_left ys p = from_permutation [] ys p
 
 -- where no version is touched, each is left as it was
-none_left : (moment : ℤ) (action : Action) (vs : List PlainVersion) → filter (is_touched action) vs ≡ [] → flat_map (left_of moment action) vs ≡ vs
+none_left : (moment : ℤ) (action : Action) (vs : List PlainVersion) → filter (is_touched action) vs ≡ [] → flat_map (remains_of moment action) vs ≡ vs
 none_left moment action [] e = refl
 none_left moment action (v ∷ vs) e = go (is_touched action v) e (none_left moment action vs)
   where
-    go : (b : Bool) → cond b (v ∷ filter (is_touched action) vs) (filter (is_touched action) vs) ≡ [] → (filter (is_touched action) vs ≡ [] → flat_map (left_of moment action) vs ≡ vs)
-        → cond b (closed_at moment v) (v ∷ []) ++ flat_map (left_of moment action) vs ≡ v ∷ vs
+    go : (b : Bool) → cond b (v ∷ filter (is_touched action) vs) (filter (is_touched action) vs) ≡ [] → (filter (is_touched action) vs ≡ [] → flat_map (remains_of moment action) vs ≡ vs)
+        → cond b (closed_at moment v) (v ∷ []) ++ flat_map (remains_of moment action) vs ≡ v ∷ vs
     go true e rest = cc
     go false e rest = ap (λ l. v ∷ l) (rest e)
 
 -- where each is touched, each is closed
 all_closed : (moment : ℤ) (action : Action) (vs : List VersionRow) → All (λ (v : VersionRow). is_hit action v ≡ true) vs
-    → flat_map (left_of moment action) (map plain_version vs) ≡ flat_map (closed_at moment) (map plain_version vs)
+    → flat_map (remains_of moment action) (map plain_version vs) ≡ flat_map (closed_at moment) (map plain_version vs)
 all_closed moment action [] h = refl
 all_closed moment action (v ∷ vs) h =
     ap₂ (λ (a b : List PlainVersion). a ++ b)
@@ -113,8 +113,8 @@ module _ (moment : ℤ) (action : Action) (old new : List VersionRow) (applied :
       let whole : map plain_version (E ++ S) ≡ P ++ Q = map-append plain_version E S in
       let none : filter (is_touched action) Q ≡ [] = filter-of_map plain_version (is_touched action) S ∙ ap (map plain_version) none_hit in
       let each : filter (is_touched action) P ≡ P = filter-of_map plain_version (is_touched action) E ∙ ap (map plain_version) (filter-whole (is_hit action) E all_hit) in
-      let left : flat_map (left_of moment action) (P ++ Q) ≡ flat_map (closed_at moment) P ++ Q =
-      flat_map-append (left_of moment action) P Q
+      let left : flat_map (remains_of moment action) (P ++ Q) ≡ flat_map (closed_at moment) P ++ Q =
+      flat_map-append (remains_of moment action) P Q
       ∙ ap₂ (λ (a b : List PlainVersion). a ++ b) (all_closed moment action E all_hit) (none_left moment action Q none) in
       let rows : touched_rows action (P ++ Q) ≡ map version_row E =
       ap (map its_row) (filter-append (is_touched action) P Q ∙ ap₂ (λ (a b : List PlainVersion). a ++ b) each none ∙ append-nil P)
@@ -122,7 +122,7 @@ module _ (moment : ℤ) (action : Action) (old new : List VersionRow) (applied :
       ap (versions_after moment action) whole
       ∙ ap₂ (λ (a : List PlainVersion) (b : List PlainRow). a ++ map (begun_at moment) b) left (ap (added action) rows ∙ sym applied.plans.added)
 
-  pub applied_makes : Makes moment action old new
+  pub applied_makes : AppliesAction moment action old new
   applied_makes =
       let C : List PlainVersion = flat_map (closed_at moment) (map plain_version applied.plan.ended) in
       let Q : List PlainVersion = map plain_version applied.applies.stay in

@@ -9,7 +9,7 @@ use Rattle.period_core.specs.declared.row.PeriodRow.{PeriodRow}
 use Rattle.period_core.specs.declared.value.Value.{Value}
 use Rattle.period_core.specs.declared.version.VersionRow.{VersionRow}
 use Rattle.temporal_model.specs.Snapshot.{values_on}
-use Rattle.history_model.specs.Effects.{given_of, rows_after}
+use Rattle.history_model.specs.Effects.{inserted_by, rows_after}
 use Rattle.history_model.specs.Portions.{plain_given, plain_row, replacements, touches}
 use Rattle.history_model.specs.Versions.{row_of}
 use Rattle.portion_dml.specs.Plans.{AreLeftCurrent, HaveEffect, Plans, version_row}
@@ -55,11 +55,11 @@ staying action before ended stay e p =
 
 -- what the rows show that a plan adds
 added_shown : (action : Action) (before : List VersionRow) (plan : Plan) (day : ℤ) → Plans action before plan
-    → flat_map (shown day) (map plain_row plan.added) ≡ flat_map (shown day) (map plain_given (given_of action)) ++ flat_map (made_of action day) plan.ended
+    → flat_map (shown day) (map plain_row plan.added) ≡ flat_map (shown day) (map plain_given (inserted_by action)) ++ flat_map (made_of action day) plan.ended
 added_shown action before plan day plans =
     ap (flat_map (shown day)) plans.added
-    ∙ flat_map-append (shown day) (map plain_given (given_of action)) (flat_map (replacements action) (map version_row plan.ended))
-    ∙ ap (λ l. flat_map (shown day) (map plain_given (given_of action)) ++ l)
+    ∙ flat_map-append (shown day) (map plain_given (inserted_by action)) (flat_map (replacements action) (map version_row plan.ended))
+    ∙ ap (λ l. flat_map (shown day) (map plain_given (inserted_by action)) ++ l)
     (flat_map-nested (shown day) (replacements action) (map version_row plan.ended)
     ∙ flat_map-of_map (λ row. flat_map (shown day) (replacements action row)) version_row plan.ended
     ∙ flat_map-same_of (λ v. touched action v ≡ true) (λ v. flat_map (shown day) (replacements action (version_row v))) (made_of action day)
@@ -70,7 +70,7 @@ added_shown action before plan day plans =
 pub stand_shown : (action : Action) (before : List VersionRow) (plan : Plan) (stay : List VersionRow) (day : ℤ) → Plans action before plan → IsPermutation before (plan.ended ++ stay)
     → IsPermutation (flat_map (version_shown day) stay ++ flat_map (shown day) (map plain_row plan.added)) (rows_after action day (values_on (map row_of before) day))
 stand_shown action before plan stay day plans taken =
-    let G : List (List Value) = flat_map (shown day) (map plain_given (given_of action)) in
+    let G : List (List Value) = flat_map (shown day) (map plain_given (inserted_by action)) in
     let E : List (List Value) = flat_map (made_of action day) plan.ended in
     let S : List (List Value) = flat_map (version_shown day) stay in
     let rest : List VersionRow = filter (λ v. not (touched action v)) before in

@@ -11,8 +11,8 @@ use Rattle.catalog_core.specs.declared.change.Action.TheVariants.{Update}
 use Rattle.catalog_core.specs.declared.change.Assignment.{Assignment}
 use Rattle.catalog_core.specs.declared.change.Plan.{Plan}
 use Rattle.catalog_core.specs.declared.condition.CompareValues.{CompareValues}
-use Rattle.history_model.specs.Effects.{given_of, rows_after, with_set}
-use Rattle.history_model.specs.Left.{Makes}
+use Rattle.history_model.specs.Effects.{inserted_by, rows_after, with_set}
+use Rattle.history_model.specs.HistoryVersions.{AppliesAction}
 use Rattle.history_model.specs.Portions.{PlainRow, leftovers, replacements, touches}
 use Rattle.history_model.specs.Versions.{IsRecorded, current, values_at}
 use Rattle.portion_dml.specs.Plans.{Applies, Plans, version_row}
@@ -29,7 +29,7 @@ pub record IsApplied (moment : ℤ) (action : Action) (old new : List VersionRow
 abbrev pub PlansMakeVersions : Type 0
 PlansMakeVersions =
     (moment : ℤ) (action : Action) (old new : List VersionRow) → IsApplied moment action old new
-    → Makes moment action old new
+    → AppliesAction moment action old new
 
 -- the plan of a change makes of the versions what the change makes of each day's rows, from its
 -- moment on; what they held as of an earlier moment stays
@@ -45,7 +45,7 @@ PlansTakeEffect =
 abbrev pub UntouchedPlansAreEmpty : Type 0
 UntouchedPlansAreEmpty =
     (action : Action) (current : List VersionRow) (plan : Plan) → Plans action current plan
-    → given_of action ≡ []
+    → inserted_by action ≡ []
     → All (λ (v : VersionRow). touches action (version_row v) ≡ false) current
     → (plan.ended ≡ []) × (plan.added ≡ [])
 

@@ -7,7 +7,7 @@ use Rattle.catalog_core.specs.declared.change.Action.{Action}
 use Rattle.catalog_core.specs.declared.change.Action.TheVariants.{Delete, Insert, Update}
 use Rattle.catalog_core.specs.declared.change.Plan.{Plan}
 use Rattle.history_model.specs.Effects.{rows_after}
-use Rattle.history_model.specs.Left.{begun_at, closed_at}
+use Rattle.history_model.specs.HistoryVersions.{begun_at, closed_at}
 use Rattle.history_model.specs.Portions.{PlainRow, added, plain_row, touches}
 use Rattle.history_model.specs.Versions.{plain_version, row_of}
 

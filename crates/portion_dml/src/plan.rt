@@ -3,19 +3,19 @@
 ghost use Rattle.std.specs.Prelude.{◌≡◌, ◌++◌, ◌∷◌, ◌⊎◌, [], IfErr, IfOk, IsTrue, List, OnOk, map};
 ghost use Rattle.catalog_core.specs.change.Resolution.{has_empty_row, is_empty_row};
 ghost use Rattle.catalog_core.specs.declared.change.Action.TheVariants.{Insert};
-ghost use Rattle.history_model.specs.Effects.{given_of};
+ghost use Rattle.history_model.specs.Effects.{inserted_by};
 ghost use Rattle.history_model.specs.Portions.{plain_given, plain_row};
 ghost use Rattle.period_core.specs.declared.version.VersionRow.{VersionRow as Version};
 ghost use Rattle.portion_dml.specs.Plans.{IsDelete, IsInsert, IsUpdate, Plans};
 
 use crate::parts::{push_replacements, touched};
-use catalog_core::{Action, Change, GivenRow, Plan};
+use catalog_core::{Action, Change, InsertedRow, Plan};
 use period_core::{Items, Memory, Period, PeriodRow, Refusal, VersionRow};
 use std::alloc::Global;
 
 /// The plan of an action that gives no rows, over its table's current versions.
 pub fn plan_portion(alloc: Global, current: &[VersionRow], action: &Action) -> Result<Plan, Memory>
-    requires { given_of action.now ≡ [] }
+    requires { inserted_by action.now ≡ [] }
     ensures { IfOk result (λ plan. Plans action.now current.now plan) }
 {
     let mut ended = Vec::new(alloc);
@@ -54,7 +54,7 @@ pub fn plan_delete(alloc: Global, current: &[VersionRow], change: &Change) -> Re
 
 /// Adds a row that INSERT gives, with its values. Its refusals are a period without a day, and out
 /// of memory.
-fn push_given(rows: &mut Vec<PeriodRow>, given: GivenRow) -> Result<(), Refusal>
+fn push_given(rows: &mut Vec<PeriodRow>, given: InsertedRow) -> Result<(), Refusal>
     ensures ok { OnOk result
         (map plain_row rows.new.items
         ≡ map plain_row rows.old.items ++ plain_given given ∷ []) }
@@ -62,7 +62,7 @@ fn push_given(rows: &mut Vec<PeriodRow>, given: GivenRow) -> Result<(), Refusal>
         ((refusal ≡ Refusal.EmptyPeriod) × IsTrue (is_empty_row given))
         ⊎ (refusal ≡ Refusal.Memory)) }
 {
-    let GivenRow { values, start, end } = given;
+    let InsertedRow { values, start, end } = given;
     let Some(period) = Period::new(start, end) else {
         return Err(Refusal::EmptyPeriod);
     };
@@ -72,7 +72,7 @@ fn push_given(rows: &mut Vec<PeriodRow>, given: GivenRow) -> Result<(), Refusal>
 
 /// The plan of an INSERT that gives these rows, whose values it takes. It ends no version. It is
 /// refused where a row has a period without a day, and else only out of memory.
-pub fn plan_given(alloc: Global, given: Items<GivenRow>) -> Result<Plan, Refusal>
+pub fn plan_given(alloc: Global, given: Items<InsertedRow>) -> Result<Plan, Refusal>
     ensures plan { IfOk result (λ plan. (current : List Version)
         → Plans (Insert given) current plan) }
     ensures refused { IfErr result (λ refusal.
@@ -91,8 +91,8 @@ pub fn plan_given(alloc: Global, given: Items<GivenRow>) -> Result<Plan, Refusal
 }
 
 /// The rows that an action gives.
-fn given_by(action: &Action) -> &[GivenRow]
-    ensures { result.now ≡ given_of action.now }
+fn given_by(action: &Action) -> &[InsertedRow]
+    ensures { result.now ≡ inserted_by action.now }
 {
     match action {
         Action::Insert(given) => given.as_slice(),
@@ -101,12 +101,12 @@ fn given_by(action: &Action) -> &[GivenRow]
 }
 
 /// Copies of the given rows.
-fn copied_rows(alloc: Global, rows: &[GivenRow]) -> Result<Vec<GivenRow>, Memory>
+fn copied_rows(alloc: Global, rows: &[InsertedRow]) -> Result<Vec<InsertedRow>, Memory>
     ensures { IfOk result (λ copies. copies.items ≡ rows.now) }
 {
     let mut copies = Vec::new(alloc);
     for row in rows {
-        copies.push(GivenRow {
+        copies.push(InsertedRow {
             values: row.values.copy(alloc)?,
             start: row.start,
             end: row.end,

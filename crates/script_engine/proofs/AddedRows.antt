@@ -22,9 +22,9 @@ use Rattle.sql_statements.specs.declared.statement.InsertRows.{InsertRows}
 use Rattle.catalog_core.proofs.lemmas.change.GivenValues.{all_at}
 use Rattle.catalog_core.proofs.lemmas.change.RowFacts.{table_named}
 use Rattle.catalog_core.specs.Flaws.{has_test, is_flawed_compare, is_flawed_portion, is_flawed_set}
-use Rattle.catalog_core.specs.Judged.{Holds}
-use Rattle.catalog_core.specs.Numbering.{numbered_set}
-use Rattle.catalog_core.specs.change.Insertion.{gives_wrong, has_wrong}
+use Rattle.catalog_core.specs.RefusalConditions.{Holds}
+use Rattle.catalog_core.specs.Positions.{resolved_assignment}
+use Rattle.catalog_core.specs.change.Insertion.{gives_faulty_value, has_faulty_value}
 use Rattle.catalog_core.specs.change.PortionChanges.{DeletesAs, UpdatesAs, is_flawed_update}
 use Rattle.catalog_core.specs.change.Resolution.{ResolvesAction, ResolvesChange, RowParts, change_conditions, row_parts, written_row}
 use Rattle.catalog_core.specs.table.Naming.{Name, passes}
@@ -33,9 +33,9 @@ use Rattle.catalog_core.specs.declared.change.Action.{Action}
 use Rattle.catalog_core.specs.declared.change.Action.TheVariants as action
 use Rattle.catalog_core.specs.declared.change.Assignment.{Assignment}
 use Rattle.catalog_core.specs.declared.change.Change.{Change}
-use Rattle.catalog_core.specs.declared.change.GivenRow.{GivenRow}
+use Rattle.catalog_core.specs.declared.change.InsertedRow.{InsertedRow}
 use Rattle.catalog_core.specs.declared.change.Plan.{Plan}
-use Rattle.catalog_core.specs.declared.change.insert_values.Wrong.TheVariants as wrong
+use Rattle.catalog_core.specs.declared.change.insert_values.ValueFault.TheVariants as fault
 use Rattle.catalog_core.specs.declared.flaw.Flaw.{Flaw}
 use Rattle.catalog_core.specs.declared.flaw.Flaw.TheVariants.{OtherKind, TooLong}
 use Rattle.catalog_core.specs.declared.table.TableDef.{TableDef}
@@ -78,20 +78,20 @@ within_is d (Some portion) values row is = part_is d values (int_max row.start p
 -- ---- the actions
 
 module _ (d : TableDef) (distinct : has_distinct_names d ≡ true) where
-  given_are : (list : Option (List Name)) (rows : List (List Value)) (given : List GivenRow) → list_any (gives_wrong wrong.Kind d list) rows ≡ false → list_any (gives_wrong wrong.Length d list) rows ≡ false →
-      map (written_row d list) rows ≡ map row_parts given → AllByRecursion (λ (g : GivenRow). are_row_values d g.values ≡ true) given
+  given_are : (list : Option (List Name)) (rows : List (List Value)) (given : List InsertedRow) → list_any (gives_faulty_value fault.Kind d list) rows ≡ false → list_any (gives_faulty_value fault.Length d list) rows ≡ false →
+      map (written_row d list) rows ≡ map row_parts given → AllByRecursion (λ (g : InsertedRow). are_row_values d g.values ≡ true) given
   given_are list [] [] kinds lengths same = tt
   given_are list [] (g ∷ given) kinds lengths same = cc
   given_are list (row ∷ rows) [] kinds lengths same = tt
   given_are list (row ∷ rows) (g ∷ given) kinds lengths same =
       let first : written_row d list row ≡ row_parts g = cc in
       let later : map (written_row d list) rows ≡ map row_parts given = cc in
-      let kind = or_parts (gives_wrong wrong.Kind d list row) (list_any (gives_wrong wrong.Kind d list) rows) kinds in
-      let long = or_parts (gives_wrong wrong.Length d list row) (list_any (gives_wrong wrong.Length d list) rows) lengths in
+      let kind = or_parts (gives_faulty_value fault.Kind d list row) (list_any (gives_faulty_value fault.Kind d list) rows) kinds in
+      let long = or_parts (gives_faulty_value fault.Length d list row) (list_any (gives_faulty_value fault.Length d list) rows) lengths in
       (fits_row d distinct list row g.values kind.0 long.0 (ap (λ (p : RowParts). p.values) first), given_are list rows given kind.1 long.1 later)
 
-  insert_adds : (i : InsertRows) (a : Action) → has_wrong wrong.Kind d i ≡ false → has_wrong wrong.Length d i ≡ false → ResolvesAction d i a → (touched : List PlainRow) → AllByRecursion (IsOf d) (added a touched)
-  unfolding has_wrong
+  insert_adds : (i : InsertRows) (a : Action) → has_faulty_value fault.Kind d i ≡ false → has_faulty_value fault.Length d i ≡ false → ResolvesAction d i a → (touched : List PlainRow) → AllByRecursion (IsOf d) (added a touched)
+  unfolding has_faulty_value
   insert_adds i (action.Insert given) kinds lengths same touched =
       all-append (IsOf d) (map plain_given given) _ (all-map (IsOf d) plain_given given (given_are i.columns i.rows given kinds lengths same))
       (all-flat_map (IsOf d) (replacements (action.Insert given)) touched (all_of (λ (r : PlainRow). AllByRecursion (IsOf d) (replacements (action.Insert given) r)) (λ r. tt) touched))
@@ -101,14 +101,14 @@ module _ (d : TableDef) (distinct : has_distinct_names d ≡ true) where
   abbrev Fits : Assignment → Type 0
   Fits a = (c : _) → slice_get (value_columns d) a.position ≡ Some c → is_of_column c.1.kind a.value ≡ true
 
-  sets_are : (ws : List written.Assignment) (assignments : List Assignment) → map (numbered_set d) ws ≡ map (λ (a : Assignment). Some a) assignments → list_any (λ (w : written.Assignment). is_flawed_set OtherKind d w) ws ≡ false → list_any (λ (w : written.Assignment). is_flawed_set TooLong d w) ws ≡ false →
+  sets_are : (ws : List written.Assignment) (assignments : List Assignment) → map (resolved_assignment d) ws ≡ map (λ (a : Assignment). Some a) assignments → list_any (λ (w : written.Assignment). is_flawed_set OtherKind d w) ws ≡ false → list_any (λ (w : written.Assignment). is_flawed_set TooLong d w) ws ≡ false →
       AllByRecursion Fits assignments
   sets_are [] [] same kinds lengths = tt
   sets_are [] (a ∷ assignments) same kinds lengths = cc
   sets_are (w ∷ ws) [] same kinds lengths = tt
   sets_are (w ∷ ws) (a ∷ assignments) same kinds lengths =
-      let first : numbered_set d w ≡ Some a = cc in
-      let later : map (numbered_set d) ws ≡ map (λ (b : Assignment). Some b) assignments = cc in
+      let first : resolved_assignment d w ≡ Some a = cc in
+      let later : map (resolved_assignment d) ws ≡ map (λ (b : Assignment). Some b) assignments = cc in
       let kind = or_parts (is_flawed_set OtherKind d w) (list_any (λ (x : written.Assignment). is_flawed_set OtherKind d x) ws) kinds in
       let long = or_parts (is_flawed_set TooLong d w) (list_any (λ (x : written.Assignment). is_flawed_set TooLong d x) ws) lengths in
       (fits_set d distinct w a first kind.0 long.0, sets_are ws assignments later kind.1 long.1)
@@ -154,8 +154,8 @@ module _ (tables : List TableDef) (distinct : list_all has_distinct_names tables
       let same : resolved.definition ≡ d = same_Some resolved.definition d (sym resolved.table ∙ there) in
       let named = table_named tables i.table change.table resolved.definition resolved.number resolved.table in
       let all = insert_adds resolved.definition (its_names resolved.definition resolved.table) i change.action
-      (at_table tables i.table resolved.definition (λ t. has_wrong wrong.Kind t i) named (λ is. sound TypeMismatch (inr (inr (inr (inr (inr (inr (inl (refl, is))))))))))
-      (at_table tables i.table resolved.definition (λ t. has_wrong wrong.Length t i) named (λ is. sound TextTooLong (inr (inr (inr (inr (inr (inr (inr (inl (refl, is)))))))))))
+      (at_table tables i.table resolved.definition (λ t. has_faulty_value fault.Kind t i) named (λ is. sound TypeMismatch (inr (inr (inr (inr (inr (inr (inl (refl, is))))))))))
+      (at_table tables i.table resolved.definition (λ t. has_faulty_value fault.Length t i) named (λ is. sound TextTooLong (inr (inr (inr (inr (inr (inr (inr (inl (refl, is)))))))))))
       resolved.action touched in
       subst (λ (t : TableDef). AllByRecursion (IsOf t) (added change.action touched)) same all
   adds (statement.update u) sound resolved d there touched are =

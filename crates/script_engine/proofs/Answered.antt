@@ -16,17 +16,17 @@ use Rattle.temporal_model.specs.Snapshot.{covers_day}
 use Rattle.temporal_model.proofs.Rearranged.{IsPermutation-filter}
 use Rattle.sql_statements.specs.Trees.{Statement}
 use Rattle.sql_statements.specs.Trees as statement
-use Rattle.catalog_core.specs.Judged.{Holds}
+use Rattle.catalog_core.specs.RefusalConditions.{Holds}
 use Rattle.catalog_core.specs.query.Queries.{Query}
 use Rattle.catalog_core.specs.query.Resolving.{ResolvesQuery, query_conditions}
 use Rattle.catalog_core.specs.declared.query.AnswerColumn.{AnswerColumn}
 use Rattle.catalog_core.specs.declared.table.TableDef.{TableDef}
 use Rattle.version_store.specs.Contents.{AreRowsOf, Contents, TableVersion, of_table, version_in}
 use Rattle.version_store.specs.StoreState.{IsStoreRefusal}
-use Rattle.history_model.specs.Histories.{Asked, History, state_at, with_event}
+use Rattle.history_model.specs.Histories.{Queried, History, state_at, with_event}
 use Rattle.history_model.specs.OrdinaryQuery.{InAnswerOn}
 use Rattle.history_model.specs.Versions.{is_seen, values_at}
-use Rattle.history_model.proofs.LeftFacts.{left_hold}
+use Rattle.history_model.proofs.HistoryVersionFacts.{left_hold}
 use Rattle.script_engine.specs.Headline.{IsSequencedAnswer}
 use Rattle.script_engine.specs.engine.Answering.{columns_of}
 use Rattle.script_engine.specs.engine.EngineState.{EngineState}
@@ -81,7 +81,7 @@ module _ {S : Type 0} (g : Ghosts S) (history : History) (old : EngineState S) (
   pub answered_step : (new : EngineState S) (query : Query) (answer : Answer) → NoneApplies (Holds (query_conditions old.catalog.tables s)) → ResolvesQuery old.catalog.tables s query → HasContents g new kept.contents →
       answer.columns ≡ map (λ (item : AnswerColumn). item.name) (columns_of query) → IsSequencedAnswer (InAnswerOn history query) answer → StepsTo g history s (Ok (Answered answer)) new
   answered_step new query answer sound resolved has columns right = (
-    with_event history Asked,
+    with_event history Queried,
     (
       subst (λ (tables : List TableDef). NoneApplies (Holds (query_conditions tables s))) (tables_of g history old kept) sound,
       (

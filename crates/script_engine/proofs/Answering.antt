@@ -17,8 +17,8 @@ use Rattle.catalog_core.specs.declared.query.resolved.QueryReference.{QueryRefer
 use Rattle.catalog_core.specs.query.Fitting.{are_in_place, fits, sees_its_kinds}
 use Rattle.catalog_core.specs.query.Queries.{Query, references_of, rows_for}
 use Rattle.history_model.specs.Histories.{History}
-use Rattle.history_model.specs.OrdinaryQuery.{HistorySights, InAnswerOn, InAnswerOver, TableSights}
-use Rattle.history_model.proofs.Sights.{SeeAlike, query_seen}
+use Rattle.history_model.specs.OrdinaryQuery.{VisibleInHistory, InAnswerOn, InAnswerOver, VisibleInTables}
+use Rattle.history_model.proofs.Visible.{SeeAlike, query_seen}
 use Rattle.sequenced_ops.specs.Operations.{SnapshotsAre}
 use Rattle.script_engine.specs.Headline.{IsSequencedAnswer}
 use Rattle.script_engine.specs.engine.Answering.{EachSees, SeesRows}
@@ -69,7 +69,7 @@ have_seen history query tables fit each reference among =
 
 -- the references see over the lists what they see in the history
 pub sees_alike : (history : History) (query : Query) (tables : List (List PeriodRow)) → HaveSeenRows history query tables → (day : ℤ) →
-    SeeAlike (TableSights tables day) (HistorySights history day) (references_of query)
+    SeeAlike (VisibleInTables tables day) (VisibleInHistory history day) (references_of query)
 sees_alike history query tables seen day reference among values = (seen reference among).daily day values
 
 -- ---- answers
@@ -113,4 +113,4 @@ pub answer_in_history : (history : History) (query : Query) (tables : List (List
     IsSequencedAnswer (InAnswerOn history query) answer
 answer_in_history history query tables answer seen right =
     answer_along (InAnswerOver query tables) (InAnswerOn history query)
-    (λ day values. query_seen (TableSights tables day) (HistorySights history day) query (sees_alike history query tables seen day) values) answer right
+    (λ day values. query_seen (VisibleInTables tables day) (VisibleInHistory history day) query (sees_alike history query tables seen day) values) answer right

@@ -11,7 +11,7 @@ use Rattle.period_core.specs.declared.version.VersionRow.{VersionRow}
 use Rattle.temporal_model.proofs.Members.{AllPairs-head, AllPairs-tail, Contains-cons_cases, Contains-here, Contains-nil, Contains-there}
 use Rattle.catalog_core.specs.declared.query.resolved.QueryReference.{QueryReference}
 use Rattle.catalog_core.specs.query.Queries.{Query, references_of, rows_for}
-use Rattle.history_model.proofs.LeftFacts.{one_list}
+use Rattle.history_model.proofs.HistoryVersionFacts.{one_list}
 use Rattle.history_model.specs.Histories.{History}
 use Rattle.history_model.specs.Versions.{row_of}
 use Rattle.snapshot_audit.specs.ChangeDays.{AreChangeDays, EndsOn, IsChangeDay, seen_lists}

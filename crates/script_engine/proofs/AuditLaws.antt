@@ -10,8 +10,8 @@ use Rattle.period_core.specs.declared.row.PeriodRow.{PeriodRow}
 use Rattle.period_core.specs.declared.value.Value.{Value}
 use Rattle.temporal_model.specs.Answer.{IsCertified, SameBeginning}
 use Rattle.temporal_model.specs.Witness.{IsWitness, WitnessEachRow, witness_of}
-use Rattle.history_model.specs.OrdinaryQuery.{HistorySights, InAnswerOn, InAnswerOver, TableSights}
-use Rattle.history_model.proofs.Sights.{query_seen}
+use Rattle.history_model.specs.OrdinaryQuery.{VisibleInHistory, InAnswerOn, InAnswerOver, VisibleInTables}
+use Rattle.history_model.proofs.Visible.{query_seen}
 use Rattle.snapshot_audit.specs.ChangeDays.{seen_lists}
 use Rattle.snapshot_audit.specs.Faults.{IsFirstFault, IsSound}
 use Rattle.snapshot_audit.specs.Verdicts.{IsVerdict}
@@ -67,4 +67,4 @@ agrees_over sets others lists answer (BadWitness number) right same is =
 pub audits_agree : AuditsAgree
 audits_agree history query answer verdict right tables seen is =
     agrees_over (InAnswerOn history query) (InAnswerOver query tables) (seen_lists query tables) answer verdict right
-    (λ day values. query_seen (TableSights tables day) (HistorySights history day) query (λ reference among. seen reference among day) values) is
+    (λ day values. query_seen (VisibleInTables tables day) (VisibleInHistory history day) query (λ reference among. seen reference among day) values) is

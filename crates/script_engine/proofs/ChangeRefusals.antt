@@ -6,7 +6,7 @@ use Rattle.period_core.specs.declared.refusal.Refusal.{Refusal}
 use Rattle.period_core.specs.declared.refusal.Refusal.TheVariants.{EmptyPeriod}
 use Rattle.sql_statements.specs.Trees.{Statement}
 use Rattle.sql_statements.specs.Trees as statement
-use Rattle.catalog_core.specs.Judged.{Holds, Judged}
+use Rattle.catalog_core.specs.RefusalConditions.{Holds, RefusalCondition}
 use Rattle.catalog_core.specs.change.Resolution.{IsChange, change_conditions, empty_period, has_empty_row}
 use Rattle.catalog_core.specs.declared.change.Action.{Action}
 use Rattle.catalog_core.specs.declared.table.TableDef.{TableDef}
@@ -34,7 +34,7 @@ abbrev Applies : List TableDef → Statement → Refusal → Type 0
 Applies tables s = Holds (change_conditions tables s ++ (EmptyPeriod, gives_empty tables s) ∷ [])
 
 formed : (P : (Refusal → Type 0) → Type 0) (tables : List TableDef) (s : Statement) → P (Applies tables s) → P (ChangeApplies tables s)
-formed P tables s p = subst (λ (j : Judged). P (Holds (change_conditions tables s ++ j ∷ []))) (sym (empty_form tables s)) p
+formed P tables s p = subst (λ (j : RefusalCondition). P (Holds (change_conditions tables s ++ j ∷ []))) (sym (empty_form tables s)) p
 
 -- where no other condition holds, one that does is that of an empty period
 only_empty : (tables : List TableDef) (s : Statement) → NoneApplies (Holds (change_conditions tables s)) → (refusal : Refusal) → Applies tables s refusal → (EmptyPeriod ≡ refusal) × (gives_empty tables s ≡ true)

@@ -12,13 +12,13 @@ use Rattle.period_core.specs.declared.version.VersionRow.{VersionRow}
 use Rattle.sqlite.specs.Store.{Ghosts}
 use Rattle.sql_statements.specs.Trees.{Statement}
 use Rattle.sql_statements.specs.Trees as statement
-use Rattle.catalog_core.specs.Judged.{Holds}
+use Rattle.catalog_core.specs.RefusalConditions.{Holds}
 use Rattle.catalog_core.specs.change.Resolution.{IsChange, ResolvesChange, change_conditions, has_empty_row}
 use Rattle.catalog_core.specs.table.TableWords.{has_distinct_names, table_of}
 use Rattle.catalog_core.specs.declared.change.Change.{Change}
 use Rattle.catalog_core.specs.declared.change.Plan.{Plan}
 use Rattle.catalog_core.specs.declared.table.TableDef.{TableDef}
-use Rattle.version_store.specs.Changed.{left_of, planned}
+use Rattle.version_store.specs.Changed.{remains_of, planned}
 use Rattle.version_store.specs.Contents.{Contents, HaveColumnValues, TableVersion, added_in}
 use Rattle.version_store.specs.DistinctKeys.{HaveDistinctKeys}
 use Rattle.version_store.specs.GoodStore.{IsGoodVersion}
@@ -177,7 +177,7 @@ module _ {S : Type 0} (g : Ghosts S) (history : History) (old : EngineState S) (
           s (subst (λ (tables : List TableDef). NoneApplies (Holds (change_conditions tables s))) same sound) ours d there
           c.clock c.versions holds.rows over.listed plan kept.said.good.versions holds.all over.are_current over.plans in
           let values = all_from_map (λ (v : TableVersion). All IsColumnValue v.values) (added_in change.table c.clock forever) plan.added
-          (all_behind (λ (v : TableVersion). All IsColumnValue v.values) (flat_map (left_of change.table c.clock plan.ended) c.versions) (map (added_in change.table c.clock forever) plan.added) held) in
+          (all_behind (λ (v : TableVersion). All IsColumnValue v.values) (flat_map (remains_of change.table c.clock plan.ended) c.versions) (map (added_in change.table c.clock forever) plan.added) held) in
           good_planned c change.table d plan.ended plan.added there kept.said.good.clock kept.said.good.versions fits values
 
       -- a change whose plan is applied is a step

@@ -7,7 +7,7 @@ use Rattle.catalog_core.proofs.lemmas.table.Numbered.{numbered_all, numbered_at,
 use Rattle.catalog_core.specs.table.TableWords.{is_value_column}
 use Rattle.catalog_core.specs.declared.table.Column.{Column}
 use Rattle.catalog_core.specs.declared.table.TableDef.{TableDef}
-use Rattle.script_engine.specs.engine.Shown.{cell_at, version_column, version_columns}
+use Rattle.script_engine.specs.engine.VersionLists.{cell_at, version_column, version_columns}
 use Rattle.statement_reports.specs.declared.outcome.Cell.{Cell}
 use Rattle.statement_reports.specs.declared.outcome.VersionColumn.{VersionColumn}
 

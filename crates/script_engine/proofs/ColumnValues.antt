@@ -16,14 +16,14 @@ use Rattle.catalog_core.proofs.lemmas.change.GivenValues.{found_first}
 use Rattle.catalog_core.proofs.lemmas.judged.Sound.{fails_at}
 use Rattle.catalog_core.proofs.lemmas.table.Distinct.{its_place}
 use Rattle.catalog_core.specs.Flaws.{is_flawed_set}
-use Rattle.catalog_core.specs.Numbering.{numbered_set}
-use Rattle.catalog_core.specs.change.Insertion.{given_value, given_values, gives_wrong, is_longer, is_of_other_kind, is_too_long, is_wrong}
+use Rattle.catalog_core.specs.Positions.{resolved_assignment}
+use Rattle.catalog_core.specs.change.Insertion.{given_value, given_values, gives_faulty_value, is_longer, is_of_other_kind, is_too_long, is_faulty}
 use Rattle.catalog_core.specs.query.Selection.{value_position}
 use Rattle.catalog_core.specs.table.Kinds.{differ, kind_of_column, kind_of_value, same_kind}
 use Rattle.catalog_core.specs.table.Naming.{Name, find_among, place_among}
 use Rattle.catalog_core.specs.table.TableWords.{def_kind, has_distinct_names, is_value_column, value_columns, value_names}
 use Rattle.catalog_core.specs.declared.change.Assignment.{Assignment}
-use Rattle.catalog_core.specs.declared.change.insert_values.Wrong.TheVariants as wrong
+use Rattle.catalog_core.specs.declared.change.insert_values.ValueFault.TheVariants as fault
 use Rattle.catalog_core.specs.declared.flaw.Flaw.TheVariants.{OtherKind, TooLong}
 use Rattle.catalog_core.specs.declared.table.Column.{Column}
 use Rattle.catalog_core.specs.declared.table.ColumnKind.{ColumnKind}
@@ -128,9 +128,9 @@ module _ (t : TableDef) (distinct : has_distinct_names t ≡ true) where
       go None at none = absurd (none-some v none)
       go (Some given) at some = (given, at, same_Some given.1 v some)
 
-  fits_given : (list : Option (List Name)) (row : List Value) → gives_wrong wrong.Kind t list row ≡ false → gives_wrong wrong.Length t list row ≡ false →
+  fits_given : (list : Option (List Name)) (row : List Value) → gives_faulty_value fault.Kind t list row ≡ false → gives_faulty_value fault.Length t list row ≡ false →
       (columns : List (ℕ × Column)) (values : List Value) → AllByRecursion IsThere columns → map (given_value t list row) (map (λ (c : ℕ × Column). c.1.name) columns) ≡ map (λ (v : Value). Some v) values → are_of_columns columns values ≡ true
-  unfolding gives_wrong is_wrong
+  unfolding gives_faulty_value is_faulty
   fits_given list row kinds lengths [] [] there same = refl
   fits_given list row kinds lengths [] (v ∷ values) there same = cc
   fits_given list row kinds lengths (c ∷ columns) [] there same = cc
@@ -139,8 +139,8 @@ module _ (t : TableDef) (distinct : has_distinct_names t ≡ true) where
       let later : map (given_value t list row) (map (λ (d : ℕ × Column). d.1.name) columns) ≡ map (λ (w : Value). Some w) values = cc in
       let (given, at, is) = given_found list row c.1.name v first in
       let by_name : Name × Value → Bool = λ g. bytes_eq c.1.name g.0 in
-      let of_kind = found by_name (is_wrong wrong.Kind t) (given_values t list row) given kinds at in
-      let short = found by_name (is_wrong wrong.Length t) (given_values t list row) given lengths at in
+      let of_kind = found by_name (is_faulty fault.Kind t) (given_values t list row) given kinds at in
+      let short = found by_name (is_faulty fault.Length t) (given_values t list row) given lengths at in
       let same_name : c.1.name ≡ given.0 = (bytes_eq-Decides c.1.name given.0).0 of_kind.0 in
       let named : bytes_eq given.0 c.1.name ≡ true = (bytes_eq-Decides given.0 c.1.name).1 (sym same_name) in
       let fits : is_of_column c.1.kind given.1 ≡ true = fits_named c.0 c.1 given.0 given.1 there.0 named of_kind.1 short.1 in
@@ -158,7 +158,7 @@ module _ (t : TableDef) (distinct : has_distinct_names t ≡ true) where
   named_at (x ∷ columns) zero c d there = ap (λ (y : ℕ × Column). y.1.name) (same_Some x c there)
   named_at (x ∷ columns) (suc n) c d there = named_at columns n c d there
 
-  pub fits_set : (w : written.Assignment) (a : Assignment) → numbered_set t w ≡ Some a → is_flawed_set OtherKind t w ≡ false → is_flawed_set TooLong t w ≡ false → FitsAt (value_columns t) a.position a.value
+  pub fits_set : (w : written.Assignment) (a : Assignment) → resolved_assignment t w ≡ Some a → is_flawed_set OtherKind t w ≡ false → is_flawed_set TooLong t w ≡ false → FitsAt (value_columns t) a.position a.value
   unfolding is_flawed_set value_position
   fits_set w a is kinds lengths c there = go (value_position t w.column) refl is
     where
@@ -193,6 +193,6 @@ set_each columns [] values fits are = are
 set_each columns (a ∷ assignments) values fits are = set_each columns assignments (set values a.position a.value) fits.1 (set_one columns values a.position a.value are fits.0)
 
 -- the rows that an INSERT gives, and the values that SET gives
-pub fits_row : (t : TableDef) → has_distinct_names t ≡ true → (list : Option (List Name)) (row values : List Value) → gives_wrong wrong.Kind t list row ≡ false → gives_wrong wrong.Length t list row ≡ false →
+pub fits_row : (t : TableDef) → has_distinct_names t ≡ true → (list : Option (List Name)) (row values : List Value) → gives_faulty_value fault.Kind t list row ≡ false → gives_faulty_value fault.Length t list row ≡ false →
     map (given_value t list row) (value_names t) ≡ map (λ (v : Value). Some v) values → are_of_columns (value_columns t) values ≡ true
 fits_row t distinct list row values kinds lengths same = fits_given t distinct list row kinds lengths (value_columns t) values (are_there t distinct) same

@@ -21,14 +21,14 @@ use Rattle.catalog_core.specs.create.Lawful.{IsLawful}
 use Rattle.catalog_core.specs.declared.table.TableDef.{TableDef}
 use Rattle.catalog_core.specs.table.TableWords.{table_of}
 use Rattle.version_tables.specs.Good.{AreMoments}
-use Rattle.version_store.specs.Changed.{is_ended, left_of, planned, with_clock, with_table}
+use Rattle.version_store.specs.Changed.{is_ended, remains_of, planned, with_clock, with_table}
 use Rattle.version_store.specs.Contents.{Contents, TableVersion, added_in, of_table, same_version, version_in}
 use Rattle.version_store.specs.DistinctKeys.{HaveDistinctKeys}
 use Rattle.version_store.specs.GoodStore.{AreLawful, IsGoodVersion}
 use Rattle.version_store.proofs.Spared.{other_tables}
 use Rattle.history_model.specs.Effects.{effect}
-use Rattle.history_model.specs.Histories.{Advanced, Asked, Changed, Created, Event, History, catalog_of, changed_until, created_by, last_state, with_event}
-use Rattle.history_model.specs.Left.{Makes, begun_at, closed_at, versions_of}
+use Rattle.history_model.specs.Histories.{Advanced, Queried, Changed, Created, Event, History, catalog_of, changed_until, created_by, last_state, with_event}
+use Rattle.history_model.specs.HistoryVersions.{AppliesAction, begun_at, closed_at, versions_of}
 use Rattle.history_model.specs.Portions.{plain_row}
 use Rattle.history_model.specs.Versions.{PlainVersion, current, last_moment, plain_version}
 use Rattle.history_model.proofs.HistoryLemmas.{catalog_of-event, clock_of-event, state_at-event}
@@ -156,16 +156,16 @@ said-created history c definition room next none said = record {
 
 -- ---- queries
 
-pub said-asked : (history : History) (c : Contents) → AreOfHistory history c → AreOfHistory (with_event history Asked) c
+pub said-asked : (history : History) (c : Contents) → AreOfHistory history c → AreOfHistory (with_event history Queried) c
 said-asked history c said = record {
-  order = order-event history Asked said.order tt;
-  clock = said.clock ∙ sym (clock_of-event history Asked);
-  tables = said.tables ∙ sym (catalog_of-event history Asked ∙ append-nil (catalog_of history));
+  order = order-event history Queried said.order tt;
+  clock = said.clock ∙ sym (clock_of-event history Queried);
+  tables = said.tables ∙ sym (catalog_of-event history Queried ∙ append-nil (catalog_of history));
   versions = λ table.
       let holds = said.versions table in
       record { rows = holds.rows; left = left-asked history table holds.rows holds.left; all = holds.all };
   good = record { clock = said.good.clock; few = said.good.few; lawful = said.good.lawful; versions = said.good.versions; constrained = tt };
-  lawful = lawful_still history Asked c said refl refl;
+  lawful = lawful_still history Queried c said refl refl;
 }
 
 -- ---- changes
@@ -208,7 +208,7 @@ module _ (moment : ℤ) (action : Action) (plan : Plan) (rows : List VersionRow)
       (IsPermutation-append_left S (filter (is_hit action) rows) E (hits_end action rows over.listed plan over.are_current over.plans))
 
   -- what stands after the plan is what the action makes
-  makes_planned : Makes moment action rows (rows_after moment action plan rows)
+  makes_planned : AppliesAction moment action rows (rows_after moment action plan rows)
   makes_planned =
       let C : List VersionRow = flat_map (closed_row moment) E in
       let B : List VersionRow = map (begun moment) plan.added in
@@ -227,7 +227,7 @@ module _ (moment : ℤ) (action : Action) (plan : Plan) (rows : List VersionRow)
   -- and it is what the store then has of the table
   module _ (table : ℕ) (versions : List TableVersion) (all : IsPermutation (of_table table versions) (map (version_in table) rows)) (apart : HaveDistinctKeys versions) where
     abbrev left : List TableVersion → List TableVersion
-    left = flat_map (left_of table moment E)
+    left = flat_map (remains_of table moment E)
 
     parted : IsPermutation (of_table table versions) (map (version_in table) (E ++ S))
     parted = IsPermutation-trans (of_table table versions) (map (version_in table) rows) (map (version_in table) (E ++ S)) all (IsPermutation-map (version_in table) rows (E ++ S) taken)
@@ -243,9 +243,9 @@ module _ (moment : ℤ) (action : Action) (plan : Plan) (rows : List VersionRow)
     left_planned =
         let both : left (map (version_in table) (E ++ S)) ≡ map (version_in table) (flat_map (closed_row moment) E) ++ map (version_in table) S =
         ap left (map-append (version_in table) E S)
-        ∙ flat_map-append (left_of table moment E) (map (version_in table) E) (map (version_in table) S)
+        ∙ flat_map-append (remains_of table moment E) (map (version_in table) E) (map (version_in table) S)
         ∙ ap₂ (λ (a b : List TableVersion). a ++ b) (all_closed table moment E E (are_ended table E) ∙ closed_in table moment E) (none_closed table moment E S stays) in
-        subst (IsPermutation (left (of_table table versions))) both (IsPermutation-flat_map (left_of table moment E) (of_table table versions) (map (version_in table) (E ++ S)) parted)
+        subst (IsPermutation (left (of_table table versions))) both (IsPermutation-flat_map (remains_of table moment E) (of_table table versions) (map (version_in table) (E ++ S)) parted)
 
     begun_in : map (version_in table) (map (begun moment) plan.added) ≡ map (added_in table moment forever) plan.added
     begun_in = map-map (version_in table) (begun moment) plan.added

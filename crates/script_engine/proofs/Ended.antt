@@ -13,9 +13,9 @@ use Rattle.period_core.specs.declared.version.VersionRow.{VersionRow}
 use Rattle.catalog_core.specs.declared.table.TableDef.{TableDef}
 use Rattle.catalog_core.specs.table.TableWords.{table_of}
 use Rattle.version_tables.specs.Good.{AreMoments, IsClock}
-use Rattle.version_store.specs.Changed.{closed_at, is_ended, left_of, planned}
+use Rattle.version_store.specs.Changed.{closed_at, is_ended, remains_of, planned}
 use Rattle.version_store.specs.Contents.{Contents, TableVersion, added_in, of_table, version_in}
-use Rattle.history_model.specs.Left.{closed_at as plain_closed}
+use Rattle.history_model.specs.HistoryVersions.{closed_at as plain_closed}
 use Rattle.history_model.specs.Versions.{PlainVersion, plain_version}
 use Rattle.version_store.specs.GoodStore.{IsGoodVersion}
 use Rattle.version_store.specs.RowValues.{are_row_values}
@@ -26,10 +26,10 @@ use Rattle.version_tables.specs.declared.form.Form.TheVariants.{Microseconds}
 -- ---- by tables
 
 -- what is left of the versions of a table is of that table
-pub of_left : (table other : ℕ) (moment : ℤ) (ended : List VersionRow) (vs : List TableVersion) → of_table other (flat_map (left_of table moment ended) vs) ≡ flat_map (left_of table moment ended) (of_table other vs)
+pub of_left : (table other : ℕ) (moment : ℤ) (ended : List VersionRow) (vs : List TableVersion) → of_table other (flat_map (remains_of table moment ended) vs) ≡ flat_map (remains_of table moment ended) (of_table other vs)
 of_left table other moment ended [] = refl
 of_left table other moment ended (v ∷ vs) =
-    filter-append (λ (w : TableVersion). w.table == other) (left_of table moment ended v) (flat_map (left_of table moment ended) vs)
+    filter-append (λ (w : TableVersion). w.table == other) (remains_of table moment ended v) (flat_map (remains_of table moment ended) vs)
     ∙ ap₂ (λ (a b : List TableVersion). a ++ b) (one (is_ended table ended v) (is_eq (int_cmp v.from moment)) (v.table == other) refl) (of_left table other moment ended vs)
     ∙ joined (v.table == other)
   where
@@ -41,7 +41,7 @@ of_left table other moment ended (v ∷ vs) =
     one false e true h = ap (λ t. cond t (v ∷ []) []) h
     one false e false h = ap (λ t. cond t (v ∷ []) []) h
 
-    joined : (p : Bool) → cond p (left_of table moment ended v) [] ++ flat_map (left_of table moment ended) (of_table other vs) ≡ flat_map (left_of table moment ended) (cond p (v ∷ of_table other vs) (of_table other vs))
+    joined : (p : Bool) → cond p (remains_of table moment ended v) [] ++ flat_map (remains_of table moment ended) (of_table other vs) ≡ flat_map (remains_of table moment ended) (cond p (v ∷ of_table other vs) (of_table other vs))
     joined true = refl
     joined false = refl
 
@@ -70,7 +70,7 @@ closed_plain moment (v ∷ rows) =
 
 -- where each row is ended, each is closed; where none is, each stays
 pub all_closed : (table : ℕ) (moment : ℤ) (ended rows : List VersionRow) → All (λ (v : VersionRow). is_ended table ended (version_in table v) ≡ true) rows →
-    flat_map (left_of table moment ended) (map (version_in table) rows) ≡ flat_map (closed_at moment) (map (version_in table) rows)
+    flat_map (remains_of table moment ended) (map (version_in table) rows) ≡ flat_map (closed_at moment) (map (version_in table) rows)
 all_closed table moment ended [] h = refl
 all_closed table moment ended (v ∷ rows) h =
     ap₂ (λ (a b : List TableVersion). a ++ b)
@@ -78,7 +78,7 @@ all_closed table moment ended (v ∷ rows) h =
     (all_closed table moment ended rows (All-tail (λ (v : VersionRow). is_ended table ended (version_in table v) ≡ true) v rows h))
 
 pub none_closed : (table : ℕ) (moment : ℤ) (ended rows : List VersionRow) → AllByRecursion (λ (v : VersionRow). is_ended table ended (version_in table v) ≡ false) rows →
-    flat_map (left_of table moment ended) (map (version_in table) rows) ≡ map (version_in table) rows
+    flat_map (remains_of table moment ended) (map (version_in table) rows) ≡ map (version_in table) rows
 none_closed table moment ended [] h = refl
 none_closed table moment ended (v ∷ rows) h =
     ap₂ (λ (a b : List TableVersion). a ++ b)
@@ -102,7 +102,7 @@ closed_recorded clock is v was false e =
     same_moment : v.from ≡ clock → v.from <ℤ clock
     same_moment same = let there : int_eq v.from clock ≡ true = ap (int_eq v.from) (sym same) ∙ int_same v.from in absurd cc
 
-left_recorded : (table : ℕ) (clock : ℤ) (ended : List VersionRow) → IsClock Microseconds clock → (v : TableVersion) → AreMoments Microseconds clock v.from v.to → AllByRecursion (λ (w : TableVersion). AreMoments Microseconds clock w.from w.to) (left_of table clock ended v)
+left_recorded : (table : ℕ) (clock : ℤ) (ended : List VersionRow) → IsClock Microseconds clock → (v : TableVersion) → AreMoments Microseconds clock v.from v.to → AllByRecursion (λ (w : TableVersion). AreMoments Microseconds clock w.from w.to) (remains_of table clock ended v)
 left_recorded table clock ended is v was = go (is_ended table ended v)
   where
     go : (b : Bool) → AllByRecursion (λ (w : TableVersion). AreMoments Microseconds clock w.from w.to) (cond b (closed_at clock v) (v ∷ []))
@@ -124,7 +124,7 @@ recorded_now clock is =
 -- ---- what is good
 
 -- what is left of a good version is good
-left_good : (tables : List TableDef) (table : ℕ) (clock : ℤ) (ended : List VersionRow) → IsClock Microseconds clock → (v : TableVersion) → IsGoodVersion tables clock v → AllByRecursion (IsGoodVersion tables clock) (left_of table clock ended v)
+left_good : (tables : List TableDef) (table : ℕ) (clock : ℤ) (ended : List VersionRow) → IsClock Microseconds clock → (v : TableVersion) → IsGoodVersion tables clock v → AllByRecursion (IsGoodVersion tables clock) (remains_of table clock ended v)
 left_good tables table clock ended is v good = go (is_ended table ended v) (int_eq v.from clock) (left_recorded table clock ended is v good.moments)
   where
     go : (b e : Bool) → AllByRecursion (λ (w : TableVersion). AreMoments Microseconds clock w.from w.to) (cond b (cond e [] (record v { to = clock } ∷ [])) (v ∷ [])) → AllByRecursion (IsGoodVersion tables clock) (cond b (cond e [] (record v { to = clock } ∷ [])) (v ∷ []))
@@ -138,9 +138,9 @@ pub good_planned : (c : Contents) (table : ℕ) (d : TableDef) (ended : List Ver
     AllByRecursion (λ (r : PeriodRow). are_row_values d r.values ≡ true) added → AllByRecursion (λ (r : PeriodRow). All IsColumnValue r.values) added → AllByRecursion (IsGoodVersion c.tables c.clock) (planned table c.clock ended added c).versions
 good_planned c table d ended added there is good fits held =
     let IsGood : TableVersion → Type 0 = IsGoodVersion c.tables c.clock in
-    all-append IsGood (flat_map (left_of table c.clock ended) c.versions) (map (added_in table c.clock forever) added)
-    (all-flat_map IsGood (left_of table c.clock ended) c.versions
-    (all_weaker IsGood (λ (v : TableVersion). AllByRecursion IsGood (left_of table c.clock ended v)) (left_good c.tables table c.clock ended is) c.versions good))
+    all-append IsGood (flat_map (remains_of table c.clock ended) c.versions) (map (added_in table c.clock forever) added)
+    (all-flat_map IsGood (remains_of table c.clock ended) c.versions
+    (all_weaker IsGood (λ (v : TableVersion). AllByRecursion IsGood (remains_of table c.clock ended v)) (left_good c.tables table c.clock ended is) c.versions good))
     (all-map IsGood (added_in table c.clock forever) added
     (all_both (λ (r : PeriodRow). are_row_values d r.values ≡ true) (λ (r : PeriodRow). All IsColumnValue r.values) (λ (r : PeriodRow). IsGood (added_in table c.clock forever r))
     (λ r fit hold. record {

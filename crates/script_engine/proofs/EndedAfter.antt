@@ -18,7 +18,7 @@ use Rattle.catalog_core.specs.table.TableWords.{table_of}
 use Rattle.ended_versions.specs.Packed.{AreEndedBy, AreOfColumns, Hold, PackedVersion, closed_at, packed}
 use Rattle.ended_versions.proofs.PackedFacts.{hold_more}
 use Rattle.history_model.specs.Histories.{History}
-use Rattle.history_model.proofs.LeftFacts.{from_images}
+use Rattle.history_model.proofs.HistoryVersionFacts.{from_images}
 use Rattle.period_keys.specs.Versions.{begun}
 use Rattle.version_store.specs.Changed.{planned, with_table}
 use Rattle.version_store.specs.Contents.{Contents, TableVersion, of_table, version_in}

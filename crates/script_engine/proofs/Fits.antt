@@ -30,7 +30,7 @@ use Rattle.version_store.specs.Contents.{Contents, TableVersion, of_table, versi
 use Rattle.version_store.specs.GoodStore.{IsGoodVersion}
 use Rattle.version_store.specs.RowValues.{are_of_columns, is_of_column}
 use Rattle.history_model.specs.Histories.{History}
-use Rattle.history_model.specs.Left.{versions_of}
+use Rattle.history_model.specs.HistoryVersions.{versions_of}
 use Rattle.history_model.specs.Versions.{PlainVersion, plain_version, row_of}
 use Rattle.ended_versions.specs.Packed.{seen_through}
 use Rattle.script_engine.specs.engine.Answering.{EachSees, IsKnown, IsOfCatalog, SeesRows}

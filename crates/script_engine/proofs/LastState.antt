@@ -28,7 +28,7 @@ use Rattle.version_store.specs.Scans.{seen_of}
 use Rattle.history_model.specs.Histories.{Changed, History, IsInOrder, State, catalog_of, last_state, with_event}
 use Rattle.history_model.specs.Versions.{IsRecorded, current, last_moment, row_of}
 use Rattle.history_model.proofs.HistoryLemmas.{state_at-changed_later}
-use Rattle.history_model.proofs.LeftFacts.{left_hold}
+use Rattle.history_model.proofs.HistoryVersionFacts.{left_hold}
 use Rattle.history_model.proofs.VersionFacts.{current_hold}
 use Rattle.period_keys.specs.Current.{HoldCurrent, ReferToEarlier}
 use Rattle.period_keys.specs.Days.{LacksParent, ShareKey}

@@ -8,9 +8,9 @@ use Rattle.catalog_core.specs.table.TableWords.{table_of}
 use Rattle.catalog_core.specs.declared.change.Action.{Action}
 use Rattle.catalog_core.specs.declared.change.Action.TheVariants.{Delete, Insert, Update}
 use Rattle.catalog_core.specs.declared.change.Change.{Change}
-use Rattle.catalog_core.specs.declared.change.GivenRow.{GivenRow}
+use Rattle.catalog_core.specs.declared.change.InsertedRow.{InsertedRow}
 use Rattle.catalog_core.specs.declared.table.TableDef.{TableDef}
-use Rattle.history_model.specs.Effects.{Traced, acts_on, given_covers, given_of, given_row, kept, traced, updated}
+use Rattle.history_model.specs.Effects.{Traced, acts_on, inserted_covers, inserted_by, inserted_row, kept, traced, updated}
 use Rattle.history_model.specs.Histories.{State}
 use Rattle.period_keys.specs.Lawful.{IsLawfulChange, OriginsShareKey, key_positions}
 
@@ -24,14 +24,14 @@ shorter {X} p (x ∷ xs) = go (p x) (shorter p xs)
     go true h = omega (arith, h)
     go false h = omega (arith, h)
 
-numbered : (from : ℕ) (given : List GivenRow) → length (enumerate_from from given) ≡ length given
+numbered : (from : ℕ) (given : List InsertedRow) → length (enumerate_from from given) ≡ length given
 numbered from [] = refl
 numbered from (g ∷ given) = ap suc (numbered (from + 1) given)
 
-few_traced : (action : Action) (day : ℤ) (rows : List (List Value)) → length (traced action day rows) ≤ length rows + length (given_of action)
+few_traced : (action : Action) (day : ℤ) (rows : List (List Value)) → length (traced action day rows) ≤ length rows + length (inserted_by action)
 few_traced (Insert given) day rows =
-    let ours : List (ℕ × GivenRow) = filter (given_covers day) (enumerate_from 0 given) in
-    omega (arith, length-append (map kept rows) (map given_row ours), length-map rows kept, length-map ours given_row, shorter (given_covers day) (enumerate_from 0 given), numbered 0 given)
+    let ours : List (ℕ × InsertedRow) = filter (inserted_covers day) (enumerate_from 0 given) in
+    omega (arith, length-append (map kept rows) (map inserted_row ours), length-map rows kept, length-map ours inserted_row, shorter (inserted_covers day) (enumerate_from 0 given), numbered 0 given)
 few_traced (Update portion assignments condition) day rows = omega (arith, length-map rows (updated portion assignments condition day))
 few_traced (Delete portion condition) day rows =
     let left : List (List Value) = filter (λ row. not (acts_on portion condition day row)) rows in
@@ -58,7 +58,7 @@ lawful_by_key catalog before change none apart = record {
 }
 
 pub lawful_alone : (catalog : List TableDef) (before : State) (change : Change) → HaveNoReferences catalog →
-    ((day : ℤ) → length (before change.table day) + length (given_of change.action) ≤ 1) → IsLawfulChange catalog before change
+    ((day : ℤ) → length (before change.table day) + length (inserted_by change.action) ≤ 1) → IsLawfulChange catalog before change
 lawful_alone catalog before change none few =
     lawful_by_key catalog before change none
     (λ day def is shared. alone (key_positions def) (traced change.action day (before change.table day)) (let most = few day in omega (arith, few_traced change.action day (before change.table day), most)) shared)

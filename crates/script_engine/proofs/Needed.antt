@@ -28,7 +28,7 @@ use Rattle.catalog_core.specs.query.Fitting.{are_in_place, fits, has_kinds, sees
 use Rattle.catalog_core.specs.query.Queries.{Query, both, one, references_of, rows_for}
 use Rattle.catalog_core.specs.table.TableWords.{table_of, value_columns}
 use Rattle.history_model.specs.Histories.{History}
-use Rattle.history_model.specs.OrdinaryQuery.{HistorySights, InCombined, InProduct, InQuery, TableSights, meets_all}
+use Rattle.history_model.specs.OrdinaryQuery.{VisibleInHistory, InCombined, InProduct, InQuery, VisibleInTables, meets_all}
 use Rattle.history_model.specs.Versions.{row_of}
 use Rattle.sequenced_ops.specs.Planning.{IsPruned}
 use Rattle.period_keys.specs.FixedKeys.{FixesKeyWithin}
@@ -126,7 +126,7 @@ module _ (history : History) (c : Contents) (reference : QueryReference) (said :
       sym (ap (λ (r : PeriodRow). length r.values) made ∙ ap length same) ∙ table_width c reference.table width said.good wide held_rows (said.versions reference.table).all version whole
 
   -- and of their kinds
-  sees_kinds : IsKnown c.tables reference → (day : ℤ) (values : List Value) → HistorySights history day reference values → has_kinds reference.kinds values ≡ true
+  sees_kinds : IsKnown c.tables reference → (day : ℤ) (values : List Value) → VisibleInHistory history day reference values → has_kinds reference.kinds values ≡ true
   sees_kinds known day values sees =
       let (row, among, same, on) = held (map row_of shown_rows) day values ((shown_seen.daily day values).1 sees) in
       let fit = rows_fit history c said reference known (map row_of shown_rows) shown_seen in
@@ -153,7 +153,7 @@ pub current_needed : (history : History) (c : Contents) (tables : List RowsByKey
 current_needed history c tables conjuncts start reference rows said current now pruned =
     let all : List PeriodRow = map row_of (rows_in tables reference.table) in
     let seen : AreRowsSeen c reference.table reference.window all = subst (λ (w : Window). AreRowsSeen c reference.table w all) (sym now) (current_seen c tables reference.table all current refl) in
-    pruned_along conjuncts start (InSnapshot all) (λ day. HistorySights history day reference) rows (sees_rows history c reference all said seen).daily pruned
+    pruned_along conjuncts start (InSnapshot all) (λ day. VisibleInHistory history day reference) rows (sees_rows history c reference all said seen).daily pruned
 
 -- all that it sees
 pub whole_needed : (history : History) (conjuncts : Conditions) (start : ℕ) (reference : QueryReference) (rows : List PeriodRow) → SeesRows history reference rows → IsNeeded history conjuncts start reference rows
@@ -264,14 +264,14 @@ query_placed history (both operator left right) before lists behind in_place (fi
 
 module _ (tables : List (List PeriodRow)) (history : History) (day : ℤ) where
   -- rows that are there are seen
-  sound_product : (conjuncts : Conditions) (start : ℕ) (references : List QueryReference) (values : List Value) → NeededIn tables history conjuncts start references → InProduct (TableSights tables day) references values → InProduct (HistorySights history day) references values
+  sound_product : (conjuncts : Conditions) (start : ℕ) (references : List QueryReference) (values : List Value) → NeededIn tables history conjuncts start references → InProduct (VisibleInTables tables day) references values → InProduct (VisibleInHistory history day) references values
   sound_product conjuncts start [] values needed h = h
   sound_product conjuncts start (reference ∷ references) values (needs, (width, wide, more)) (first, rest, sees, others, is) =
       (first, rest, needs.sound day first sees, sound_product conjuncts (start + width) references rest more others, is)
 
   -- and none is missing that is part of a row that meets the conditions
   whole_product : (conjuncts : Conditions) (start : ℕ) (references : List QueryReference) (before values : List Value) → NeededIn tables history conjuncts start references → length before ≡ start → meets_all conjuncts (before ++ values) ≡ true →
-      InProduct (HistorySights history day) references values → InProduct (TableSights tables day) references values
+      InProduct (VisibleInHistory history day) references values → InProduct (VisibleInTables tables day) references values
   whole_product conjuncts start [] before values needed long met h = h
   whole_product conjuncts start (reference ∷ references) before values (needs, (width, wide, more)) long met (first, rest, sees, others, is) =
       let whole : meets_all conjuncts (before ++ (first ++ rest)) ≡ true = subst (λ (v : List Value). meets_all conjuncts (before ++ v) ≡ true) (sym is) met in
@@ -297,18 +297,18 @@ module _ (tables : List (List PeriodRow)) (history : History) (day : ℤ) where
     λ (c, d). ((left row).1 c, (right row).1 d),
   )
 
-  given_alike : (query : Query) → QueryNeededIn tables history query → (row : List Value) → (InQuery (TableSights tables day) query row ↔ InQuery (HistorySights history day) query row)
+  given_alike : (query : Query) → QueryNeededIn tables history query → (row : List Value) → (InQuery (VisibleInTables tables day) query row ↔ InQuery (VisibleInHistory history day) query row)
   given_alike (one select) needed row = (
     λ (values, product, met, its). (values, sound_product select.conjuncts 0 select.references values needed product, met, its),
     λ (values, product, met, its). (values, whole_product select.conjuncts 0 select.references [] values needed refl met product, met, its),
   )
   given_alike (both operator left right) (a, b) row =
-      combined_alike operator (InQuery (TableSights tables day) left) (InQuery (TableSights tables day) right) (InQuery (HistorySights history day) left) (InQuery (HistorySights history day) right)
+      combined_alike operator (InQuery (VisibleInTables tables day) left) (InQuery (VisibleInTables tables day) right) (InQuery (VisibleInHistory history day) left) (InQuery (VisibleInHistory history day) right)
       (given_alike left a) (given_alike right b) row
 
 -- where the lists fit the query, it gives on each day what it gives in the history
 pub needed_alike : (history : History) (query : Query) (tables : List (List PeriodRow)) → fits query tables ≡ true → IsNeededBy history query tables → (day : ℤ) (row : List Value) →
-    (InQuery (TableSights tables day) query row ↔ InQuery (HistorySights history day) query row)
+    (InQuery (VisibleInTables tables day) query row ↔ InQuery (VisibleInHistory history day) query row)
 needed_alike history query tables fit needed day row =
     let (counted, kinds) = and_parts (are_in_place 0 (references_of query) && (length tables == length (references_of query))) (list_all (sees_its_kinds tables) (references_of query)) fit in
     let (in_place, long) = and_parts (are_in_place 0 (references_of query)) (length tables == length (references_of query)) counted in

@@ -11,14 +11,14 @@ use Rattle.period_core.specs.declared.window.Window.{Window}
 use Rattle.period_core.specs.declared.window.Window.TheVariants.{Now}
 use Rattle.catalog_core.specs.declared.change.Action.{Action}
 use Rattle.catalog_core.specs.declared.change.Action.TheVariants.{Delete, Insert, Update}
-use Rattle.catalog_core.specs.declared.change.GivenRow.{GivenRow}
+use Rattle.catalog_core.specs.declared.change.InsertedRow.{InsertedRow}
 use Rattle.catalog_core.specs.declared.change.Plan.{Plan}
 use Rattle.version_store.specs.Contents.{TableVersion, of_table, version_in}
 use Rattle.version_store.specs.Scans.{seen_of}
-use Rattle.history_model.specs.Left.{is_touched, its_row, touched_rows}
+use Rattle.history_model.specs.HistoryVersions.{is_touched, its_row, touched_rows}
 use Rattle.history_model.specs.Portions.{added, plain_given, plain_row, touches}
 use Rattle.history_model.specs.Versions.{PlainVersion, current, plain_version}
-use Rattle.history_model.proofs.LeftFacts.{from_images, version_same}
+use Rattle.history_model.proofs.HistoryVersionFacts.{from_images, version_same}
 use Rattle.portion_dml.specs.Plans.{Plans, version_row}
 use Rattle.portion_dml.proofs.Planned.{none_touched}
 use Rattle.script_engine.specs.engine.Planned.{count_of, planned_count}
@@ -83,12 +83,12 @@ touched_count action rows listed versions plan are plans left =
     ∙ sym (length_permutation (filter (is_hit action) rows) plan.ended (hits_end action rows listed plan are plans))
 
 -- a plan of INSERT adds the rows that it gives
-pub rows_given : (given : List GivenRow) (listed : List VersionRow) (plan : Plan) → Plans (Insert given) listed plan → map plain_row plan.added ≡ map plain_given given
+pub rows_given : (given : List InsertedRow) (listed : List VersionRow) (plan : Plan) → Plans (Insert given) listed plan → map plain_row plan.added ≡ map plain_given given
 rows_given given listed plan plans =
     let none : plan.ended ≡ [] = plans.ended ∙ none_touched given listed in
     plans.added ∙ ap (λ (l : List VersionRow). added (Insert given) (map version_row l)) none ∙ append-nil (map plain_given given)
 
-given_count : (given : List GivenRow) (listed : List VersionRow) (plan : Plan) → Plans (Insert given) listed plan → length given ≡ length plan.added
+given_count : (given : List InsertedRow) (listed : List VersionRow) (plan : Plan) → Plans (Insert given) listed plan → length given ≡ length plan.added
 given_count given listed plan plans =
     sym (length-map given plain_given) ∙ ap length (sym (rows_given given listed plan plans)) ∙ length-map plan.added plain_row
 

@@ -8,13 +8,13 @@ use Rattle.period_core.specs.declared.refusal.Refusal.{Refusal}
 use Rattle.period_core.specs.declared.refusal.Refusal.TheVariants.{EmptyPeriod}
 use Rattle.period_core.specs.declared.row.PeriodRow.{PeriodRow}
 use Rattle.period_core.specs.declared.version.VersionRow.{VersionRow}
-use Rattle.catalog_core.specs.Judged.{Holds, Judged}
+use Rattle.catalog_core.specs.RefusalConditions.{Holds, RefusalCondition}
 use Rattle.catalog_core.specs.change.Resolution.{has_empty_row, is_empty_row}
 use Rattle.history_model.specs.Portions.{PlainRow, plain_given, plain_row}
 use Rattle.portion_dml.specs.Plans.{Plans}
 use Rattle.catalog_core.specs.declared.change.Action.{Action}
 use Rattle.catalog_core.specs.declared.change.Action.TheVariants.{Delete, Insert, Update}
-use Rattle.catalog_core.specs.declared.change.GivenRow.{GivenRow}
+use Rattle.catalog_core.specs.declared.change.InsertedRow.{InsertedRow}
 use Rattle.catalog_core.specs.declared.change.Plan.{Plan}
 use Rattle.sqlite.specs.Store.{Ghosts}
 use Rattle.sql_statements.specs.Trees.{Statement}
@@ -24,31 +24,31 @@ use Rattle.script_engine.specs.engine.Runs.{MayRefuseQuery}
 use Rattle.script_engine.proofs.PlanFacts.{rows_given}
 
 -- a refusal among more conditions
-pub holds_before : (conditions more : List Judged) (refusal : Refusal) → Holds conditions refusal → Holds (conditions ++ more) refusal
+pub holds_before : (conditions more : List RefusalCondition) (refusal : Refusal) → Holds conditions refusal → Holds (conditions ++ more) refusal
 holds_before [] more refusal h = absurd h
 holds_before (first ∷ conditions) more refusal (inl h) = inl h
 holds_before (first ∷ conditions) more refusal (inr h) = inr (holds_before conditions more refusal h)
 
-pub holds_after : (conditions more : List Judged) (refusal : Refusal) → Holds more refusal → Holds (conditions ++ more) refusal
+pub holds_after : (conditions more : List RefusalCondition) (refusal : Refusal) → Holds more refusal → Holds (conditions ++ more) refusal
 holds_after [] more refusal h = h
 holds_after (first ∷ conditions) more refusal h = inr (holds_after conditions more refusal h)
 
-pub holds_cases : (conditions more : List Judged) (refusal : Refusal) → Holds (conditions ++ more) refusal → Holds conditions refusal ⊎ Holds more refusal
+pub holds_cases : (conditions more : List RefusalCondition) (refusal : Refusal) → Holds (conditions ++ more) refusal → Holds conditions refusal ⊎ Holds more refusal
 holds_cases [] more refusal h = inr h
 holds_cases (first ∷ conditions) more refusal (inl h) = inl (inl h)
 holds_cases (first ∷ conditions) more refusal (inr h) = elim (holds_cases conditions more refusal h) [ inl k ↦ inl (inr k) | inr k ↦ inr k ]
 
 -- the numbers of the conditions are at most this one
-abbrev pub are_at_most : ℕ → List Judged → Bool
-are_at_most number conditions = list_all (λ (j : Judged). nat_le (code_of j.0) number) conditions
+abbrev pub are_at_most : ℕ → List RefusalCondition → Bool
+are_at_most number conditions = list_all (λ (j : RefusalCondition). nat_le (code_of j.0) number) conditions
 
-pub code-at_most : (number : ℕ) (conditions : List Judged) (refusal : Refusal) → are_at_most number conditions ≡ true → Holds conditions refusal → code_of refusal ≤ number
+pub code-at_most : (number : ℕ) (conditions : List RefusalCondition) (refusal : Refusal) → are_at_most number conditions ≡ true → Holds conditions refusal → code_of refusal ≤ number
 code-at_most number [] refusal all h = absurd h
 code-at_most number ((judged, holds) ∷ conditions) refusal all (inl (same, held)) = subst (λ r. code_of r ≤ number) same (grind (arith, all))
 code-at_most number ((judged, holds) ∷ conditions) refusal all (inr h) = code-at_most number conditions refusal (grind (arith, all)) h
 
 -- given rows of which there are period rows have days
-days-given : (given : List GivenRow) (rows : List PeriodRow) → map plain_row rows ≡ map plain_given given → list_any is_empty_row given ≡ false
+days-given : (given : List InsertedRow) (rows : List PeriodRow) → map plain_row rows ≡ map plain_given given → list_any is_empty_row given ≡ false
 days-given [] rows e = refl
 days-given (first ∷ given) [] e = cc
 days-given (first ∷ given) (row ∷ rows) e =
@@ -67,7 +67,7 @@ days-planned (Update portion assignments condition) listed plan plans = refl
 days-planned (Delete portion condition) listed plan plans = refl
 
 -- what may be answered by the conditions alone may be answered where that of an empty period stands behind them
-pub may_answer-before : (conditions : List Judged) (holds : Bool) (refusal : Refusal) → are_at_most 41 conditions ≡ true → MayAnswer (Holds conditions) refusal → MayAnswer (Holds (conditions ++ (EmptyPeriod, holds) ∷ [])) refusal
+pub may_answer-before : (conditions : List RefusalCondition) (holds : Bool) (refusal : Refusal) → are_at_most 41 conditions ≡ true → MayAnswer (Holds conditions) refusal → MayAnswer (Holds (conditions ++ (EmptyPeriod, holds) ∷ [])) refusal
 may_answer-before conditions holds refusal low (inr memory) = inr memory
 may_answer-before conditions holds refusal low (inl least) = inl (record {
   applies = holds_before conditions ((EmptyPeriod, holds) ∷ []) refusal least.applies;
@@ -82,7 +82,7 @@ may_answer-before conditions holds refusal low (inl least) = inl (record {
 })
 
 -- that of an empty period is answered where it holds and none of the others does
-pub may_answer-empty : (conditions : List Judged) (holds : Bool) → NoneApplies (Holds conditions) → holds ≡ true → MayAnswer (Holds (conditions ++ (EmptyPeriod, holds) ∷ [])) EmptyPeriod
+pub may_answer-empty : (conditions : List RefusalCondition) (holds : Bool) → NoneApplies (Holds conditions) → holds ≡ true → MayAnswer (Holds (conditions ++ (EmptyPeriod, holds) ∷ [])) EmptyPeriod
 may_answer-empty conditions holds none held = inl (record {
   applies = holds_after conditions ((EmptyPeriod, holds) ∷ []) EmptyPeriod (inl (refl, held));
   least = λ other h.

@@ -6,7 +6,7 @@ use Rattle.period_core.specs.declared.refusal.Refusal.{Refusal}
 use Rattle.sql_statements.specs.declared.statement.InsertRows.{InsertRows}
 use Rattle.sql_statements.specs.Trees.{Delete, Update}
 use Rattle.sql_statements.specs.Trees as statement
-use Rattle.catalog_core.specs.Judged.{Holds}
+use Rattle.catalog_core.specs.RefusalConditions.{Holds}
 use Rattle.catalog_core.specs.change.Insertion.{gives_empty_row, insert_conditions}
 use Rattle.catalog_core.specs.change.PortionChanges.{DeletesAs, ResolvesDelete, ResolvesUpdate, UpdatesAs, delete_conditions, update_conditions}
 use Rattle.catalog_core.specs.change.Resolution.{ResolvesAction, ResolvesInsert, has_empty_row}

@@ -18,7 +18,7 @@ use Rattle.version_store.specs.Scans.{seen_of}
 use Rattle.history_model.specs.Histories.{History, state_at}
 use Rattle.history_model.specs.SystemWindows.{SeesThrough}
 use Rattle.history_model.specs.Versions.{row_of, values_seen}
-use Rattle.history_model.proofs.LeftFacts.{left_hold}
+use Rattle.history_model.proofs.HistoryVersionFacts.{left_hold}
 use Rattle.history_model.proofs.Shown.{seen_at_moments}
 use Rattle.catalog_core.specs.declared.query.resolved.QueryReference.{QueryReference}
 use Rattle.ended_versions.specs.Packed.{PackedVersion, seen_through}

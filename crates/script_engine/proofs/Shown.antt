@@ -6,15 +6,15 @@ use Rattle.period_core.specs.declared.version.VersionRow.{VersionRow}
 use Rattle.sqlite.specs.Store.{Ghosts}
 use Rattle.sql_statements.specs.Trees.{Statement}
 use Rattle.sql_statements.specs.Trees as statement
-use Rattle.catalog_core.specs.Judged.{Holds}
+use Rattle.catalog_core.specs.RefusalConditions.{Holds}
 use Rattle.catalog_core.specs.stored.StoredQueries.{ResolvesStoredQuery, stored_query_conditions}
 use Rattle.catalog_core.specs.table.TableWords.{table_of}
 use Rattle.catalog_core.specs.declared.stored.Stored.{Stored}
 use Rattle.catalog_core.specs.declared.table.TableDef.{TableDef}
 use Rattle.version_store.specs.StoreState.{IsStoreRefusal}
-use Rattle.history_model.specs.Histories.{Asked, History, with_event}
+use Rattle.history_model.specs.Histories.{Queried, History, with_event}
 use Rattle.script_engine.specs.engine.Runs.{StepsTo}
-use Rattle.script_engine.specs.engine.Shown.{AreShownIn, version_columns}
+use Rattle.script_engine.specs.engine.VersionLists.{AreShownIn, version_columns}
 use Rattle.script_engine.specs.engine.EngineState.{EngineState}
 use Rattle.script_engine.specs.engine.Stored.{EngineRepresents, HasContents}
 use Rattle.statement_reports.specs.declared.outcome.Outcome.TheVariants.{Versions}
@@ -43,7 +43,7 @@ module _ {S : Type 0} (g : Ghosts S) (history : History) (old : EngineState S) (
   shown_step new query definition columns rows sound resolved there are has shown =
       let holds = kept.said.versions query.table in
       let list : VersionList = record { columns = columns; rows = rows } in (
-        with_event history Asked,
+        with_event history Queried,
         (
           subst (λ (tables : List TableDef). NoneApplies (Holds (stored_query_conditions tables asked))) (tables_of g history old kept) sound,
           (

@@ -21,14 +21,14 @@ use Rattle.sql_statements.specs.declared.create.TypeName.TheVariants as type_nam
 use Rattle.sql_statements.specs.declared.statement.InsertRows.{InsertRows}
 use Rattle.catalog_core.specs.create.Creation.{create_conditions, period_matches, some_parent_match, some_match, has_sort, sort_count, exceeds_limits, is_there, lacks_parent, names_other_period, lacks_period, lacks_name, is_ambiguous, is_shared, repeats_name, is_no_value_column, some_no_value, keys_period_column, lacks_one_of_each, has_bad_period, has_bad_system_period, is_bad_type, has_bad_column, is_used_otherwise, has_other_period, is_at, is_key_name, is_named, are_key, names_no_key, references_no_key, is_bad_definition, has_unequal_lists, own_kind, have_other_kinds, names_other_kind, references_other_kind}
 use Rattle.catalog_core.specs.create.Definition.{declared_kind, declared_reference}
-use Rattle.history_model.specs.Histories.{Asked, Changed, Created, History, last_state, new_database, opened, with_event}
+use Rattle.history_model.specs.Histories.{Queried, Changed, Created, History, last_state, new_database, opened, with_event}
 use Rattle.history_model.specs.Versions.{plain_version}
 use Rattle.version_store.specs.Contents.{version_cmp, version_in}
 use Rattle.catalog_core.specs.Flaws.{is_flawed_column, is_flawed_compare, is_flawed_period, is_flawed_test}
 use Rattle.catalog_core.specs.change.PortionChanges.{lacks_named}
 use Rattle.catalog_core.specs.stored.StoredQueries.{is_flawed_stored, stored_conditions}
-use Rattle.catalog_core.specs.change.Insertion.{wanted_names, given_names, lacks_table, lists_unknown, lists_ambiguous, lists_twice, is_system_name, some_system_name, lists_system, lacks_some, some_other_length, has_other_count, is_of_other_kind, is_longer, is_too_long, is_wrong, gives_wrong, has_wrong, given_value, value_for, is_no_period, gives_no_period, has_no_period}
-use Rattle.catalog_core.specs.Judged.{Holds, Judged, first_holding}
+use Rattle.catalog_core.specs.change.Insertion.{wanted_names, given_names, lacks_table, lists_unknown, lists_ambiguous, repeats_column, is_system_name, some_system_name, lists_system, omits_column, has_row_of_other_length, has_other_count, is_of_other_kind, is_longer, is_too_long, is_faulty, gives_faulty_value, has_faulty_value, given_value, value_for, is_no_period, gives_no_period, has_no_period}
+use Rattle.catalog_core.specs.RefusalConditions.{Holds, RefusalCondition, first_holding}
 use Rattle.catalog_core.specs.table.Kinds.{kind_of_type, kind_of_column, same_kind, differ}
 use Rattle.catalog_core.specs.table.Matches.{is_matching, is_of_sort}
 use Rattle.catalog_core.specs.table.Naming.{Name, repeats}
@@ -48,7 +48,7 @@ use Rattle.catalog_core.specs.table.Naming.{matches_among, place_among, some_mat
 use Rattle.catalog_core.specs.table.Naming.{find_among}
 
 -- where no condition is the first that holds, none does
-pub none_if_no_first : (conditions : List Judged) → first_holding conditions ≡ None → NoneApplies (Holds conditions)
+pub none_if_no_first : (conditions : List RefusalCondition) → first_holding conditions ≡ None → NoneApplies (Holds conditions)
 none_if_no_first [] e refusal h = h
 none_if_no_first ((judged, true) ∷ more) e refusal h = cc
 none_if_no_first ((judged, false) ∷ more) e refusal h = elim h [
@@ -161,7 +161,7 @@ no_references (suc (suc place)) child is = cc
 
 -- no condition of a refusal holds for it
 insertion_is_sound : NoneApplies (StatementApplies with_table (statement.insert insertion))
-unfolding matches_among some_match_among def_kind repeats is_matching number_of table_of_name kind_of_column same_kind differ wanted_names given_names lacks_table lists_unknown lists_ambiguous lists_twice is_system_name some_system_name lists_system lacks_some some_other_length has_other_count is_of_other_kind is_longer is_too_long is_wrong gives_wrong has_wrong given_value value_for is_no_period gives_no_period has_no_period is_value_column chars find_among
+unfolding matches_among some_match_among def_kind repeats is_matching number_of table_of_name kind_of_column same_kind differ wanted_names given_names lacks_table lists_unknown lists_ambiguous repeats_column is_system_name some_system_name lists_system omits_column has_row_of_other_length has_other_count is_of_other_kind is_longer is_too_long is_faulty gives_faulty_value has_faulty_value given_value value_for is_no_period gives_no_period has_no_period is_value_column chars find_among
 insertion_is_sound =
     none_if_no_first
     (change_conditions (emp ∷ []) (statement.insert insertion) ++ empty_period (emp ∷ []) (statement.insert insertion) ∷ [])
@@ -218,7 +218,7 @@ one_row : (v : VersionRow) → IsSorted version_cmp (map (version_in 1) (v ∷ [
 one_row v k d low high = absurd (omega arith)
 
 -- the row is shown, and stays
-stored : Step with_row (statement.stored all_of_emp) (Ok (Versions (shown (kept ∷ [])))) (with_event with_row Asked)
+stored : Step with_row (statement.stored all_of_emp) (Ok (Versions (shown (kept ∷ [])))) (with_event with_row Queried)
 unfolding is_flawed_stored is_flawed_test is_flawed_compare is_flawed_column is_flawed_period lacks_named is_matching find_among matches_among differ same_kind kind_of_column def_kind is_value_column number_of table_of_name
 stored = (
   none_if_no_first (stored_conditions (emp ∷ []) (statement.stored all_of_emp)) refl,

@@ -15,9 +15,9 @@ use Rattle.period_core.specs.declared.version.VersionRow.{VersionRow}
 use Rattle.catalog_core.specs.stored.StoredAnswers.{is_shown, meets_tests, shown_versions}
 use Rattle.catalog_core.specs.declared.stored.Stored.{Stored}
 use Rattle.ended_versions.specs.Packed.{seen_through}
-use Rattle.history_model.proofs.LeftFacts.{from_images}
+use Rattle.history_model.proofs.HistoryVersionFacts.{from_images}
 use Rattle.version_store.specs.Contents.{Contents, TableVersion, of_table, version_cmp, version_in}
-use Rattle.script_engine.specs.engine.Shown.{AreShownIn}
+use Rattle.script_engine.specs.engine.VersionLists.{AreShownIn}
 use Rattle.script_engine.proofs.PlanFacts.{one_version}
 use Rattle.script_engine.proofs.ShownFacts.{below, seen_first, versions_sorted}
 

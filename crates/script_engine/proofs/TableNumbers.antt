@@ -5,7 +5,7 @@ use Rattle.period_core.specs.Leasts.{NoneApplies}
 use Rattle.period_core.specs.declared.refusal.Refusal.TheVariants.{LimitReached}
 use Rattle.sql_statements.specs.declared.create.CreateTable.{CreateTable}
 use Rattle.catalog_core.specs.create.Creation.{create_conditions, exceeds_limits}
-use Rattle.catalog_core.specs.Judged.{Holds}
+use Rattle.catalog_core.specs.RefusalConditions.{Holds}
 use Rattle.catalog_core.specs.Limits.{most_tables}
 use Rattle.catalog_core.specs.declared.table.TableDef.{TableDef}
 

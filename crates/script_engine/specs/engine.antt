@@ -5,7 +5,7 @@ pub mod Faults
 pub mod Stored
 pub mod Moved
 pub mod Planned
-pub mod Shown
+pub mod VersionLists
 pub mod Answering
 pub mod Needed
 pub mod Runs

@@ -7,7 +7,7 @@ ghost use Rattle.period_core.specs.declared.version.VersionRow.{VersionRow as Ve
 ghost use Rattle.period_keys.specs.Versions.{begun};
 ghost use Rattle.period_core.specs.declared.refusal.Refusal.TheVariants.{BadStore};
 ghost use Rattle.sqlite.specs.Held.{state};
-ghost use Rattle.version_tables.specs.Presence.{IsNoneThere};
+ghost use Rattle.version_tables.specs.Presence.{HasNoStoreTable};
 ghost use Rattle.version_tables.specs.Steps.{IsAsBefore};
 ghost use Rattle.version_store.specs.Changed.{planned};
 ghost use Rattle.version_store.specs.Contents.{AreRowsOf, Contents};
@@ -31,8 +31,7 @@ ghost use Rattle.sql_statements.specs.Plain.{plain, plain_query, plain_stored};
 ghost use Rattle.sql_statements.specs.Trees.{Statement as StatementModel};
 ghost use Rattle.sql_statements.specs.Trees as statement;
 
-mod answering;
-mod auditing;
+mod audits;
 mod chained;
 mod closed;
 mod in_memory;
@@ -40,16 +39,17 @@ mod indexed;
 mod lawfulness;
 mod needed;
 mod outcome;
-mod shown;
+mod sequenced_queries;
 mod stored;
+mod version_lists;
 
 use crate::engine::closed::{add_versions, apply_closing, remove_versions};
 use crate::engine::indexed::load_lawful;
 use crate::engine::lawfulness::lawful_plan;
 use crate::engine::needed::answer_of;
 use crate::engine::outcome::done;
-use crate::engine::shown::version_columns;
 use crate::engine::stored::shown_by;
+use crate::engine::version_lists::version_columns;
 use catalog_core::{
     Catalog, Change, Plan, define, resolve_delete, resolve_insert, resolve_sequenced,
     resolve_stored_query, resolve_update,
@@ -120,7 +120,7 @@ impl<S: Alter> Engine<S> {
             → EngineRepresents S.Store history engine) }
         ensures good { IfOk result (λ engine. IsUsable S.Store engine.connection
             → IsOurs (state S.Store connection).now.schema
-            → IsNoneThere (state S.Store connection).now.schema
+            → HasNoStoreTable (state S.Store connection).now.schema
             ⊎ (IsGoodStore AreConstrained (state S.Store connection).now
             × ((history : History) × EngineRepresents S.Store history engine))) }
 

@@ -5,8 +5,8 @@
 //!   `statement_reports`;
 //! - a form of change: its word and its count in `engine/outcome.rt` and `specs/engine/Planned`;
 //!   its plan is made by `period_keys` over the rows in memory, which `engine/in_memory.rt` keeps;
-//! - a column of a list of versions: its cell in `statement_reports`, `engine/shown.rt` and
-//!   `specs/engine/Shown`.
+//! - a column of a list of versions: its cell in `statement_reports`, `engine/version_lists.rt` and
+//!   `specs/engine/VersionLists`.
 #![tactic(auto)]
 
 pub mod engine;
@@ -15,9 +15,9 @@ pub mod script;
 
 pub use engine::Engine;
 pub use script::check::check_script;
-pub use script::kept::Kept;
 pub use script::listener::Listener;
 pub use script::over::run_over;
+pub use script::piece_result::PieceResult;
 pub use script::{MOST_BYTES, run, run_audited, run_script};
 pub use snapshot_audit::Verdict;
 pub use statement_reports::{

@@ -24,13 +24,13 @@ ghost use Rattle.script_engine.specs.script.Script.{MayRefuseScript};
 ghost use Rattle.script_engine.specs.script.Script.{TextApplies, most_bytes};
 
 pub mod check;
-pub mod kept;
 pub mod listener;
 pub mod over;
+pub mod piece_result;
 
 use crate::engine::Engine;
-use crate::script::kept::Kept;
 use crate::script::listener::{AllKept, Listener};
+use crate::script::piece_result::PieceResult;
 use period_core::Refusal;
 use sql_front::{LexFault, Span, cut, lex, parse};
 use sql_statements::{Statement, Token};
@@ -119,7 +119,7 @@ pub(crate) fn script_pieces<'a>(alloc: Global, script: &'a [u8]) -> Result<Piece
 }
 
 /// What a run keeps of a piece of a script.
-fn run_piece<S: Alter, K: Kept<S>>(
+fn run_piece<S: Alter, K: PieceResult<S>>(
     alloc: Global,
     engine: &mut Engine<S>,
     script: &str,
@@ -143,7 +143,7 @@ fn run_piece<S: Alter, K: Kept<S>>(
 /// Runs the pieces of a script, one after the other, from any history that the engine represents,
 /// and hands on what it keeps of each. Says whether it came to the last: it ends before where the
 /// listener asks for no more.
-fn run_pieces<S: Alter, K: Kept<S>, L: Listener<K>>(
+fn run_pieces<S: Alter, K: PieceResult<S>, L: Listener<K>>(
     alloc: Global,
     engine: &mut Engine<S>,
     script: &str,
@@ -175,7 +175,7 @@ fn run_pieces<S: Alter, K: Kept<S>, L: Listener<K>>(
 /// and the engine as it is then. An `Err` hands the connection back: it is the refusal of the whole
 /// script, of which nothing is run; out of memory; or, of a script that is sound, why the store is
 /// not opened: 60, 61 or 62. It changes nothing.
-pub fn run<S: Alter, K: Kept<S> + Drop>(
+pub fn run<S: Alter, K: PieceResult<S> + Drop>(
     alloc: Global,
     connection: Connection<S>,
     script: &[u8],

@@ -11,7 +11,7 @@ use Rattle.sequenced_ops.specs.declared.keyed.JoinKey.{JoinKey}
 use Rattle.sequenced_ops.specs.declared.keyed.KeyedRow.{KeyedRow}
 use Rattle.sequenced_ops.specs.declared.keyed.Side.{Side}
 use Rattle.sequenced_ops.specs.declared.keyed.Side.TheVariants.{Left, Right}
-use Rattle.sequenced_ops.specs.Joining.{key_cmp, InPairs, InPairsWith, PairHolds, SidedPair, IsGone, Follows}
+use Rattle.sequenced_ops.specs.Joining.{key_cmp, InPairs, InPairsWith, PairHolds, SidedPair, HasExpired, Follows}
 use Rattle.sequenced_ops.proofs.Keys.{key_cmp_total, key_cmp-same}
 use Rattle.sequenced_ops.proofs.Pairs.{gone-no_pair}
 
@@ -28,7 +28,7 @@ not_after_both a x p q =
     ] refl
 
 -- what is gone for a row is gone for those that follow it
-gone_later : (a x b : KeyedRow) → Follows a x → Follows x b → IsGone a x → IsGone a b
+gone_later : (a x b : KeyedRow) → Follows a x → Follows x b → HasExpired a x → HasExpired a b
 gone_later a x b p q gone same =
     let back : is_lt (key_cmp a.key x.key) ≡ false = subst (λ k. is_lt (key_cmp k x.key) ≡ false) (sym same) q.0 in
     let key : a.key ≡ x.key = not_after_both a.key x.key p.0 back in
@@ -41,7 +41,7 @@ gone_later a x b p q gone same =
 -- the active rows are rows of the side that are done, and each other such row is gone for all that are left
 pub record Active (side : Side) (done active rest : List KeyedRow) : Type 0 where
   pub there : (a : KeyedRow) → Contains active a → Contains done a × (a.side ≡ side)
-  pub others : (a : KeyedRow) → Contains done a → a.side ≡ side → (Contains active a ⊎ ((b : KeyedRow) → Contains rest b → IsGone a b))
+  pub others : (a : KeyedRow) → Contains done a → a.side ≡ side → (Contains active a ⊎ ((b : KeyedRow) → Contains rest b → HasExpired a b))
 
 -- each row that is done comes before each that is left
 abbrev pub DoneBefore : List KeyedRow → List KeyedRow → Type 0
@@ -61,7 +61,7 @@ pub active_met :
     (side : Side) (done active left : List KeyedRow) (x : KeyedRow) (rest : List KeyedRow) → (x.side ≡ side → ⊥)
     → AllPairs Follows (x ∷ rest) → DoneBefore done (x ∷ rest)
     → ((a : KeyedRow) → Contains left a → Contains active a)
-    → ((a : KeyedRow) → Contains active a → (Contains left a ⊎ IsGone a x))
+    → ((a : KeyedRow) → Contains active a → (Contains left a ⊎ HasExpired a x))
     → Active side done active (x ∷ rest) → Active side (done ++ x ∷ []) left rest
 active_met side done active left x rest other up before kept gone old = record {
   there = λ a c. let was = old.there a (kept a c) in (Contains-append_left done (x ∷ []) a was.0, was.1);

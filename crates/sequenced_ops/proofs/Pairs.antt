@@ -13,7 +13,7 @@ use Rattle.sequenced_ops.specs.declared.keyed.KeyedRow.{KeyedRow}
 use Rattle.sequenced_ops.specs.declared.keyed.Side.{Side}
 use Rattle.sequenced_ops.specs.declared.keyed.Side.TheVariants.{Left, Right}
 use Rattle.sequenced_ops.specs.Operations.{Cond}
-use Rattle.sequenced_ops.specs.Joining.{Adds, CanMeet, InPairsWith, PairHolds, SidedPair, IsGone}
+use Rattle.sequenced_ops.specs.Joining.{Adds, CanMeet, InPairsWith, PairHolds, SidedPair, HasExpired}
 use Rattle.sequenced_ops.proofs.Standing.{holds-push}
 
 -- ---- one pair
@@ -44,7 +44,7 @@ pub record PairsLeft (conjuncts : List Cond) (old : List PeriodRow) (row : Keyed
 
 -- each of the active rows is kept, or it is left, or it is gone
 abbrev pub Accounted : KeyedRow → List KeyedRow → List KeyedRow → List KeyedRow → Type 0
-Accounted row active kept rest = (other : KeyedRow) → Contains active other → (Contains kept other ⊎ (Contains rest other ⊎ IsGone other row))
+Accounted row active kept rest = (other : KeyedRow) → Contains active other → (Contains kept other ⊎ (Contains rest other ⊎ HasExpired other row))
 
 pub pairs-cons :
     (row other : KeyedRow) (rest : List KeyedRow) (day : ℤ) (vs : List Value)
@@ -69,7 +69,7 @@ pair-meets Right row other day vs pair = (pair.0, pair.1, pair.2)
 
 -- a row that is gone has no pair
 pub gone-no_pair :
-    (row other : KeyedRow) → IsGone other row → (day : ℤ) (vs : List Value) → SidedPair row.side row other day vs → ⊥
+    (row other : KeyedRow) → HasExpired other row → (day : ℤ) (vs : List Value) → SidedPair row.side row other day vs → ⊥
 gone-no_pair row other gone day vs pair =
     let (same, inside, mine) = pair-meets row.side row other day vs pair in
     let to : day <ℤ other.period.end = days_to other.period day inside in
@@ -78,7 +78,7 @@ gone-no_pair row other gone day vs pair =
     omega (arith, ints)
 
 pub gone_passed :
-    (row other : KeyedRow) (rest : List KeyedRow) → IsGone other row → (day : ℤ) (vs : List Value)
+    (row other : KeyedRow) (rest : List KeyedRow) → HasExpired other row → (day : ℤ) (vs : List Value)
     → (InPairsWith row (other ∷ rest) day vs ↔ InPairsWith row rest day vs)
 gone_passed row other rest gone day vs = (
   λ h. elim ((pairs-cons row other rest day vs).0 h) [ inl pair ↦ absurd (gone-no_pair row other gone day vs pair) | inr more ↦ more ],
@@ -86,7 +86,7 @@ gone_passed row other rest gone day vs = (
 )
 
 pub not_going_on :
-    (row other : KeyedRow) → ((other.key ≡ row.key) × (row.period.start <ℤ other.period.end) → ⊥) → IsGone other row
+    (row other : KeyedRow) → ((other.key ≡ row.key) × (row.period.start <ℤ other.period.end) → ⊥) → HasExpired other row
 not_going_on row other not same =
     by_lt_z {P = other.period.end ≤ℤ row.period.start} row.period.start other.period.end (λ less. absurd (not (same, less))) (λ upto. upto)
 
@@ -117,7 +117,7 @@ module _ (conjuncts : List Cond) (old : List PeriodRow) (row : KeyedRow) (active
   }
 
   pub pairs_left_gone :
-      (rows : List PeriodRow) (other : KeyedRow) (rest : List KeyedRow) → IsGone other row
+      (rows : List PeriodRow) (other : KeyedRow) (rest : List KeyedRow) → HasExpired other row
       → PairsLeft conjuncts old row active rows (other ∷ rest) → PairsLeft conjuncts old row active rows rest
   pairs_left_gone rows other rest gone before = record {
     kept = before.kept;
@@ -156,14 +156,14 @@ accounted_kept row other active kept rest all x c =
 
 -- the next active row is gone
 pub accounted_gone :
-    (row other : KeyedRow) (active kept rest : List KeyedRow) → IsGone other row → Accounted row active kept (other ∷ rest)
+    (row other : KeyedRow) (active kept rest : List KeyedRow) → HasExpired other row → Accounted row active kept (other ∷ rest)
     → Accounted row active kept rest
 accounted_gone row other active kept rest gone all x c =
     elim (all x c) [
       | inl k ↦ inl k
       | inr more ↦ elim more [
         | inl there ↦ elim (Contains-cons_cases other rest x there) [
-          | inl e ↦ inr (inr (subst (λ y. IsGone y row) e gone))
+          | inl e ↦ inr (inr (subst (λ y. HasExpired y row) e gone))
           | inr k ↦ inr (inl k)
         ]
         | inr out ↦ inr (inr out)
@@ -178,7 +178,7 @@ kept_inside active kept other inside mine x c =
 
 pub accounted_all :
     (row : KeyedRow) (active kept : List KeyedRow) → Accounted row active kept [] → (x : KeyedRow) → Contains active x
-    → (Contains kept x ⊎ IsGone x row)
+    → (Contains kept x ⊎ HasExpired x row)
 accounted_all row active kept all x c =
     elim (all x c) [
       | inl k ↦ inl k

@@ -10,7 +10,7 @@ use Rattle.catalog_core.specs.declared.query.AnswerColumn.{AnswerColumn}
 use Rattle.catalog_core.specs.declared.query.resolved.QueryReference.{QueryReference}
 use Rattle.catalog_core.specs.declared.query.resolved.Select.{Select}
 use Rattle.catalog_core.specs.query.Queries.{Query, both, one, rows_for}
-use Rattle.history_model.specs.OrdinaryQuery.{InAnswerOver, InProduct, TableSights, meets_all}
+use Rattle.history_model.specs.OrdinaryQuery.{InAnswerOver, InProduct, VisibleInTables, meets_all}
 use Rattle.history_model.specs.OrdinaryQuery.{read_items}
 use Rattle.sequenced_ops.specs.Operations.{Cond, InDifference, InIntersection, InPairs}
 use Rattle.sequenced_ops.specs.Operations.{InProjection, InUnion, SnapshotsAre}
@@ -131,17 +131,17 @@ pub select_rows
 select_rows tables select reference more columns rows split positions are day row = (
   λ h.
       let (values, (first, rest, a, others, is, met), reads) = (are day row).0 h in
-      let product : InProduct (TableSights tables day) (reference ∷ more) values =
+      let product : InProduct (VisibleInTables tables day) (reference ∷ more) values =
       (first, rest, a, others, is) in (
         values,
-        subst (λ (l : List QueryReference). InProduct (TableSights tables day) l values)
+        subst (λ (l : List QueryReference). InProduct (VisibleInTables tables day) l values)
             (sym split) product,
         met,
         sym (its values) ∙ reads,
       ),
   λ (values, product, met, reads).
       let (first, rest, a, others, is) =
-      subst (λ (l : List QueryReference). InProduct (TableSights tables day) l values) split
+      subst (λ (l : List QueryReference). InProduct (VisibleInTables tables day) l values) split
       product in
       (are day row).1 (values, (first, rest, a, others, is, met), its values ∙ reads),
 )

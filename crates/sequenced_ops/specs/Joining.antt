@@ -113,5 +113,5 @@ Follows a b =
     (is_lt (key_cmp b.key a.key) ≡ false) × (a.key ≡ b.key → a.period.start ≤ℤ b.period.start)
 
 -- the first row has another key than the second, or ends before that begins
-abbrev pub IsGone : KeyedRow → KeyedRow → Type 0
-IsGone other row = other.key ≡ row.key → other.period.end ≤ℤ row.period.start
+abbrev pub HasExpired : KeyedRow → KeyedRow → Type 0
+HasExpired other row = other.key ≡ row.key → other.period.end ≤ℤ row.period.start

@@ -9,7 +9,7 @@ use Rattle.temporal_model.specs.Snapshot.{InSnapshot}
 use Rattle.catalog_core.specs.Conditions.{compares, meets}
 use Rattle.catalog_core.specs.declared.condition.CompareValues.{CompareValues}
 use Rattle.catalog_core.specs.declared.query.resolved.QueryReference.{QueryReference}
-use Rattle.history_model.specs.OrdinaryQuery.{InProduct, TableSights, meets_all}
+use Rattle.history_model.specs.OrdinaryQuery.{InProduct, VisibleInTables, meets_all}
 use Rattle.sequenced_ops.specs.Operations.{Cond, ReadsColumns}
 use Rattle.sequenced_ops.specs.Joining.{IsEqual}
 use Rattle.sequenced_ops.specs.declared.equalities.Equality.{Equality}
@@ -95,5 +95,5 @@ abbrev pub InJoined
     → Type 0
 InJoined tables conjuncts rows references day values =
     (first : List Value) × (rest : List Value)
-    × InSnapshot rows day first × InProduct (TableSights tables day) references rest
+    × InSnapshot rows day first × InProduct (VisibleInTables tables day) references rest
     × (first ++ rest ≡ values) × IsTrue (meets_all conjuncts values)

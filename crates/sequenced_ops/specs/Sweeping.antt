@@ -5,8 +5,10 @@ use Rattle.period_core.specs.Order.{values_cmp}
 use Rattle.period_core.specs.declared.value.Value.{Value}
 use Rattle.period_core.specs.declared.row.PeriodRow.{PeriodRow}
 use Rattle.temporal_model.specs.Snapshot.{InSnapshot}
-use Rattle.sequenced_ops.specs.declared.places.Place.{Place}
-use Rattle.sequenced_ops.specs.declared.places.Place.TheVariants.{Before, After, Overlapping}
+use Rattle.sequenced_ops.specs.declared.relative_positions.RelativePosition.{RelativePosition}
+use Rattle.sequenced_ops.specs.declared.relative_positions.RelativePosition.TheVariants.{Before}
+use Rattle.sequenced_ops.specs.declared.relative_positions.RelativePosition.TheVariants.{After}
+use Rattle.sequenced_ops.specs.declared.relative_positions.RelativePosition.TheVariants.{Overlapping}
 
 -- the row holds the values on the day
 abbrev pub RowHolds : PeriodRow → ℤ → List Value → Type 0
@@ -29,11 +31,11 @@ Overlaps a b =
     (a.values ≡ b.values)
     × (a.period.start <ℤ b.period.end) × (b.period.start <ℤ a.period.end)
 
--- the place is that of the first row from the second
-abbrev pub IsPlace : Place → PeriodRow → PeriodRow → Type 0
-IsPlace Before row other = Precedes row other
-IsPlace After row other = Precedes other row
-IsPlace Overlapping row other = Overlaps row other
+-- the position of the first row, relative to the second
+abbrev pub IsRelativePosition : RelativePosition → PeriodRow → PeriodRow → Type 0
+IsRelativePosition Before row other = Precedes row other
+IsRelativePosition After row other = Precedes other row
+IsRelativePosition Overlapping row other = Overlaps row other
 
 -- what is left of a list holds what the list does of each row that this one precedes, on its days
 abbrev pub KeepsLater : PeriodRow → List PeriodRow → List PeriodRow → Type 0

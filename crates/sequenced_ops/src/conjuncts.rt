@@ -4,7 +4,7 @@ ghost use Rattle.std.specs.Prelude.{◌≡◌, true};
 ghost use Rattle.history_model.specs.OrdinaryQuery.{meets_all};
 ghost use Rattle.sequenced_ops.specs.Planning.{RulesOut};
 
-use crate::deciding::is_refuted;
+use crate::refutation::is_refuted;
 use catalog_core::{Cond, holds};
 use period_core::Value;
 

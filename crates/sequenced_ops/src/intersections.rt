@@ -6,7 +6,7 @@ ghost use Rattle.temporal_model.specs.Snapshot.{InSnapshot};
 ghost use Rattle.sequenced_ops.specs.Operations.{SnapshotsAre, InIntersection};
 ghost use Rattle.sequenced_ops.specs.Sweeping.{IsDisjoint, KeepsLater, RowHolds};
 
-use crate::places::{Place, place_of};
+use crate::relative_positions::{RelativePosition, relative_position};
 use coalesce_core::coalesce;
 use period_core::{Memory, PeriodRow};
 use std::alloc::Global;
@@ -58,10 +58,10 @@ fn push_inside<'a>(
 {
     let mut rest = others;
     'others: while let [other, after @ ..] = rest {
-        match place_of(row, other) {
-            Place::Before => break,
-            Place::After => {}
-            Place::Overlapping => {
+        match relative_position(row, other) {
+            RelativePosition::Before => break,
+            RelativePosition::After => {}
+            RelativePosition::Overlapping => {
                 push_common(alloc, rows, row, other)?;
                 if ends_within(row, other) {
                     return Ok(rest);

@@ -5,7 +5,7 @@ ghost use Rattle.std.specs.Prelude.{IfOk, OnOk, IsTrue};
 ghost use Rattle.period_core.specs.declared.row.PeriodRow.{PeriodRow as Row};
 ghost use Rattle.sequenced_ops.specs.declared.keyed.KeyedRow.{KeyedRow};
 ghost use Rattle.sequenced_ops.specs.Joining.{Adds, Follows, InEqualPairs, InPairs};
-ghost use Rattle.sequenced_ops.specs.Joining.{InPairsWith, IsGone, PairHolds, SidedPair};
+ghost use Rattle.sequenced_ops.specs.Joining.{InPairsWith, HasExpired, PairHolds, SidedPair};
 ghost use Rattle.sequenced_ops.specs.Outputs.{GivesSome};
 ghost use Rattle.sequenced_ops.specs.Planning.{IsPruned};
 
@@ -84,7 +84,7 @@ fn has_key_of(other: &KeyedRow, row: &KeyedRow) -> bool
 }
 
 // Whether the other row has the row's key, and days from the row's first day on.
-fn goes_on(other: &KeyedRow, row: &KeyedRow) -> bool
+fn is_still_active(other: &KeyedRow, row: &KeyedRow) -> bool
     ensures { IsTrue result
         ↔ ((other.now.key ≡ row.now.key) × (row.now.period.start <ℤ other.now.period.end)) }
 {
@@ -105,11 +105,12 @@ fn meet<'a>(
     ensures kept { IfOk result (λ left. (other : KeyedRow) →
         Contains left.items other → Contains active.entry.items other) }
     ensures gone { IfOk result (λ left. (other : KeyedRow) →
-        Contains active.entry.items other → (Contains left.items other ⊎ IsGone other row.now)) }
+        Contains active.entry.items other
+        → (Contains left.items other ⊎ HasExpired other row.now)) }
 {
     let mut left = Vec::new(alloc);
     for other in active {
-        if goes_on(&other, row) {
+        if is_still_active(&other, row) {
             push_pair(alloc, conjuncts, rows, row, &other)?;
             left.push(other)?;
         }

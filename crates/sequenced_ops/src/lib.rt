@@ -7,31 +7,31 @@
 //! right, each by the equalities between it and those before it, and applies a condition as soon as
 //! the values that it needs are there. What the last join finds is selected a batch at a time, so
 //! memory follows the answer and not the pairs. To add a set operator: its case in `run_part` of
-//! `running.rt`, in `InCombined` of history_model, and in `proofs/SelectRows`.
+//! `query_run.rt`, in `InCombined` of history_model, and in `proofs/SelectRows`.
 #![tactic(auto)]
 
 mod columns;
 mod conjuncts;
-mod deciding;
 mod differences;
 mod equalities;
 mod filters;
 mod intersections;
-mod joining;
 mod joins;
+mod key_joins;
 mod keyed;
 mod outputs;
-mod places;
-mod projecting;
+mod projection;
 mod pruning;
-mod running;
-mod selecting;
+mod query_run;
+mod refutation;
+mod relative_positions;
+mod selection;
 mod unions;
 
 pub use conjuncts::is_ruled_out;
 pub use differences::difference;
 pub use intersections::intersection;
-pub use joining::join;
-pub use running::run_query;
-pub use selecting::{select, select_into};
+pub use key_joins::join;
+pub use query_run::run_query;
+pub use selection::{select, select_into};
 pub use unions::union;

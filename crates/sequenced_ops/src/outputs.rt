@@ -7,7 +7,7 @@ ghost use Rattle.temporal_model.specs.Snapshot.{Equivalent, InSnapshot};
 ghost use Rattle.sequenced_ops.specs.Operations.{SnapshotsAre};
 ghost use Rattle.sequenced_ops.specs.Outputs.{InSelected, IsGathered, IsGiven};
 
-use crate::selecting::select_meeting;
+use crate::selection::select_meeting;
 use crate::unions::union;
 use catalog_core::Cond;
 use coalesce_core::coalesce;

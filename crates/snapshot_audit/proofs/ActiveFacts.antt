@@ -10,10 +10,10 @@ use Rattle.temporal_model.proofs.Snapshots.{CoversDay, held, in_snapshot}
 use Rattle.temporal_model.proofs.Members.{Contains-nil}
 use Rattle.catalog_core.specs.declared.query.resolved.QueryReference.{QueryReference}
 use Rattle.catalog_core.specs.query.Queries.{Query, rows_for}
-use Rattle.history_model.specs.OrdinaryQuery.{InAnswerOver, InQuery, TableSights}
-use Rattle.history_model.proofs.Sights.{query_seen}
+use Rattle.history_model.specs.OrdinaryQuery.{InAnswerOver, InQuery, VisibleInTables}
+use Rattle.history_model.proofs.Visible.{query_seen}
 use Rattle.std.specs.Global.{Vec}
-use Rattle.snapshot_audit.specs.ActiveRows.{RowReferences, ContainsRow, AreActive, InActive, ActiveLists, active_lists, active_for, ActiveSights, AllAreActive}
+use Rattle.snapshot_audit.specs.ActiveRows.{RowReferences, ContainsRow, AreActive, InActive, ActiveLists, active_lists, active_for, VisibleInActive, AllAreActive}
 use Rattle.snapshot_audit.proofs.Zips.{zip_at, zip_map}
 
 -- ---- rows by reference
@@ -111,7 +111,7 @@ active_at seen place active inside is =
 pub seen_alike :
     (tables : List (List PeriodRow)) (seen : ActiveLists) (day : ℤ) → AllAreActive tables seen day
     → (reference : QueryReference) (values : List Value)
-    → (ActiveSights seen reference values ↔ TableSights tables day reference values)
+    → (VisibleInActive seen reference values ↔ VisibleInTables tables day reference values)
 seen_alike tables seen day all reference =
     active_snapshot (rows_for tables reference) (active_for seen reference) day
     (zip_at (λ rows active. AreActive rows active day) [] [] (AreActive-none day) tables (active_lists seen) reference.place
@@ -120,6 +120,6 @@ seen_alike tables seen day all reference =
 -- so the query's set by them is that of the day
 pub answered_alike :
     (tables : List (List PeriodRow)) (seen : ActiveLists) (day : ℤ) → AllAreActive tables seen day
-    → (query : Query) (row : List Value) → (InQuery (ActiveSights seen) query row ↔ InAnswerOver query tables day row)
+    → (query : Query) (row : List Value) → (InQuery (VisibleInActive seen) query row ↔ InAnswerOver query tables day row)
 answered_alike tables seen day all query row =
-    query_seen (ActiveSights seen) (TableSights tables day) query (λ reference c. seen_alike tables seen day all reference) row
+    query_seen (VisibleInActive seen) (VisibleInTables tables day) query (λ reference c. seen_alike tables seen day all reference) row

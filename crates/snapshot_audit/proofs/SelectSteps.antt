@@ -10,8 +10,8 @@ use Rattle.temporal_model.proofs.Members.{Contains-nil}
 use Rattle.catalog_core.specs.declared.query.AnswerColumn.{AnswerColumn}
 use Rattle.catalog_core.specs.declared.query.resolved.QueryReference.{QueryReference}
 use Rattle.catalog_core.specs.declared.query.resolved.Select.{Select}
-use Rattle.history_model.specs.OrdinaryQuery.{Sights, InSelect, IsProjection, meets_all, read_items}
-use Rattle.snapshot_audit.specs.ActiveRows.{ActiveLists, RowReferences, active_for, ActiveSights}
+use Rattle.history_model.specs.OrdinaryQuery.{VisibleRows, InSelect, IsProjection, meets_all, read_items}
+use Rattle.snapshot_audit.specs.ActiveRows.{ActiveLists, RowReferences, active_for, VisibleInActive}
 use Rattle.snapshot_audit.specs.Selections.{IsSelected, InRest, InRests}
 
 -- ---- the values of items
@@ -85,7 +85,7 @@ selected_skipped select values rows none other = (
 -- ---- one reference more
 
 pub rest_none :
-    (Sees : Sights) (select : Select) (front row : List Value) → (IsSelected select front row ↔ InRest Sees select [] front row)
+    (Sees : VisibleRows) (select : Select) (front row : List Value) → (IsSelected select front row ↔ InRest Sees select [] front row)
 rest_none Sees select front row = (
   λ h. ([], refl, subst (λ vs. IsSelected select vs row) (sym (append-nil front)) h),
   λ (rest, none, its). subst (λ vs. IsSelected select vs row) (append-nil front) (subst (λ r. IsSelected select (front ++ r) row) none its),
@@ -94,8 +94,8 @@ rest_none Sees select front row = (
 -- a combined row goes on with a row of the first reference, and then with those of the others
 pub rest_more :
     (seen : ActiveLists) (select : Select) (reference : QueryReference) (more : List QueryReference) (front row : List Value)
-    → (InRests (ActiveSights seen) select more front (active_for seen reference) row
-    ↔ InRest (ActiveSights seen) select (reference ∷ more) front row)
+    → (InRests (VisibleInActive seen) select more front (active_for seen reference) row
+    ↔ InRest (VisibleInActive seen) select (reference ∷ more) front row)
 rest_more seen select reference more front row = (
   λ (next, c, (rest, product, its)). (
     next.now.values ++ rest,
@@ -117,7 +117,7 @@ rest_more seen select reference more front row = (
 -- what is added already
 abbrev pub HasRests : ActiveLists → Select → List QueryReference → List Value → List (List Value) → RowReferences → List (List Value) → Type 0
 HasRests seen select more front old active rows =
-    (row : List Value) → (Contains rows row ↔ (Contains old row ⊎ InRests (ActiveSights seen) select more front active row))
+    (row : List Value) → (Contains rows row ↔ (Contains old row ⊎ InRests (VisibleInActive seen) select more front active row))
 
 pub HasRests-none :
     (seen : ActiveLists) (select : Select) (more : List QueryReference) (front : List Value) (old : List (List Value))
@@ -130,7 +130,7 @@ HasRests-none seen select more front old row = (
 pub HasRests-more :
     (seen : ActiveLists) (select : Select) (more : List QueryReference) (front : List Value) (old rows next : List (List Value))
     (active : RowReferences) (r : Bor PeriodRow) → HasRests seen select more front old active rows
-    → ((row : List Value) → (Contains next row ↔ (Contains rows row ⊎ InRest (ActiveSights seen) select more (front ++ r.now.values) row)))
+    → ((row : List Value) → (Contains next row ↔ (Contains rows row ⊎ InRest (VisibleInActive seen) select more (front ++ r.now.values) row)))
     → HasRests seen select more front old (active ++ r ∷ []) next
 HasRests-more seen select more front old rows next active r has step row = (
   λ h. elim ((step row).0 h) [
@@ -144,7 +144,7 @@ HasRests-more seen select more front old rows next active r has step row = (
     | inl was ↦ inl ((has row).1 (inl was))
     | inr (s, c, its) ↦ elim (Contains-push_cases active r s c) [
       | inl before ↦ inl ((has row).1 (inr (s, before, its)))
-      | inr same ↦ inr (subst (λ (x : Bor PeriodRow). InRest (ActiveSights seen) select more (front ++ x.now.values) row) (sym same) its)
+      | inr same ↦ inr (subst (λ (x : Bor PeriodRow). InRest (VisibleInActive seen) select more (front ++ x.now.values) row) (sym same) its)
     ]
   ]),
 )
@@ -168,7 +168,7 @@ HasRests-skip seen select more front old rows active r has none =
 pub HasRests-all :
     (seen : ActiveLists) (select : Select) (reference : QueryReference) (more : List QueryReference) (front : List Value)
     (old rows : List (List Value)) → HasRests seen select more front old (active_for seen reference) rows → (row : List Value)
-    → (Contains rows row ↔ (Contains old row ⊎ InRest (ActiveSights seen) select (reference ∷ more) front row))
+    → (Contains rows row ↔ (Contains old row ⊎ InRest (VisibleInActive seen) select (reference ∷ more) front row))
 HasRests-all seen select reference more front old rows has row =
     let both = rest_more seen select reference more front row in (
       λ h. elim ((has row).0 h) [ inl was ↦ inl was | inr its ↦ inr (both.0 its) ],
@@ -177,7 +177,7 @@ HasRests-all seen select reference more front old rows has row =
 
 -- once no reference is left
 pub rest_done :
-    (Sees : Sights) (select : Select) (front : List Value) (old rows : List (List Value))
+    (Sees : VisibleRows) (select : Select) (front : List Value) (old rows : List (List Value))
     → ((row : List Value) → (Contains rows row ↔ (Contains old row ⊎ IsSelected select front row))) → (row : List Value)
     → (Contains rows row ↔ (Contains old row ⊎ InRest Sees select [] front row))
 rest_done Sees select front old rows step row =
@@ -189,8 +189,8 @@ rest_done Sees select front old rows step row =
 -- of all references, from no values on
 pub selected_all :
     (seen : ActiveLists) (select : Select) (old rows : List (List Value)) → old ≡ []
-    → ((row : List Value) → (Contains rows row ↔ (Contains old row ⊎ InRest (ActiveSights seen) select select.references [] row)))
-    → (row : List Value) → (Contains rows row ↔ InSelect (ActiveSights seen) select row)
+    → ((row : List Value) → (Contains rows row ↔ (Contains old row ⊎ InRest (VisibleInActive seen) select select.references [] row)))
+    → (row : List Value) → (Contains rows row ↔ InSelect (VisibleInActive seen) select row)
 selected_all seen select old rows none step row = (
   λ h. elim ((step row).0 h) [
     | inl was ↦ absurd (Contains-nil row (subst (λ l. Contains l row) none was))

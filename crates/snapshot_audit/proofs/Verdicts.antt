@@ -12,8 +12,8 @@ use Rattle.temporal_model.proofs.Witnesses.{witnessed_by_sets}
 use Rattle.snapshot_audit.specs.ChangeDays.{AreChangeDays, IsConstantBetween, seen_lists}
 use Rattle.snapshot_audit.specs.Faults.{IsFaultless}
 use Rattle.catalog_core.specs.query.Queries.{Query, references_of, rows_for}
-use Rattle.history_model.specs.OrdinaryQuery.{InAnswerOver, TableSights}
-use Rattle.history_model.proofs.Sights.{query_seen}
+use Rattle.history_model.specs.OrdinaryQuery.{InAnswerOver, VisibleInTables}
+use Rattle.history_model.proofs.Visible.{query_seen}
 use Rattle.snapshot_audit.specs.Verdicts.{AgreesAlways, IsConfirmed, SetOnDays}
 use Rattle.snapshot_audit.proofs.Zips.{contains_map}
 use Rattle.snapshot_audit.proofs.Sound.{certified_from_sound, witnesses_from_sound}
@@ -21,7 +21,7 @@ use Rattle.snapshot_audit.proofs.Sound.{certified_from_sound, witnesses_from_sou
 -- between change days the query's sets stay
 pub constant_over : (query : Query) (tables : List (List PeriodRow)) → IsConstantBetween (seen_lists query tables) (InAnswerOver query tables)
 constant_over query tables first second order none row =
-    query_seen (TableSights tables first) (TableSights tables second) query (λ reference c values.
+    query_seen (VisibleInTables tables first) (VisibleInTables tables second) query (λ reference c values.
     constant_between (rows_for tables reference) first second order (none (rows_for tables reference) (contains_map (rows_for tables) (references_of query) reference c)) values) row
 
 pub confirmed :

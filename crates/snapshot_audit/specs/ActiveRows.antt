@@ -6,7 +6,7 @@ use Rattle.std.specs.List.{AllZip}
 use Rattle.period_core.specs.declared.row.PeriodRow.{PeriodRow}
 use Rattle.period_core.specs.declared.value.Value.{Value}
 use Rattle.catalog_core.specs.declared.query.resolved.QueryReference.{QueryReference}
-use Rattle.history_model.specs.OrdinaryQuery.{Sights}
+use Rattle.history_model.specs.OrdinaryQuery.{VisibleRows}
 
 -- rows by reference
 abbrev pub RowReferences : Type 0
@@ -43,8 +43,8 @@ abbrev pub active_for : ActiveLists → QueryReference → RowReferences
 active_for seen reference = slice_index_or (active_lists seen) reference.place []
 
 -- so each reference sees the values of these rows
-abbrev pub ActiveSights : ActiveLists → Sights
-ActiveSights seen reference values = InActive (active_for seen reference) values
+abbrev pub VisibleInActive : ActiveLists → VisibleRows
+VisibleInActive seen reference values = InActive (active_for seen reference) values
 
 -- each has those rows of its list that cover the day
 abbrev pub AllAreActive : List (List PeriodRow) → ActiveLists → ℤ → Type 0

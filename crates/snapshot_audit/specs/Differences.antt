@@ -9,7 +9,7 @@ use Rattle.sql_statements.specs.declared.tree.SetOperator.{SetOperator}
 use Rattle.sql_statements.specs.declared.tree.SetOperator.TheVariants.{Union, Except, Intersect}
 use Rattle.catalog_core.specs.declared.query.resolved.Select.{Select}
 use Rattle.catalog_core.specs.query.Queries.{Query, one, both}
-use Rattle.history_model.specs.OrdinaryQuery.{InCombined, InSelect, TableSights}
+use Rattle.history_model.specs.OrdinaryQuery.{InCombined, InSelect, VisibleInTables}
 use Rattle.snapshot_audit.specs.Staggered.{AreStaggered}
 use Rattle.snapshot_audit.specs.Verdicts.{AgreesAlways}
 
@@ -36,7 +36,7 @@ is_combined Intersect first second = first && second
 
 -- what the select gives on a day
 abbrev pub InSelectOn : List (List PeriodRow) → Select → ℤ → List Value → Type 0
-InSelectOn tables select day row = InSelect (TableSights tables day) select row
+InSelectOn tables select day row = InSelect (VisibleInTables tables day) select row
 
 -- for each select, in the order of the text, a staggered list that holds on each day what it gives
 abbrev pub AreRowsOf : List (List PeriodRow) → Query → List (List PeriodRow) → Type 0

@@ -6,7 +6,7 @@ use Rattle.period_core.specs.declared.value.Value.{Value}
 use Rattle.temporal_model.specs.Snapshot.{InSnapshot}
 use Rattle.catalog_core.specs.declared.query.resolved.QueryReference.{QueryReference}
 use Rattle.catalog_core.specs.declared.query.resolved.Select.{Select}
-use Rattle.history_model.specs.OrdinaryQuery.{Sights, InProduct, IsProjection, meets_all}
+use Rattle.history_model.specs.OrdinaryQuery.{VisibleRows, InProduct, IsProjection, meets_all}
 use Rattle.snapshot_audit.specs.declared.combined_rows.CombinedOutput.{CombinedOutput}
 use Rattle.snapshot_audit.specs.declared.combined_rows.CombinedOutput.TheVariants.{Front}
 use Rattle.snapshot_audit.specs.declared.combined_rows.CombinedOutput.TheVariants.{SelectList}
@@ -18,12 +18,12 @@ IsSelected select values row =
     IsTrue (meets_all select.conjuncts values) × IsProjection select.items values row
 
 -- the select list's row of a combined row that begins with these values
-abbrev pub InRest : Sights → Select → List QueryReference → List Value → List Value → Type 0
+abbrev pub InRest : VisibleRows → Select → List QueryReference → List Value → List Value → Type 0
 InRest Sees select references front row =
     (rest : List Value) × InProduct Sees references rest × IsSelected select (front ++ rest) row
 
 -- the same where the values of one of these rows come next
-abbrev pub InRests : Sights → Select → List QueryReference → List Value → RowReferences
+abbrev pub InRests : VisibleRows → Select → List QueryReference → List Value → RowReferences
     → List Value → Type 0
 InRests Sees select references front active row =
     (next : Bor PeriodRow) × Contains active next
@@ -44,8 +44,8 @@ IsKept select SelectList values row = IsSelected select values row
 
 -- the select list's rows of the combined rows that begin with values that these rows hold on the
 -- day, and go on with rows of these references
-abbrev pub InRestOn : (ℤ → Sights) → Select → List QueryReference → List PeriodRow → ℤ → List Value
-    → Type 0
+abbrev pub InRestOn : (ℤ → VisibleRows) → Select → List QueryReference → List PeriodRow → ℤ
+    → List Value → Type 0
 InRestOn Sees select references fronts day row =
     (front : List Value) × InSnapshot fronts day front
     × InRest (Sees day) select references front row

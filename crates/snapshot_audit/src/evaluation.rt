@@ -3,7 +3,7 @@
 ghost use Rattle.std.specs.Prelude.{IfOk};
 ghost use Rattle.catalog_core.specs.query.Queries.{plain_query};
 ghost use Rattle.history_model.specs.OrdinaryQuery.{InAnswerOver, InQuery};
-ghost use Rattle.snapshot_audit.specs.ActiveRows.{ActiveSights};
+ghost use Rattle.snapshot_audit.specs.ActiveRows.{VisibleInActive};
 ghost use Rattle.snapshot_audit.specs.Sets.{ListsSet};
 
 use crate::selects::selected_set;
@@ -20,7 +20,7 @@ pub(crate) fn evaluated(
     seen: &[Vec<&PeriodRow>],
 ) -> Result<Vec<Values>, Memory>
     ensures { IfOk result (λ set.
-        ListsSet (InQuery (ActiveSights seen.now) (plain_query query.now)) set.items) }
+        ListsSet (InQuery (VisibleInActive seen.now) (plain_query query.now)) set.items) }
 {
     match query {
         Query::Select(select) => selected_set(alloc, select, seen),

@@ -7,8 +7,8 @@ ghost use Rattle.snapshot_audit.specs.Pairs.{Adds, AreJoined, Begun, InAny, InEa
 ghost use Rattle.snapshot_audit.specs.Pairs.{InPair, Sided};
 
 use crate::combined_rows::{CombinedOutput, kept, side_by_side};
+use crate::exclusion::is_ruled_out;
 use crate::keys::{KeyedEntry, beginning_within, by_key};
-use crate::ruling_out::is_ruled_out;
 use crate::shared_columns::shared_columns;
 use crate::staggered::staggered;
 use catalog_core::resolved::Select;

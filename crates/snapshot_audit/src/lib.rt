@@ -4,17 +4,17 @@
 //! depends on neither coalescing nor the operators on period rows, and they do not on it.
 #![tactic(auto)]
 
-mod auditing;
+mod answer_audit;
 mod combined_rows;
 mod days;
 mod differences;
 mod evaluation;
+mod exclusion;
 mod gaps;
 mod joins;
 mod keys;
 mod laws;
 mod query_rows;
-mod ruling_out;
 mod select_rows;
 mod selects;
 mod set_operations;
@@ -25,7 +25,7 @@ mod staggered;
 mod verdict;
 mod witness_check;
 
-pub use auditing::audit;
+pub use answer_audit::audit;
 pub use days::change_days;
 pub use evaluation::eval_on;
 pub use laws::constant_between_change_days;

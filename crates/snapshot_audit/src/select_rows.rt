@@ -4,7 +4,7 @@ ghost use Rattle.std.specs.Prelude.{◌≡◌, ◌↔◌, ◌<◌, ◌∷◌, �
 ghost use Rattle.period_core.specs.Calendar.{first_day, last_day};
 ghost use Rattle.period_core.specs.declared.value.Value.{Value as ColumnValue};
 ghost use Rattle.temporal_model.specs.Snapshot.{InSnapshot};
-ghost use Rattle.history_model.specs.OrdinaryQuery.{TableSights};
+ghost use Rattle.history_model.specs.OrdinaryQuery.{VisibleInTables};
 ghost use Rattle.snapshot_audit.specs.Differences.{InSelectOn};
 ghost use Rattle.snapshot_audit.specs.Selections.{InRestOn};
 ghost use Rattle.snapshot_audit.specs.Verdicts.{AgreesAlways};
@@ -36,7 +36,7 @@ fn rest_rows(
 ) -> Result<Vec<PeriodRow>, Memory>
     requires { 0 < length references.now }
     ensures { IfOk result (λ rows. (day : ℤ) (row : List ColumnValue) →
-        (InSnapshot rows.items day row ↔ InRestOn (TableSights tables.now) select.now
+        (InSnapshot rows.items day row ↔ InRestOn (VisibleInTables tables.now) select.now
         references.now fronts.now day row)) }
 {
     let [reference, more @ ..] = references else {

@@ -3,12 +3,12 @@
 ghost use Rattle.std.specs.Prelude.{◌≡◌, ◌↔◌, ◌⊎◌, ◌++◌, List, Contains, IfOk, MatchOption, OnOk};
 ghost use Rattle.period_core.specs.declared.value.Value.{Value as ColumnValue};
 ghost use Rattle.history_model.specs.OrdinaryQuery.{InSelect, IsProjection, meets_all};
-ghost use Rattle.snapshot_audit.specs.ActiveRows.{ActiveSights};
+ghost use Rattle.snapshot_audit.specs.ActiveRows.{VisibleInActive};
 ghost use Rattle.snapshot_audit.specs.Selections.{InRest, IsSelected};
 ghost use Rattle.snapshot_audit.specs.Sets.{ListsSet};
 
 use crate::combined_rows::{selected, side_by_side};
-use crate::ruling_out::is_ruled_out;
+use crate::exclusion::is_ruled_out;
 use crate::sets::sorted_once;
 use catalog_core::resolved::{QueryReference, Select};
 use period_core::{Memory, PeriodRow, Value, Values};
@@ -47,7 +47,7 @@ fn add_rest(
     ensures { OnOk result ((row : List ColumnValue) →
         (Contains rows.new.items row
         ↔ (Contains rows.old.items row
-        ⊎ InRest (ActiveSights seen.now) select.now references.now front.now row))) }
+        ⊎ InRest (VisibleInActive seen.now) select.now references.now front.now row))) }
 {
     let [reference, more @ ..] = references else {
         return add_selected(alloc, rows, select, front);
@@ -72,7 +72,7 @@ pub(crate) fn selected_set(
     seen: &[Vec<&PeriodRow>],
 ) -> Result<Vec<Values>, Memory>
     ensures { IfOk result
-        (λ set. ListsSet (InSelect (ActiveSights seen.now) select.now) set.items) }
+        (λ set. ListsSet (InSelect (VisibleInActive seen.now) select.now) set.items) }
 {
     let mut rows = Vec::new(alloc);
     add_rest(

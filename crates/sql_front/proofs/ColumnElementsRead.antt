@@ -3,13 +3,13 @@ use Rattle.std.proofs.Common.{List, [], ◌∷◌, refl, codes}
 use Rattle.sql_statements.specs.declared.create.Generated.TheVariants.{Start, End}
 use Rattle.sql_statements.specs.declared.create.TypeName.{TypeName}
 use Rattle.sql_statements.specs.declared.create.TypeName.TheVariants.{Integer, Date, Varchar, Timestamp}
-use Rattle.sql_front.specs.Language.{Language, keyword, symbol, Built, Choice, Fixed, Optional, Preceded, StandsFor}
+use Rattle.sql_front.specs.Language.{Language, keyword, symbol, Built, Choice, Fixed, Optional, Preceded, Denotes}
 use Rattle.sql_front.specs.Builders.{column_of, column_element}
 use Rattle.sql_front.proofs.ReadGrammar.{IsLength, IsType, IsGenerated, IsNotNull, IsColumnElement}
 use Rattle.sql_front.specs.reading.Reading.{Reader, built_read, preceded_read}
 use Rattle.sql_front.specs.reading.ElementReaders.{length_read, type_read, row_end_read, generated_read, not_null_read, column_element_read, timestamp_read}
-use Rattle.sql_front.proofs.First.{Starts, starts_built, starts_choice, starts_preceded, starts_sequence, starts_stands}
-use Rattle.sql_front.proofs.Laws.{Any, Reads, reads_both, reads_built, reads_fixed, reads_preceded, reads_stands}
+use Rattle.sql_front.proofs.First.{Starts, starts_built, starts_choice, starts_preceded, starts_sequence, starts_denotes}
+use Rattle.sql_front.proofs.Laws.{Any, Reads, reads_both, reads_built, reads_fixed, reads_preceded, reads_denotes}
 use Rattle.sql_front.proofs.Sorts.{Next, Sort, a_name, any_of, leads_optional, leads_sequence, reads_both_next, reads_choice_next, reads_enclosed_next, reads_next, reads_optional_next, sign, word}
 use Rattle.sql_front.proofs.NamesRead.{reads_name, reads_number, starts_name}
 
@@ -86,13 +86,13 @@ reads_varying =
 reads_type : Reads IsType (Next after_type) type_read
 unfolding type_read
 reads_type =
-    let integer = starts_stands Integer (keyword (codes "INTEGER")) in
-    let date = starts_stands Date (keyword (codes "DATE")) in
+    let integer = starts_denotes Integer (keyword (codes "INTEGER")) in
+    let date = starts_denotes Date (keyword (codes "DATE")) in
     let without_two = starts_choice starts_varchar (starts_choice starts_varying starts_timestamp) in
     reads_choice_next (word (codes "INTEGER") ∷ []) other_types refl integer (starts_choice date without_two)
-    (reads_next after_type (reads_stands Integer (keyword (codes "INTEGER"))))
+    (reads_next after_type (reads_denotes Integer (keyword (codes "INTEGER"))))
     (reads_choice_next (word (codes "DATE") ∷ []) other_types_1 refl date without_two
-    (reads_next after_type (reads_stands Date (keyword (codes "DATE"))))
+    (reads_next after_type (reads_denotes Date (keyword (codes "DATE"))))
     (reads_choice_next (word (codes "VARCHAR") ∷ []) other_types_2 refl starts_varchar (starts_choice starts_varying starts_timestamp)
     (reads_next after_type (reads_built Varchar (reads_preceded (keyword (codes "VARCHAR")) reads_length)))
     (reads_choice_next (word (codes "CHARACTER") ∷ []) other_types_3 refl starts_varying starts_timestamp
@@ -100,13 +100,13 @@ reads_type =
     reads_timestamp)))
 
 -- START | END
-reads_row_end : Reads (Choice (StandsFor Start (keyword (codes "START"))) (StandsFor End (keyword (codes "END")))) Any row_end_read
+reads_row_end : Reads (Choice (Denotes Start (keyword (codes "START"))) (Denotes End (keyword (codes "END")))) Any row_end_read
 unfolding row_end_read
 reads_row_end =
-    let start = starts_stands Start (keyword (codes "START")) in
-    let end = starts_stands End (keyword (codes "END")) in
+    let start = starts_denotes Start (keyword (codes "START")) in
+    let end = starts_denotes End (keyword (codes "END")) in
     reads_choice_next (word (codes "START") ∷ []) (word (codes "END") ∷ []) refl start end
-    (reads_stands Start (keyword (codes "START"))) (reads_stands End (keyword (codes "END")))
+    (reads_denotes Start (keyword (codes "START"))) (reads_denotes End (keyword (codes "END")))
 
 -- ---- what follows a type
 

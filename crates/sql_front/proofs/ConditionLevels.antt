@@ -7,7 +7,7 @@ use Rattle.sql_statements.specs.declared.statement.PeriodOperand.TheVariants.{Na
 use Rattle.sql_statements.specs.declared.statement.PeriodPredicate.{PeriodPredicate}
 use Rattle.sql_statements.specs.declared.statement.PeriodPredicate.TheVariants.{Overlaps, Equals, Contains, Precedes, Succeeds, ImmediatelyPrecedes, ImmediatelySucceeds}
 use Rattle.sql_statements.specs.declared.statement.StoredTest.TheVariants.{Values}
-use Rattle.sql_front.specs.Language.{Language, keyword, symbol, Enclosed, StandsFor}
+use Rattle.sql_front.specs.Language.{Language, keyword, symbol, Enclosed, Denotes}
 use Rattle.sql_statements.specs.Trees.{Condition, negated, test}
 use Rattle.sql_front.specs.Builders.{all_of, any_of, column_reference_of, compare_of, contains_day_of, dates_of, periods_of}
 use Rattle.sql_front.specs.Grammar.{ConditionBelow, IsCondition, IsConjunction, IsFactor, IsTest, IsWhere}
@@ -25,7 +25,7 @@ level_column k = level_built column_reference_of (level_sequence (level_name k) 
 level_operand : (k : ℕ) → Level k IsOperand IsOperand
 level_operand k = level_choice (level_built Column (level_column k)) (level_built Literal (level_literal k))
 
-level_sign : (k : ℕ) (c : Comparison) (s : List ℕ) → bytes_eq s (codes "(") ≡ false → bytes_eq s (codes ")") ≡ false → Level k (StandsFor c (symbol s)) (StandsFor c (symbol s))
+level_sign : (k : ℕ) (c : Comparison) (s : List ℕ) → bytes_eq s (codes "(") ≡ false → bytes_eq s (codes ")") ≡ false → Level k (Denotes c (symbol s)) (Denotes c (symbol s))
 level_sign k c s e f = level_stands k c (plain_symbol s e f)
 
 level_comparison : (k : ℕ) → Level k IsComparison IsComparison
@@ -47,7 +47,7 @@ level_period_operand k =
     level_choice (level_built dates_of (level_preceded (plain_keyword (codes "PERIOD")) (level_enclosed_same k (λ j. level_sequence (level_date j) (level_preceded plain_comma (level_date j))))))
     (level_built Named (level_column k))
 
-level_word : (k : ℕ) (r : PeriodPredicate) (w : List ℕ) → Level k (StandsFor r (keyword w)) (StandsFor r (keyword w))
+level_word : (k : ℕ) (r : PeriodPredicate) (w : List ℕ) → Level k (Denotes r (keyword w)) (Denotes r (keyword w))
 level_word k r w = level_stands k r (plain_keyword w)
 
 level_relation : (k : ℕ) → Level k IsRelation IsRelation

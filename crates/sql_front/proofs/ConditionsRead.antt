@@ -4,17 +4,17 @@ use Rattle.sql_statements.specs.declared.statement.Comparison.{Comparison}
 use Rattle.sql_statements.specs.declared.statement.Comparison.TheVariants.{Equal, NotEqual, Less, LessOrEqual, Greater, GreaterOrEqual}
 use Rattle.sql_statements.specs.declared.statement.Operand.TheVariants.{Column, Literal}
 use Rattle.sql_statements.specs.Lexemes.{Lexeme}
-use Rattle.sql_front.specs.Language.{Language, keyword, symbol, Built, Choice, Enclosed, Fixed, Optional, Preceded, Sequence, StandsFor}
+use Rattle.sql_front.specs.Language.{Language, keyword, symbol, Built, Choice, Enclosed, Fixed, Optional, Preceded, Sequence, Denotes}
 use Rattle.sql_statements.specs.Trees.{Condition, negated, test}
 use Rattle.sql_front.specs.Builders.{all_of, column_reference_of, compare_of}
 use Rattle.sql_front.specs.Grammar.{ConditionBelow, IsCondition, IsConjunction, IsFactor, IsTest, IsWhere}
 use Rattle.sql_front.proofs.ReadGrammar.{IsColumn, IsCompare, IsComparison, IsName, IsOperand}
 use Rattle.sql_front.specs.Builders as builders
-use Rattle.sql_front.specs.reading.Reading.{Reader, stands_read}
+use Rattle.sql_front.specs.reading.Reading.{Reader, denotes_read}
 use Rattle.sql_front.specs.reading.ConditionReaders.{column_read, compare_read, comparison_read, condition_read, condition_with, conjunction_read, conjunction_with, factor_read, factor_with, inner_read, operand_read, test_read, test_with, where_read}
-use Rattle.sql_front.proofs.First.{Starts, begins_apart, or_apart, starts_built, starts_choice, starts_preceded, starts_sequence, starts_stands}
+use Rattle.sql_front.proofs.First.{Starts, begins_apart, or_apart, starts_built, starts_choice, starts_preceded, starts_sequence, starts_denotes}
 use Rattle.period_core.proofs.OptionFacts.{none_some}
-use Rattle.sql_front.proofs.Laws.{Any, Not, Reads, reads_both, reads_built, reads_choice, reads_optional, reads_preceded, reads_sequence, reads_stands, reads_weaken}
+use Rattle.sql_front.proofs.Laws.{Any, Not, Reads, reads_both, reads_built, reads_choice, reads_optional, reads_preceded, reads_sequence, reads_denotes, reads_weaken}
 use Rattle.sql_front.proofs.LeavesRead.{reads_literal, starts_literal}
 use Rattle.sql_front.proofs.NamesRead.{reads_name, starts_name}
 use Rattle.sql_front.proofs.Sorts.{Next, Sort, a_name, a_number, a_text, all_differ, any_of, apart_lists, next_not, reads_choice_next, reads_enclosed_next, reads_less, reads_next, reads_optional_next, reads_separated_next, sign, word}
@@ -68,13 +68,13 @@ abbrev pub comparison_firsts : List Sort
 comparison_firsts = sign (codes "=") ∷ not_equal_firsts
 
 abbrev Stands : Comparison → List ℕ → Language Comparison
-Stands c s = StandsFor c (symbol s)
+Stands c s = Denotes c (symbol s)
 
 starts_sign : (c : Comparison) (s : List ℕ) → Starts (any_of (sign s ∷ [])) (Stands c s)
-starts_sign c s = starts_stands c (symbol s)
+starts_sign c s = starts_denotes c (symbol s)
 
-reads_sign : (c : Comparison) (s : List ℕ) → Reads (Stands c s) Any (stands_read c (symbol s))
-reads_sign c s = reads_stands c (symbol s)
+reads_sign : (c : Comparison) (s : List ℕ) → Reads (Stands c s) Any (denotes_read c (symbol s))
+reads_sign c s = reads_denotes c (symbol s)
 
 abbrev IsGreater : Language Comparison
 IsGreater = Choice (Stands Greater (codes ">")) (Stands GreaterOrEqual (codes ">="))

@@ -7,7 +7,7 @@ use Rattle.std.proofs.lemmas.Slice.Eq.{bytes_eq-Decides}
 use Rattle.sql_statements.specs.declared.token.TokenKind.{TokenKind}
 use Rattle.sql_statements.specs.declared.token.TokenKind.TheVariants.{Word, Number, Text, Symbol}
 use Rattle.sql_statements.specs.Lexemes.{Lexeme}
-use Rattle.sql_front.specs.Language.{keyword, symbol, number, text, or_test, is_word, is_number, is_text, is_symbol, OneToken, Fixed, Sequence, Built, Choice, Preceded, PrecededOrNot, StandsFor}
+use Rattle.sql_front.specs.Language.{keyword, symbol, number, text, or_test, is_word, is_number, is_text, is_symbol, OneToken, Fixed, Sequence, Built, Choice, Preceded, PrecededOrNot, Denotes}
 use Rattle.sql_front.specs.reading.Reading.{begins}
 
 -- no token meets both
@@ -120,8 +120,8 @@ pub begins_apart : {a b : Lexeme → Bool} → Apart a b → (z : List Lexeme) �
 begins_apart r [] e = absurd cc
 begins_apart r (t ∷ z) e = r.apart t e
 
-pub starts_stands : {A : Type 0} (a : A) (test : Lexeme → Bool) → Starts test (StandsFor a test)
-starts_stands a test = starts_built (λ (nothing : Unit {0}). a) (starts_fixed test)
+pub starts_denotes : {A : Type 0} (a : A) (test : Lexeme → Bool) → Starts test (Denotes a test)
+starts_denotes a test = starts_built (λ (nothing : Unit {0}). a) (starts_fixed test)
 
 pub starts_preceded_or_not : {A : Type 0} {other : Lexeme → Bool} (test : Lexeme → Bool) {L : List Lexeme → A → Type 0} → Starts other L → Starts (or_test test other) (PrecededOrNot test L)
 starts_preceded_or_not test {L} s = starts_choice (starts_preceded test L) s

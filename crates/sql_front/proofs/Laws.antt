@@ -3,9 +3,9 @@ use Rattle.std.proofs.Common.{◌≡◌, ℕ, zero, suc, ◌≤◌, ◌<◌, Boo
 use Rattle.period_core.proofs.OptionFacts.{bind_some, if_some, none_some, some_is}
 use Rattle.sql_front.proofs.First.{Apart, Starts, starts_preceded, begins_apart}
 use Rattle.sql_statements.specs.Lexemes.{Lexeme}
-use Rattle.sql_front.specs.Language.{OneToken, Fixed, Sequence, Built, Choice, Repetition, Optional, Preceded, PrecededOrNot, StandsFor, Separated, Enclosed, symbol}
+use Rattle.sql_front.specs.Language.{OneToken, Fixed, Sequence, Built, Choice, Repetition, Optional, Preceded, PrecededOrNot, Denotes, Separated, Enclosed, symbol}
 use Rattle.period_core.specs.TextReading.{◌>>=◌}
-use Rattle.sql_front.specs.reading.Reading.{Reader, one_read, fixed_read, sequence_read, built_read, begins, choice_read, bounded_read, repetition_read, optional_read, preceded_read, preceded_or_not_read, stands_read, separated_read, enclosed_read}
+use Rattle.sql_front.specs.reading.Reading.{Reader, one_read, fixed_read, sequence_read, built_read, begins, choice_read, bounded_read, repetition_read, optional_read, preceded_read, preceded_or_not_read, denotes_read, separated_read, enclosed_read}
 
 -- what p reads is of the language, and what is of the language is read by p wherever it may be followed so
 pub record Reads {A : Type 0} (L : List Lexeme → A → Type 0) (Follow : List Lexeme → Type 0) (p : Reader A) : Type 0 where
@@ -192,8 +192,8 @@ reads_preceded_or_not {A} {test} {other} {L} {F} {p} s apart r =
     }
 
 -- a token that stands for a value
-pub reads_stands : {A : Type 0} (a : A) (test : Lexeme → Bool) → Reads (StandsFor a test) Any (stands_read a test)
-reads_stands a test = reads_built (λ (nothing : Unit {0}). a) (reads_fixed test)
+pub reads_denotes : {A : Type 0} (a : A) (test : Lexeme → Bool) → Reads (Denotes a test) Any (denotes_read a test)
+reads_denotes a test = reads_built (λ (nothing : Unit {0}). a) (reads_fixed test)
 
 -- what is enclosed may be followed by the closing one
 pub reads_enclosed : {A : Type 0} {L : List Lexeme → A → Type 0} {F : List Lexeme → Type 0} {p : Reader A} → Reads L F p → ((y : List Lexeme) → begins (symbol (codes ")")) y ≡ true → F y) → Reads (Enclosed L) Any (enclosed_read p)

@@ -1,8 +1,8 @@
 -- Reading names with commas up to a comma and a keyword, as a loop does.
 use Rattle.std.proofs.Common.{◌≡◌, ℕ, ◌<◌, true, List, [], ◌∷◌, ◌++◌, length, Option, Some, None, refl, arith}
 use Rattle.std.proofs.lemmas.Bool.{and_parts}
-use Rattle.sql_front.specs.declared.unread.Unread.{Unread}
-use Rattle.sql_front.specs.declared.unread.Unread.TheVariants as unread
+use Rattle.sql_front.specs.declared.read_error.ReadError.{ReadError}
+use Rattle.sql_front.specs.declared.read_error.ReadError.TheVariants as error
 use Rattle.sql_statements.specs.Lexemes.{Lexeme}
 use Rattle.sql_front.specs.reading.Gives.{Fails}
 use Rattle.sql_front.specs.Grammar.{comma, name}
@@ -34,10 +34,10 @@ leading_first ts a rest e = record {
   makes = rw e (first_front a (bounded_read one_more_name next_name (length rest) rest));
 }
 
-pub leading_fails_first : (fault : Unread) (ts : List Lexeme) → Fails fault (name_read ts) → Fails fault (leading_names_read ts)
+pub leading_fails_first : (fault : ReadError) (ts : List Lexeme) → Fails fault (name_read ts) → Fails fault (leading_names_read ts)
 unfolding leading_names_read more_names_read
-leading_fails_first unread.Memory ts h = tt
-leading_fails_first unread.Syntax ts h = rw h refl
+leading_fails_first error.Memory ts h = tt
+leading_fails_first error.Syntax ts h = rw h refl
 
 -- where one more name comes, a comma does
 pub comma_first : (ts : List Lexeme) → one_more_name ts ≡ true → begins comma ts ≡ true
@@ -54,13 +54,13 @@ pub leading_on : (front : List (List ℕ)) (rest between after : List Lexeme) (x
 leading_on front rest between after x whole more e f less g =
     going_on one_more_name next_name front rest after x whole more (next_found rest between after x e f) less g
 
-next_fails : (fault : Unread) (rest between : List Lexeme)
+next_fails : (fault : ReadError) (rest between : List Lexeme)
     → fixed_read comma rest ≡ Some (tt, between) → Fails fault (name_read between) → Fails fault (next_name rest)
-next_fails unread.Memory rest between e f = tt
-next_fails unread.Syntax rest between e f = rw (e, f) refl
+next_fails error.Memory rest between e f = tt
+next_fails error.Syntax rest between e f = rw (e, f) refl
 
 -- where a name fails, the whole does
-pub leading_fails : (fault : Unread) (front : List (List ℕ)) (rest between : List Lexeme) (whole : Option (List (List ℕ) × List Lexeme))
+pub leading_fails : (fault : ReadError) (front : List (List ℕ)) (rest between : List Lexeme) (whole : Option (List (List ℕ) × List Lexeme))
     → one_more_name rest ≡ true → fixed_read comma rest ≡ Some (tt, between) → Fails fault (name_read between)
     → Leading front rest whole → Fails fault whole
 leading_fails fault front rest between whole more e f g =

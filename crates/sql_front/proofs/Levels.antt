@@ -3,7 +3,7 @@ use Rattle.std.proofs.Common.{◌≡◌, ℕ, zero, suc, Bool, true, false, List
 use Rattle.std.specs.Str.{bytes_eq}
 use Rattle.std.proofs.lemmas.Bool.{cases_Bool}
 use Rattle.sql_statements.specs.Lexemes.{Lexeme}
-use Rattle.sql_front.specs.Language.{keyword, symbol, number, text, OneToken, Fixed, Sequence, Built, StandsFor, Choice, Repetition, Optional, Preceded, PrecededOrNot, Separated, Enclosed}
+use Rattle.sql_front.specs.Language.{keyword, symbol, number, text, OneToken, Fixed, Sequence, Built, Denotes, Choice, Repetition, Optional, Preceded, PrecededOrNot, Separated, Enclosed}
 use Rattle.sql_front.specs.Grammar.{name}
 use Rattle.sql_front.specs.Depth.{opens, closes, room}
 use Rattle.period_core.specs.TextReading.{◌>>=◌}
@@ -157,7 +157,7 @@ plain_name = record { opening = apart_kinds name_kind (symbol_kind (codes "(")) 
 pub plain_symbol : (s : List ℕ) → bytes_eq s (codes "(") ≡ false → bytes_eq s (codes ")") ≡ false → Plain (symbol s)
 plain_symbol s e f = record { opening = symbols_apart s (codes "(") e; closing = symbols_apart s (codes ")") f }
 
-pub level_stands : {A : Type 0} (k : ℕ) (a : A) {test : Lexeme → Bool} → Plain test → Level k (StandsFor a test) (StandsFor a test)
+pub level_stands : {A : Type 0} (k : ℕ) (a : A) {test : Lexeme → Bool} → Plain test → Level k (Denotes a test) (Denotes a test)
 level_stands k a p = level_built (λ (nothing : Unit {0}). a) (level_fixed k p)
 
 -- what opens no parentheses of its own, in parentheses

@@ -9,7 +9,7 @@ use Rattle.sql_front.specs.LiteralValues.{NamesClockMoment, NamesDay, NamesMomen
 use Rattle.period_core.specs.Encoding.{greatest_number}
 use Rattle.sql_front.specs.reading.LeafValues.{clock_value, day_value, moment_value, negative_value, number_value, up_to}
 use Rattle.sql_front.specs.Literals.{Anything, any_value, exact}
-use Rattle.sql_front.specs.StandIns.{stand_in}
+use Rattle.sql_front.specs.Placeholders.{placeholders}
 use Rattle.sql_front.specs.Builders.{number_of, text_of}
 use Rattle.sql_front.specs.Grammar.{IsClockMoment, IsDate, IsLiteral, IsMoment, IsNumber, IsTuple, comma}
 use Rattle.sql_front.specs.LiteralFaults.{ends_in_minus, limit_behind}
@@ -87,19 +87,19 @@ module _ {B : Type 0} {first second : Lexeme → Bool} where
 
 -- ---- days and moments
 
-pub readings_date : Readings (IsDate exact) (IsDate stand_in) (IsDate any_value)
+pub readings_date : Readings (IsDate exact) (IsDate placeholders) (IsDate any_value)
 readings_date =
     readings_two NamesDay day_value day_only text_no_minus
     (λ x t f. day_named t.other.text (λ never. f.dates ([], t.one, t.other, [], t.at, (t.begins, t.ends, never))))
 
-pub readings_moment : Readings (IsMoment exact) (IsMoment stand_in) (IsMoment any_value)
+pub readings_moment : Readings (IsMoment exact) (IsMoment placeholders) (IsMoment any_value)
 readings_moment =
     readings_two NamesMoment moment_value moment_only text_no_minus
     (λ x t f. moment_named t.other.text (λ never. f.moments (inl ([], t.one, t.other, [], t.at, (t.begins, t.ends, never)))))
 
 -- a moment before the open end, behind AT or OF
 module _ {first : Lexeme → Bool} (before : (t : Lexeme) → first t ≡ true → or_test (keyword (codes "AT")) (keyword (codes "OF")) t ≡ true) where
-  clock_exact : (x : List Lexeme) (m : ℤ) → NoFault x → Preceded first (IsClockMoment stand_in) x m → Preceded first (IsClockMoment exact) x m
+  clock_exact : (x : List Lexeme) (m : ℤ) → NoFault x → Preceded first (IsClockMoment placeholders) x m → Preceded first (IsClockMoment exact) x m
   clock_exact x m f h =
       let one = h.2.3.0 in
       let at : x ≡ one ∷ h.2.1 = h.2.2 ∙ ap (λ (z : List Lexeme). z ++ h.2.1) h.2.3.2 in
@@ -107,14 +107,14 @@ module _ {first : Lexeme → Bool} (before : (t : Lexeme) → first t ≡ true �
       clock_named t.other.text (λ never. f.moments (inr ([], one, t.one, t.other, [], at ∙ ap (λ (z : List Lexeme). one ∷ z) t.at, before one h.2.3.1, t.begins, t.ends, never))) in
       (h.0, h.1, (h.2.0, h.2.1, h.2.2, h.2.3, two_exact NamesClockMoment clock_value clock_only h.2.1 h.0.1 named h.2.4))
 
-  clock_minus : (x : List Lexeme) (m : ℤ) → Preceded first (IsClockMoment stand_in) x m → ends_in_minus x ≡ false
+  clock_minus : (x : List Lexeme) (m : ℤ) → Preceded first (IsClockMoment placeholders) x m → ends_in_minus x ≡ false
   clock_minus x m h =
       let t = (related_two (λ w c. c ≡ clock_value w) h.2.1 h.0.1 h.2.4).0 in
       let one = h.2.3.0 in
       let at : x ≡ one ∷ t.one ∷ t.other ∷ [] = h.2.2 ∙ ap (λ (z : List Lexeme). z ++ h.2.1) h.2.3.2 ∙ ap (λ (z : List Lexeme). one ∷ z) t.at in
       ap ends_in_minus at ∙ text_no_minus.minus.apart t.other t.ends
 
-  pub readings_clock_moment : Readings (Preceded first (IsClockMoment exact)) (Preceded first (IsClockMoment stand_in)) (Preceded first (IsClockMoment any_value))
+  pub readings_clock_moment : Readings (Preceded first (IsClockMoment exact)) (Preceded first (IsClockMoment placeholders)) (Preceded first (IsClockMoment any_value))
   readings_clock_moment = record {
     sharp = λ x m f h. (clock_exact x m f h, clock_minus x m h);
     known = λ x m h. (h.0, h.1, (h.2.0, h.2.1, h.2.2, h.2.3, two_known NamesClockMoment clock_value clock_only h.2.1 h.0.1 h.2.4));
@@ -159,7 +159,7 @@ number_within x t at is f = within greatest_number (number_of_digits t.text) (λ
 behind_minus : (t : Lexeme) → symbol (codes "-") t ≡ true → limit_behind (t ∷ []) ≡ greatest_number + 1
 behind_minus t e = rw e refl
 
-pub readings_number : Readings (IsNumber exact) (IsNumber stand_in) (IsNumber any_value)
+pub readings_number : Readings (IsNumber exact) (IsNumber placeholders) (IsNumber any_value)
 readings_number = record {
   sharp = λ x n f h.
       let t = h.2.0 in
@@ -170,7 +170,7 @@ readings_number = record {
   some = λ x n h. (number_value h.0, (h.0, refl, h.2));
 }
 
-readings_negative : Readings (Preceded (symbol (codes "-")) exact.minus_number) (Preceded (symbol (codes "-")) stand_in.minus_number) (Preceded (symbol (codes "-")) any_value.minus_number)
+readings_negative : Readings (Preceded (symbol (codes "-")) exact.minus_number) (Preceded (symbol (codes "-")) placeholders.minus_number) (Preceded (symbol (codes "-")) any_value.minus_number)
 readings_negative =
     readings_two NamesNegative negative_value negative_only number_no_minus
     (λ x t f. negative_named t.other.text (within (greatest_number + 1) (number_of_digits t.other.text)
@@ -178,7 +178,7 @@ readings_negative =
 
 -- ---- literals
 
-pub readings_literal : Readings (IsLiteral exact) (IsLiteral stand_in) (IsLiteral any_value)
+pub readings_literal : Readings (IsLiteral exact) (IsLiteral placeholders) (IsLiteral any_value)
 readings_literal =
     readings_choice (readings_built number_of (readings_preceded_or_not (symbol_no_minus (codes "+") refl) readings_number))
     (readings_choice (readings_built value.Int readings_negative)
@@ -187,5 +187,5 @@ readings_literal =
 pub comma_no_minus : NoMinus comma
 comma_no_minus = symbol_no_minus (codes ",") refl
 
-pub readings_tuple : Readings (IsTuple exact) (IsTuple stand_in) (IsTuple any_value)
+pub readings_tuple : Readings (IsTuple exact) (IsTuple placeholders) (IsTuple any_value)
 readings_tuple = readings_enclosed (readings_separated comma_no_minus readings_literal)

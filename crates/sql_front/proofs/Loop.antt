@@ -1,8 +1,8 @@
 -- Reading a list with separators, as a loop does.
 use Rattle.std.proofs.Common.{◌≡◌, ℕ, zero, suc, ◌≤◌, ◌<◌, Bool, true, false, List, [], ◌∷◌, ◌++◌, length, Option, Some, None, refl, sym, ap, ◌∙◌, append_assoc, arith, inl, inr}
 use Rattle.std.proofs.lemmas.List.{append-nil}
-use Rattle.sql_front.specs.declared.unread.Unread.{Unread}
-use Rattle.sql_front.specs.declared.unread.Unread.TheVariants as unread
+use Rattle.sql_front.specs.declared.read_error.ReadError.{ReadError}
+use Rattle.sql_front.specs.declared.read_error.ReadError.TheVariants as error
 use Rattle.sql_statements.specs.Lexemes.{Lexeme}
 use Rattle.sql_front.specs.reading.Gives.{Fails}
 use Rattle.period_core.specs.TextReading.{◌>>=◌}
@@ -73,10 +73,10 @@ module _ {A : Type 0} (sep : Lexeme → Bool) (q : Reader A) where
       sym so_far ∙ one
 
   -- where an item fails, the whole does
-  pub fails : (fault : Unread) (front : List A) (rest between : List Lexeme) (whole : Option (List A × List Lexeme)) → begins sep rest ≡ true → fixed_read sep rest ≡ Some (tt, between) → Fails fault (q between)
+  pub fails : (fault : ReadError) (front : List A) (rest between : List Lexeme) (whole : Option (List A × List Lexeme)) → begins sep rest ≡ true → fixed_read sep rest ≡ Some (tt, between) → Fails fault (q between)
       → Goes sep q front rest whole → Fails fault whole
-  fails unread.Memory front rest between whole starts e f g = tt
-  fails unread.Syntax front rest between whole starts e f g = fails_by g.count front rest between whole starts e f g.enough g.makes
+  fails error.Memory front rest between whole starts e f g = tt
+  fails error.Syntax front rest between whole starts e f g = fails_by g.count front rest between whole starts e f g.enough g.makes
 
 -- ---- repetition with no separator
 
@@ -126,9 +126,9 @@ module _ {A : Type 0} (d : List Lexeme → Bool) (p : Reader A) where
       sym so_far ∙ one
 
   -- where an item fails, the whole does
-  pub going_fails : (fault : Unread) (front : List A) (rest : List Lexeme) (whole : Option (List A × List Lexeme)) → d rest ≡ true → 0 < length rest → Fails fault (p rest) → Going d p front rest whole → Fails fault whole
-  going_fails unread.Memory front rest whole goes some e g = tt
-  going_fails unread.Syntax front rest whole goes some e g = going_fails_by g.count front rest whole goes e (some_tokens rest g.count some g.enough) g.makes
+  pub going_fails : (fault : ReadError) (front : List A) (rest : List Lexeme) (whole : Option (List A × List Lexeme)) → d rest ≡ true → 0 < length rest → Fails fault (p rest) → Going d p front rest whole → Fails fault whole
+  going_fails error.Memory front rest whole goes some e g = tt
+  going_fails error.Syntax front rest whole goes some e g = going_fails_by g.count front rest whole goes e (some_tokens rest g.count some g.enough) g.makes
 
 -- what begins so is not empty
 pub begins_some : (test : Lexeme → Bool) (rest : List Lexeme) → begins test rest ≡ true → 0 < length rest
@@ -136,12 +136,12 @@ begins_some test [] e = absurd cc
 begins_some test (t ∷ rest) e = omega arith
 
 -- fixed_read separator that begins the rest is skipped
-pub no_fail : (sep : Lexeme → Bool) (fault : Unread) (rest : List Lexeme) → begins sep rest ≡ true → Fails fault (fixed_read sep rest) → fault ≡ unread.Memory
-no_fail sep unread.Memory rest starts e = refl
-no_fail sep unread.Syntax [] starts e = absurd cc
-no_fail sep unread.Syntax (t ∷ rest) starts e = absurd (none_some (tt {0}, rest) (sym e ∙ rw starts refl))
+pub no_fail : (sep : Lexeme → Bool) (fault : ReadError) (rest : List Lexeme) → begins sep rest ≡ true → Fails fault (fixed_read sep rest) → fault ≡ error.Memory
+no_fail sep error.Memory rest starts e = refl
+no_fail sep error.Syntax [] starts e = absurd cc
+no_fail sep error.Syntax (t ∷ rest) starts e = absurd (none_some (tt {0}, rest) (sym e ∙ rw starts refl))
 
 -- what stands for f of what fails, fails
-pub mapped_fails : {A B : Type 0} (f : A → B) (fault : Unread) (read : Option (A × List Lexeme)) → Fails fault read → Fails {Y = B × List Lexeme} fault (read >>= λ x. Some (f x.0, x.1))
-mapped_fails f unread.Memory read h = tt
-mapped_fails f unread.Syntax read h = rw h refl
+pub mapped_fails : {A B : Type 0} (f : A → B) (fault : ReadError) (read : Option (A × List Lexeme)) → Fails fault read → Fails {Y = B × List Lexeme} fault (read >>= λ x. Some (f x.0, x.1))
+mapped_fails f error.Memory read h = tt
+mapped_fails f error.Syntax read h = rw h refl

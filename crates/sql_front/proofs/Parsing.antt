@@ -6,8 +6,8 @@ use Rattle.period_core.specs.Leasts.{MayAnswer}
 use Rattle.period_core.specs.declared.refusal.Refusal.{Refusal}
 use Rattle.period_core.specs.declared.refusal.Refusal.TheVariants.{Syntax, TooDeep, BadDate, BadMoment, NumberRange}
 use Rattle.sql_statements.specs.declared.statement.Statement as statements
-use Rattle.sql_front.specs.declared.unread.Unread.{Unread}
-use Rattle.sql_front.specs.declared.unread.Unread.TheVariants as unread
+use Rattle.sql_front.specs.declared.read_error.ReadError.{ReadError}
+use Rattle.sql_front.specs.declared.read_error.ReadError.TheVariants as error
 use Rattle.sql_front.specs.Depth.{most_open}
 use Rattle.sql_statements.specs.Lexemes.{Lexeme}
 use Rattle.sql_statements.specs.Trees.{Statement}
@@ -25,12 +25,12 @@ use Rattle.sql_front.proofs.Whole.{is_none}
 -- ---- all of the tokens
 
 -- what is read at the greatest depth is spelled so, with stand-ins
-pub read_is_spelled : (ls : List Lexeme) (result : Result statements.Statement Unread) → Gives plain result (whole_read (statement_read most_open) ls) → IfOk result (λ s. IsStatement ls (plain s))
+pub read_is_spelled : (ls : List Lexeme) (result : Result statements.Statement ReadError) → Gives plain result (whole_read (statement_read most_open) ls) → IfOk result (λ s. IsStatement ls (plain s))
 read_is_spelled ls (Ok s) given = read_spelled 32 ls (plain s) given
 read_is_spelled ls (Err e) given = tt
 
 -- where it is not too deep, nothing else is spelled
-pub unread_is_none : (ls : List Lexeme) (result : Result statements.Statement Unread) → Gives plain result (whole_read (statement_read most_open) ls) → result ≡ Err unread.Syntax → (IsTooDeep ls → ⊥) → SpellsNone ls
+pub unread_is_none : (ls : List Lexeme) (result : Result statements.Statement ReadError) → Gives plain result (whole_read (statement_read most_open) ls) → result ≡ Err error.Syntax → (IsTooDeep ls → ⊥) → SpellsNone ls
 unread_is_none ls result given e shallow s spelled =
     let t = some_read ls s spelled in
     is_none (reads_statement 32) plain (next_end []) ls result given e t.0 (at_depth 32 ls t.0 shallow t.1)

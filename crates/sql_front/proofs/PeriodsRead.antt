@@ -4,14 +4,14 @@ use Rattle.sql_statements.specs.declared.statement.PeriodOperand.{PeriodOperand}
 use Rattle.sql_statements.specs.declared.statement.PeriodOperand.TheVariants.{Named}
 use Rattle.sql_statements.specs.declared.statement.PeriodPredicate.{PeriodPredicate}
 use Rattle.sql_statements.specs.declared.statement.PeriodPredicate.TheVariants.{Overlaps, Equals, Contains, Precedes, Succeeds, ImmediatelyPrecedes, ImmediatelySucceeds}
-use Rattle.sql_front.specs.Language.{Language, keyword, Built, Choice, Enclosed, Preceded, Sequence, StandsFor}
+use Rattle.sql_front.specs.Language.{Language, keyword, Built, Choice, Enclosed, Preceded, Sequence, Denotes}
 use Rattle.sql_front.specs.Builders.{dates_of}
 use Rattle.sql_front.specs.Grammar.{comma}
 use Rattle.sql_front.proofs.ReadGrammar.{IsColumn, IsDate, IsPeriodOperand, IsRelation}
-use Rattle.sql_front.specs.reading.Reading.{begins, choice_read, stands_read}
+use Rattle.sql_front.specs.reading.Reading.{begins, choice_read, denotes_read}
 use Rattle.sql_front.specs.reading.PredicateReaders.{period_operand_read, relation_read, dates_read}
-use Rattle.sql_front.proofs.First.{Starts, starts_built, starts_choice, starts_preceded, starts_stands}
-use Rattle.sql_front.proofs.Laws.{Any, Reads, reads_both, reads_built, reads_preceded, reads_stands}
+use Rattle.sql_front.proofs.First.{Starts, starts_built, starts_choice, starts_preceded, starts_denotes}
+use Rattle.sql_front.proofs.Laws.{Any, Reads, reads_both, reads_built, reads_preceded, reads_denotes}
 use Rattle.sql_front.proofs.LeavesRead.{reads_date}
 use Rattle.sql_front.proofs.Sorts.{Next, Sort, a_name, all_differ, any_of, reads_choice_next, reads_enclosed_next, reads_next, sign, word}
 use Rattle.sql_front.proofs.ConditionsRead.{reads_column_next, starts_column}
@@ -58,13 +58,13 @@ abbrev pub relation_firsts : List Sort
 relation_firsts = word (codes "OVERLAPS") ∷ equals_firsts
 
 abbrev Stands : PeriodPredicate → List ℕ → Language PeriodPredicate
-Stands r w = StandsFor r (keyword w)
+Stands r w = Denotes r (keyword w)
 
 pub starts_word : (r : PeriodPredicate) (w : List ℕ) → Starts (any_of (word w ∷ [])) (Stands r w)
-starts_word r w = starts_stands r (keyword w)
+starts_word r w = starts_denotes r (keyword w)
 
-reads_word : (r : PeriodPredicate) (w : List ℕ) → Reads (Stands r w) Any (stands_read r (keyword w))
-reads_word r w = reads_stands r (keyword w)
+reads_word : (r : PeriodPredicate) (w : List ℕ) → Reads (Stands r w) Any (denotes_read r (keyword w))
+reads_word r w = reads_denotes r (keyword w)
 
 abbrev Either : PeriodPredicate → PeriodPredicate → Language PeriodPredicate
 Either r s = Choice (Stands r (codes "PRECEDES")) (Stands s (codes "SUCCEEDS"))
@@ -72,7 +72,7 @@ Either r s = Choice (Stands r (codes "PRECEDES")) (Stands s (codes "SUCCEEDS"))
 starts_either : (r s : PeriodPredicate) → Starts (any_of order_firsts) (Either r s)
 starts_either r s = starts_choice (starts_word r (codes "PRECEDES")) (starts_word s (codes "SUCCEEDS"))
 
-reads_either : (r s : PeriodPredicate) → Reads (Either r s) Any (choice_read (begins (keyword (codes "PRECEDES"))) (stands_read r (keyword (codes "PRECEDES"))) (stands_read s (keyword (codes "SUCCEEDS"))))
+reads_either : (r s : PeriodPredicate) → Reads (Either r s) Any (choice_read (begins (keyword (codes "PRECEDES"))) (denotes_read r (keyword (codes "PRECEDES"))) (denotes_read s (keyword (codes "SUCCEEDS"))))
 reads_either r s = reads_choice_next (word (codes "PRECEDES") ∷ []) (word (codes "SUCCEEDS") ∷ []) refl (starts_word r (codes "PRECEDES")) (starts_word s (codes "SUCCEEDS")) (reads_word r (codes "PRECEDES")) (reads_word s (codes "SUCCEEDS"))
 
 abbrev IsImmediate : Language PeriodPredicate

@@ -14,7 +14,7 @@ use Rattle.sql_front.specs.Grammar.{name, IsWhere}
 use Rattle.sql_front.proofs.ReadGrammar.{IsColumn, IsCompare, IsDate, IsName, IsOperand, IsPeriodOperand, IsPredicate, IsRelation, IsStoredTest}
 use Rattle.sql_front.specs.reading.Reading.{begins}
 use Rattle.sql_front.specs.reading.ConditionReaders.{where_read}
-use Rattle.sql_front.specs.reading.PredicateReaders.{Said, begins_contains_date, contains_day, predicate_ahead, predicate_read, related, relation_behind_column, relation_word, said_of, said_read, stored_test_read}
+use Rattle.sql_front.specs.reading.PredicateReaders.{PredicateTail, begins_contains_date, contains_day, predicate_ahead, predicate_read, related, relation_behind_column, relation_word, predicate_of, tail_read, stored_test_read}
 use Rattle.sql_front.proofs.First.{Starts, begins_apart, starts_built, starts_preceded, starts_sequence}
 use Rattle.sql_front.proofs.Laws.{Reads, reads_both, reads_built, reads_decided, reads_preceded, reads_weaken}
 use Rattle.sql_front.proofs.LeavesRead.{reads_date, starts_date, starts_literal}
@@ -24,14 +24,14 @@ use Rattle.sql_front.proofs.PeriodsRead.{next_to_firsts, period_firsts, reads_pe
 
 -- ---- what is said of a period
 
-abbrev IsContainsDay : Language Said
+abbrev IsContainsDay : Language PredicateTail
 IsContainsDay = Built contains_day (Preceded (keyword (codes "CONTAINS")) IsDate)
 
-abbrev IsRelated : Language Said
+abbrev IsRelated : Language PredicateTail
 IsRelated = Built related (Sequence IsRelation IsPeriodOperand)
 
-abbrev IsSaid : Language Said
-IsSaid = Choice IsContainsDay IsRelated
+abbrev IsPredicateTail : Language PredicateTail
+IsPredicateTail = Choice IsContainsDay IsRelated
 
 contains_date_first : (t : Lexeme) (z : List Lexeme) → keyword (codes "CONTAINS") t ≡ true → begins (keyword (codes "DATE")) z ≡ true → begins_contains_date (t ∷ z) ≡ true
 unfolding begins_contains_date
@@ -46,7 +46,7 @@ unfolding begins_contains_date
 no_contains [] e = refl
 no_contains (t ∷ z) e = rw e refl
 
-day_decides : (x : List Lexeme) (s : Said) (rest : List Lexeme) → IsContainsDay x s → begins_contains_date (x ++ rest) ≡ true
+day_decides : (x : List Lexeme) (s : PredicateTail) (rest : List Lexeme) → IsContainsDay x s → begins_contains_date (x ++ rest) ≡ true
 day_decides x s rest h =
     let p = h.2.2 in
     let split : x ++ rest ≡ p.3.0 ∷ (p.1 ++ rest) = ap (λ (z : List Lexeme). z ++ rest) p.2 ∙ append_assoc p.0 p.1 rest ∙ ap (λ (z : List Lexeme). z ++ (p.1 ++ rest)) p.3.2 in
@@ -64,14 +64,14 @@ related_by x r z (inr (inr (inl h))) f =
     ap (λ (y : List Lexeme). begins_contains_date (y ++ z)) t.2 ∙ contains_other t.0 z f
 related_by x r z (inr (inr (inr h))) f = begins_other next_to_firsts refl (x ++ z) (starts_next_to.at x r z h)
 
-related_decides : (x : List Lexeme) (s : Said) (rest : List Lexeme) → IsRelated x s → begins_contains_date (x ++ rest) ≡ false
+related_decides : (x : List Lexeme) (s : PredicateTail) (rest : List Lexeme) → IsRelated x s → begins_contains_date (x ++ rest) ≡ false
 related_decides x s rest h =
     let p = h.2 in
     let split : x ++ rest ≡ p.0 ++ (p.1 ++ rest) = ap (λ (z : List Lexeme). z ++ rest) p.2 ∙ append_assoc p.0 p.1 rest in
     let no_date = begins_apart (apart_lists period_firsts (word (codes "DATE") ∷ []) refl) (p.1 ++ rest) (starts_period_operand.at p.1 h.0.1 rest p.4) in
     ap begins_contains_date split ∙ related_by p.0 h.0.0 (p.1 ++ rest) p.3 no_date
 
-reads_said : Reads IsSaid (Next test_ends) said_read
+reads_said : Reads IsPredicateTail (Next test_ends) tail_read
 reads_said =
     reads_weaken (Next test_ends) (λ rest n. (n, n))
     (reads_decided begins_contains_date (reads_next test_ends (reads_built contains_day (reads_preceded (keyword (codes "CONTAINS")) reads_date)))
@@ -83,7 +83,7 @@ begins_included : (v w : List Sort) → included v w ≡ true → (z : List Lexe
 begins_included v w e [] h = absurd cc
 begins_included v w e (t ∷ z) h = elim (next_begins v w e (t ∷ z) h).at [ inl n ↦ absurd cc | inr b ↦ b ]
 
-starts_said : Starts (any_of relation_firsts) IsSaid
+starts_said : Starts (any_of relation_firsts) IsPredicateTail
 starts_said = record {
   at = λ x s z h. elim h [
     | inl k ↦ begins_included (word (codes "CONTAINS") ∷ []) relation_firsts refl (x ++ z) ((starts_built contains_day (starts_preceded (keyword (codes "CONTAINS")) IsDate)).at x s z k)
@@ -94,7 +94,7 @@ starts_said = record {
 -- ---- predicates: the first period stands before the choice
 
 abbrev IsSaidOf : Language StoredTest
-IsSaidOf = Built said_of (Sequence IsPeriodOperand IsSaid)
+IsSaidOf = Built predicate_of (Sequence IsPeriodOperand IsPredicateTail)
 
 split_off : (x : List Lexeme) (t : StoredTest) → IsPredicate x t → IsSaidOf x t
 split_off x t (inl h) = ((h.0.0, related h.0.1), h.1, (h.2.0, h.2.1, h.2.2, h.2.3, inr (h.0.1, refl, h.2.4)))
@@ -102,13 +102,13 @@ split_off x t (inr h) = ((h.0.0, contains_day h.0.1), h.1, (h.2.0, h.2.1, h.2.2,
 
 put_back : (x : List Lexeme) (t : StoredTest) → IsSaidOf x t → IsPredicate x t
 put_back x t h = elim h.2.4 [
-  | inl k ↦ inr ((h.0.0, k.0), h.1 ∙ ap (λ (s : Said). said_of (h.0.0, s)) k.1, (h.2.0, h.2.1, h.2.2, h.2.3, k.2))
-  | inr k ↦ inl ((h.0.0, k.0), h.1 ∙ ap (λ (s : Said). said_of (h.0.0, s)) k.1, (h.2.0, h.2.1, h.2.2, h.2.3, k.2))
+  | inl k ↦ inr ((h.0.0, k.0), h.1 ∙ ap (λ (s : PredicateTail). predicate_of (h.0.0, s)) k.1, (h.2.0, h.2.1, h.2.2, h.2.3, k.2))
+  | inr k ↦ inl ((h.0.0, k.0), h.1 ∙ ap (λ (s : PredicateTail). predicate_of (h.0.0, s)) k.1, (h.2.0, h.2.1, h.2.2, h.2.3, k.2))
 ]
 
 reads_said_of : Reads IsSaidOf (Next test_ends) predicate_read
 unfolding predicate_read
-reads_said_of = reads_built said_of (reads_both_next (reads_period_operand relation_firsts refl) reads_said (leads_starts relation_firsts relation_firsts test_ends refl starts_said))
+reads_said_of = reads_built predicate_of (reads_both_next (reads_period_operand relation_firsts refl) reads_said (leads_starts relation_firsts relation_firsts test_ends refl starts_said))
 
 reads_predicate : Reads IsPredicate (Next test_ends) predicate_read
 reads_predicate = record {
@@ -203,7 +203,7 @@ stored_test_firsts = word (codes "PERIOD") ∷ operand_firsts
 pub starts_stored_test : Starts (any_of stored_test_firsts) IsStoredTest
 starts_stored_test = record {
   at = λ x t z h. elim h [
-    | inl k ↦ let s = split_off x t k in begins_included period_firsts stored_test_firsts refl (x ++ z) ((starts_built said_of (starts_sequence IsSaid starts_period_operand)).at x t z s)
+    | inl k ↦ let s = split_off x t k in begins_included period_firsts stored_test_firsts refl (x ++ z) ((starts_built predicate_of (starts_sequence IsPredicateTail starts_period_operand)).at x t z s)
     | inr k ↦ begins_included operand_firsts stored_test_firsts refl (x ++ z) ((starts_built Values starts_compare).at x t z k)
   ];
 }

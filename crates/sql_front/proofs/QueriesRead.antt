@@ -3,18 +3,18 @@ use Rattle.std.proofs.Common.{◌≡◌, ℕ, zero, suc, true, List, [], ◌∷�
 use Rattle.sql_statements.specs.declared.tree.SetOperator.{SetOperator}
 use Rattle.sql_statements.specs.declared.tree.SetOperator.TheVariants.{Union, Except, Intersect}
 use Rattle.sql_statements.specs.Lexemes.{Lexeme}
-use Rattle.sql_front.specs.Language.{keyword, symbol, Choice, Enclosed, Fixed, Built, Optional, Preceded, PrecededOrNot, Repetition, Separated, Sequence, StandsFor}
+use Rattle.sql_front.specs.Language.{keyword, symbol, Choice, Enclosed, Fixed, Built, Optional, Preceded, PrecededOrNot, Repetition, Separated, Sequence, Denotes}
 use Rattle.sql_statements.specs.Trees.{Query, simple}
 use Rattle.sql_front.specs.Builders.{chain_of, combined_of, item_of, join_of, select_of, table_reference_of, term_of}
 use Rattle.sql_front.specs.Grammar.{comma, ConditionBelow, IsWhere}
 use Rattle.sql_front.specs.Grammar.{QueryBelow}
-use Rattle.sql_front.specs.StandIns.{stand_in}
+use Rattle.sql_front.specs.Placeholders.{placeholders}
 use Rattle.sql_front.proofs.ReadGrammar.{IsChain, IsCompare, IsIntersection, IsItem, IsJoin, IsNewName, IsPrimary, IsQuery, IsReference, IsSelect, IsSequenced, IsStep, IsTerm}
 use Rattle.sql_front.specs.reading.Reading.{Reader}
 use Rattle.sql_front.specs.reading.QueryReaders.{chain_read, inner_query_read, intersection_read, intersection_with, intersections_read, intersections_with, item_read, join_read, joins_read, new_name_read, operator_read, primary_read, primary_with, query_of_primaries, query_read, reference_read, select_read, sequenced_read, step_read, step_with, steps_read, steps_with, selected_read, from_read, joined_read, term_of_primaries, term_read}
-use Rattle.sql_front.proofs.First.{Starts, starts_built, starts_choice, starts_preceded, starts_preceded_or_not, starts_sequence, starts_stands}
+use Rattle.sql_front.proofs.First.{Starts, starts_built, starts_choice, starts_preceded, starts_preceded_or_not, starts_sequence, starts_denotes}
 use Rattle.period_core.proofs.OptionFacts.{none_some}
-use Rattle.sql_front.proofs.Laws.{Any, Reads, reads_both, reads_built, reads_preceded, reads_preceded_or_not, reads_stands}
+use Rattle.sql_front.proofs.Laws.{Any, Reads, reads_both, reads_built, reads_preceded, reads_preceded_or_not, reads_denotes}
 use Rattle.sql_front.proofs.NamesRead.{reads_name, starts_name}
 use Rattle.sql_front.proofs.Sorts.{a_name, all_differ, any_of, apart_lists, leads_optional, leads_repetition, leads_starts, Next, reads_both_next, reads_choice_next, reads_enclosed_next, reads_less, reads_next, reads_optional_next, reads_repetition_next, reads_separated_next, sign, Sort, word}
 use Rattle.sql_front.proofs.ConditionsRead.{condition_ends, reads_column_next, reads_compare_condition, reads_compare_where, starts_where, where_ends}
@@ -127,17 +127,17 @@ abbrev pub primary_firsts : List Sort
 primary_firsts = sign (codes "(") ∷ word (codes "SELECT") ∷ []
 
 abbrev IsOperator : List Lexeme → SetOperator → Type 0
-IsOperator = Choice (StandsFor Union (keyword (codes "UNION"))) (StandsFor Except (keyword (codes "EXCEPT")))
+IsOperator = Choice (Denotes Union (keyword (codes "UNION"))) (Denotes Except (keyword (codes "EXCEPT")))
 
 starts_operator : Starts (any_of step_firsts) IsOperator
-starts_operator = starts_choice (starts_stands Union (keyword (codes "UNION"))) (starts_stands Except (keyword (codes "EXCEPT")))
+starts_operator = starts_choice (starts_denotes Union (keyword (codes "UNION"))) (starts_denotes Except (keyword (codes "EXCEPT")))
 
 reads_operator : Reads IsOperator Any operator_read
 unfolding operator_read
 reads_operator =
     reads_choice_next (word (codes "UNION") ∷ []) (word (codes "EXCEPT") ∷ []) refl
-    (starts_stands Union (keyword (codes "UNION"))) (starts_stands Except (keyword (codes "EXCEPT")))
-    (reads_stands Union (keyword (codes "UNION"))) (reads_stands Except (keyword (codes "EXCEPT")))
+    (starts_denotes Union (keyword (codes "UNION"))) (starts_denotes Except (keyword (codes "EXCEPT")))
+    (reads_denotes Union (keyword (codes "UNION"))) (reads_denotes Except (keyword (codes "EXCEPT")))
 
 module _ (n : ℕ) {L : List Lexeme → Query → Type 0} {inner : Reader Query} (r : Reads L (Next query_ends) inner) where
   abbrev opened : Starts (any_of (sign (codes "(") ∷ [])) (Enclosed L)
@@ -159,11 +159,11 @@ module _ (n : ℕ) {L : List Lexeme → Query → Type 0} {inner : Reader Query}
 
   starts_intersection : Starts (any_of (word (codes "INTERSECT") ∷ [])) (IsIntersection (suc n) L)
   starts_intersection =
-      starts_sequence (PrecededOrNot (keyword (codes "DISTINCT")) (IsPrimary (suc n) L)) (starts_stands Intersect (keyword (codes "INTERSECT")))
+      starts_sequence (PrecededOrNot (keyword (codes "DISTINCT")) (IsPrimary (suc n) L)) (starts_denotes Intersect (keyword (codes "INTERSECT")))
 
   reads_intersection : Reads (IsIntersection (suc n) L) (Next select_ends) (intersection_with primary)
   reads_intersection =
-      reads_both (reads_stands Intersect (keyword (codes "INTERSECT")))
+      reads_both (reads_denotes Intersect (keyword (codes "INTERSECT")))
       (reads_preceded_or_not starts_primary (apart_lists primary_firsts (word (codes "DISTINCT") ∷ []) refl) reads_primary)
 
   reads_intersections : Reads (Repetition (IsIntersection (suc n) L)) (Next term_ends) (intersections_with (intersection_with primary))
@@ -175,30 +175,30 @@ module _ (n : ℕ) {L : List Lexeme → Query → Type 0} {inner : Reader Query}
   reads_term : Reads (IsTerm (suc n) L) (Next term_ends) (term_of_primaries primary)
   reads_term = reads_built term_of (reads_both_next reads_primary reads_intersections (leads_repetition (word (codes "INTERSECT") ∷ []) select_ends term_ends refl refl starts_intersection))
 
-  starts_step : Starts (any_of step_firsts) (IsStep (suc n) L)
-  starts_step = starts_sequence (PrecededOrNot (keyword (codes "DISTINCT")) (IsTerm (suc n) L)) starts_operator
+  starts_set_operator : Starts (any_of step_firsts) (IsStep (suc n) L)
+  starts_set_operator = starts_sequence (PrecededOrNot (keyword (codes "DISTINCT")) (IsTerm (suc n) L)) starts_operator
 
   reads_step : Reads (IsStep (suc n) L) (Next term_ends) (step_with (term_of_primaries primary))
   reads_step = reads_both reads_operator (reads_preceded_or_not starts_term (apart_lists primary_firsts (word (codes "DISTINCT") ∷ []) refl) reads_term)
 
   reads_steps : Reads (Repetition (IsStep (suc n) L)) (Next query_ends) (steps_with (step_with (term_of_primaries primary)))
-  reads_steps = reads_repetition_next step_firsts query_ends term_ends refl refl refl starts_step reads_step
+  reads_steps = reads_repetition_next step_firsts query_ends term_ends refl refl refl starts_set_operator reads_step
 
   reads_query_of : Reads (IsQuery (suc n) L) (Next query_ends) (query_of_primaries primary)
-  reads_query_of = reads_built combined_of (reads_both_next reads_term reads_steps (leads_repetition step_firsts term_ends query_ends refl refl starts_step))
+  reads_query_of = reads_built combined_of (reads_both_next reads_term reads_steps (leads_repetition step_firsts term_ends query_ends refl refl starts_set_operator))
 
 -- at any depth
-pub reads_inner_query : (n : ℕ) → Reads (QueryBelow stand_in n) (Next query_ends) (inner_query_read n)
+pub reads_inner_query : (n : ℕ) → Reads (QueryBelow placeholders n) (Next query_ends) (inner_query_read n)
 unfolding QueryBelow inner_query_read
 reads_inner_query zero = record { found = λ ts x e. absurd (none_some x e); again = λ front a rest h follow. absurd h }
 reads_inner_query (suc n) = reads_query_of n (reads_inner_query n)
 
-pub reads_query : (n : ℕ) → Reads (QueryBelow stand_in (suc n)) (Next query_ends) (query_read n)
+pub reads_query : (n : ℕ) → Reads (QueryBelow placeholders (suc n)) (Next query_ends) (query_read n)
 unfolding QueryBelow query_read steps_read step_read term_read intersections_read intersection_read primary_read
 reads_query n = reads_query_of n (reads_inner_query n)
 
 pub starts_sequenced : (n : ℕ) → Starts (any_of (word (codes "VALIDTIME") ∷ [])) (IsSequenced n)
-starts_sequenced n = starts_preceded (keyword (codes "VALIDTIME")) (QueryBelow stand_in n)
+starts_sequenced n = starts_preceded (keyword (codes "VALIDTIME")) (QueryBelow placeholders n)
 
 pub reads_sequenced : (n : ℕ) → Reads (IsSequenced (suc n)) (Next query_ends) (sequenced_read n)
 unfolding sequenced_read

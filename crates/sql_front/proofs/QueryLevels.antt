@@ -6,7 +6,7 @@ use Rattle.sql_front.specs.Language.{Enclosed}
 use Rattle.sql_statements.specs.Trees.{Query, simple}
 use Rattle.sql_front.specs.Builders.{chain_of, combined_of, item_of, join_of, select_of, table_reference_of, term_of}
 use Rattle.sql_front.specs.Grammar.{QueryBelow}
-use Rattle.sql_front.specs.StandIns.{stand_in}
+use Rattle.sql_front.specs.Placeholders.{placeholders}
 use Rattle.sql_front.proofs.ReadGrammar.{IsChain, IsItem, IsJoin, IsNewName, IsPrimary, IsQuery, IsReference, IsSelect, IsSequenced, IsTerm}
 use Rattle.sql_front.proofs.Levels.{Level, level_built, level_choice, level_closed, level_enclosed, level_optional, level_preceded, level_preceded_or_not, level_repetition, level_separated, level_sequence, level_stands, plain_keyword}
 use Rattle.sql_front.proofs.NamesRead.{level_name, plain_comma}
@@ -46,11 +46,11 @@ level_query_of n k L M r =
     level_built combined_of (level_sequence term (level_repetition (level_sequence operator (level_preceded_or_not (plain_keyword (codes "DISTINCT")) term))))
 
 -- a query with so much room is one of that depth
-pub level_query : (n k : ℕ) → Level k (QueryBelow stand_in n) (QueryBelow stand_in (suc k))
+pub level_query : (n k : ℕ) → Level k (QueryBelow placeholders n) (QueryBelow placeholders (suc k))
 unfolding QueryBelow
 level_query zero k = record { keeps = λ x a j h e. absurd h }
-level_query (suc n) zero = level_query_of (suc n) zero (QueryBelow stand_in n) (QueryBelow stand_in zero) (level_closed (QueryBelow stand_in n) (Enclosed (QueryBelow stand_in zero)))
-level_query (suc n) (suc k) = level_query_of (suc n) (suc k) (QueryBelow stand_in n) (QueryBelow stand_in (suc k)) (level_enclosed (level_query n k))
+level_query (suc n) zero = level_query_of (suc n) zero (QueryBelow placeholders n) (QueryBelow placeholders zero) (level_closed (QueryBelow placeholders n) (Enclosed (QueryBelow placeholders zero)))
+level_query (suc n) (suc k) = level_query_of (suc n) (suc k) (QueryBelow placeholders n) (QueryBelow placeholders (suc k)) (level_enclosed (level_query n k))
 
 pub level_sequenced : (n k : ℕ) → Level k (IsSequenced n) (IsSequenced (suc k))
 level_sequenced n k = level_preceded (plain_keyword (codes "VALIDTIME")) (level_query n k)

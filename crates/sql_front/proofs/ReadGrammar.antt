@@ -26,167 +26,167 @@ use Rattle.sql_statements.specs.declared.tree.SetOperator.{SetOperator}
 use Rattle.sql_front.specs.Language.{Language}
 use Rattle.sql_statements.specs.Trees.{Join, JoinChain, Select, Query, Update, Delete, Stored, Statement}
 use Rattle.sql_front.specs.Builders.{Element}
-use Rattle.sql_front.specs.StandIns.{stand_in}
+use Rattle.sql_front.specs.Placeholders.{placeholders}
 use Rattle.sql_front.specs.Grammar as grammar
 
 abbrev pub IsName : Language (List ℕ)
-IsName = grammar.IsName stand_in
+IsName = grammar.IsName placeholders
 
 abbrev pub IsNumber : Language ℕ
-IsNumber = grammar.IsNumber stand_in
+IsNumber = grammar.IsNumber placeholders
 
 abbrev pub IsMoment : Language ℤ
-IsMoment = grammar.IsMoment stand_in
+IsMoment = grammar.IsMoment placeholders
 
 abbrev pub IsClockMoment : Language ℤ
-IsClockMoment = grammar.IsClockMoment stand_in
+IsClockMoment = grammar.IsClockMoment placeholders
 
 abbrev pub IsDate : Language ℤ
-IsDate = grammar.IsDate stand_in
+IsDate = grammar.IsDate placeholders
 
 abbrev pub IsLiteral : Language Value
-IsLiteral = grammar.IsLiteral stand_in
+IsLiteral = grammar.IsLiteral placeholders
 
 abbrev pub IsNames : Language (List (List ℕ))
-IsNames = grammar.IsNames stand_in
+IsNames = grammar.IsNames placeholders
 
 abbrev pub IsTuple : Language (List Value)
-IsTuple = grammar.IsTuple stand_in
+IsTuple = grammar.IsTuple placeholders
 
 abbrev pub IsLength : Language ℕ
-IsLength = grammar.IsLength stand_in
+IsLength = grammar.IsLength placeholders
 
 abbrev pub IsType : Language TypeName
-IsType = grammar.IsType stand_in
+IsType = grammar.IsType placeholders
 
 abbrev pub IsGenerated : Language Generated
-IsGenerated = grammar.IsGenerated stand_in
+IsGenerated = grammar.IsGenerated placeholders
 
 abbrev pub IsNotNull : Language (Unit {0})
-IsNotNull = grammar.IsNotNull stand_in
+IsNotNull = grammar.IsNotNull placeholders
 
 abbrev pub IsColumnElement : Language ColumnElement
-IsColumnElement = grammar.IsColumnElement stand_in
+IsColumnElement = grammar.IsColumnElement placeholders
 
 abbrev pub IsPair : Language (List ℕ × List ℕ)
-IsPair = grammar.IsPair stand_in
+IsPair = grammar.IsPair placeholders
 
 abbrev pub IsPeriodElement : Language PeriodElement
-IsPeriodElement = grammar.IsPeriodElement stand_in
+IsPeriodElement = grammar.IsPeriodElement placeholders
 
 abbrev pub IsSystemElement : Language SystemElement
-IsSystemElement = grammar.IsSystemElement stand_in
+IsSystemElement = grammar.IsSystemElement placeholders
 
 abbrev pub IsWithoutOverlaps : Language (Unit {0})
-IsWithoutOverlaps = grammar.IsWithoutOverlaps stand_in
+IsWithoutOverlaps = grammar.IsWithoutOverlaps placeholders
 
 abbrev pub IsKeyElement : Language KeyElement
-IsKeyElement = grammar.IsKeyElement stand_in
+IsKeyElement = grammar.IsKeyElement placeholders
 
 abbrev pub IsReferenceList : Language (List (List ℕ) × List ℕ)
-IsReferenceList = grammar.IsReferenceList stand_in
+IsReferenceList = grammar.IsReferenceList placeholders
 
 abbrev pub IsReferenceElement : Language ReferenceElement
-IsReferenceElement = grammar.IsReferenceElement stand_in
+IsReferenceElement = grammar.IsReferenceElement placeholders
 
 abbrev pub IsElement : Language Element
-IsElement = grammar.IsElement stand_in
+IsElement = grammar.IsElement placeholders
 
 abbrev pub IsVersioning : Language (Unit {0})
-IsVersioning = grammar.IsVersioning stand_in
+IsVersioning = grammar.IsVersioning placeholders
 
 abbrev pub IsCreate : Language CreateTable
-IsCreate = grammar.IsCreate stand_in
+IsCreate = grammar.IsCreate placeholders
 
 abbrev pub IsColumn : Language ColumnReference
-IsColumn = grammar.IsColumn stand_in
+IsColumn = grammar.IsColumn placeholders
 
 abbrev pub IsOperand : Language Operand
-IsOperand = grammar.IsOperand stand_in
+IsOperand = grammar.IsOperand placeholders
 
 abbrev pub IsComparison : Language Comparison
-IsComparison = grammar.IsComparison stand_in
+IsComparison = grammar.IsComparison placeholders
 
 abbrev pub IsCompare : Language Compare
-IsCompare = grammar.IsCompare stand_in
+IsCompare = grammar.IsCompare placeholders
 
 abbrev pub IsWindow : Language SystemTime
-IsWindow = grammar.IsWindow stand_in
+IsWindow = grammar.IsWindow placeholders
 
 abbrev pub IsForWindow : Language SystemTime
-IsForWindow = grammar.IsForWindow stand_in
+IsForWindow = grammar.IsForWindow placeholders
 
 abbrev pub IsNewName : Language (List ℕ)
-IsNewName = grammar.IsNewName stand_in
+IsNewName = grammar.IsNewName placeholders
 
 abbrev pub IsReference : Language TableReference
-IsReference = grammar.IsReference stand_in
+IsReference = grammar.IsReference placeholders
 
 abbrev pub IsJoin : ℕ → Language Join
-IsJoin = grammar.IsJoin stand_in
+IsJoin = grammar.IsJoin placeholders
 
 abbrev pub IsChain : ℕ → Language JoinChain
-IsChain = grammar.IsChain stand_in
+IsChain = grammar.IsChain placeholders
 
 abbrev pub IsItem : Language SelectItem
-IsItem = grammar.IsItem stand_in
+IsItem = grammar.IsItem placeholders
 
 abbrev pub IsSelect : ℕ → Language Select
-IsSelect = grammar.IsSelect stand_in
+IsSelect = grammar.IsSelect placeholders
 
 abbrev pub IsPrimary : ℕ → Language Query → Language Query
-IsPrimary = grammar.IsPrimary stand_in
+IsPrimary = grammar.IsPrimary placeholders
 
 abbrev pub IsIntersection : ℕ → Language Query → Language (SetOperator × Query)
-IsIntersection = grammar.IsIntersection stand_in
+IsIntersection = grammar.IsIntersection placeholders
 
 abbrev pub IsTerm : ℕ → Language Query → Language Query
-IsTerm = grammar.IsTerm stand_in
+IsTerm = grammar.IsTerm placeholders
 
 abbrev pub IsStep : ℕ → Language Query → Language (SetOperator × Query)
-IsStep = grammar.IsStep stand_in
+IsStep = grammar.IsStep placeholders
 
 abbrev pub IsQuery : ℕ → Language Query → Language Query
-IsQuery = grammar.IsQuery stand_in
+IsQuery = grammar.IsQuery placeholders
 
 abbrev pub IsSequenced : ℕ → Language Query
-IsSequenced = grammar.IsSequenced stand_in
+IsSequenced = grammar.IsSequenced placeholders
 
 abbrev pub IsPeriodOperand : Language PeriodOperand
-IsPeriodOperand = grammar.IsPeriodOperand stand_in
+IsPeriodOperand = grammar.IsPeriodOperand placeholders
 
 abbrev pub IsRelation : Language PeriodPredicate
-IsRelation = grammar.IsRelation stand_in
+IsRelation = grammar.IsRelation placeholders
 
 abbrev pub IsPredicate : Language StoredTest
-IsPredicate = grammar.IsPredicate stand_in
+IsPredicate = grammar.IsPredicate placeholders
 
 abbrev pub IsStoredTest : Language StoredTest
-IsStoredTest = grammar.IsStoredTest stand_in
+IsStoredTest = grammar.IsStoredTest placeholders
 
 abbrev pub IsStored : ℕ → Language Stored
-IsStored = grammar.IsStored stand_in
+IsStored = grammar.IsStored placeholders
 
 abbrev pub IsInsert : Language InsertRows
-IsInsert = grammar.IsInsert stand_in
+IsInsert = grammar.IsInsert placeholders
 
 abbrev pub IsPortion : Language Portion
-IsPortion = grammar.IsPortion stand_in
+IsPortion = grammar.IsPortion placeholders
 
 abbrev pub IsAssignment : Language Assignment
-IsAssignment = grammar.IsAssignment stand_in
+IsAssignment = grammar.IsAssignment placeholders
 
 abbrev pub IsUpdate : ℕ → Language Update
-IsUpdate = grammar.IsUpdate stand_in
+IsUpdate = grammar.IsUpdate placeholders
 
 abbrev pub IsDelete : ℕ → Language Delete
-IsDelete = grammar.IsDelete stand_in
+IsDelete = grammar.IsDelete placeholders
 
 abbrev pub IsAt : Language ℤ
-IsAt = grammar.IsAt stand_in
+IsAt = grammar.IsAt placeholders
 
 abbrev pub StatementBelow : ℕ → Language Statement
-StatementBelow = grammar.StatementBelow stand_in
+StatementBelow = grammar.StatementBelow placeholders
 
 abbrev pub IsStatement : Language Statement
-IsStatement = grammar.Spells stand_in
+IsStatement = grammar.Spells placeholders

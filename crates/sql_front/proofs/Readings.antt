@@ -3,7 +3,7 @@ use Rattle.std.proofs.Common.{◌≡◌, ℕ, Bool, false, List, [], ◌∷◌, 
 use Rattle.std.specs.Str.{bytes_eq}
 use Rattle.std.proofs.lemmas.List.{append-nil}
 use Rattle.sql_statements.specs.Lexemes.{Lexeme}
-use Rattle.sql_front.specs.Language.{Language, keyword, symbol, number, text, OneToken, Fixed, Sequence, Built, StandsFor, Choice, Repetition, Optional, Preceded, PrecededOrNot, Separated, Enclosed}
+use Rattle.sql_front.specs.Language.{Language, keyword, symbol, number, text, OneToken, Fixed, Sequence, Built, Denotes, Choice, Repetition, Optional, Preceded, PrecededOrNot, Separated, Enclosed}
 use Rattle.sql_front.specs.Grammar.{name}
 use Rattle.sql_front.specs.LiteralFaults.{HasBadDate, HasBadMoment, HasNumberOutside, ends_in_minus, limit_behind}
 use Rattle.sql_front.proofs.First.{Apart, apart_kinds, keyword_kind, number_kind, symbol_kind, symbols_apart, text_kind}
@@ -199,7 +199,7 @@ module _ {A : Type 0} {E S Y : Language A} (r : Readings E S Y) where
   pub readings_repetition : Readings (Repetition E) (Repetition S) (Repetition Y)
   readings_repetition = record { sharp = repetition_sharp; known = repetition_known; loose = repetition_loose; some = repetition_some }
 
-pub readings_stands : {A : Type 0} (a : A) {test : Lexeme → Bool} → NoMinus test → Readings (StandsFor a test) (StandsFor a test) (StandsFor a test)
+pub readings_stands : {A : Type 0} (a : A) {test : Lexeme → Bool} → NoMinus test → Readings (Denotes a test) (Denotes a test) (Denotes a test)
 readings_stands a n = readings_built (λ (nothing : Unit {0}). a) (readings_fixed n)
 
 pub readings_preceded : {A : Type 0} {test : Lexeme → Bool} {E S Y : Language A} → NoMinus test → Readings E S Y → Readings (Preceded test E) (Preceded test S) (Preceded test Y)

@@ -2,8 +2,8 @@
 use Rattle.std.proofs.Common.{◌≡◌, List, [], ◌∷◌, ◌++◌, Result, Ok, Err, Some, refl, sym, ap, subst, ◌∙◌}
 use Rattle.std.specs.Prelude.{IfOk}
 use Rattle.std.proofs.lemmas.List.{append-nil}
-use Rattle.sql_front.specs.declared.unread.Unread.{Unread}
-use Rattle.sql_front.specs.declared.unread.Unread.TheVariants as unread
+use Rattle.sql_front.specs.declared.read_error.ReadError.{ReadError}
+use Rattle.sql_front.specs.declared.read_error.ReadError.TheVariants as error
 use Rattle.sql_statements.specs.Lexemes.{Lexeme}
 use Rattle.sql_front.specs.reading.Gives.{Gives}
 use Rattle.sql_front.specs.reading.Reading.{Reader, nothing_after, whole_read}
@@ -28,14 +28,14 @@ module _ {A : Type 0} {L : List Lexeme → A → Type 0} {F : List Lexeme → Ty
       let e : p ts ≡ Some (a, []) = ap p (sym (append-nil ts)) ∙ r.again ts a [] h stop in
       rw e refl
 
-  pub is_found : {X : Type 0} (view : X → A) (ts : List Lexeme) (result : Result X Unread) → Gives view result (whole_read p ts) → IfOk result (λ x. L ts (view x))
+  pub is_found : {X : Type 0} (view : X → A) (ts : List Lexeme) (result : Result X ReadError) → Gives view result (whole_read p ts) → IfOk result (λ x. L ts (view x))
   is_found view ts (Ok x) given = whole_found ts (view x) given
   is_found view ts (Err e) given = tt
 
-  pub is_none : {X : Type 0} (view : X → A) → F [] → (ts : List Lexeme) (result : Result X Unread) → Gives view result (whole_read p ts) → result ≡ Err unread.Syntax → (a : A) → L ts a → ⊥
+  pub is_none : {X : Type 0} (view : X → A) → F [] → (ts : List Lexeme) (result : Result X ReadError) → Gives view result (whole_read p ts) → result ≡ Err error.Syntax → (a : A) → L ts a → ⊥
   is_none {X} view stop ts (Ok x) given e a h = absurd cc
-  is_none {X} view stop ts (Err unread.Memory) given e a h = absurd cc
-  is_none {X} view stop ts (Err unread.Syntax) given e a h = none_some a (sym given ∙ whole_again stop ts a h)
+  is_none {X} view stop ts (Err error.Memory) given e a h = absurd cc
+  is_none {X} view stop ts (Err error.Syntax) given e a h = none_some a (sym given ∙ whole_again stop ts a h)
 
   -- no tokens spell two
   pub whole_unique : F [] → (ts : List Lexeme) (a b : A) → L ts a → L ts b → a ≡ b

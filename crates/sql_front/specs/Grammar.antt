@@ -45,7 +45,7 @@ use Rattle.sql_statements.specs.declared.tree.SetOperator.TheVariants.{Union, Ex
 use Rattle.sql_statements.specs.Lexemes.{Lexeme}
 use Rattle.sql_statements.specs.Names.{is_plain_word, upper}
 use Rattle.sql_front.specs.Language.{Language, is_word, keyword, symbol, text, OneToken, Fixed}
-use Rattle.sql_front.specs.Language.{Sequence, Built, StandsFor, Choice, Repetition, Optional}
+use Rattle.sql_front.specs.Language.{Sequence, Built, Denotes, Choice, Repetition, Optional}
 use Rattle.sql_front.specs.Language.{Preceded, PrecededOrNot, Separated, Enclosed}
 use Rattle.sql_statements.specs.Trees.{Condition, negated, test, Join, JoinChain, Select, Query}
 use Rattle.sql_statements.specs.Trees.{simple, Update, Delete, Stored, Statement, at, create}
@@ -148,8 +148,8 @@ module _ (literals : Literals) where
   --      | CHARACTER VARYING '(' num ')' | TIMESTAMP [ '(' num ')' ]
   abbrev pub IsType : Language TypeName
   IsType =
-      Choice (StandsFor Integer (keyword (codes "INTEGER")))
-      (Choice (StandsFor Date (keyword (codes "DATE")))
+      Choice (Denotes Integer (keyword (codes "INTEGER")))
+      (Choice (Denotes Date (keyword (codes "DATE")))
       (Choice (Built Varchar (Preceded (keyword (codes "VARCHAR")) IsLength))
       (Choice (Built Varchar (Preceded (keyword (codes "CHARACTER"))
       (Preceded (keyword (codes "VARYING")) IsLength)))
@@ -160,8 +160,8 @@ module _ (literals : Literals) where
   IsGenerated =
       Preceded (keyword (codes "GENERATED")) (Preceded (keyword (codes "ALWAYS"))
       (Preceded (keyword (codes "AS")) (Preceded (keyword (codes "ROW"))
-      (Choice (StandsFor Start (keyword (codes "START")))
-      (StandsFor End (keyword (codes "END")))))))
+      (Choice (Denotes Start (keyword (codes "START")))
+      (Denotes End (keyword (codes "END")))))))
 
   -- NOT NULL: no column holds NULL, so it adds nothing
   abbrev pub IsNotNull : Language (Unit {0})
@@ -250,12 +250,12 @@ module _ (literals : Literals) where
   -- cmp = '=' | '<>' | '<' | '<=' | '>' | '>='
   abbrev pub IsComparison : Language Comparison
   IsComparison =
-      Choice (StandsFor Equal (symbol (codes "=")))
-      (Choice (StandsFor NotEqual (symbol (codes "<>")))
-      (Choice (StandsFor Less (symbol (codes "<")))
-      (Choice (StandsFor LessOrEqual (symbol (codes "<=")))
-      (Choice (StandsFor Greater (symbol (codes ">")))
-      (StandsFor GreaterOrEqual (symbol (codes ">=")))))))
+      Choice (Denotes Equal (symbol (codes "=")))
+      (Choice (Denotes NotEqual (symbol (codes "<>")))
+      (Choice (Denotes Less (symbol (codes "<")))
+      (Choice (Denotes LessOrEqual (symbol (codes "<=")))
+      (Choice (Denotes Greater (symbol (codes ">")))
+      (Denotes GreaterOrEqual (symbol (codes ">=")))))))
 
   -- operand cmp operand
   abbrev pub IsCompare : Language Compare
@@ -318,7 +318,7 @@ module _ (literals : Literals) where
   -- INTERSECT [ DISTINCT ] primary
   abbrev pub IsIntersection : ℕ → Language Query → Language (SetOperator × Query)
   IsIntersection n Inner =
-      Sequence (StandsFor Intersect (keyword (codes "INTERSECT")))
+      Sequence (Denotes Intersect (keyword (codes "INTERSECT")))
       (PrecededOrNot (keyword (codes "DISTINCT")) (IsPrimary n Inner))
 
   -- term = primary { INTERSECT [ DISTINCT ] primary }
@@ -329,8 +329,8 @@ module _ (literals : Literals) where
   -- ( UNION | EXCEPT ) [ DISTINCT ] term
   abbrev pub IsStep : ℕ → Language Query → Language (SetOperator × Query)
   IsStep n Inner =
-      Sequence (Choice (StandsFor Union (keyword (codes "UNION")))
-      (StandsFor Except (keyword (codes "EXCEPT"))))
+      Sequence (Choice (Denotes Union (keyword (codes "UNION")))
+      (Denotes Except (keyword (codes "EXCEPT"))))
       (PrecededOrNot (keyword (codes "DISTINCT")) (IsTerm n Inner))
 
   -- query = term { ( UNION | EXCEPT ) [ DISTINCT ] term }, over what is in parentheses
@@ -358,14 +358,14 @@ module _ (literals : Literals) where
   -- OVERLAPS | EQUALS | CONTAINS | [ IMMEDIATELY ] ( PRECEDES | SUCCEEDS )
   abbrev pub IsRelation : Language PeriodPredicate
   IsRelation =
-      Choice (StandsFor Overlaps (keyword (codes "OVERLAPS")))
-      (Choice (StandsFor Equals (keyword (codes "EQUALS")))
-      (Choice (StandsFor Contains (keyword (codes "CONTAINS")))
+      Choice (Denotes Overlaps (keyword (codes "OVERLAPS")))
+      (Choice (Denotes Equals (keyword (codes "EQUALS")))
+      (Choice (Denotes Contains (keyword (codes "CONTAINS")))
       (Choice (Preceded (keyword (codes "IMMEDIATELY"))
-      (Choice (StandsFor ImmediatelyPrecedes (keyword (codes "PRECEDES")))
-      (StandsFor ImmediatelySucceeds (keyword (codes "SUCCEEDS")))))
-      (Choice (StandsFor Precedes (keyword (codes "PRECEDES")))
-      (StandsFor Succeeds (keyword (codes "SUCCEEDS")))))))
+      (Choice (Denotes ImmediatelyPrecedes (keyword (codes "PRECEDES")))
+      (Denotes ImmediatelySucceeds (keyword (codes "SUCCEEDS")))))
+      (Choice (Denotes Precedes (keyword (codes "PRECEDES")))
+      (Denotes Succeeds (keyword (codes "SUCCEEDS")))))))
 
   -- pred = span ( OVERLAPS | EQUALS ) span
   --      | span CONTAINS ( span | date )

@@ -82,8 +82,8 @@ abbrev pub Related : {A B : Type 0} → (A → B → Type 0) → Language A → 
 Related {A} R L lexemes b = (a : A) × R a b × L lexemes a
 
 -- a token that means this value
-abbrev pub StandsFor : {A : Type 0} → A → (Lexeme → Bool) → Language A
-StandsFor a test = Built (λ (nothing : Unit {0}). a) (Fixed test)
+abbrev pub Denotes : {A : Type 0} → A → (Lexeme → Bool) → Language A
+Denotes a test = Built (λ (nothing : Unit {0}). a) (Fixed test)
 
 -- the one or the other
 abbrev pub Choice : {A : Type 0} → Language A → Language A → Language A

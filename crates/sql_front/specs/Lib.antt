@@ -9,8 +9,8 @@ pub mod LiteralFaults
 pub mod PieceRefusals
 pub mod Laws
 pub mod reading
-pub mod Marks
-pub mod StandIns
+pub mod Terminals
+pub mod Placeholders
 pub mod Quoting
 pub mod LiteralTests
 pub mod LiteralRefusals

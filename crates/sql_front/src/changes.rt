@@ -19,8 +19,8 @@ ghost use Rattle.sql_statements.specs.declared.statement.Assignment as assignmen
 use crate::conditions::read_where;
 use crate::leaves::{read_clock_moment, read_date, read_literal, read_name, read_names};
 use crate::list::{Item, separated};
-use crate::mark::{Mark, skip, starts};
-use crate::unread::Unread;
+use crate::read_error::ReadError;
+use crate::terminal::{Terminal, expect, starts};
 use period_core::{Day, Value};
 use sql_statements::clock_moment::ClockMoment;
 use sql_statements::name::Name;
@@ -32,11 +32,11 @@ use std::alloc::Global;
 
 /// AT with a moment, and the tokens after it.
 #[tactic(auto, unfolding(crate::specs::reading::ChangeReaders::at_read))]
-pub fn read_at<'a, 'b>(tokens: &'b [Token<'a>]) -> Result<(ClockMoment, &'b [Token<'a>]), Unread>
+pub fn read_at<'a, 'b>(tokens: &'b [Token<'a>]) -> Result<(ClockMoment, &'b [Token<'a>]), ReadError>
     ensures value { Gives (λ x. (x.0, lexemes x.1.now)) result (at_read (lexemes tokens.now)) }
     ensures rest { IfOk result (λ x. length x.1.now ≤ length tokens.now) }
 {
-    read_clock_moment(skip(tokens, Mark::Keyword("AT"))?)
+    read_clock_moment(expect(tokens, Terminal::Keyword("AT"))?)
 }
 
 /// Names of columns in parentheses or nothing, and the tokens after them.
@@ -44,11 +44,11 @@ pub fn read_at<'a, 'b>(tokens: &'b [Token<'a>]) -> Result<(ClockMoment, &'b [Tok
 fn read_columns<'a, 'b>(
     alloc: Global,
     tokens: &'b [Token<'a>],
-) -> Result<(Option<NonEmpty<Name>>, &'b [Token<'a>]), Unread>
+) -> Result<(Option<NonEmpty<Name>>, &'b [Token<'a>]), ReadError>
     ensures value { Gives (λ x. (x.0, lexemes x.1.now)) result (columns_read (lexemes tokens.now)) }
     ensures rest { IfOk result (λ x. length x.1.now ≤ length tokens.now) }
 {
-    if !starts(tokens, Mark::Symbol("(")) {
+    if !starts(tokens, Terminal::Symbol("(")) {
         return Ok((None, tokens));
     }
     let (columns, rest) = read_names(alloc, tokens)?;
@@ -59,7 +59,7 @@ fn read_columns<'a, 'b>(
 fn read_rows<'a, 'b>(
     alloc: Global,
     tokens: &'b [Token<'a>],
-) -> Result<(NonEmpty<NonEmpty<Value>>, &'b [Token<'a>]), Unread>
+) -> Result<(NonEmpty<NonEmpty<Value>>, &'b [Token<'a>]), ReadError>
     ensures value { Gives (λ x. (x.0, lexemes x.1.now)) result
         (separated_read comma tuple_read (lexemes tokens.now)) }
     ensures rest { IfOk result (λ x. length x.1.now ≤ length tokens.now) }
@@ -73,11 +73,11 @@ fn read_rows<'a, 'b>(
 fn read_values<'a, 'b>(
     alloc: Global,
     tokens: &'b [Token<'a>],
-) -> Result<(NonEmpty<NonEmpty<Value>>, &'b [Token<'a>]), Unread>
+) -> Result<(NonEmpty<NonEmpty<Value>>, &'b [Token<'a>]), ReadError>
     ensures value { Gives (λ x. (x.0, lexemes x.1.now)) result (values_read (lexemes tokens.now)) }
     ensures rest { IfOk result (λ x. length x.1.now ≤ length tokens.now) }
 {
-    read_rows(alloc, skip(tokens, Mark::Keyword("VALUES"))?)
+    read_rows(alloc, expect(tokens, Terminal::Keyword("VALUES"))?)
 }
 
 /// A table with columns and rows, and the tokens after them.
@@ -85,7 +85,7 @@ fn read_values<'a, 'b>(
 fn read_inserted<'a, 'b>(
     alloc: Global,
     tokens: &'b [Token<'a>],
-) -> Result<(InsertRows, &'b [Token<'a>]), Unread>
+) -> Result<(InsertRows, &'b [Token<'a>]), ReadError>
     ensures value { Gives (λ x. (x.0, lexemes x.1.now)) result
         (inserted_read (lexemes tokens.now)) }
     ensures rest { IfOk result (λ x. length x.1.now ≤ length tokens.now) }
@@ -108,27 +108,27 @@ fn read_inserted<'a, 'b>(
 pub fn read_insert<'a, 'b>(
     alloc: Global,
     tokens: &'b [Token<'a>],
-) -> Result<(InsertRows, &'b [Token<'a>]), Unread>
+) -> Result<(InsertRows, &'b [Token<'a>]), ReadError>
     ensures value { Gives (λ x. (x.0, lexemes x.1.now)) result (insert_read (lexemes tokens.now)) }
     ensures rest { IfOk result (λ x. length x.1.now ≤ length tokens.now) }
 {
-    let rest = skip(tokens, Mark::Keyword("INSERT"))?;
-    read_inserted(alloc, skip(rest, Mark::Keyword("INTO"))?)
+    let rest = expect(tokens, Terminal::Keyword("INSERT"))?;
+    read_inserted(alloc, expect(rest, Terminal::Keyword("INTO"))?)
 }
 
 /// FROM a day TO another, and the tokens after them.
 #[tactic(auto, unfolding(crate::specs::reading::ChangeReaders::bounds_read))]
-fn read_bounds<'a, 'b>(tokens: &'b [Token<'a>]) -> Result<((Day, Day), &'b [Token<'a>]), Unread>
+fn read_bounds<'a, 'b>(tokens: &'b [Token<'a>]) -> Result<((Day, Day), &'b [Token<'a>]), ReadError>
     ensures value { Gives (λ x. (x.0, lexemes x.1.now)) result (bounds_read (lexemes tokens.now)) }
     ensures rest { IfOk result (λ x. length x.1.now ≤ length tokens.now) }
 {
-    let (from, rest) = match read_date(skip(tokens, Mark::Keyword("FROM"))?) {
+    let (from, rest) = match read_date(expect(tokens, Terminal::Keyword("FROM"))?) {
         Ok(found) => found,
-        Err(unread) => return Err(unread),
+        Err(error) => return Err(error),
     };
-    match read_date(skip(rest, Mark::Keyword("TO"))?) {
+    match read_date(expect(rest, Terminal::Keyword("TO"))?) {
         Ok((to, rest)) => Ok(((from, to), rest)),
-        Err(unread) => Err(unread),
+        Err(error) => Err(error),
     }
 }
 
@@ -137,7 +137,7 @@ fn read_bounds<'a, 'b>(tokens: &'b [Token<'a>]) -> Result<((Day, Day), &'b [Toke
 fn read_named_portion<'a, 'b>(
     alloc: Global,
     tokens: &'b [Token<'a>],
-) -> Result<(Portion, &'b [Token<'a>]), Unread>
+) -> Result<(Portion, &'b [Token<'a>]), ReadError>
     ensures value { Gives (λ x. (x.0, lexemes x.1.now)) result
         (named_portion_read (lexemes tokens.now)) }
     ensures rest { IfOk result (λ x. length x.1.now ≤ length tokens.now) }
@@ -145,7 +145,7 @@ fn read_named_portion<'a, 'b>(
     let (period, rest) = read_name(alloc, tokens)?;
     match read_bounds(rest) {
         Ok(((from, to), rest)) => Ok((Portion { period, from, to }, rest)),
-        Err(unread) => Err(unread),
+        Err(error) => Err(error),
     }
 }
 
@@ -153,14 +153,14 @@ fn read_named_portion<'a, 'b>(
 fn read_in_portion<'a, 'b>(
     alloc: Global,
     tokens: &'b [Token<'a>],
-) -> Result<(Portion, &'b [Token<'a>]), Unread>
+) -> Result<(Portion, &'b [Token<'a>]), ReadError>
     ensures value { Gives (λ x. (x.0, lexemes x.1.now)) result
         (in_portion_read (lexemes tokens.now)) }
     ensures rest { IfOk result (λ x. length x.1.now ≤ length tokens.now) }
 {
-    let rest = skip(tokens, Mark::Keyword("FOR"))?;
-    let rest = skip(rest, Mark::Keyword("PORTION"))?;
-    read_named_portion(alloc, skip(rest, Mark::Keyword("OF"))?)
+    let rest = expect(tokens, Terminal::Keyword("FOR"))?;
+    let rest = expect(rest, Terminal::Keyword("PORTION"))?;
+    read_named_portion(alloc, expect(rest, Terminal::Keyword("OF"))?)
 }
 
 /// FOR PORTION OF a period with its bounds or nothing, and the tokens after them.
@@ -168,11 +168,11 @@ fn read_in_portion<'a, 'b>(
 pub fn read_portion<'a, 'b>(
     alloc: Global,
     tokens: &'b [Token<'a>],
-) -> Result<(Option<Portion>, &'b [Token<'a>]), Unread>
+) -> Result<(Option<Portion>, &'b [Token<'a>]), ReadError>
     ensures value { Gives (λ x. (x.0, lexemes x.1.now)) result (portion_read (lexemes tokens.now)) }
     ensures rest { IfOk result (λ x. length x.1.now ≤ length tokens.now) }
 {
-    if !starts(tokens, Mark::Keyword("FOR")) {
+    if !starts(tokens, Terminal::Keyword("FOR")) {
         return Ok((None, tokens));
     }
     let (portion, rest) = read_in_portion(alloc, tokens)?;
@@ -191,9 +191,9 @@ impl<'a> Item<'a> for Assignment {
         alloc: Global,
         _depth: usize,
         tokens: &'b [Token<'a>],
-    ) -> Result<(Self, &'b [Token<'a>]), Unread> {
+    ) -> Result<(Self, &'b [Token<'a>]), ReadError> {
         let (column, rest) = read_name(alloc, tokens)?;
-        let (value, rest) = read_literal(alloc, skip(rest, Mark::Symbol("="))?)?;
+        let (value, rest) = read_literal(alloc, expect(rest, Terminal::Symbol("="))?)?;
         Ok((Assignment { column, value }, rest))
     }
 }
@@ -202,7 +202,7 @@ impl<'a> Item<'a> for Assignment {
 fn read_assignments<'a, 'b>(
     alloc: Global,
     tokens: &'b [Token<'a>],
-) -> Result<(NonEmpty<Assignment>, &'b [Token<'a>]), Unread>
+) -> Result<(NonEmpty<Assignment>, &'b [Token<'a>]), ReadError>
     ensures value { Gives (λ x. (x.0, lexemes x.1.now)) result
         (separated_read comma assignment_read (lexemes tokens.now)) }
     ensures rest { IfOk result (λ x. length x.1.now ≤ length tokens.now) }
@@ -223,13 +223,13 @@ fn read_set<'a, 'b>(
         (NonEmpty<Assignment>, Option<Tree<Compare>>),
         &'b [Token<'a>],
     ),
-    Unread,
+    ReadError,
 >
     ensures value { Gives (λ x. ((x.0.0, option_map plain_condition x.0.1), lexemes x.1.now)) result
         (set_read depth (lexemes tokens.now)) }
     ensures rest { IfOk result (λ x. length x.1.now ≤ length tokens.now) }
 {
-    let (assignments, rest) = read_assignments(alloc, skip(tokens, Mark::Keyword("SET"))?)?;
+    let (assignments, rest) = read_assignments(alloc, expect(tokens, Terminal::Keyword("SET"))?)?;
     let (condition, rest) = read_where::<Compare>(alloc, depth, rest)?;
     Ok(((assignments, condition), rest))
 }
@@ -240,12 +240,12 @@ pub fn read_update<'a, 'b>(
     alloc: Global,
     depth: usize,
     tokens: &'b [Token<'a>],
-) -> Result<(UpdateRows, &'b [Token<'a>]), Unread>
+) -> Result<(UpdateRows, &'b [Token<'a>]), ReadError>
     ensures value { Gives (λ x. (plain_update x.0, lexemes x.1.now)) result
         (update_read depth (lexemes tokens.now)) }
     ensures rest { IfOk result (λ x. length x.1.now ≤ length tokens.now) }
 {
-    let (table, rest) = read_name(alloc, skip(tokens, Mark::Keyword("UPDATE"))?)?;
+    let (table, rest) = read_name(alloc, expect(tokens, Terminal::Keyword("UPDATE"))?)?;
     let (portion, rest) = read_portion(alloc, rest)?;
     let ((assignments, condition), rest) = read_set(alloc, depth, rest)?;
     Ok((
@@ -266,7 +266,7 @@ fn read_deleted<'a, 'b>(
     alloc: Global,
     depth: usize,
     tokens: &'b [Token<'a>],
-) -> Result<(DeleteRows, &'b [Token<'a>]), Unread>
+) -> Result<(DeleteRows, &'b [Token<'a>]), ReadError>
     ensures value { Gives (λ x. (plain_delete x.0, lexemes x.1.now)) result
         (deleted_read depth (lexemes tokens.now)) }
     ensures rest { IfOk result (λ x. length x.1.now ≤ length tokens.now) }
@@ -290,11 +290,11 @@ pub fn read_delete<'a, 'b>(
     alloc: Global,
     depth: usize,
     tokens: &'b [Token<'a>],
-) -> Result<(DeleteRows, &'b [Token<'a>]), Unread>
+) -> Result<(DeleteRows, &'b [Token<'a>]), ReadError>
     ensures value { Gives (λ x. (plain_delete x.0, lexemes x.1.now)) result
         (delete_read depth (lexemes tokens.now)) }
     ensures rest { IfOk result (λ x. length x.1.now ≤ length tokens.now) }
 {
-    let rest = skip(tokens, Mark::Keyword("DELETE"))?;
-    read_deleted(alloc, depth, skip(rest, Mark::Keyword("FROM"))?)
+    let rest = expect(tokens, Terminal::Keyword("DELETE"))?;
+    read_deleted(alloc, depth, expect(rest, Terminal::Keyword("FROM"))?)
 }

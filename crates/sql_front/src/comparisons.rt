@@ -8,8 +8,8 @@ ghost use Rattle.sql_statements.specs.Lexemes.{lexemes};
 
 use crate::conditions::Test;
 use crate::leaves::{read_literal, read_name};
-use crate::mark::{Mark, after, skip, starts_name};
-use crate::unread::Unread;
+use crate::read_error::ReadError;
+use crate::terminal::{Terminal, accept, expect, starts_name};
 use sql_statements::statement::{ColumnReference, Compare, Comparison, Operand};
 use sql_statements::token::Token;
 use std::alloc::Global;
@@ -19,12 +19,12 @@ use std::alloc::Global;
 pub fn read_column<'a, 'b>(
     alloc: Global,
     tokens: &'b [Token<'a>],
-) -> Result<(ColumnReference, &'b [Token<'a>]), Unread>
+) -> Result<(ColumnReference, &'b [Token<'a>]), ReadError>
     ensures value { Gives (λ x. (x.0, lexemes x.1.now)) result (column_read (lexemes tokens.now)) }
     ensures rest { IfOk result (λ x. length x.1.now ≤ length tokens.now) }
 {
     let (first, rest) = read_name(alloc, tokens)?;
-    let Some(behind) = after(rest, Mark::Symbol(".")) else {
+    let Some(behind) = accept(rest, Terminal::Symbol(".")) else {
         let column = ColumnReference {
             qualifier: None,
             name: first,
@@ -43,7 +43,7 @@ pub fn read_column<'a, 'b>(
 fn read_operand<'a, 'b>(
     alloc: Global,
     tokens: &'b [Token<'a>],
-) -> Result<(Operand, &'b [Token<'a>]), Unread>
+) -> Result<(Operand, &'b [Token<'a>]), ReadError>
     ensures value { Gives (λ x. (x.0, lexemes x.1.now)) result (operand_read (lexemes tokens.now)) }
     ensures rest { IfOk result (λ x. length x.1.now ≤ length tokens.now) }
 {
@@ -56,29 +56,31 @@ fn read_operand<'a, 'b>(
 }
 
 #[tactic(auto, unfolding(crate::specs::reading::ConditionReaders::comparison_read))]
-fn read_comparison<'a, 'b>(tokens: &'b [Token<'a>]) -> Result<(Comparison, &'b [Token<'a>]), Unread>
+fn read_comparison<'a, 'b>(
+    tokens: &'b [Token<'a>],
+) -> Result<(Comparison, &'b [Token<'a>]), ReadError>
     ensures value { Gives (λ x. (x.0, lexemes x.1.now)) result
         (comparison_read (lexemes tokens.now)) }
     ensures rest { IfOk result (λ x. length x.1.now ≤ length tokens.now) }
 {
-    if let Some(rest) = after(tokens, Mark::Symbol("=")) {
+    if let Some(rest) = accept(tokens, Terminal::Symbol("=")) {
         return Ok((Comparison::Equal, rest));
     }
-    if let Some(rest) = after(tokens, Mark::Symbol("<>")) {
+    if let Some(rest) = accept(tokens, Terminal::Symbol("<>")) {
         return Ok((Comparison::NotEqual, rest));
     }
-    if let Some(rest) = after(tokens, Mark::Symbol("<")) {
+    if let Some(rest) = accept(tokens, Terminal::Symbol("<")) {
         return Ok((Comparison::Less, rest));
     }
-    if let Some(rest) = after(tokens, Mark::Symbol("<=")) {
+    if let Some(rest) = accept(tokens, Terminal::Symbol("<=")) {
         return Ok((Comparison::LessOrEqual, rest));
     }
-    if let Some(rest) = after(tokens, Mark::Symbol(">")) {
+    if let Some(rest) = accept(tokens, Terminal::Symbol(">")) {
         return Ok((Comparison::Greater, rest));
     }
     Ok((
         Comparison::GreaterOrEqual,
-        skip(tokens, Mark::Symbol(">="))?,
+        expect(tokens, Terminal::Symbol(">="))?,
     ))
 }
 
@@ -87,7 +89,7 @@ fn read_comparison<'a, 'b>(tokens: &'b [Token<'a>]) -> Result<(Comparison, &'b [
 pub fn read_compare<'a, 'b>(
     alloc: Global,
     tokens: &'b [Token<'a>],
-) -> Result<(Compare, &'b [Token<'a>]), Unread>
+) -> Result<(Compare, &'b [Token<'a>]), ReadError>
     ensures value { Gives (λ x. (x.0, lexemes x.1.now)) result (compare_read (lexemes tokens.now)) }
     ensures rest { IfOk result (λ x. length x.1.now ≤ length tokens.now) }
 {
@@ -108,7 +110,7 @@ impl Test for Compare {
     fn read<'a, 'b>(
         alloc: Global,
         tokens: &'b [Token<'a>],
-    ) -> Result<(Self, &'b [Token<'a>]), Unread> {
+    ) -> Result<(Self, &'b [Token<'a>]), ReadError> {
         read_compare(alloc, tokens)
     }
 }

@@ -11,8 +11,8 @@ ghost use Rattle.sql_statements.specs.Lexemes.{Lexeme, lexemes};
 ghost use Rattle.sql_statements.specs.Plain.{plain_condition};
 ghost use Rattle.sql_statements.specs.Trees.{test};
 
-use crate::mark::{Mark, after, skip, starts};
-use crate::unread::Unread;
+use crate::read_error::ReadError;
+use crate::terminal::{Terminal, accept, expect, starts};
 use sql_statements::token::Token;
 use sql_statements::tree::Tree;
 use std::alloc::Global;
@@ -25,14 +25,18 @@ pub trait Test: Sized + Drop {
     fn read<'a, 'b>(
         alloc: Global,
         tokens: &'b [Token<'a>],
-    ) -> Result<(Self, &'b [Token<'a>]), Unread>
+    ) -> Result<(Self, &'b [Token<'a>]), ReadError>
         ensures value { Gives (λ x. (x.0, lexemes x.1.now)) result (reader (lexemes tokens.now)) }
         ensures rest { IfOk result (λ x. length x.1.now ≤ length tokens.now) };
 }
 
 /// The chain of OR of the first part and of the others after it.
 #[tactic(auto, using(crate::proofs::ConditionViews::or_view))]
-fn or_chain<T: Drop>(alloc: Global, first: Tree<T>, others: Vec<Tree<T>>) -> Result<Tree<T>, Unread>
+fn or_chain<T: Drop>(
+    alloc: Global,
+    first: Tree<T>,
+    others: Vec<Tree<T>>,
+) -> Result<Tree<T>, ReadError>
     ensures { Gives plain_condition result
         (Some (any_of (plain_condition first ∷ map plain_condition others.items))) }
 {
@@ -45,7 +49,7 @@ fn and_chain<T: Drop>(
     alloc: Global,
     first: Tree<T>,
     others: Vec<Tree<T>>,
-) -> Result<Tree<T>, Unread>
+) -> Result<Tree<T>, ReadError>
     ensures { Gives plain_condition result
         (Some (all_of (plain_condition first ∷ map plain_condition others.items))) }
 {
@@ -67,15 +71,19 @@ pub fn read_condition<'a, 'b, T: Test>(
     alloc: Global,
     depth: usize,
     tokens: &'b [Token<'a>],
-) -> Result<(Tree<T>, &'b [Token<'a>]), Unread>
+) -> Result<(Tree<T>, &'b [Token<'a>]), ReadError>
     ensures value { Gives (λ x. (plain_condition x.0, lexemes x.1.now)) result
         (condition_read T.reader depth (lexemes tokens.now)) }
     ensures rest { IfOk result (λ x. length x.1.now ≤ length tokens.now) }
 {
     let mut others = Vec::new(alloc);
     let (first, mut rest) = read_conjunction::<T>(alloc, depth, tokens)?;
-    'others: while starts(rest, Mark::Keyword("OR")) {
-        let (next, after) = read_conjunction::<T>(alloc, depth, skip(rest, Mark::Keyword("OR"))?)?;
+    'others: while starts(rest, Terminal::Keyword("OR")) {
+        let (next, after) = read_conjunction::<T>(
+            alloc,
+            depth,
+            expect(rest, Terminal::Keyword("OR"))?,
+        )?;
         others.push(next)?;
         rest = after;
     }
@@ -88,15 +96,19 @@ fn read_conjunction<'a, 'b, T: Test>(
     alloc: Global,
     depth: usize,
     tokens: &'b [Token<'a>],
-) -> Result<(Tree<T>, &'b [Token<'a>]), Unread>
+) -> Result<(Tree<T>, &'b [Token<'a>]), ReadError>
     ensures value { Gives (λ x. (plain_condition x.0, lexemes x.1.now)) result
         (conjunction_read T.reader depth (lexemes tokens.now)) }
     ensures rest { IfOk result (λ x. length x.1.now ≤ length tokens.now) }
 {
     let mut others = Vec::new(alloc);
     let (first, mut rest) = read_factor::<T>(alloc, depth, tokens)?;
-    'others: while starts(rest, Mark::Keyword("AND")) {
-        let (next, after) = read_factor::<T>(alloc, depth, skip(rest, Mark::Keyword("AND"))?)?;
+    'others: while starts(rest, Terminal::Keyword("AND")) {
+        let (next, after) = read_factor::<T>(
+            alloc,
+            depth,
+            expect(rest, Terminal::Keyword("AND"))?,
+        )?;
         others.push(next)?;
         rest = after;
     }
@@ -109,12 +121,12 @@ fn read_factor<'a, 'b, T: Test>(
     alloc: Global,
     depth: usize,
     tokens: &'b [Token<'a>],
-) -> Result<(Tree<T>, &'b [Token<'a>]), Unread>
+) -> Result<(Tree<T>, &'b [Token<'a>]), ReadError>
     ensures value { Gives (λ x. (plain_condition x.0, lexemes x.1.now)) result
         (factor_read T.reader depth (lexemes tokens.now)) }
     ensures rest { IfOk result (λ x. length x.1.now ≤ length tokens.now) }
 {
-    let Some(negated) = after(tokens, Mark::Keyword("NOT")) else {
+    let Some(negated) = accept(tokens, Terminal::Keyword("NOT")) else {
         return read_test::<T>(alloc, depth, tokens);
     };
     let (inner, rest) = read_test::<T>(alloc, depth, negated)?;
@@ -127,22 +139,22 @@ fn read_test<'a, 'b, T: Test>(
     alloc: Global,
     depth: usize,
     tokens: &'b [Token<'a>],
-) -> Result<(Tree<T>, &'b [Token<'a>]), Unread>
+) -> Result<(Tree<T>, &'b [Token<'a>]), ReadError>
     ensures value { Gives (λ x. (plain_condition x.0, lexemes x.1.now)) result
         (test_read T.reader depth (lexemes tokens.now)) }
     ensures rest { IfOk result (λ x. length x.1.now ≤ length tokens.now) }
 {
-    let Some(inside) = after(tokens, Mark::Symbol("(")) else {
+    let Some(inside) = accept(tokens, Terminal::Symbol("(")) else {
         let (test, rest) = T::read(alloc, tokens)?;
         return Ok((one_test(test), rest));
     };
     let (inner, rest) = read_nested::<T>(alloc, depth, inside)?;
-    match skip(rest, Mark::Symbol(")")) {
+    match expect(rest, Terminal::Symbol(")")) {
         Ok(rest) => Ok((inner, rest)),
-        Err(unread) => {
+        Err(error) => {
             // By a call: the proof of an implicit drop goes through the whole of a condition.
             drop(inner);
-            Err(unread)
+            Err(error)
         }
     }
 }
@@ -154,13 +166,13 @@ fn read_nested<'a, 'b, T: Test>(
     alloc: Global,
     depth: usize,
     tokens: &'b [Token<'a>],
-) -> Result<(Tree<T>, &'b [Token<'a>]), Unread>
+) -> Result<(Tree<T>, &'b [Token<'a>]), ReadError>
     ensures value { Gives (λ x. (plain_condition x.0, lexemes x.1.now)) result
         (inner_read T.reader depth (lexemes tokens.now)) }
     ensures rest { IfOk result (λ x. length x.1.now ≤ length tokens.now) }
 {
     if depth == 0 {
-        return Err(Unread::Syntax);
+        return Err(ReadError::Syntax);
     }
     read_condition::<T>(alloc, depth - 1, tokens)
 }
@@ -171,12 +183,12 @@ pub fn read_where<'a, 'b, T: Test>(
     alloc: Global,
     depth: usize,
     tokens: &'b [Token<'a>],
-) -> Result<(Option<Tree<T>>, &'b [Token<'a>]), Unread>
+) -> Result<(Option<Tree<T>>, &'b [Token<'a>]), ReadError>
     ensures value { Gives (λ x. (option_map plain_condition x.0, lexemes x.1.now)) result
         (where_read T.reader depth (lexemes tokens.now)) }
     ensures rest { IfOk result (λ x. length x.1.now ≤ length tokens.now) }
 {
-    let Some(rest) = after(tokens, Mark::Keyword("WHERE")) else {
+    let Some(rest) = accept(tokens, Terminal::Keyword("WHERE")) else {
         return Ok((None, tokens));
     };
     let (condition, rest) = read_condition::<T>(alloc, depth, rest)?;

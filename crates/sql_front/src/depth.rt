@@ -4,7 +4,7 @@ ghost use Rattle.std.specs.Prelude.{◌≡◌, ◌↔◌, IsTrue, is_none};
 ghost use Rattle.sql_statements.specs.Lexemes.{lexemes};
 ghost use Rattle.sql_front.specs.Depth.{IsDeeper, most_open, room};
 
-use crate::mark::{Mark, is_mark};
+use crate::terminal::{Terminal, is_terminal};
 use sql_statements::token::Token;
 
 /// How many parentheses may be open.
@@ -15,12 +15,12 @@ fn has_no_room(tokens: &[Token<'_>]) -> bool
 {
     let mut left = MOST_OPEN;
     for token in tokens {
-        if is_mark(token, Mark::Symbol("(")) {
+        if is_terminal(token, Terminal::Symbol("(")) {
             if left == 0 {
                 return true;
             }
             left -= 1;
-        } else if is_mark(token, Mark::Symbol(")")) {
+        } else if is_terminal(token, Terminal::Symbol(")")) {
             left += 1;
         }
     }

@@ -15,9 +15,9 @@ ghost use Rattle.sql_front.specs.reading.Leaves.{tuple_read, unsigned_read};
 use crate::date_tokens::{named_clock_moment, named_day, named_moment};
 use crate::digits::{negative_value, number_value};
 use crate::list::{Item, separated};
-use crate::mark::{Mark, name, number, skip, skip_optional, starts, starts_text, text};
+use crate::read_error::ReadError;
+use crate::terminal::{Terminal, expect, name, number, skip_optional, starts, starts_text, text};
 use crate::texts::text_of;
-use crate::unread::Unread;
 use period_core::{Day, Moment, Value};
 use sql_statements::clock_moment::ClockMoment;
 use sql_statements::name::Name;
@@ -30,20 +30,20 @@ use std::alloc::Global;
 pub fn read_name<'a, 'b>(
     alloc: Global,
     tokens: &'b [Token<'a>],
-) -> Result<(Name, &'b [Token<'a>]), Unread>
+) -> Result<(Name, &'b [Token<'a>]), ReadError>
     ensures value { Gives (λ x. (x.0, lexemes x.1.now)) result (name_read (lexemes tokens.now)) }
     ensures rest { IfOk result (λ x. length x.1.now ≤ length tokens.now) }
 {
     let (word, rest) = name(tokens)?;
     match Name::of_word(alloc, word) {
         Ok(name) => Ok((name, rest)),
-        Err(_) => Err(Unread::Memory),
+        Err(_) => Err(ReadError::Memory),
     }
 }
 
 /// A number, and the tokens after it.
 #[tactic(auto, unfolding(crate::specs::reading::Leaves::number_read))]
-pub fn read_number<'a, 'b>(tokens: &'b [Token<'a>]) -> Result<(u64, &'b [Token<'a>]), Unread>
+pub fn read_number<'a, 'b>(tokens: &'b [Token<'a>]) -> Result<(u64, &'b [Token<'a>]), ReadError>
     ensures value { Gives (λ x. (x.0, lexemes x.1.now)) result (number_read (lexemes tokens.now)) }
     ensures fits { IfOk result (λ x. x.0 ≤ greatest_number) }
     ensures rest { IfOk result (λ x. length x.1.now ≤ length tokens.now) }
@@ -54,11 +54,11 @@ pub fn read_number<'a, 'b>(tokens: &'b [Token<'a>]) -> Result<(u64, &'b [Token<'
 
 /// A moment, and the tokens after it.
 #[tactic(auto, unfolding(crate::specs::reading::Leaves::moment_read))]
-pub fn read_moment<'a, 'b>(tokens: &'b [Token<'a>]) -> Result<(Moment, &'b [Token<'a>]), Unread>
+pub fn read_moment<'a, 'b>(tokens: &'b [Token<'a>]) -> Result<(Moment, &'b [Token<'a>]), ReadError>
     ensures value { Gives (λ x. (x.0, lexemes x.1.now)) result (moment_read (lexemes tokens.now)) }
     ensures rest { IfOk result (λ x. length x.1.now ≤ length tokens.now) }
 {
-    let (token, rest) = text(skip(tokens, Mark::Keyword("TIMESTAMP"))?)?;
+    let (token, rest) = text(expect(tokens, Terminal::Keyword("TIMESTAMP"))?)?;
     Ok((named_moment(token), rest))
 }
 
@@ -66,33 +66,33 @@ pub fn read_moment<'a, 'b>(tokens: &'b [Token<'a>]) -> Result<(Moment, &'b [Toke
 #[tactic(auto, unfolding(crate::specs::reading::Leaves::clock_moment_read))]
 pub fn read_clock_moment<'a, 'b>(
     tokens: &'b [Token<'a>],
-) -> Result<(ClockMoment, &'b [Token<'a>]), Unread>
+) -> Result<(ClockMoment, &'b [Token<'a>]), ReadError>
     ensures value { Gives (λ x. (x.0, lexemes x.1.now)) result
         (clock_moment_read (lexemes tokens.now)) }
     ensures rest { IfOk result (λ x. length x.1.now ≤ length tokens.now) }
 {
-    let (token, rest) = text(skip(tokens, Mark::Keyword("TIMESTAMP"))?)?;
+    let (token, rest) = text(expect(tokens, Terminal::Keyword("TIMESTAMP"))?)?;
     Ok((named_clock_moment(token), rest))
 }
 
 /// A date, and the tokens after it.
 #[tactic(auto, unfolding(crate::specs::reading::Leaves::date_read))]
-pub fn read_date<'a, 'b>(tokens: &'b [Token<'a>]) -> Result<(Day, &'b [Token<'a>]), Unread>
+pub fn read_date<'a, 'b>(tokens: &'b [Token<'a>]) -> Result<(Day, &'b [Token<'a>]), ReadError>
     ensures value { Gives (λ x. (x.0, lexemes x.1.now)) result (date_read (lexemes tokens.now)) }
     ensures rest { IfOk result (λ x. length x.1.now ≤ length tokens.now) }
 {
-    let (token, rest) = text(skip(tokens, Mark::Keyword("DATE"))?)?;
+    let (token, rest) = text(expect(tokens, Terminal::Keyword("DATE"))?)?;
     Ok((named_day(token), rest))
 }
 
 /// A number without a minus as a value, and the tokens after it.
 #[tactic(auto, unfolding(crate::specs::reading::Leaves::unsigned_read))]
-fn read_unsigned<'a, 'b>(tokens: &'b [Token<'a>]) -> Result<(Value, &'b [Token<'a>]), Unread>
+fn read_unsigned<'a, 'b>(tokens: &'b [Token<'a>]) -> Result<(Value, &'b [Token<'a>]), ReadError>
     ensures value { Gives (λ x. (x.0, lexemes x.1.now)) result
         (unsigned_read (lexemes tokens.now)) }
     ensures rest { IfOk result (λ x. length x.1.now ≤ length tokens.now) }
 {
-    let (value, rest) = read_number(skip_optional(tokens, Mark::Symbol("+")))?;
+    let (value, rest) = read_number(skip_optional(tokens, Terminal::Symbol("+")))?;
     Ok((Value::Int(value as i64), rest))
 }
 
@@ -100,7 +100,7 @@ fn read_unsigned<'a, 'b>(tokens: &'b [Token<'a>]) -> Result<(Value, &'b [Token<'
 fn read_text<'a, 'b>(
     alloc: Global,
     tokens: &'b [Token<'a>],
-) -> Result<(Value, &'b [Token<'a>]), Unread>
+) -> Result<(Value, &'b [Token<'a>]), ReadError>
     ensures value { Gives (λ x. (x.0, lexemes x.1.now)) result
         (built_read builders.text_of (one_read language.text) (lexemes tokens.now)) }
     ensures rest { IfOk result (λ x. length x.1.now ≤ length tokens.now) }
@@ -108,7 +108,7 @@ fn read_text<'a, 'b>(
     let (token, rest) = text(tokens)?;
     match text_of(alloc, token) {
         Ok(value) => Ok((Value::Text(value), rest)),
-        Err(_) => Err(Unread::Memory),
+        Err(_) => Err(ReadError::Memory),
     }
 }
 
@@ -117,21 +117,21 @@ fn read_text<'a, 'b>(
 pub fn read_literal<'a, 'b>(
     alloc: Global,
     tokens: &'b [Token<'a>],
-) -> Result<(Value, &'b [Token<'a>]), Unread>
+) -> Result<(Value, &'b [Token<'a>]), ReadError>
     ensures value { Gives (λ x. (x.0, lexemes x.1.now)) result (literal_read (lexemes tokens.now)) }
     ensures rest { IfOk result (λ x. length x.1.now ≤ length tokens.now) }
 {
-    if starts(tokens, Mark::Symbol("-")) {
-        let (digits, rest) = number(skip(tokens, Mark::Symbol("-"))?)?;
+    if starts(tokens, Terminal::Symbol("-")) {
+        let (digits, rest) = number(expect(tokens, Terminal::Symbol("-"))?)?;
         return Ok((Value::Int(negative_value(digits)), rest));
     }
     if starts_text(tokens) {
         return read_text(alloc, tokens);
     }
-    if starts(tokens, Mark::Keyword("DATE")) {
+    if starts(tokens, Terminal::Keyword("DATE")) {
         return match read_date(tokens) {
             Ok((day, rest)) => Ok((Value::Date(day), rest)),
-            Err(unread) => Err(unread),
+            Err(error) => Err(error),
         };
     }
     read_unsigned(tokens)
@@ -148,7 +148,7 @@ impl<'a> Item<'a> for Name {
         alloc: Global,
         _depth: usize,
         tokens: &'b [Token<'a>],
-    ) -> Result<(Self, &'b [Token<'a>]), Unread> {
+    ) -> Result<(Self, &'b [Token<'a>]), ReadError> {
         read_name(alloc, tokens)
     }
 }
@@ -164,7 +164,7 @@ impl<'a> Item<'a> for Value {
         alloc: Global,
         _depth: usize,
         tokens: &'b [Token<'a>],
-    ) -> Result<(Self, &'b [Token<'a>]), Unread> {
+    ) -> Result<(Self, &'b [Token<'a>]), ReadError> {
         read_literal(alloc, tokens)
     }
 }
@@ -174,13 +174,16 @@ impl<'a> Item<'a> for Value {
 pub fn read_names<'a, 'b>(
     alloc: Global,
     tokens: &'b [Token<'a>],
-) -> Result<(NonEmpty<Name>, &'b [Token<'a>]), Unread>
+) -> Result<(NonEmpty<Name>, &'b [Token<'a>]), ReadError>
     ensures value { Gives (λ x. (x.0, lexemes x.1.now)) result (names_read (lexemes tokens.now)) }
     ensures rest { IfOk result (λ x. length x.1.now ≤ length tokens.now) }
 {
-    let inside = skip(tokens, Mark::Symbol("("))?;
+    let inside = expect(tokens, Terminal::Symbol("("))?;
     let (names, after) = separated::<Name>(alloc, 0, inside)?;
-    Ok((NonEmpty::from_vec(names), skip(after, Mark::Symbol(")"))?))
+    Ok((
+        NonEmpty::from_vec(names),
+        expect(after, Terminal::Symbol(")"))?,
+    ))
 }
 
 /// Literals in parentheses with commas, and the tokens after them.
@@ -188,13 +191,16 @@ pub fn read_names<'a, 'b>(
 pub fn read_tuple<'a, 'b>(
     alloc: Global,
     tokens: &'b [Token<'a>],
-) -> Result<(NonEmpty<Value>, &'b [Token<'a>]), Unread>
+) -> Result<(NonEmpty<Value>, &'b [Token<'a>]), ReadError>
     ensures value { Gives (λ x. (x.0, lexemes x.1.now)) result (tuple_read (lexemes tokens.now)) }
     ensures rest { IfOk result (λ x. length x.1.now ≤ length tokens.now) }
 {
-    let inside = skip(tokens, Mark::Symbol("("))?;
+    let inside = expect(tokens, Terminal::Symbol("("))?;
     let (values, after) = separated::<Value>(alloc, 0, inside)?;
-    Ok((NonEmpty::from_vec(values), skip(after, Mark::Symbol(")"))?))
+    Ok((
+        NonEmpty::from_vec(values),
+        expect(after, Terminal::Symbol(")"))?,
+    ))
 }
 
 impl<'a> Item<'a> for NonEmpty<Value> {
@@ -208,7 +214,7 @@ impl<'a> Item<'a> for NonEmpty<Value> {
         alloc: Global,
         _depth: usize,
         tokens: &'b [Token<'a>],
-    ) -> Result<(Self, &'b [Token<'a>]), Unread> {
+    ) -> Result<(Self, &'b [Token<'a>]), ReadError> {
         read_tuple(alloc, tokens)
     }
 }

@@ -5,9 +5,9 @@
 //! a file here; and its first keyword in `specs/reading/StatementReaders` and in `statements`.
 //!
 //! To add a literal: the values that its text names in `specs/LiteralValues`, its field in
-//! `specs/Literals` and `specs/StandIns`, its case in `IsLiteral` of `specs/Grammar`, its reader in
-//! `specs/reading/Leaves` and in `leaves`; and what may be wrong with it in `specs/LiteralFaults`
-//! and in `literal_faults`.
+//! `specs/Literals` and `specs/Placeholders`, its case in `IsLiteral` of `specs/Grammar`, its
+//! reader in `specs/reading/Leaves` and in `leaves`; and what may be wrong with it in
+//! `specs/LiteralFaults` and in `literal_faults`.
 #![tactic(auto)]
 
 mod changes;
@@ -22,19 +22,19 @@ mod leaves;
 pub mod lexer;
 mod list;
 mod literal_faults;
-mod mark;
 mod parser;
 pub mod pieces;
 mod predicates;
 mod queries;
+mod read_error;
 mod references;
 mod selects;
 mod statements;
 mod stored;
 mod table_elements;
 mod tables;
+mod terminal;
 mod texts;
-mod unread;
 mod windows;
 
 pub use lexer::{LexFault, lex};

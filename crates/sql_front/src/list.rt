@@ -6,8 +6,8 @@ ghost use Rattle.sql_front.specs.Language.{symbol};
 ghost use Rattle.sql_front.specs.reading.Reading.{separated_read};
 ghost use Rattle.sql_front.specs.reading.Gives.{Gives};
 
-use crate::mark::{Mark, skip, starts};
-use crate::unread::Unread;
+use crate::read_error::ReadError;
+use crate::terminal::{Terminal, expect, starts};
 use sql_statements::token::Token;
 use std::alloc::Global;
 
@@ -24,7 +24,7 @@ pub trait Item<'a>: Sized + Drop {
         alloc: Global,
         depth: usize,
         tokens: &'b [Token<'a>],
-    ) -> Result<(Self, &'b [Token<'a>]), Unread>
+    ) -> Result<(Self, &'b [Token<'a>]), ReadError>
         ensures value { Gives (λ x. (view x.0, lexemes x.1.now)) result
             (reader depth (lexemes tokens.now)) }
         ensures rest { IfOk result (λ x. length x.1.now ≤ length tokens.now) };
@@ -35,7 +35,7 @@ pub fn separated<'a, 'b, T: Item<'a>>(
     alloc: Global,
     depth: usize,
     tokens: &'b [Token<'a>],
-) -> Result<(Vec<T>, &'b [Token<'a>]), Unread>
+) -> Result<(Vec<T>, &'b [Token<'a>]), ReadError>
     ensures value { Gives (λ x. (map T.view x.0.items, lexemes x.1.now)) result
         (separated_read (symbol (codes ",")) (T.reader depth) (lexemes tokens.now)) }
     ensures rest { IfOk result (λ x. length x.1.now ≤ length tokens.now) }
@@ -44,8 +44,8 @@ pub fn separated<'a, 'b, T: Item<'a>>(
     let mut items = Vec::new(alloc);
     let (first, mut rest) = T::read(alloc, depth, tokens)?;
     items.push(first)?;
-    'items: while starts(rest, Mark::Symbol(",")) {
-        let (next, after) = T::read(alloc, depth, skip(rest, Mark::Symbol(","))?)?;
+    'items: while starts(rest, Terminal::Symbol(",")) {
+        let (next, after) = T::read(alloc, depth, expect(rest, Terminal::Symbol(","))?)?;
         items.push(next)?;
         rest = after;
     }

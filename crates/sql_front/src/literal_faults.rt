@@ -11,7 +11,7 @@ ghost use Rattle.sql_front.specs.LiteralTests.{number_above, somewhere};
 
 use crate::date_tokens::{clock_moment_of_token, day_of_token, moment_of_token};
 use crate::digits::number_up_to;
-use crate::mark::{Mark, is_mark};
+use crate::terminal::{Terminal, is_terminal};
 use period_core::{GREATEST_NUMBER, Refusal};
 use sql_statements::token::{Token, TokenKind};
 
@@ -21,7 +21,8 @@ fn text_behind<'a>(word: &str, first: &Token<'_>, after: &[Token<'a>]) -> Option
         ≡ tests.text_behind word.now (lexeme first.now) (lexemes after.now) }
 {
     match after {
-        [token, ..] if is_mark(first, Mark::Keyword(word)) && token.kind == TokenKind::Text => {
+        [token, ..]
+            if is_terminal(first, Terminal::Keyword(word)) && token.kind == TokenKind::Text => {
             Some(token.text)
         }
         _ => None,
@@ -62,7 +63,8 @@ fn is_open_end(first: &Token<'_>, after: &[Token<'_>]) -> bool
     match after {
         [] => false,
         [word, rest @ ..] => {
-            (is_mark(first, Mark::Keyword("AT")) || is_mark(first, Mark::Keyword("OF")))
+            (is_terminal(first, Terminal::Keyword("AT"))
+                || is_terminal(first, Terminal::Keyword("OF")))
                 && is_no_clock_moment(word, rest)
         }
     }
@@ -114,7 +116,7 @@ fn number_fails(tokens: &[Token<'_>]) -> bool
         if is_above(minus, first) {
             return true;
         }
-        minus = is_mark(first, Mark::Symbol("-"));
+        minus = is_terminal(first, Terminal::Symbol("-"));
         rest = after;
     }
     false

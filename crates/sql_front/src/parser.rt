@@ -9,8 +9,8 @@ ghost use Rattle.sql_statements.specs.Plain.{plain};
 
 use crate::depth::is_too_deep;
 use crate::literal_faults::literal_fault;
+use crate::read_error::ReadError;
 use crate::statements::spelled;
-use crate::unread::Unread;
 use period_core::Refusal;
 use sql_statements::statement::Statement;
 use sql_statements::token::Token;
@@ -41,7 +41,7 @@ pub fn parse(alloc: Global, _script: &str, tokens: &[Token<'_>]) -> Result<State
                 Err(refusal)
             }
         },
-        Err(Unread::Memory) => Err(Refusal::Memory),
-        Err(Unread::Syntax) => Err(Refusal::Syntax),
+        Err(ReadError::Memory) => Err(Refusal::Memory),
+        Err(ReadError::Syntax) => Err(Refusal::Syntax),
     }
 }

@@ -13,8 +13,8 @@ ghost use Rattle.sql_front.specs.reading.Reading.{begins};
 use crate::comparisons::{read_column, read_compare};
 use crate::conditions::Test;
 use crate::leaves::read_date;
-use crate::mark::{Mark, after, is_mark, skip, starts, starts_name};
-use crate::unread::Unread;
+use crate::read_error::ReadError;
+use crate::terminal::{Terminal, accept, expect, is_terminal, starts, starts_name};
 use period_core::Day;
 use sql_statements::statement::{PeriodOperand, PeriodPredicate, StoredTest};
 use sql_statements::token::Token;
@@ -22,19 +22,19 @@ use std::alloc::Global;
 
 /// Two days in parentheses, and the tokens after them.
 #[tactic(auto, unfolding(crate::specs::reading::PredicateReaders::dates_read))]
-fn read_dates<'a, 'b>(tokens: &'b [Token<'a>]) -> Result<((Day, Day), &'b [Token<'a>]), Unread>
+fn read_dates<'a, 'b>(tokens: &'b [Token<'a>]) -> Result<((Day, Day), &'b [Token<'a>]), ReadError>
     ensures value { Gives (λ x. (x.0, lexemes x.1.now)) result (dates_read (lexemes tokens.now)) }
     ensures rest { IfOk result (λ x. length x.1.now ≤ length tokens.now) }
 {
-    let (from, rest) = match read_date(skip(tokens, Mark::Symbol("("))?) {
+    let (from, rest) = match read_date(expect(tokens, Terminal::Symbol("("))?) {
         Ok(read) => read,
         Err(fault) => return Err(fault),
     };
-    let (to, rest) = match read_date(skip(rest, Mark::Symbol(","))?) {
+    let (to, rest) = match read_date(expect(rest, Terminal::Symbol(","))?) {
         Ok(read) => read,
         Err(fault) => return Err(fault),
     };
-    let rest = skip(rest, Mark::Symbol(")"))?;
+    let rest = expect(rest, Terminal::Symbol(")"))?;
     Ok(((from, to), rest))
 }
 
@@ -42,12 +42,12 @@ fn read_dates<'a, 'b>(tokens: &'b [Token<'a>]) -> Result<((Day, Day), &'b [Token
 fn read_period_operand<'a, 'b>(
     alloc: Global,
     tokens: &'b [Token<'a>],
-) -> Result<(PeriodOperand, &'b [Token<'a>]), Unread>
+) -> Result<(PeriodOperand, &'b [Token<'a>]), ReadError>
     ensures value { Gives (λ x. (x.0, lexemes x.1.now)) result
         (period_operand_read (lexemes tokens.now)) }
     ensures rest { IfOk result (λ x. length x.1.now ≤ length tokens.now) }
 {
-    let Some(dates) = after(tokens, Mark::Keyword("PERIOD")) else {
+    let Some(dates) = accept(tokens, Terminal::Keyword("PERIOD")) else {
         let (column, rest) = read_column(alloc, tokens)?;
         return Ok((PeriodOperand::Named(column), rest));
     };
@@ -60,31 +60,31 @@ fn read_period_operand<'a, 'b>(
 #[tactic(auto, unfolding(crate::specs::reading::PredicateReaders::relation_read))]
 fn read_relation<'a, 'b>(
     tokens: &'b [Token<'a>],
-) -> Result<(PeriodPredicate, &'b [Token<'a>]), Unread>
+) -> Result<(PeriodPredicate, &'b [Token<'a>]), ReadError>
     ensures value { Gives (λ x. (x.0, lexemes x.1.now)) result
         (relation_read (lexemes tokens.now)) }
     ensures rest { IfOk result (λ x. length x.1.now ≤ length tokens.now) }
 {
-    if let Some(rest) = after(tokens, Mark::Keyword("OVERLAPS")) {
+    if let Some(rest) = accept(tokens, Terminal::Keyword("OVERLAPS")) {
         return Ok((PeriodPredicate::Overlaps, rest));
     }
-    if let Some(rest) = after(tokens, Mark::Keyword("EQUALS")) {
+    if let Some(rest) = accept(tokens, Terminal::Keyword("EQUALS")) {
         return Ok((PeriodPredicate::Equals, rest));
     }
-    if let Some(rest) = after(tokens, Mark::Keyword("CONTAINS")) {
+    if let Some(rest) = accept(tokens, Terminal::Keyword("CONTAINS")) {
         return Ok((PeriodPredicate::Contains, rest));
     }
-    if let Some(behind) = after(tokens, Mark::Keyword("IMMEDIATELY")) {
-        if let Some(rest) = after(behind, Mark::Keyword("PRECEDES")) {
+    if let Some(behind) = accept(tokens, Terminal::Keyword("IMMEDIATELY")) {
+        if let Some(rest) = accept(behind, Terminal::Keyword("PRECEDES")) {
             return Ok((PeriodPredicate::ImmediatelyPrecedes, rest));
         }
-        let rest = skip(behind, Mark::Keyword("SUCCEEDS"))?;
+        let rest = expect(behind, Terminal::Keyword("SUCCEEDS"))?;
         return Ok((PeriodPredicate::ImmediatelySucceeds, rest));
     }
-    if let Some(rest) = after(tokens, Mark::Keyword("PRECEDES")) {
+    if let Some(rest) = accept(tokens, Terminal::Keyword("PRECEDES")) {
         return Ok((PeriodPredicate::Precedes, rest));
     }
-    let rest = skip(tokens, Mark::Keyword("SUCCEEDS"))?;
+    let rest = expect(tokens, Terminal::Keyword("SUCCEEDS"))?;
     Ok((PeriodPredicate::Succeeds, rest))
 }
 
@@ -96,7 +96,8 @@ fn starts_contains_date(tokens: &[Token<'_>]) -> bool
     match tokens {
         [] => false,
         [first, rest @ ..] => {
-            is_mark(first, Mark::Keyword("CONTAINS")) && starts(rest, Mark::Keyword("DATE"))
+            is_terminal(first, Terminal::Keyword("CONTAINS"))
+                && starts(rest, Terminal::Keyword("DATE"))
         }
     }
 }
@@ -106,14 +107,14 @@ fn starts_contains_date(tokens: &[Token<'_>]) -> bool
 fn read_predicate<'a, 'b>(
     alloc: Global,
     tokens: &'b [Token<'a>],
-) -> Result<(StoredTest, &'b [Token<'a>]), Unread>
+) -> Result<(StoredTest, &'b [Token<'a>]), ReadError>
     ensures value { Gives (λ x. (x.0, lexemes x.1.now)) result
         (predicate_read (lexemes tokens.now)) }
     ensures rest { IfOk result (λ x. length x.1.now ≤ length tokens.now) }
 {
     let (left, rest) = read_period_operand(alloc, tokens)?;
     if starts_contains_date(rest) {
-        return match read_date(skip(rest, Mark::Keyword("CONTAINS"))?) {
+        return match read_date(expect(rest, Terminal::Keyword("CONTAINS"))?) {
             Ok((day, rest)) => Ok((StoredTest::ContainsDay(left, day), rest)),
             Err(fault) => Err(fault),
         };
@@ -128,12 +129,12 @@ fn read_predicate<'a, 'b>(
 fn starts_relation(tokens: &[Token<'_>]) -> bool
     ensures { result ≡ begins relation_word (lexemes tokens.now) }
 {
-    starts(tokens, Mark::Keyword("OVERLAPS"))
-        || (starts(tokens, Mark::Keyword("EQUALS"))
-            || (starts(tokens, Mark::Keyword("CONTAINS"))
-                || (starts(tokens, Mark::Keyword("IMMEDIATELY"))
-                    || (starts(tokens, Mark::Keyword("PRECEDES"))
-                        || starts(tokens, Mark::Keyword("SUCCEEDS"))))))
+    starts(tokens, Terminal::Keyword("OVERLAPS"))
+        || (starts(tokens, Terminal::Keyword("EQUALS"))
+            || (starts(tokens, Terminal::Keyword("CONTAINS"))
+                || (starts(tokens, Terminal::Keyword("IMMEDIATELY"))
+                    || (starts(tokens, Terminal::Keyword("PRECEDES"))
+                        || starts(tokens, Terminal::Keyword("SUCCEEDS"))))))
 }
 
 /// Does such a word come after the column that the tokens begin with?
@@ -143,7 +144,7 @@ fn has_relation_behind_column(tokens: &[Token<'_>]) -> bool
 {
     match tokens {
         [] => false,
-        [_, rest @ ..] if !starts(rest, Mark::Symbol(".")) => starts_relation(rest),
+        [_, rest @ ..] if !starts(rest, Terminal::Symbol(".")) => starts_relation(rest),
         [_, _, _, rest @ ..] => starts_relation(rest),
         _ => false,
     }
@@ -154,7 +155,7 @@ fn has_relation_behind_column(tokens: &[Token<'_>]) -> bool
 fn is_predicate_ahead(tokens: &[Token<'_>]) -> bool
     ensures { result ≡ predicate_ahead (lexemes tokens.now) }
 {
-    starts(tokens, Mark::Keyword("PERIOD"))
+    starts(tokens, Terminal::Keyword("PERIOD"))
         || (starts_name(tokens) && has_relation_behind_column(tokens))
 }
 
@@ -163,7 +164,7 @@ fn is_predicate_ahead(tokens: &[Token<'_>]) -> bool
 pub fn read_stored_test<'a, 'b>(
     alloc: Global,
     tokens: &'b [Token<'a>],
-) -> Result<(StoredTest, &'b [Token<'a>]), Unread>
+) -> Result<(StoredTest, &'b [Token<'a>]), ReadError>
     ensures value { Gives (λ x. (x.0, lexemes x.1.now)) result
         (stored_test_read (lexemes tokens.now)) }
     ensures rest { IfOk result (λ x. length x.1.now ≤ length tokens.now) }
@@ -181,7 +182,7 @@ impl Test for StoredTest {
     fn read<'a, 'b>(
         alloc: Global,
         tokens: &'b [Token<'a>],
-    ) -> Result<(Self, &'b [Token<'a>]), Unread> {
+    ) -> Result<(Self, &'b [Token<'a>]), ReadError> {
         read_stored_test(alloc, tokens)
     }
 }

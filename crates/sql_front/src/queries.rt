@@ -7,38 +7,43 @@ ghost use Rattle.sql_statements.specs.Lexemes.{lexemes};
 ghost use Rattle.sql_statements.specs.Plain.{plain_query, plain_select, plain_step, steps_of};
 ghost use Rattle.sql_front.specs.reading.Reading.{begins};
 ghost use Rattle.sql_statements.specs.Trees as trees;
-ghost use Rattle.sql_front.specs.reading.QueryReaders.{begins_step, inner_query_read};
+ghost use Rattle.sql_front.specs.reading.QueryReaders.{begins_set_operator, inner_query_read};
 ghost use Rattle.sql_front.specs.reading.QueryReaders.{intersection_read, intersections_read};
 ghost use Rattle.sql_front.specs.reading.QueryReaders.{operator_read, primary_read, query_read};
 ghost use Rattle.sql_front.specs.reading.QueryReaders.{sequenced_read, step_read, steps_read};
 ghost use Rattle.sql_front.specs.reading.QueryReaders.{term_read};
 
-use crate::mark::{Mark, after, skip, skip_optional, starts};
+use crate::read_error::ReadError;
 use crate::selects::read_select;
-use crate::unread::Unread;
+use crate::terminal::{Terminal, accept, expect, skip_optional, starts};
 use sql_statements::statement::SelectDistinct;
 use sql_statements::token::Token;
 use sql_statements::tree::{QueryTree, SetOperator};
 use std::alloc::Global;
 
 /// Does UNION or EXCEPT come next?
-fn starts_step(tokens: &[Token<'_>]) -> bool
-    ensures { result ≡ begins begins_step (lexemes tokens.now) }
+fn starts_set_operator(tokens: &[Token<'_>]) -> bool
+    ensures { result ≡ begins begins_set_operator (lexemes tokens.now) }
 {
-    starts(tokens, Mark::Keyword("UNION")) || starts(tokens, Mark::Keyword("EXCEPT"))
+    starts(tokens, Terminal::Keyword("UNION")) || starts(tokens, Terminal::Keyword("EXCEPT"))
 }
 
 /// UNION or EXCEPT, and the tokens after it.
 #[tactic(auto, unfolding(crate::specs::reading::QueryReaders::operator_read))]
-fn read_operator<'a, 'b>(tokens: &'b [Token<'a>]) -> Result<(SetOperator, &'b [Token<'a>]), Unread>
+fn read_operator<'a, 'b>(
+    tokens: &'b [Token<'a>],
+) -> Result<(SetOperator, &'b [Token<'a>]), ReadError>
     ensures value { Gives (λ x. (x.0, lexemes x.1.now)) result
         (operator_read (lexemes tokens.now)) }
     ensures rest { IfOk result (λ x. length x.1.now < length tokens.now) }
 {
-    if let Some(rest) = after(tokens, Mark::Keyword("UNION")) {
+    if let Some(rest) = accept(tokens, Terminal::Keyword("UNION")) {
         return Ok((SetOperator::Union, rest));
     }
-    Ok((SetOperator::Except, skip(tokens, Mark::Keyword("EXCEPT"))?))
+    Ok((
+        SetOperator::Except,
+        expect(tokens, Terminal::Keyword("EXCEPT"))?,
+    ))
 }
 
 /// The query that is one select.
@@ -55,7 +60,7 @@ fn combined(
     alloc: Global,
     first: QueryTree<SelectDistinct>,
     steps: Vec<(SetOperator, QueryTree<SelectDistinct>)>,
-) -> Result<QueryTree<SelectDistinct>, Unread>
+) -> Result<QueryTree<SelectDistinct>, ReadError>
     ensures { Gives plain_query result
         (Some (trees.combined (plain_query first) (steps_of (map plain_step steps.items)))) }
 {
@@ -67,7 +72,7 @@ fn term(
     alloc: Global,
     first: QueryTree<SelectDistinct>,
     steps: Vec<(SetOperator, QueryTree<SelectDistinct>)>,
-) -> Result<QueryTree<SelectDistinct>, Unread>
+) -> Result<QueryTree<SelectDistinct>, ReadError>
     ensures { Gives plain_query result
         (Some (term_of (plain_query first, map plain_step steps.items))) }
 {
@@ -84,7 +89,7 @@ pub fn read_query<'a, 'b>(
     alloc: Global,
     depth: usize,
     tokens: &'b [Token<'a>],
-) -> Result<(QueryTree<SelectDistinct>, &'b [Token<'a>]), Unread>
+) -> Result<(QueryTree<SelectDistinct>, &'b [Token<'a>]), ReadError>
     ensures value { Gives (λ x. (plain_query x.0, lexemes x.1.now)) result
         (query_read depth (lexemes tokens.now)) }
     ensures rest { IfOk result (λ x. length x.1.now ≤ length tokens.now) }
@@ -92,10 +97,10 @@ pub fn read_query<'a, 'b>(
     let (first, rest) = read_term(alloc, depth, tokens)?;
     match read_steps(alloc, depth, rest) {
         Ok((steps, rest)) => Ok((combined(alloc, first, steps)?, rest)),
-        Err(unread) => {
+        Err(error) => {
             // By a call: the proof of an implicit drop goes through the whole of a query.
             drop(first);
-            Err(unread)
+            Err(error)
         }
     }
 }
@@ -125,14 +130,14 @@ fn read_steps<'a, 'b>(
         Vec<(SetOperator, QueryTree<SelectDistinct>)>,
         &'b [Token<'a>],
     ),
-    Unread,
+    ReadError,
 >
     ensures value { Gives (λ x. (map plain_step x.0.items, lexemes x.1.now)) result
         (steps_read depth (lexemes tokens.now)) }
     ensures rest { IfOk result (λ x. length x.1.now ≤ length tokens.now) }
 {
     let (mut items, mut rest) = no_steps(alloc, tokens);
-    'items: while starts_step(rest) {
+    'items: while starts_set_operator(rest) {
         let (next, after) = read_step(alloc, depth, rest)?;
         items.push(next)?;
         rest = after;
@@ -147,13 +152,13 @@ fn read_step<'a, 'b>(
     alloc: Global,
     depth: usize,
     tokens: &'b [Token<'a>],
-) -> Result<((SetOperator, QueryTree<SelectDistinct>), &'b [Token<'a>]), Unread>
+) -> Result<((SetOperator, QueryTree<SelectDistinct>), &'b [Token<'a>]), ReadError>
     ensures value { Gives (λ x. (plain_step x.0, lexemes x.1.now)) result
         (step_read depth (lexemes tokens.now)) }
     ensures rest { IfOk result (λ x. length x.1.now < length tokens.now) }
 {
     let (operator, rest) = read_operator(tokens)?;
-    let term = skip_optional(rest, Mark::Keyword("DISTINCT"));
+    let term = skip_optional(rest, Terminal::Keyword("DISTINCT"));
     let (next, rest) = read_term(alloc, depth, term)?;
     Ok(((operator, next), rest))
 }
@@ -165,7 +170,7 @@ fn read_term<'a, 'b>(
     alloc: Global,
     depth: usize,
     tokens: &'b [Token<'a>],
-) -> Result<(QueryTree<SelectDistinct>, &'b [Token<'a>]), Unread>
+) -> Result<(QueryTree<SelectDistinct>, &'b [Token<'a>]), ReadError>
     ensures value { Gives (λ x. (plain_query x.0, lexemes x.1.now)) result
         (term_read depth (lexemes tokens.now)) }
     ensures rest { IfOk result (λ x. length x.1.now ≤ length tokens.now) }
@@ -173,10 +178,10 @@ fn read_term<'a, 'b>(
     let (first, rest) = read_primary(alloc, depth, tokens)?;
     match read_intersections(alloc, depth, rest) {
         Ok((steps, rest)) => Ok((term(alloc, first, steps)?, rest)),
-        Err(unread) => {
+        Err(error) => {
             // By a call: the proof of an implicit drop goes through the whole of a query.
             drop(first);
-            Err(unread)
+            Err(error)
         }
     }
 }
@@ -193,14 +198,14 @@ fn read_intersections<'a, 'b>(
         Vec<(SetOperator, QueryTree<SelectDistinct>)>,
         &'b [Token<'a>],
     ),
-    Unread,
+    ReadError,
 >
     ensures value { Gives (λ x. (map plain_step x.0.items, lexemes x.1.now)) result
         (intersections_read depth (lexemes tokens.now)) }
     ensures rest { IfOk result (λ x. length x.1.now ≤ length tokens.now) }
 {
     let (mut items, mut rest) = no_steps(alloc, tokens);
-    'items: while starts(rest, Mark::Keyword("INTERSECT")) {
+    'items: while starts(rest, Terminal::Keyword("INTERSECT")) {
         let (next, after) = read_intersection(alloc, depth, rest)?;
         items.push(next)?;
         rest = after;
@@ -215,13 +220,13 @@ fn read_intersection<'a, 'b>(
     alloc: Global,
     depth: usize,
     tokens: &'b [Token<'a>],
-) -> Result<((SetOperator, QueryTree<SelectDistinct>), &'b [Token<'a>]), Unread>
+) -> Result<((SetOperator, QueryTree<SelectDistinct>), &'b [Token<'a>]), ReadError>
     ensures value { Gives (λ x. (plain_step x.0, lexemes x.1.now)) result
         (intersection_read depth (lexemes tokens.now)) }
     ensures rest { IfOk result (λ x. length x.1.now < length tokens.now) }
 {
-    let rest = skip(tokens, Mark::Keyword("INTERSECT"))?;
-    let primary = skip_optional(rest, Mark::Keyword("DISTINCT"));
+    let rest = expect(tokens, Terminal::Keyword("INTERSECT"))?;
+    let primary = skip_optional(rest, Terminal::Keyword("DISTINCT"));
     let (next, rest) = read_primary(alloc, depth, primary)?;
     Ok(((SetOperator::Intersect, next), rest))
 }
@@ -233,22 +238,22 @@ fn read_primary<'a, 'b>(
     alloc: Global,
     depth: usize,
     tokens: &'b [Token<'a>],
-) -> Result<(QueryTree<SelectDistinct>, &'b [Token<'a>]), Unread>
+) -> Result<(QueryTree<SelectDistinct>, &'b [Token<'a>]), ReadError>
     ensures value { Gives (λ x. (plain_query x.0, lexemes x.1.now)) result
         (primary_read depth (lexemes tokens.now)) }
     ensures rest { IfOk result (λ x. length x.1.now ≤ length tokens.now) }
 {
-    let Some(inside) = after(tokens, Mark::Symbol("(")) else {
+    let Some(inside) = accept(tokens, Terminal::Symbol("(")) else {
         let (select, rest) = read_select(alloc, depth, tokens)?;
         return Ok((one_select(select), rest));
     };
     let (inner, rest) = read_inner_query(alloc, depth, inside)?;
-    match skip(rest, Mark::Symbol(")")) {
+    match expect(rest, Terminal::Symbol(")")) {
         Ok(rest) => Ok((inner, rest)),
-        Err(unread) => {
+        Err(error) => {
             // By a call: the proof of an implicit drop goes through the whole of a query.
             drop(inner);
-            Err(unread)
+            Err(error)
         }
     }
 }
@@ -260,13 +265,13 @@ fn read_inner_query<'a, 'b>(
     alloc: Global,
     depth: usize,
     tokens: &'b [Token<'a>],
-) -> Result<(QueryTree<SelectDistinct>, &'b [Token<'a>]), Unread>
+) -> Result<(QueryTree<SelectDistinct>, &'b [Token<'a>]), ReadError>
     ensures value { Gives (λ x. (plain_query x.0, lexemes x.1.now)) result
         (inner_query_read depth (lexemes tokens.now)) }
     ensures rest { IfOk result (λ x. length x.1.now ≤ length tokens.now) }
 {
     if depth == 0 {
-        return Err(Unread::Syntax);
+        return Err(ReadError::Syntax);
     }
     read_query(alloc, depth - 1, tokens)
 }
@@ -277,10 +282,14 @@ pub fn read_sequenced<'a, 'b>(
     alloc: Global,
     depth: usize,
     tokens: &'b [Token<'a>],
-) -> Result<(QueryTree<SelectDistinct>, &'b [Token<'a>]), Unread>
+) -> Result<(QueryTree<SelectDistinct>, &'b [Token<'a>]), ReadError>
     ensures value { Gives (λ x. (plain_query x.0, lexemes x.1.now)) result
         (sequenced_read depth (lexemes tokens.now)) }
     ensures rest { IfOk result (λ x. length x.1.now ≤ length tokens.now) }
 {
-    read_query(alloc, depth, skip(tokens, Mark::Keyword("VALIDTIME"))?)
+    read_query(
+        alloc,
+        depth,
+        expect(tokens, Terminal::Keyword("VALIDTIME"))?,
+    )
 }

@@ -11,8 +11,8 @@ ghost use Rattle.sql_front.specs.reading.QueryReaders.{reference_read};
 use crate::comparisons::read_column;
 use crate::leaves::read_name;
 use crate::list::Item;
-use crate::mark::{Mark, skip_optional, starts, starts_name};
-use crate::unread::Unread;
+use crate::read_error::ReadError;
+use crate::terminal::{Terminal, skip_optional, starts, starts_name};
 use crate::windows::read_for_window;
 use sql_statements::name::Name;
 use sql_statements::statement::{SelectItem, TableReference};
@@ -23,7 +23,7 @@ use std::alloc::Global;
 fn starts_new_name(tokens: &[Token<'_>]) -> bool
     ensures { result ≡ begins begins_new_name (lexemes tokens.now) }
 {
-    starts(tokens, Mark::Keyword("AS")) || starts_name(tokens)
+    starts(tokens, Terminal::Keyword("AS")) || starts_name(tokens)
 }
 
 /// A new name with AS or without, or nothing, and the tokens after it.
@@ -31,7 +31,7 @@ fn starts_new_name(tokens: &[Token<'_>]) -> bool
 fn read_new_name<'a, 'b>(
     alloc: Global,
     tokens: &'b [Token<'a>],
-) -> Result<(Option<Name>, &'b [Token<'a>]), Unread>
+) -> Result<(Option<Name>, &'b [Token<'a>]), ReadError>
     ensures value { Gives (λ x. (x.0, lexemes x.1.now)) result
         (new_name_read (lexemes tokens.now)) }
     ensures rest { IfOk result (λ x. length x.1.now ≤ length tokens.now) }
@@ -39,7 +39,7 @@ fn read_new_name<'a, 'b>(
     if !starts_new_name(tokens) {
         return Ok((None, tokens));
     }
-    let (new_name, rest) = read_name(alloc, skip_optional(tokens, Mark::Keyword("AS")))?;
+    let (new_name, rest) = read_name(alloc, skip_optional(tokens, Terminal::Keyword("AS")))?;
     Ok((Some(new_name), rest))
 }
 
@@ -48,7 +48,7 @@ fn read_new_name<'a, 'b>(
 pub fn read_reference<'a, 'b>(
     alloc: Global,
     tokens: &'b [Token<'a>],
-) -> Result<(TableReference, &'b [Token<'a>]), Unread>
+) -> Result<(TableReference, &'b [Token<'a>]), ReadError>
     ensures value { Gives (λ x. (x.0, lexemes x.1.now)) result
         (reference_read (lexemes tokens.now)) }
     ensures rest { IfOk result (λ x. length x.1.now ≤ length tokens.now) }
@@ -57,7 +57,7 @@ pub fn read_reference<'a, 'b>(
     // `?` on moments beside borrowed tokens has no rule
     let (window, rest) = match read_for_window(rest) {
         Ok(read) => read,
-        Err(unread) => return Err(unread),
+        Err(error) => return Err(error),
     };
     let (new_name, rest) = read_new_name(alloc, rest)?;
     Ok((
@@ -82,7 +82,7 @@ impl<'a> Item<'a> for SelectItem {
         alloc: Global,
         _depth: usize,
         tokens: &'b [Token<'a>],
-    ) -> Result<(Self, &'b [Token<'a>]), Unread> {
+    ) -> Result<(Self, &'b [Token<'a>]), ReadError> {
         let (column, rest) = read_column(alloc, tokens)?;
         let (new_name, rest) = read_new_name(alloc, rest)?;
         Ok((SelectItem { column, new_name }, rest))

@@ -16,9 +16,9 @@ ghost use Rattle.std.specs.Option.{option_map};
 
 use crate::conditions::{read_condition, read_where};
 use crate::list::{Item, separated};
-use crate::mark::{Mark, skip, skip_optional, starts};
+use crate::read_error::ReadError;
 use crate::references::read_reference;
-use crate::unread::Unread;
+use crate::terminal::{Terminal, expect, skip_optional, starts};
 use period_core::Items;
 use sql_statements::nonempty::NonEmpty;
 use sql_statements::statement::{
@@ -32,7 +32,7 @@ use std::alloc::Global;
 fn starts_join(tokens: &[Token<'_>]) -> bool
     ensures { result ≡ begins begins_join (lexemes tokens.now) }
 {
-    starts(tokens, Mark::Keyword("INNER")) || starts(tokens, Mark::Keyword("JOIN"))
+    starts(tokens, Terminal::Keyword("INNER")) || starts(tokens, Terminal::Keyword("JOIN"))
 }
 
 /// JOIN with a table and ON with a condition, and the tokens after them.
@@ -41,13 +41,13 @@ fn read_joined<'a, 'b>(
     alloc: Global,
     depth: usize,
     tokens: &'b [Token<'a>],
-) -> Result<((TableReference, Tree<Compare>), &'b [Token<'a>]), Unread>
+) -> Result<((TableReference, Tree<Compare>), &'b [Token<'a>]), ReadError>
     ensures value { Gives (λ x. ((x.0.0, plain_condition x.0.1), lexemes x.1.now)) result
         (joined_read depth (lexemes tokens.now)) }
     ensures rest { IfOk result (λ x. length x.1.now < length tokens.now) }
 {
-    let (reference, rest) = read_reference(alloc, skip(tokens, Mark::Keyword("JOIN"))?)?;
-    let rest = skip(rest, Mark::Keyword("ON"))?;
+    let (reference, rest) = read_reference(alloc, expect(tokens, Terminal::Keyword("JOIN"))?)?;
+    let rest = expect(rest, Terminal::Keyword("ON"))?;
     let (condition, rest) = read_condition::<Compare>(alloc, depth, rest)?;
     Ok(((reference, condition), rest))
 }
@@ -58,12 +58,12 @@ fn read_join<'a, 'b>(
     alloc: Global,
     depth: usize,
     tokens: &'b [Token<'a>],
-) -> Result<(Join, &'b [Token<'a>]), Unread>
+) -> Result<(Join, &'b [Token<'a>]), ReadError>
     ensures value { Gives (λ x. (plain_join x.0, lexemes x.1.now)) result
         (join_read depth (lexemes tokens.now)) }
     ensures rest { IfOk result (λ x. length x.1.now < length tokens.now) }
 {
-    let joined = skip_optional(tokens, Mark::Keyword("INNER"));
+    let joined = skip_optional(tokens, Terminal::Keyword("INNER"));
     let ((reference, condition), rest) = read_joined(alloc, depth, joined)?;
     Ok((
         Join {
@@ -80,7 +80,7 @@ fn read_chain<'a, 'b>(
     alloc: Global,
     depth: usize,
     tokens: &'b [Token<'a>],
-) -> Result<(JoinChain, &'b [Token<'a>]), Unread>
+) -> Result<(JoinChain, &'b [Token<'a>]), ReadError>
     ensures value { Gives (λ x. (plain_chain x.0, lexemes x.1.now)) result
         (chain_read depth (lexemes tokens.now)) }
     ensures rest { IfOk result (λ x. length x.1.now ≤ length tokens.now) }
@@ -112,7 +112,7 @@ impl<'a> Item<'a> for JoinChain {
         alloc: Global,
         depth: usize,
         tokens: &'b [Token<'a>],
-    ) -> Result<(Self, &'b [Token<'a>]), Unread> {
+    ) -> Result<(Self, &'b [Token<'a>]), ReadError> {
         read_chain(alloc, depth, tokens)
     }
 }
@@ -121,7 +121,7 @@ impl<'a> Item<'a> for JoinChain {
 fn read_items<'a, 'b>(
     alloc: Global,
     tokens: &'b [Token<'a>],
-) -> Result<(NonEmpty<SelectItem>, &'b [Token<'a>]), Unread>
+) -> Result<(NonEmpty<SelectItem>, &'b [Token<'a>]), ReadError>
     ensures value { Gives (λ x. (x.0, lexemes x.1.now)) result
         (separated_read comma item_read (lexemes tokens.now)) }
     ensures rest { IfOk result (λ x. length x.1.now ≤ length tokens.now) }
@@ -135,7 +135,7 @@ fn read_chains<'a, 'b>(
     alloc: Global,
     depth: usize,
     tokens: &'b [Token<'a>],
-) -> Result<(NonEmpty<JoinChain>, &'b [Token<'a>]), Unread>
+) -> Result<(NonEmpty<JoinChain>, &'b [Token<'a>]), ReadError>
     ensures value { Gives (λ x. (map plain_chain x.0, lexemes x.1.now)) result
         (separated_read comma (chain_read depth) (lexemes tokens.now)) }
     ensures rest { IfOk result (λ x. length x.1.now ≤ length tokens.now) }
@@ -156,14 +156,14 @@ fn read_from<'a, 'b>(
         (NonEmpty<JoinChain>, Option<Tree<Compare>>),
         &'b [Token<'a>],
     ),
-    Unread,
+    ReadError,
 >
     ensures value { Gives
         (λ x. ((map plain_chain x.0.0, option_map plain_condition x.0.1), lexemes x.1.now)) result
         (from_read depth (lexemes tokens.now)) }
     ensures rest { IfOk result (λ x. length x.1.now ≤ length tokens.now) }
 {
-    let (chains, rest) = read_chains(alloc, depth, skip(tokens, Mark::Keyword("FROM"))?)?;
+    let (chains, rest) = read_chains(alloc, depth, expect(tokens, Terminal::Keyword("FROM"))?)?;
     let (condition, rest) = read_where::<Compare>(alloc, depth, rest)?;
     Ok(((chains, condition), rest))
 }
@@ -175,7 +175,7 @@ fn read_selected<'a, 'b>(
     alloc: Global,
     depth: usize,
     tokens: &'b [Token<'a>],
-) -> Result<(SelectDistinct, &'b [Token<'a>]), Unread>
+) -> Result<(SelectDistinct, &'b [Token<'a>]), ReadError>
     ensures value { Gives (λ x. (plain_select x.0, lexemes x.1.now)) result
         (selected_read depth (lexemes tokens.now)) }
     ensures rest { IfOk result (λ x. length x.1.now ≤ length tokens.now) }
@@ -199,12 +199,12 @@ pub fn read_select<'a, 'b>(
     alloc: Global,
     depth: usize,
     tokens: &'b [Token<'a>],
-) -> Result<(SelectDistinct, &'b [Token<'a>]), Unread>
+) -> Result<(SelectDistinct, &'b [Token<'a>]), ReadError>
     ensures value { Gives (λ x. (plain_select x.0, lexemes x.1.now)) result
         (select_read depth (lexemes tokens.now)) }
     ensures rest { IfOk result (λ x. length x.1.now ≤ length tokens.now) }
 {
-    let rest = skip(tokens, Mark::Keyword("SELECT"))?;
-    let rest = skip(rest, Mark::Keyword("DISTINCT"))?;
+    let rest = expect(tokens, Terminal::Keyword("SELECT"))?;
+    let rest = expect(rest, Terminal::Keyword("DISTINCT"))?;
     read_selected(alloc, depth, rest)
 }

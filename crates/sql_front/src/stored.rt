@@ -8,8 +8,8 @@ ghost use Rattle.sql_front.specs.reading.StatementReaders.{stored_read, stored_t
 
 use crate::conditions::read_where;
 use crate::leaves::read_name;
-use crate::mark::{Mark, skip};
-use crate::unread::Unread;
+use crate::read_error::ReadError;
+use crate::terminal::{Terminal, expect};
 use crate::windows::read_for_window;
 use sql_statements::statement::{StoredQuery, StoredTest};
 use sql_statements::token::Token;
@@ -22,7 +22,7 @@ fn read_stored_table<'a, 'b>(
     alloc: Global,
     depth: usize,
     tokens: &'b [Token<'a>],
-) -> Result<(StoredQuery, &'b [Token<'a>]), Unread>
+) -> Result<(StoredQuery, &'b [Token<'a>]), ReadError>
     ensures value { Gives (λ x. (plain_stored x.0, lexemes x.1.now)) result
         (stored_table_read depth (lexemes tokens.now)) }
     ensures rest { IfOk result (λ x. length x.1.now ≤ length tokens.now) }
@@ -30,7 +30,7 @@ fn read_stored_table<'a, 'b>(
     let (table, rest) = read_name(alloc, tokens)?;
     let (window, rest) = match read_for_window(rest) {
         Ok(found) => found,
-        Err(unread) => return Err(unread),
+        Err(error) => return Err(error),
     };
     let (condition, rest) = read_where::<StoredTest>(alloc, depth, rest)?;
     Ok((
@@ -49,12 +49,12 @@ pub fn read_stored<'a, 'b>(
     alloc: Global,
     depth: usize,
     tokens: &'b [Token<'a>],
-) -> Result<(StoredQuery, &'b [Token<'a>]), Unread>
+) -> Result<(StoredQuery, &'b [Token<'a>]), ReadError>
     ensures value { Gives (λ x. (plain_stored x.0, lexemes x.1.now)) result
         (stored_read depth (lexemes tokens.now)) }
     ensures rest { IfOk result (λ x. length x.1.now ≤ length tokens.now) }
 {
-    let rest = skip(tokens, Mark::Keyword("SELECT"))?;
-    let rest = skip(rest, Mark::Symbol("*"))?;
-    read_stored_table(alloc, depth, skip(rest, Mark::Keyword("FROM"))?)
+    let rest = expect(tokens, Terminal::Keyword("SELECT"))?;
+    let rest = expect(rest, Terminal::Symbol("*"))?;
+    read_stored_table(alloc, depth, expect(rest, Terminal::Keyword("FROM"))?)
 }

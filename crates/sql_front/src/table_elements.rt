@@ -15,8 +15,8 @@ ghost use Rattle.sql_statements.specs.Lexemes.{lexemes};
 
 use crate::leaves::read_name;
 use crate::list::separated;
-use crate::mark::{Mark, skip, starts, starts_name};
-use crate::unread::Unread;
+use crate::read_error::ReadError;
+use crate::terminal::{Terminal, expect, starts, starts_name};
 use sql_statements::create::{KeyElement, PeriodElement, ReferenceElement, SystemElement};
 use sql_statements::name::Name;
 use sql_statements::nonempty::NonEmpty;
@@ -28,13 +28,13 @@ use std::alloc::Global;
 fn read_pair<'a, 'b>(
     alloc: Global,
     tokens: &'b [Token<'a>],
-) -> Result<((Name, Name), &'b [Token<'a>]), Unread>
+) -> Result<((Name, Name), &'b [Token<'a>]), ReadError>
     ensures value { Gives (λ x. (x.0, lexemes x.1.now)) result (pair_read (lexemes tokens.now)) }
     ensures rest { IfOk result (λ x. length x.1.now ≤ length tokens.now) }
 {
-    let (start, rest) = read_name(alloc, skip(tokens, Mark::Symbol("("))?)?;
-    let (end, rest) = read_name(alloc, skip(rest, Mark::Symbol(","))?)?;
-    Ok(((start, end), skip(rest, Mark::Symbol(")"))?))
+    let (start, rest) = read_name(alloc, expect(tokens, Terminal::Symbol("("))?)?;
+    let (end, rest) = read_name(alloc, expect(rest, Terminal::Symbol(","))?)?;
+    Ok(((start, end), expect(rest, Terminal::Symbol(")"))?))
 }
 
 /// PERIOD FOR a name with its two columns, and the tokens after it.
@@ -42,13 +42,13 @@ fn read_pair<'a, 'b>(
 pub fn read_period_element<'a, 'b>(
     alloc: Global,
     tokens: &'b [Token<'a>],
-) -> Result<(PeriodElement, &'b [Token<'a>]), Unread>
+) -> Result<(PeriodElement, &'b [Token<'a>]), ReadError>
     ensures value { Gives (λ x. (x.0, lexemes x.1.now)) result
         (period_element_read (lexemes tokens.now)) }
     ensures rest { IfOk result (λ x. length x.1.now ≤ length tokens.now) }
 {
-    let rest = skip(tokens, Mark::Keyword("PERIOD"))?;
-    let rest = skip(rest, Mark::Keyword("FOR"))?;
+    let rest = expect(tokens, Terminal::Keyword("PERIOD"))?;
+    let rest = expect(rest, Terminal::Keyword("FOR"))?;
     let (name, rest) = read_name(alloc, rest)?;
     let ((start, end), rest) = read_pair(alloc, rest)?;
     Ok((PeriodElement { name, start, end }, rest))
@@ -59,29 +59,29 @@ pub fn read_period_element<'a, 'b>(
 pub fn read_system_element<'a, 'b>(
     alloc: Global,
     tokens: &'b [Token<'a>],
-) -> Result<(SystemElement, &'b [Token<'a>]), Unread>
+) -> Result<(SystemElement, &'b [Token<'a>]), ReadError>
     ensures value { Gives (λ x. (x.0, lexemes x.1.now)) result
         (system_element_read (lexemes tokens.now)) }
     ensures rest { IfOk result (λ x. length x.1.now ≤ length tokens.now) }
 {
-    let rest = skip(tokens, Mark::Keyword("PERIOD"))?;
-    let rest = skip(rest, Mark::Keyword("FOR"))?;
-    let rest = skip(rest, Mark::Keyword("SYSTEM_TIME"))?;
+    let rest = expect(tokens, Terminal::Keyword("PERIOD"))?;
+    let rest = expect(rest, Terminal::Keyword("FOR"))?;
+    let rest = expect(rest, Terminal::Keyword("SYSTEM_TIME"))?;
     let ((start, end), rest) = read_pair(alloc, rest)?;
     Ok((SystemElement { start, end }, rest))
 }
 
 // The names before the last, and the last. A lone name has none before it.
 #[tactic(auto, using(crate::proofs::SplitLast::split_views))]
-fn split_off_last(names: Vec<Name>) -> Result<(NonEmpty<Name>, Name), Unread>
+fn split_off_last(names: Vec<Name>) -> Result<(NonEmpty<Name>, Name), ReadError>
     ensures { Gives (λ x. x) result (split_last names.items) }
 {
     let mut names = names;
     let Some(last) = names.pop() else {
-        return Err(Unread::Syntax);
+        return Err(ReadError::Syntax);
     };
     if names.is_empty() {
-        return Err(Unread::Syntax);
+        return Err(ReadError::Syntax);
     }
     Ok((NonEmpty::from_vec(names), last))
 }
@@ -91,7 +91,7 @@ fn split_off_last(names: Vec<Name>) -> Result<(NonEmpty<Name>, Name), Unread>
 fn read_key_names<'a, 'b>(
     alloc: Global,
     tokens: &'b [Token<'a>],
-) -> Result<((NonEmpty<Name>, Name), &'b [Token<'a>]), Unread>
+) -> Result<((NonEmpty<Name>, Name), &'b [Token<'a>]), ReadError>
     ensures value { Gives (λ x. (x.0, lexemes x.1.now)) result
         (key_names_read (lexemes tokens.now)) }
     ensures rest { IfOk result (λ x. length x.1.now ≤ length tokens.now) }
@@ -102,14 +102,14 @@ fn read_key_names<'a, 'b>(
 
 // The tokens after WITHOUT OVERLAPS.
 #[tactic(auto, unfolding(crate::specs::reading::ElementReaders::without_overlaps_read))]
-fn skip_without_overlaps<'a, 'b>(tokens: &'b [Token<'a>]) -> Result<&'b [Token<'a>], Unread>
+fn skip_without_overlaps<'a, 'b>(tokens: &'b [Token<'a>]) -> Result<&'b [Token<'a>], ReadError>
     ensures value { Gives (λ x. (tt, lexemes x.now)) result
         (without_overlaps_read (lexemes tokens.now)) }
     ensures rest { IfOk result (λ x. length x.now ≤ length tokens.now) }
 {
-    skip(
-        skip(tokens, Mark::Keyword("WITHOUT"))?,
-        Mark::Keyword("OVERLAPS"),
+    expect(
+        expect(tokens, Terminal::Keyword("WITHOUT"))?,
+        Terminal::Keyword("OVERLAPS"),
     )
 }
 
@@ -118,15 +118,15 @@ fn skip_without_overlaps<'a, 'b>(tokens: &'b [Token<'a>]) -> Result<&'b [Token<'
 fn read_key_list<'a, 'b>(
     alloc: Global,
     tokens: &'b [Token<'a>],
-) -> Result<(KeyElement, &'b [Token<'a>]), Unread>
+) -> Result<(KeyElement, &'b [Token<'a>]), ReadError>
     ensures value { Gives (λ x. (x.0, lexemes x.1.now)) result
         (key_list_read (lexemes tokens.now)) }
     ensures rest { IfOk result (λ x. length x.1.now ≤ length tokens.now) }
 {
-    let inside = skip(tokens, Mark::Symbol("("))?;
+    let inside = expect(tokens, Terminal::Symbol("("))?;
     let ((columns, period), rest) = read_key_names(alloc, inside)?;
     let rest = skip_without_overlaps(rest)?;
-    let rest = skip(rest, Mark::Symbol(")"))?;
+    let rest = expect(rest, Terminal::Symbol(")"))?;
     Ok((KeyElement { columns, period }, rest))
 }
 
@@ -135,13 +135,13 @@ fn read_key_list<'a, 'b>(
 pub fn read_key_element<'a, 'b>(
     alloc: Global,
     tokens: &'b [Token<'a>],
-) -> Result<(KeyElement, &'b [Token<'a>]), Unread>
+) -> Result<(KeyElement, &'b [Token<'a>]), ReadError>
     ensures value { Gives (λ x. (x.0, lexemes x.1.now)) result
         (key_element_read (lexemes tokens.now)) }
     ensures rest { IfOk result (λ x. length x.1.now ≤ length tokens.now) }
 {
-    let rest = skip(tokens, Mark::Keyword("PRIMARY"))?;
-    read_key_list(alloc, skip(rest, Mark::Keyword("KEY"))?)
+    let rest = expect(tokens, Terminal::Keyword("PRIMARY"))?;
+    read_key_list(alloc, expect(rest, Terminal::Keyword("KEY"))?)
 }
 
 // Does a name come after a comma? What else may come there is a keyword.
@@ -151,7 +151,7 @@ fn names_one_more(tokens: &[Token<'_>]) -> bool
 {
     match tokens {
         [] => false,
-        [_, rest @ ..] => starts(tokens, Mark::Symbol(",")) && starts_name(rest),
+        [_, rest @ ..] => starts(tokens, Terminal::Symbol(",")) && starts_name(rest),
     }
 }
 
@@ -159,7 +159,7 @@ fn names_one_more(tokens: &[Token<'_>]) -> bool
 fn read_leading_names<'a, 'b>(
     alloc: Global,
     tokens: &'b [Token<'a>],
-) -> Result<(NonEmpty<Name>, &'b [Token<'a>]), Unread>
+) -> Result<(NonEmpty<Name>, &'b [Token<'a>]), ReadError>
     ensures value { Gives (λ x. (x.0, lexemes x.1.now)) result
         (leading_names_read (lexemes tokens.now)) }
     ensures rest { IfOk result (λ x. length x.1.now ≤ length tokens.now) }
@@ -168,7 +168,7 @@ fn read_leading_names<'a, 'b>(
     let (first, mut rest) = read_name(alloc, tokens)?;
     names.push(first)?;
     'names: while names_one_more(rest) {
-        let (next, after) = read_name(alloc, skip(rest, Mark::Symbol(","))?)?;
+        let (next, after) = read_name(alloc, expect(rest, Terminal::Symbol(","))?)?;
         names.push(next)?;
         rest = after;
     }
@@ -180,13 +180,13 @@ fn read_leading_names<'a, 'b>(
 fn read_last_period<'a, 'b>(
     alloc: Global,
     tokens: &'b [Token<'a>],
-) -> Result<(Name, &'b [Token<'a>]), Unread>
+) -> Result<(Name, &'b [Token<'a>]), ReadError>
     ensures value { Gives (λ x. (x.0, lexemes x.1.now)) result
         (last_period_read (lexemes tokens.now)) }
     ensures rest { IfOk result (λ x. length x.1.now ≤ length tokens.now) }
 {
-    let rest = skip(tokens, Mark::Symbol(","))?;
-    read_name(alloc, skip(rest, Mark::Keyword("PERIOD"))?)
+    let rest = expect(tokens, Terminal::Symbol(","))?;
+    read_name(alloc, expect(rest, Terminal::Keyword("PERIOD"))?)
 }
 
 // Columns and PERIOD with a name, in parentheses.
@@ -194,14 +194,14 @@ fn read_last_period<'a, 'b>(
 fn read_reference_list<'a, 'b>(
     alloc: Global,
     tokens: &'b [Token<'a>],
-) -> Result<((NonEmpty<Name>, Name), &'b [Token<'a>]), Unread>
+) -> Result<((NonEmpty<Name>, Name), &'b [Token<'a>]), ReadError>
     ensures value { Gives (λ x. (x.0, lexemes x.1.now)) result
         (reference_list_read (lexemes tokens.now)) }
     ensures rest { IfOk result (λ x. length x.1.now ≤ length tokens.now) }
 {
-    let (columns, rest) = read_leading_names(alloc, skip(tokens, Mark::Symbol("("))?)?;
+    let (columns, rest) = read_leading_names(alloc, expect(tokens, Terminal::Symbol("("))?)?;
     let (period, rest) = read_last_period(alloc, rest)?;
-    Ok(((columns, period), skip(rest, Mark::Symbol(")"))?))
+    Ok(((columns, period), expect(rest, Terminal::Symbol(")"))?))
 }
 
 // REFERENCES with the parent and its list.
@@ -209,11 +209,11 @@ fn read_reference_list<'a, 'b>(
 fn read_parent<'a, 'b>(
     alloc: Global,
     tokens: &'b [Token<'a>],
-) -> Result<((Name, (NonEmpty<Name>, Name)), &'b [Token<'a>]), Unread>
+) -> Result<((Name, (NonEmpty<Name>, Name)), &'b [Token<'a>]), ReadError>
     ensures value { Gives (λ x. (x.0, lexemes x.1.now)) result (parent_read (lexemes tokens.now)) }
     ensures rest { IfOk result (λ x. length x.1.now ≤ length tokens.now) }
 {
-    let (parent, rest) = read_name(alloc, skip(tokens, Mark::Keyword("REFERENCES"))?)?;
+    let (parent, rest) = read_name(alloc, expect(tokens, Terminal::Keyword("REFERENCES"))?)?;
     let (list, rest) = read_reference_list(alloc, rest)?;
     Ok(((parent, list), rest))
 }
@@ -223,13 +223,13 @@ fn read_parent<'a, 'b>(
 pub fn read_reference_element<'a, 'b>(
     alloc: Global,
     tokens: &'b [Token<'a>],
-) -> Result<(ReferenceElement, &'b [Token<'a>]), Unread>
+) -> Result<(ReferenceElement, &'b [Token<'a>]), ReadError>
     ensures value { Gives (λ x. (x.0, lexemes x.1.now)) result
         (reference_element_read (lexemes tokens.now)) }
     ensures rest { IfOk result (λ x. length x.1.now ≤ length tokens.now) }
 {
-    let rest = skip(tokens, Mark::Keyword("FOREIGN"))?;
-    let rest = skip(rest, Mark::Keyword("KEY"))?;
+    let rest = expect(tokens, Terminal::Keyword("FOREIGN"))?;
+    let rest = expect(rest, Terminal::Keyword("KEY"))?;
     let ((columns, period), rest) = read_reference_list(alloc, rest)?;
     let ((parent, (parent_columns, parent_period)), rest) = read_parent(alloc, rest)?;
     let reference = ReferenceElement {

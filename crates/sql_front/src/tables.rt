@@ -12,11 +12,11 @@ ghost use Rattle.sql_front.specs.PlainElements.{plain_element, with_element};
 use crate::column_elements::read_column_element;
 use crate::leaves::read_name;
 use crate::list::{Item, separated};
-use crate::mark::{Mark, skip, starts, starts_name, third};
+use crate::read_error::ReadError;
 use crate::table_elements::{
     read_key_element, read_period_element, read_reference_element, read_system_element,
 };
-use crate::unread::Unread;
+use crate::terminal::{Terminal, expect, starts, starts_name, third_is};
 use period_core::{Items, Memory};
 use sql_statements::create::{
     ColumnElement, CreateStatement, CreateTable, KeyElement, PeriodElement, ReferenceElement,
@@ -41,12 +41,12 @@ enum TableElement {
 fn read_some_period<'a, 'b>(
     alloc: Global,
     tokens: &'b [Token<'a>],
-) -> Result<(TableElement, &'b [Token<'a>]), Unread>
+) -> Result<(TableElement, &'b [Token<'a>]), ReadError>
     ensures value { Gives (λ x. (plain_element x.0, lexemes x.1.now)) result
         (some_period_read (lexemes tokens.now)) }
     ensures rest { IfOk result (λ x. length x.1.now ≤ length tokens.now) }
 {
-    if third(tokens, Mark::Keyword("SYSTEM_TIME")) {
+    if third_is(tokens, Terminal::Keyword("SYSTEM_TIME")) {
         let (period, rest) = read_system_element(alloc, tokens)?;
         return Ok((TableElement::System(period), rest));
     }
@@ -59,7 +59,7 @@ fn read_some_period<'a, 'b>(
 fn read_element<'a, 'b>(
     alloc: Global,
     tokens: &'b [Token<'a>],
-) -> Result<(TableElement, &'b [Token<'a>]), Unread>
+) -> Result<(TableElement, &'b [Token<'a>]), ReadError>
     ensures value { Gives (λ x. (plain_element x.0, lexemes x.1.now)) result
         (element_read (lexemes tokens.now)) }
     ensures rest { IfOk result (λ x. length x.1.now ≤ length tokens.now) }
@@ -68,10 +68,10 @@ fn read_element<'a, 'b>(
         let (column, rest) = read_column_element(alloc, tokens)?;
         return Ok((TableElement::Column(column), rest));
     }
-    if starts(tokens, Mark::Keyword("PERIOD")) {
+    if starts(tokens, Terminal::Keyword("PERIOD")) {
         return read_some_period(alloc, tokens);
     }
-    if starts(tokens, Mark::Keyword("PRIMARY")) {
+    if starts(tokens, Terminal::Keyword("PRIMARY")) {
         let (key, rest) = read_key_element(alloc, tokens)?;
         return Ok((TableElement::Key(key), rest));
     }
@@ -90,7 +90,7 @@ impl<'a> Item<'a> for TableElement {
         alloc: Global,
         _depth: usize,
         tokens: &'b [Token<'a>],
-    ) -> Result<(Self, &'b [Token<'a>]), Unread> {
+    ) -> Result<(Self, &'b [Token<'a>]), ReadError> {
         read_element(alloc, tokens)
     }
 }
@@ -100,15 +100,15 @@ impl<'a> Item<'a> for TableElement {
 fn read_elements<'a, 'b>(
     alloc: Global,
     tokens: &'b [Token<'a>],
-) -> Result<(Vec<TableElement>, &'b [Token<'a>]), Unread>
+) -> Result<(Vec<TableElement>, &'b [Token<'a>]), ReadError>
     ensures value { Gives (λ x. (map plain_element x.0.items, lexemes x.1.now)) result
         (elements_read (lexemes tokens.now)) }
     ensures rest { IfOk result (λ x. length x.1.now ≤ length tokens.now) }
     ensures filled { IfOk result (λ x. 0 < length x.0.items) }
 {
-    let rest = skip(tokens, Mark::Symbol("("))?;
+    let rest = expect(tokens, Terminal::Symbol("("))?;
     let (elements, rest) = separated::<TableElement>(alloc, 0, rest)?;
-    Ok((elements, skip(rest, Mark::Symbol(")"))?))
+    Ok((elements, expect(rest, Terminal::Symbol(")"))?))
 }
 
 // The table with one more element, which is the last of its kind.
@@ -129,7 +129,7 @@ fn table_with(
     alloc: Global,
     name: Name,
     elements: Vec<TableElement>,
-) -> Result<CreateStatement, Unread>
+) -> Result<CreateStatement, ReadError>
     requires { 0 < length elements.items }
     ensures { Gives (λ t. t) result
         (Some (table_of (name, (map plain_element elements.items, tt)))) }
@@ -144,7 +144,7 @@ fn table_with(
     };
     for element in elements {
         if add_element(&mut table, element).is_err() {
-            return Err(Unread::Memory);
+            return Err(ReadError::Memory);
         }
     }
     Ok(CreateStatement::new(table))
@@ -152,13 +152,13 @@ fn table_with(
 
 // The tokens after WITH SYSTEM VERSIONING.
 #[tactic(auto, unfolding(crate::specs::reading::ElementReaders::versioning_read))]
-fn skip_versioning<'a, 'b>(tokens: &'b [Token<'a>]) -> Result<&'b [Token<'a>], Unread>
+fn skip_versioning<'a, 'b>(tokens: &'b [Token<'a>]) -> Result<&'b [Token<'a>], ReadError>
     ensures value { Gives (λ x. (tt, lexemes x.now)) result (versioning_read (lexemes tokens.now)) }
     ensures rest { IfOk result (λ x. length x.now ≤ length tokens.now) }
 {
-    let rest = skip(tokens, Mark::Keyword("WITH"))?;
-    let rest = skip(rest, Mark::Keyword("SYSTEM"))?;
-    skip(rest, Mark::Keyword("VERSIONING"))
+    let rest = expect(tokens, Terminal::Keyword("WITH"))?;
+    let rest = expect(rest, Terminal::Keyword("SYSTEM"))?;
+    expect(rest, Terminal::Keyword("VERSIONING"))
 }
 
 // A table by its name, its elements and its versioning.
@@ -166,7 +166,7 @@ fn skip_versioning<'a, 'b>(tokens: &'b [Token<'a>]) -> Result<&'b [Token<'a>], U
 fn read_table<'a, 'b>(
     alloc: Global,
     tokens: &'b [Token<'a>],
-) -> Result<(CreateStatement, &'b [Token<'a>]), Unread>
+) -> Result<(CreateStatement, &'b [Token<'a>]), ReadError>
     ensures value { Gives (λ x. (x.0, lexemes x.1.now)) result
         (created_table_read (lexemes tokens.now)) }
     ensures rest { IfOk result (λ x. length x.1.now ≤ length tokens.now) }
@@ -182,10 +182,10 @@ fn read_table<'a, 'b>(
 pub fn read_create<'a, 'b>(
     alloc: Global,
     tokens: &'b [Token<'a>],
-) -> Result<(CreateStatement, &'b [Token<'a>]), Unread>
+) -> Result<(CreateStatement, &'b [Token<'a>]), ReadError>
     ensures value { Gives (λ x. (x.0, lexemes x.1.now)) result (create_read (lexemes tokens.now)) }
     ensures rest { IfOk result (λ x. length x.1.now ≤ length tokens.now) }
 {
-    let rest = skip(tokens, Mark::Keyword("CREATE"))?;
-    read_table(alloc, skip(rest, Mark::Keyword("TABLE"))?)
+    let rest = expect(tokens, Terminal::Keyword("CREATE"))?;
+    read_table(alloc, expect(rest, Terminal::Keyword("TABLE"))?)
 }

@@ -5,11 +5,11 @@ ghost use Rattle.sql_front.specs.reading.Gives.{Gives};
 ghost use Rattle.sql_statements.specs.Lexemes.{lexemes};
 ghost use Rattle.sql_front.specs.reading.WindowReaders.{for_window_read, two_moments_read};
 ghost use Rattle.sql_front.specs.reading.WindowReaders.{window_read};
-ghost use Rattle.sql_front.specs.Marks.{mark};
+ghost use Rattle.sql_front.specs.Terminals.{terminal};
 
 use crate::leaves::{read_clock_moment, read_moment};
-use crate::mark::{Mark, after, skip};
-use crate::unread::Unread;
+use crate::read_error::ReadError;
+use crate::terminal::{Terminal, accept, expect};
 use period_core::Moment;
 use sql_statements::statement::SystemTime;
 use sql_statements::token::Token;
@@ -17,48 +17,48 @@ use sql_statements::token::Token;
 // Moments beside borrowed tokens are passed on by `match`: for a `?` there the borrow checker has
 // no rule.
 
-/// Two moments with this mark between them, and the tokens after them.
+/// Two moments with this terminal between them, and the tokens after them.
 #[tactic(auto, unfolding(crate::specs::reading::WindowReaders::two_moments_read))]
 fn read_two_moments<'a, 'b>(
     tokens: &'b [Token<'a>],
-    between: Mark<'_>,
-) -> Result<((Moment, Moment), &'b [Token<'a>]), Unread>
+    between: Terminal<'_>,
+) -> Result<((Moment, Moment), &'b [Token<'a>]), ReadError>
     ensures value { Gives (λ x. (x.0, lexemes x.1.now)) result
-        (two_moments_read (mark between.entry) (lexemes tokens.now)) }
+        (two_moments_read (terminal between.entry) (lexemes tokens.now)) }
     ensures rest { IfOk result (λ x. length x.1.now ≤ length tokens.now) }
 {
     let (from, rest) = match read_moment(tokens) {
         Ok(read) => read,
-        Err(unread) => return Err(unread),
+        Err(error) => return Err(error),
     };
-    match read_moment(skip(rest, between)?) {
+    match read_moment(expect(rest, between)?) {
         Ok((to, rest)) => Ok(((from, to), rest)),
-        Err(unread) => Err(unread),
+        Err(error) => Err(error),
     }
 }
 
 /// A window, and the tokens after it.
 #[tactic(auto, unfolding(crate::specs::reading::WindowReaders::window_read))]
-fn read_window<'a, 'b>(tokens: &'b [Token<'a>]) -> Result<(SystemTime, &'b [Token<'a>]), Unread>
+fn read_window<'a, 'b>(tokens: &'b [Token<'a>]) -> Result<(SystemTime, &'b [Token<'a>]), ReadError>
     ensures value { Gives (λ x. (x.0, lexemes x.1.now)) result (window_read (lexemes tokens.now)) }
     ensures rest { IfOk result (λ x. length x.1.now ≤ length tokens.now) }
 {
-    if let Some(rest) = after(tokens, Mark::Keyword("AS")) {
-        return match read_clock_moment(skip(rest, Mark::Keyword("OF"))?) {
+    if let Some(rest) = accept(tokens, Terminal::Keyword("AS")) {
+        return match read_clock_moment(expect(rest, Terminal::Keyword("OF"))?) {
             Ok((moment, rest)) => Ok((SystemTime::AsOf(moment), rest)),
-            Err(unread) => Err(unread),
+            Err(error) => Err(error),
         };
     }
-    if let Some(rest) = after(tokens, Mark::Keyword("FROM")) {
-        return match read_two_moments(rest, Mark::Keyword("TO")) {
+    if let Some(rest) = accept(tokens, Terminal::Keyword("FROM")) {
+        return match read_two_moments(rest, Terminal::Keyword("TO")) {
             Ok(((from, to), rest)) => Ok((SystemTime::FromTo(from, to), rest)),
-            Err(unread) => Err(unread),
+            Err(error) => Err(error),
         };
     }
-    let rest = skip(tokens, Mark::Keyword("BETWEEN"))?;
-    match read_two_moments(rest, Mark::Keyword("AND")) {
+    let rest = expect(tokens, Terminal::Keyword("BETWEEN"))?;
+    match read_two_moments(rest, Terminal::Keyword("AND")) {
         Ok(((from, to), rest)) => Ok((SystemTime::Between(from, to), rest)),
-        Err(unread) => Err(unread),
+        Err(error) => Err(error),
     }
 }
 
@@ -66,16 +66,16 @@ fn read_window<'a, 'b>(tokens: &'b [Token<'a>]) -> Result<(SystemTime, &'b [Toke
 #[tactic(auto, unfolding(crate::specs::reading::WindowReaders::for_window_read))]
 pub fn read_for_window<'a, 'b>(
     tokens: &'b [Token<'a>],
-) -> Result<(Option<SystemTime>, &'b [Token<'a>]), Unread>
+) -> Result<(Option<SystemTime>, &'b [Token<'a>]), ReadError>
     ensures value { Gives (λ x. (x.0, lexemes x.1.now)) result
         (for_window_read (lexemes tokens.now)) }
     ensures rest { IfOk result (λ x. length x.1.now ≤ length tokens.now) }
 {
-    let Some(rest) = after(tokens, Mark::Keyword("FOR")) else {
+    let Some(rest) = accept(tokens, Terminal::Keyword("FOR")) else {
         return Ok((None, tokens));
     };
-    match read_window(skip(rest, Mark::Keyword("SYSTEM_TIME"))?) {
+    match read_window(expect(rest, Terminal::Keyword("SYSTEM_TIME"))?) {
         Ok((window, rest)) => Ok((Some(window), rest)),
-        Err(unread) => Err(unread),
+        Err(error) => Err(error),
     }
 }

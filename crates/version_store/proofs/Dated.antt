@@ -8,7 +8,7 @@ use Rattle.period_core.specs.Moments.{IsMomentNumber, forever}
 use Rattle.period_core.specs.declared.row.PeriodRow.{PeriodRow}
 use Rattle.period_core.specs.declared.version.VersionRow.{VersionRow}
 use Rattle.catalog_core.specs.declared.table.TableDef.{TableDef}
-use Rattle.version_store.specs.Changed.{closed_at, is_ended, left_of, planned}
+use Rattle.version_store.specs.Changed.{closed_at, is_ended, remains_of, planned}
 use Rattle.version_store.specs.Contents.{AreDated, Contents, IsDated, TableVersion, added_in}
 use Rattle.version_tables.specs.declared.form.Form.{Form}
 use Rattle.version_store.specs.GoodStore.{IsGoodVersionIn}
@@ -27,17 +27,17 @@ module _ (table : ℕ) (moment : ℤ) (at : IsMomentNumber moment) where
       go true = tt
       go false = (record { days = dated.days; from = dated.from; to = at }, tt)
 
-  left_dated : (ended : List VersionRow) (v : TableVersion) → IsDated v → AreDated (left_of table moment ended v)
+  left_dated : (ended : List VersionRow) (v : TableVersion) → IsDated v → AreDated (remains_of table moment ended v)
   left_dated ended v dated = go (is_ended table ended v)
     where
       go : (b : Bool) → AreDated (cond b (closed_at moment v) (v ∷ []))
       go true = closed_dated v dated
       go false = (dated, tt)
 
-  all_left_dated : (ended : List VersionRow) (vs : List TableVersion) → AreDated vs → AreDated (flat_map (left_of table moment ended) vs)
+  all_left_dated : (ended : List VersionRow) (vs : List TableVersion) → AreDated vs → AreDated (flat_map (remains_of table moment ended) vs)
   all_left_dated ended [] dated = tt
   all_left_dated ended (v ∷ vs) dated =
-      all-append IsDated (left_of table moment ended v) (flat_map (left_of table moment ended) vs) (left_dated ended v dated.0) (all_left_dated ended vs dated.1)
+      all-append IsDated (remains_of table moment ended v) (flat_map (remains_of table moment ended) vs) (left_dated ended v dated.0) (all_left_dated ended vs dated.1)
 
   all_added_dated : (added : List PeriodRow) → AreDated (map (added_in table moment forever) added)
   all_added_dated [] = tt
@@ -53,4 +53,4 @@ module _ (table : ℕ) (moment : ℤ) (at : IsMomentNumber moment) where
   -- a plan leaves versions dated, and adds such
   pub planned_dated : (ended : List VersionRow) (added : List PeriodRow) (c : Contents) → AreDated c.versions → AreDated (planned table moment ended added c).versions
   planned_dated ended added c dated =
-      all-append IsDated (flat_map (left_of table moment ended) c.versions) (map (added_in table moment forever) added) (all_left_dated ended c.versions dated) (all_added_dated added)
+      all-append IsDated (flat_map (remains_of table moment ended) c.versions) (map (added_in table moment forever) added) (all_left_dated ended c.versions dated) (all_added_dated added)

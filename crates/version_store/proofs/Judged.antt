@@ -17,12 +17,12 @@ use Rattle.sqlite_value.specs.Order.{column}
 use Rattle.version_tables.specs.Forms.{form_number}
 use Rattle.version_tables.specs.declared.form.Form.{Form}
 use Rattle.version_tables.specs.declared.form.Form.TheVariants.{Seconds, Microseconds}
-use Rattle.version_tables.specs.Good.{SayClock}
+use Rattle.version_tables.specs.Good.{AreMetaRows}
 use Rattle.version_tables.specs.Rows.{AreBytesAt, IsNumberAt}
 use Rattle.version_tables.specs.Good as raw
 use Rattle.version_tables.specs.Represents.{Version, meta_row, stored}
 use Rattle.version_store.specs.Contents.{TableVersion}
-use Rattle.version_store.specs.GoodStore.{AreTableRows, IsTableRow, SayRows, SaysVersion}
+use Rattle.version_store.specs.GoodStore.{AreTableRows, IsTableRow, AreStoreRows, IsVersionRow}
 use Rattle.catalog_core.specs.create.Lawful.{IsLawful}
 use Rattle.version_store.specs.RowValues.{are_row_values}
 use Rattle.version_store.specs.Written.{IsReadable, written_table, written_version}
@@ -103,15 +103,15 @@ table_known tables (suc n) d there = (omega arith, within tables n d there)
     within (t ∷ tables) zero d there = omega arith
     within (t ∷ tables) (suc n) d there = let more = within tables n d there in omega (arith, more)
 
-pub raw_version : (form : Form) (tables : List TableDef) (clock : ℤ) (row : Row) → SaysVersion form tables clock row → raw.SaysVersion form clock (length tables) row
+pub raw_version : (form : Form) (tables : List TableDef) (clock : ℤ) (row : Row) → IsVersionRow form tables clock row → raw.IsVersionRow form clock (length tables) row
 raw_version form tables clock row (v, is, good) =
     let known = table_known tables v.table good.definition good.table in
     (written_version v, is, record { known = record { low = omega (arith, ints, known.0); high = omega (arith, ints, known.1) }; days = good.days; moments = good.moments })
 
-pub number_there : (form : Form) (clock : ℤ) (tables : ℕ) (row : Row) → raw.SaysVersion form clock tables row → (n : ℤ) × IsNumberAt row 0 n
+pub number_there : (form : Form) (clock : ℤ) (tables : ℕ) (row : Row) → raw.IsVersionRow form clock tables row → (n : ℤ) × IsNumberAt row 0 n
 number_there form clock tables row (v, is, good) = (pos v.table, rw is (omega arith, refl))
 
-pub values_there : (form : Form) (clock : ℤ) (tables : ℕ) (row : Row) → raw.SaysVersion form clock tables row → (b : List ℕ) × AreBytesAt row 1 b
+pub values_there : (form : Form) (clock : ℤ) (tables : ℕ) (row : Row) → raw.IsVersionRow form clock tables row → (b : List ℕ) × AreBytesAt row 1 b
 values_there form clock tables row (v, is, good) = (v.values, rw is (omega arith, refl))
 
 same_number : (row : Row) (n m : ℤ) → column row 0 ≡ Int n → column row 0 ≡ Int m → n ≡ m
@@ -123,11 +123,11 @@ same_bytes row a b p q = cc
 same_pos : (n m : ℕ) → pos n ≡ pos m → n ≡ m
 same_pos n m e = cc
 
-pub number_is : (form : Form) (clock : ℤ) (tables : ℕ) (row : Row) (n : ℤ) (says : raw.SaysVersion form clock tables row) → IsNumberAt row 0 n → n ≡ pos says.0.table
+pub number_is : (form : Form) (clock : ℤ) (tables : ℕ) (row : Row) (n : ℤ) (says : raw.IsVersionRow form clock tables row) → IsNumberAt row 0 n → n ≡ pos says.0.table
 number_is form clock tables row n (v, is, good) at = same_number row n (pos v.table) at.1 (ap (λ (r : Row). column r 0) is)
 
-pub says_by : (form : Form) (tables : List TableDef) (clock : ℤ) (row : Row) (n : ℕ) (b : List ℕ) (definition : TableDef) (values : List Value) → raw.SaysVersion form clock (length tables) row → IsNumberAt row 0 (pos n) → AreBytesAt row 1 b
-    → table_of tables n ≡ Some definition → encoded values ≡ b → All IsColumnValue values → are_row_values definition values ≡ true → SaysVersion form tables clock row
+pub says_by : (form : Form) (tables : List TableDef) (clock : ℤ) (row : Row) (n : ℕ) (b : List ℕ) (definition : TableDef) (values : List Value) → raw.IsVersionRow form clock (length tables) row → IsNumberAt row 0 (pos n) → AreBytesAt row 1 b
+    → table_of tables n ≡ Some definition → encoded values ≡ b → All IsColumnValue values → are_row_values definition values ≡ true → IsVersionRow form tables clock row
 says_by form tables clock row n b definition values (v, is, good) number bytes table same held fits =
     let w : TableVersion = record { table = v.table; values = values; start = v.start; end = v.end; from = v.from; to = v.to } in
     let number_same : n ≡ v.table = same_pos n v.table (number_is form clock (length tables) row (pos n) (v, is, good) number) in
@@ -146,16 +146,16 @@ says_by form tables clock row n b definition values (v, is, good) number bytes t
     )
 
 -- what a version's row says of its number, and of its bytes
-pub row_number : (form : Form) (tables : List TableDef) (clock : ℤ) (row : Row) (n : ℕ) (says : SaysVersion form tables clock row) → IsNumberAt row 0 (pos n) → n ≡ says.0.table
+pub row_number : (form : Form) (tables : List TableDef) (clock : ℤ) (row : Row) (n : ℕ) (says : IsVersionRow form tables clock row) → IsNumberAt row 0 (pos n) → n ≡ says.0.table
 row_number form tables clock row n (v, is, good) at = same_pos n v.table (same_number row (pos n) (pos v.table) at.1 (ap (λ (r : Row). column r 0) is))
 
-pub row_table : (form : Form) (tables : List TableDef) (clock : ℤ) (row : Row) (n : ℕ) (says : SaysVersion form tables clock row) → IsNumberAt row 0 (pos n) → table_of tables n ≡ Some says.2.definition
+pub row_table : (form : Form) (tables : List TableDef) (clock : ℤ) (row : Row) (n : ℕ) (says : IsVersionRow form tables clock row) → IsNumberAt row 0 (pos n) → table_of tables n ≡ Some says.2.definition
 row_table form tables clock row n (v, is, good) at = ap (table_of tables) (row_number form tables clock row n (v, is, good) at) ∙ good.table
 
-pub row_bytes : (form : Form) (tables : List TableDef) (clock : ℤ) (row : Row) (b : List ℕ) (says : SaysVersion form tables clock row) → AreBytesAt row 1 b → encoded says.0.values ≡ b
+pub row_bytes : (form : Form) (tables : List TableDef) (clock : ℤ) (row : Row) (b : List ℕ) (says : IsVersionRow form tables clock row) → AreBytesAt row 1 b → encoded says.0.values ≡ b
 row_bytes form tables clock row b (v, is, good) at = same_bytes row (encoded v.values) b (ap (λ (r : Row). column r 1) is) at.1
 
-pub row_fits : (form : Form) (tables : List TableDef) (clock : ℤ) (row : Row) (n : ℕ) (b : List ℕ) (definition : TableDef) (values : List Value) → SaysVersion form tables clock row → IsNumberAt row 0 (pos n) → AreBytesAt row 1 b
+pub row_fits : (form : Form) (tables : List TableDef) (clock : ℤ) (row : Row) (n : ℕ) (b : List ℕ) (definition : TableDef) (values : List Value) → IsVersionRow form tables clock row → IsNumberAt row 0 (pos n) → AreBytesAt row 1 b
     → table_of tables n ≡ Some definition → encoded values ≡ b → All IsColumnValue values → are_row_values definition values ≡ true
 row_fits form tables clock row n b definition values (v, is, good) number bytes table same held =
     let d : Some good.definition ≡ Some definition = sym (row_table form tables clock row n (v, is, good) number) ∙ table in
@@ -189,8 +189,8 @@ same_number_form Microseconds Microseconds e = refl
 pub same_form : (a b : Form) (x y : ℤ) → meta_row (form_number a) x ∷ [] ≡ meta_row (form_number b) y ∷ [] → (a ≡ b) × (x ≡ y)
 same_form a b x y e = let parts = same_meta (form_number a) (form_number b) x y e in (same_number_form a b parts.0, parts.1)
 
-pub other_versions : (metas tables versions : List Row) (ts us : List TableDef) (f h : Form) (a b : ℤ) → AreTableRows [] tables ts → SayClock metas f a → ¬ AllByRecursion (SaysVersion f ts a) versions → ¬ SayRows metas tables versions us h b
+pub other_versions : (metas tables versions : List Row) (ts us : List TableDef) (f h : Form) (a b : ℤ) → AreTableRows [] tables ts → AreMetaRows metas f a → ¬ AllByRecursion (IsVersionRow f ts a) versions → ¬ AreStoreRows metas tables versions us h b
 other_versions metas tables versions ts us f h a b read clock none says =
     let same = same_tables [] tables us ts says.defined.each read in
     let at = same_form h f b a (sym says.meta.0 ∙ clock.0) in
-    none (subst₂ (λ (form : Form) (n : ℤ). AllByRecursion (SaysVersion form ts n) versions) at.0 at.1 (subst (λ (known : List TableDef). AllByRecursion (SaysVersion h known b) versions) same says.each))
+    none (subst₂ (λ (form : Form) (n : ℤ). AllByRecursion (IsVersionRow form ts n) versions) at.0 at.1 (subst (λ (known : List TableDef). AllByRecursion (IsVersionRow h known b) versions) same says.each))

@@ -24,7 +24,7 @@ use Rattle.sqlite_value.specs.Keys.{first_key}
 use Rattle.sqlite.specs.Collation.TheVariants.{Binary}
 use Rattle.version_tables.proofs.Goes.{tied_turned, untied_along}
 use Rattle.version_tables.proofs.Shows.{pos_eq}
-use Rattle.version_tables.specs.Represents.{AreUntied, Version, same_key, stored, tied, version_shown}
+use Rattle.version_tables.specs.Represents.{HaveDistinctRowids, Version, same_key, stored, same_rowid, version_shown}
 use Rattle.version_tables.specs.Tables.{HasStoreTables, schema_with, version_index}
 use Rattle.version_store.proofs.Opens.{KeepsKeys, stored_version, twice}
 use Rattle.version_store.proofs.Sweeps.{same_bytes}
@@ -64,13 +64,13 @@ differ_ints (Real x) b p q h = absurd cc
 differ_ints (Text x) b p q h = absurd cc
 differ_ints (Blob x) b p q h = absurd cc
 
-heads_apart : (x : Row) (xs : List Row) → is_int (rowid x) ≡ true → AllByRecursion (λ y. tied x y ≡ false) xs → AllByRecursion (λ y. is_int (rowid y) ≡ true) xs → AllByRecursion (λ s. rivals s x ≡ false) xs
+heads_apart : (x : Row) (xs : List Row) → is_int (rowid x) ≡ true → AllByRecursion (λ y. same_rowid x y ≡ false) xs → AllByRecursion (λ y. is_int (rowid y) ≡ true) xs → AllByRecursion (λ s. rivals s x ≡ false) xs
     → AllByRecursion (λ y. agrees y x ≡ false) xs
 heads_apart x [] int untied ints apart = tt
 heads_apart x (y ∷ xs) int untied ints apart =
     (not_rivals (agrees y x) (differ (rowid y) (rowid x)) apart.0 (differ_ints (rowid y) (rowid x) ints.0 int (tied_turned x y untied.0)), heads_apart x xs int untied.1 ints.1 apart.1)
 
-rows_apart : (rows : List Row) → AreUntied rows → AllByRecursion (λ r. is_int (rowid r) ≡ true) rows → AllByRecursion (λ r. AllByRecursion (λ s. rivals s r ≡ false) rows) rows
+rows_apart : (rows : List Row) → HaveDistinctRowids rows → AllByRecursion (λ r. is_int (rowid r) ≡ true) rows → AllByRecursion (λ r. AllByRecursion (λ s. rivals s r ≡ false) rows) rows
     → IsAscending (λ a b. agrees b a ≡ false) rows
 rows_apart [] untied ints apart = tt
 rows_apart (x ∷ xs) untied ints apart = (
@@ -119,7 +119,7 @@ unique_rows db has sound =
     not_true true rest h = absurd cc
     not_true false rest h = refl
 
-pub keys_kept : (db : Database) → HasStoreTables db.schema → IsDatabase db → AreUntied (db.trees 2) → AllByRecursion (λ r. is_int (rowid r) ≡ true) (db.trees 2) → KeepsKeys db
+pub keys_kept : (db : Database) → HasStoreTables db.schema → IsDatabase db → HaveDistinctRowids (db.trees 2) → AllByRecursion (λ r. is_int (rowid r) ≡ true) (db.trees 2) → KeepsKeys db
 keys_kept db has sound untied ints vs held same =
     let rows = db.trees 2 in
     let back = pull_back version_shown (map version_shown rows) (map stored_version vs) (IsPermutation-sym _ _ same) rows refl in

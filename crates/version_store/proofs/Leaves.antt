@@ -18,11 +18,11 @@ use Rattle.period_core.specs.declared.row.PeriodRow.{PeriodRow}
 use Rattle.period_core.specs.declared.version.VersionRow.{VersionRow}
 use Rattle.version_tables.specs.Represents.{Records, Represents, Version, added, all_added, changed, closing, ended, key_of, new_version, removed, same_key, version, with_ends}
 use Rattle.version_tables.proofs.Goes.{de_morgan, twice}
-use Rattle.version_tables.specs.declared.place.NewRow.{NewRow}
-use Rattle.version_tables.specs.declared.place.Place.{Place}
+use Rattle.version_tables.specs.declared.version_key.NewRow.{NewRow}
+use Rattle.version_tables.specs.declared.version_key.VersionKey.{VersionKey}
 use Rattle.version_store.specs.Contents.{Contents, TableVersion, added_in, version_in}
 use Rattle.version_store.specs.Changed.{added_at, ended_at}
-use Rattle.version_store.specs.Leaving.{HasBut, is_leaving, key_at}
+use Rattle.version_store.specs.PendingRemovals.{HasExcept, is_pending, key_at}
 use Rattle.version_store.specs.Written.{Has, written, written_version}
 use Rattle.version_store.proofs.Sweeps.{ended_held, ending, equal, one_row, taken}
 use Rattle.version_tables.proofs.Rows.{permuted}
@@ -48,7 +48,7 @@ neither s l more both xs = twice (λ x. not (l x)) (λ x. not (s x)) xs ∙ ap (
 
 -- ---- the first and the last
 
-pub begins : (db : Database) (table : ℕ) (moment : ℤ) (c : Contents) → Has db c → HasBut db table moment [] c
+pub begins : (db : Database) (table : ℕ) (moment : ℤ) (c : Contents) → Has db c → HasExcept db table moment [] c
 begins db table moment c was = record {
   versions = map written_version c.versions;
   rows = was.rows;
@@ -57,7 +57,7 @@ begins db table moment c was = record {
   values = was.values;
 }
 
-pub settles : (db : Database) (table : ℕ) (moment : ℤ) (c : Contents) → HasBut db table moment [] c → Has db c
+pub settles : (db : Database) (table : ℕ) (moment : ℤ) (c : Contents) → HasExcept db table moment [] c → Has db c
 settles db table moment c was = record {
   rows = permuted db (record (written c) { versions = was.versions }) (map written_version c.versions) (subst (λ vs. IsPermutation vs (map written_version c.versions)) (kept _) was.others) was.rows;
   definitions = was.definitions;
@@ -71,13 +71,13 @@ module _ (table : ℕ) (moment : ℤ) (row : VersionRow) (values : All IsColumnV
   key = written_version (version_in table row)
 
   -- it began at the moment, and is one more to leave
-  pub notes : (db : Database) (before after : List Place) (c : Contents) → HasBut db table moment before c → is_eq (int_cmp row.from moment) ≡ true
-      → ((v : Version) → is_leaving table moment after v ≡ (same_key key v || is_leaving table moment before v)) → HasBut db table moment after (ended_at table moment (row ∷ []) c)
+  pub notes : (db : Database) (before after : List VersionKey) (c : Contents) → HasExcept db table moment before c → is_eq (int_cmp row.from moment) ≡ true
+      → ((v : Version) → is_pending table moment after v ≡ (same_key key v || is_pending table moment before v)) → HasExcept db table moment after (ended_at table moment (row ∷ []) c)
   notes db before after c was began more = record {
     versions = was.versions;
     rows = was.rows;
     others = subst₂ IsPermutation
-        (exchanged (λ v. not (same_key key v)) (λ v. not (is_leaving table moment before v)) was.versions ∙ neither (same_key key) (is_leaving table moment before) (is_leaving table moment after) more was.versions)
+        (exchanged (λ v. not (same_key key v)) (λ v. not (is_pending table moment before v)) was.versions ∙ neither (same_key key) (is_pending table moment before) (is_pending table moment after) more was.versions)
         (sym (ap (λ f. map written_version (flat_map f c.versions)) (one_row table moment row) ∙ taken (version_in table row) moment values began c.versions was.values))
         (IsPermutation-filter (λ v. not (same_key key v)) _ _ was.others);
     definitions = was.definitions;
@@ -85,11 +85,11 @@ module _ (table : ℕ) (moment : ℤ) (row : VersionRow) (values : All IsColumnV
   }
 
   -- it began earlier, and is closed
-  pub closes : (old new : Database) (leaving : List Place) (c : Contents) → HasBut old table moment leaving c → is_eq (int_cmp row.from moment) ≡ false
-      → ((m : Records) → Represents old m → Represents new (ended key moment m)) → HasBut new table moment leaving (ended_at table moment (row ∷ []) c)
-  closes old new leaving c was began made =
+  pub closes : (old new : Database) (pending : List VersionKey) (c : Contents) → HasExcept old table moment pending c → is_eq (int_cmp row.from moment) ≡ false
+      → ((m : Records) → Represents old m → Represents new (ended key moment m)) → HasExcept new table moment pending (ended_at table moment (row ∷ []) c)
+  closes old new pending c was began made =
       let s = same_key key in
-      let q = λ (v : Version). not (is_leaving table moment leaving v) in
+      let q = λ (v : Version). not (is_pending table moment pending v) in
       let vs = was.versions in
       let first : filter q (map (closing moment) (filter s vs)) ≡ map (closing moment) (filter s (filter q vs)) = filter-map q (closing moment) (filter s vs) ∙ ap (map (closing moment)) (exchanged q s vs) in
       let parts : filter q (map (closing moment) (filter s vs) ++ filter (λ v. not (s v)) vs) ≡ map (closing moment) (filter s (filter q vs)) ++ filter (λ v. not (s v)) (filter q vs) =
@@ -118,28 +118,28 @@ module _ (table : ℕ) (moment : ℤ) (row : PeriodRow) (values : All IsColumnVa
   more_held : (c : Contents) → AllByRecursion (λ (v : TableVersion). All IsColumnValue v.values) c.versions → AllByRecursion (λ (v : TableVersion). All IsColumnValue v.values) (added_at table moment (row ∷ []) c).versions
   more_held c held = all-append (λ (v : TableVersion). All IsColumnValue v.values) c.versions (added_in table moment forever row ∷ []) held (values, tt)
 
-  stays : (leaving : List Place) (vs : List Version) → is_leaving table moment leaving new ≡ false → filter (λ v. not (is_leaving table moment leaving v)) (new ∷ vs) ≡ new ∷ filter (λ v. not (is_leaving table moment leaving v)) vs
-  stays leaving vs apart = rw apart refl
+  stays : (pending : List VersionKey) (vs : List Version) → is_pending table moment pending new ≡ false → filter (λ v. not (is_pending table moment pending v)) (new ∷ vs) ≡ new ∷ filter (λ v. not (is_pending table moment pending v)) vs
+  stays pending vs apart = rw apart refl
 
-  pub adds : (old now : Database) (leaving : List Place) (c : Contents) → HasBut old table moment leaving c → is_leaving table moment leaving new ≡ false
-      → ((m : Records) → Represents old m → Represents now (added new m)) → HasBut now table moment leaving (added_at table moment (row ∷ []) c)
-  adds old now leaving c was apart made = record {
+  pub adds : (old now : Database) (pending : List VersionKey) (c : Contents) → HasExcept old table moment pending c → is_pending table moment pending new ≡ false
+      → ((m : Records) → Represents old m → Represents now (added new m)) → HasExcept now table moment pending (added_at table moment (row ∷ []) c)
+  adds old now pending c was apart made = record {
     versions = new ∷ was.versions;
     rows = made (record (written c) { versions = was.versions }) was.rows;
-    others = subst (λ l. IsPermutation l (map written_version (added_at table moment (row ∷ []) c).versions)) (sym (stays leaving was.versions apart)) (more_written c _ was.others);
+    others = subst (λ l. IsPermutation l (map written_version (added_at table moment (row ∷ []) c).versions)) (sym (stays pending was.versions apart)) (more_written c _ was.others);
     definitions = was.definitions;
     values = more_held c was.values;
   }
 
   -- at the place of one that is to leave
-  pub replaces : (old now : Database) (key : Version) (before after : List Place) (c : Contents) → HasBut old table moment before c → is_leaving table moment after new ≡ false
-      → ((v : Version) → is_leaving table moment before v ≡ (same_key key v || is_leaving table moment after v))
-      → ((m : Records) → Represents old m → Represents now (added new (removed key m))) → HasBut now table moment after (added_at table moment (row ∷ []) c)
+  pub replaces : (old now : Database) (key : Version) (before after : List VersionKey) (c : Contents) → HasExcept old table moment before c → is_pending table moment after new ≡ false
+      → ((v : Version) → is_pending table moment before v ≡ (same_key key v || is_pending table moment after v))
+      → ((m : Records) → Represents old m → Represents now (added new (removed key m))) → HasExcept now table moment after (added_at table moment (row ∷ []) c)
   replaces old now key before after c was apart fewer made = record {
     versions = new ∷ filter (λ v. not (same_key key v)) was.versions;
     rows = made (record (written c) { versions = was.versions }) was.rows;
     others = subst (λ l. IsPermutation l (map written_version (added_at table moment (row ∷ []) c).versions))
-        (sym (stays after (filter (λ v. not (same_key key v)) was.versions) apart ∙ ap (λ l. new ∷ l) (neither (same_key key) (is_leaving table moment after) (is_leaving table moment before) fewer was.versions)))
+        (sym (stays after (filter (λ v. not (same_key key v)) was.versions) apart ∙ ap (λ l. new ∷ l) (neither (same_key key) (is_pending table moment after) (is_pending table moment before) fewer was.versions)))
         (more_written c _ was.others);
     definitions = was.definitions;
     values = more_held c was.values;
@@ -159,8 +159,8 @@ module _ (table : ℕ) (moment : ℤ) where
   all_held [] held = tt
   all_held (row ∷ rows) held = (held.0, all_held rows held.1)
 
-  pub all_adds : (rows : List PeriodRow) → AllByRecursion (λ (row : PeriodRow). All IsColumnValue row.values) rows → (old now : Database) (c : Contents) → HasBut old table moment [] c
-      → ((m : Records) → Represents old m → Represents now (all_added (map new_of rows) m)) → HasBut now table moment [] (added_at table moment rows c)
+  pub all_adds : (rows : List PeriodRow) → AllByRecursion (λ (row : PeriodRow). All IsColumnValue row.values) rows → (old now : Database) (c : Contents) → HasExcept old table moment [] c
+      → ((m : Records) → Represents old m → Represents now (all_added (map new_of rows) m)) → HasExcept now table moment [] (added_at table moment rows c)
   all_adds rows held old now c was made = record {
     versions = map new_of rows ++ was.versions;
     rows = made (record (written c) { versions = was.versions }) was.rows;
@@ -174,13 +174,13 @@ module _ (table : ℕ) (moment : ℤ) where
 
 -- ---- one leaves
 
-pub leaves : (old now : Database) (table : ℕ) (moment : ℤ) (key : Version) (before after : List Place) (c : Contents) → HasBut old table moment before c
-    → ((v : Version) → is_leaving table moment before v ≡ (same_key key v || is_leaving table moment after v))
-    → ((m : Records) → Represents old m → Represents now (removed key m)) → HasBut now table moment after c
+pub leaves : (old now : Database) (table : ℕ) (moment : ℤ) (key : Version) (before after : List VersionKey) (c : Contents) → HasExcept old table moment before c
+    → ((v : Version) → is_pending table moment before v ≡ (same_key key v || is_pending table moment after v))
+    → ((m : Records) → Represents old m → Represents now (removed key m)) → HasExcept now table moment after c
 leaves old now table moment key before after c was fewer made = record {
   versions = filter (λ v. not (same_key key v)) was.versions;
   rows = made (record (written c) { versions = was.versions }) was.rows;
-  others = subst (λ l. IsPermutation l (map written_version c.versions)) (sym (neither (same_key key) (is_leaving table moment after) (is_leaving table moment before) fewer was.versions)) was.others;
+  others = subst (λ l. IsPermutation l (map written_version c.versions)) (sym (neither (same_key key) (is_pending table moment after) (is_pending table moment before) fewer was.versions)) was.others;
   definitions = was.definitions;
   values = was.values;
 }
@@ -238,19 +238,19 @@ module _ (table : ℕ) (values : List ℕ) (start from end to : ℤ) where
 
 -- ---- a row as it is written
 
-pub same_row : (table : ℕ) (moment : ℤ) (row : PeriodRow) (new : NewRow) → new.place.values.items ≡ encoded row.values → new.place.start ≡ row.period.start → new.end ≡ row.period.end
+pub same_row : (table : ℕ) (moment : ℤ) (row : PeriodRow) (new : NewRow) → new.key.values.items ≡ encoded row.values → new.key.start ≡ row.period.start → new.end ≡ row.period.end
     → new_version table moment forever new ≡ written_version (added_in table moment forever row)
 same_row table moment row new values start end =
-    ap (λ n. version table n new.place.start new.end moment forever) values ∙ ap (λ n. version table (encoded row.values) n new.end moment forever) start ∙ ap (λ n. version table (encoded row.values) row.period.start n moment forever) end
+    ap (λ n. version table n new.key.start new.end moment forever) values ∙ ap (λ n. version table (encoded row.values) n new.end moment forever) start ∙ ap (λ n. version table (encoded row.values) row.period.start n moment forever) end
 
 -- what moving the ends of a version does, by the parts of a row that it becomes
-pub same_moved : (old new : Database) (count n : ℕ) (bytes : List ℕ) (start from end to : ℤ) (table : ℕ) (moment : ℤ) (row : NewRow) → n ≡ table → bytes ≡ row.place.values.items → start ≡ row.place.start → from ≡ moment → end ≡ row.end → to ≡ forever
+pub same_moved : (old new : Database) (count n : ℕ) (bytes : List ℕ) (start from end to : ℤ) (table : ℕ) (moment : ℤ) (row : NewRow) → n ≡ table → bytes ≡ row.key.values.items → start ≡ row.key.start → from ≡ moment → end ≡ row.end → to ≡ forever
     → ((m : Records) → Represents old m → Represents new (changed (key_of n bytes start from) (with_ends end to) m) × (count ≡ length (filter (same_key (key_of n bytes start from)) m.versions)))
-    → (m : Records) → Represents old m → Represents new (changed (key_at table moment row.place) (with_ends row.end forever) m) × (count ≡ length (filter (same_key (key_at table moment row.place)) m.versions))
+    → (m : Records) → Represents old m → Represents new (changed (key_at table moment row.key) (with_ends row.end forever) m) × (count ≡ length (filter (same_key (key_at table moment row.key)) m.versions))
 same_moved old new count n bytes start from end to table moment row is_table are_bytes is_start is_from is_end is_to made = rw (is_table, are_bytes, is_start, is_from, is_end, is_to) at made
 
 -- the place of a row that began at the moment is that of its key
-pub same_place : (table : ℕ) (moment : ℤ) (row : VersionRow) (place : Place) → place.values.items ≡ encoded row.values → place.start ≡ row.period.start → moment ≡ row.from
+pub same_place : (table : ℕ) (moment : ℤ) (row : VersionRow) (place : VersionKey) → place.values.items ≡ encoded row.values → place.start ≡ row.period.start → moment ≡ row.from
     → (v : Version) → same_key (key_at table moment place) v ≡ same_key (written_version (version_in table row)) v
 same_place table moment row place values start from v =
     ap (λ n. same_key (version table n place.start place.start moment moment) v) values ∙ ap (λ n. same_key (version table (encoded row.values) n n moment moment) v) start ∙ ap (λ n. same_key (version table (encoded row.values) row.period.start row.period.start n n) v) from

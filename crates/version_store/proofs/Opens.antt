@@ -20,9 +20,9 @@ use Rattle.sqlite.specs.View.{is_int}
 use Rattle.sqlite.specs.declared.types.Value.TheVariants.{Int, Blob}
 use Rattle.version_tables.proofs.Ordered.{defined_table, definitions_in_order, length-defined, same_tables}
 use Rattle.period_core.specs.Moments.{IsMomentNumber}
-use Rattle.version_tables.specs.Good.{AreDays, SayClock}
+use Rattle.version_tables.specs.Good.{AreDays, AreMetaRows}
 use Rattle.version_tables.specs.Rows.{InOrder, by_rowid}
-use Rattle.version_tables.specs.Represents.{AreUntied, defined, meta_shown, stored, table_shown, version_shown}
+use Rattle.version_tables.specs.Represents.{HaveDistinctRowids, defined, meta_shown, stored, table_shown, version_shown}
 use Rattle.version_tables.specs.Tables.{HasStoreTables}
 use Rattle.version_store.proofs.Dated.{good_is_dated}
 use Rattle.version_tables.specs.Forms.{end_in, moment_in}
@@ -32,7 +32,7 @@ use Rattle.version_store.specs.Units.{in_microseconds, version_of}
 use Rattle.version_store.proofs.Judged.{same_form, same_written}
 use Rattle.version_store.proofs.Units.{same_units}
 use Rattle.version_store.specs.Contents.{AreDated, Contents, HaveColumnValues, IsDated, TableVersion, same_version}
-use Rattle.version_store.specs.GoodStore.{AreLawful, AreTableRows, HaveTables, IsGoodStore, IsGoodVersionIn, NothingMore, SayRows, SaysVersion, AreGood}
+use Rattle.version_store.specs.GoodStore.{AreLawful, AreTableRows, HaveTables, IsGoodStore, IsGoodVersionIn, NothingMore, AreStoreRows, IsVersionRow, AreGood}
 use Rattle.version_store.specs.Written.{Has, HasIn, IsReadable, written_table, written_version}
 
 -- ---- definitions
@@ -75,7 +75,7 @@ pub twice : (vs : List TableVersion) → map stored (map written_version vs) ≡
 twice [] = refl
 twice (v ∷ vs) = ap (λ l. stored_version v ∷ l) (twice vs)
 
-says_all : (form : Form) (tables : List TableDef) (clock : ℤ) (rows : List Row) → AllByRecursion (SaysVersion form tables clock) rows → (vs : List TableVersion) × (rows ≡ map stored_version vs) × AllByRecursion (IsGoodVersionIn form tables clock) vs
+says_all : (form : Form) (tables : List TableDef) (clock : ℤ) (rows : List Row) → AllByRecursion (IsVersionRow form tables clock) rows → (vs : List TableVersion) × (rows ≡ map stored_version vs) × AllByRecursion (IsGoodVersionIn form tables clock) vs
 says_all form tables clock [] all = ([], refl, tt)
 says_all form tables clock (row ∷ rows) all =
     let more = says_all form tables clock rows all.1 in
@@ -90,10 +90,10 @@ abbrev pub KeepsKeys : Database → Type 0
 KeepsKeys db = (vs : List TableVersion) → HaveColumnValues vs → IsPermutation (map stored_version vs) (map version_shown (db.trees 2)) → IsAscending (λ (a b : TableVersion). same_version a b ≡ false) vs
 
 module _ (db : Database) (metas tables versions : List Row) (pm : IsPermutation (map meta_shown (db.trees 0)) metas) (pt : InOrder table_shown by_rowid (db.trees 1) tables) (pv : IsPermutation (map version_shown (db.trees 2)) versions) where
-  pub points_hold : HasStoreTables db.schema → KeepsKeys db → (known : List TableDef) (form : Form) (clock : ℤ) → SayRows metas tables versions known form clock
+  pub points_hold : HasStoreTables db.schema → KeepsKeys db → (known : List TableDef) (form : Form) (clock : ℤ) → AreStoreRows metas tables versions known form clock
       → (good : IsGoodStore NothingMore db) × (good.contents.tables ≡ known) × (good.form ≡ form) × (good.contents.clock ≡ clock)
   points_hold there keys known form clock says =
-      let all = all-permutation (SaysVersion form known clock) _ _ (IsPermutation-sym _ _ pv) says.each in
+      let all = all-permutation (IsVersionRow form known clock) _ _ (IsPermutation-sym _ _ pv) says.each in
       let vs = says_all form known clock (map version_shown (db.trees 2)) all in
       let held : HaveColumnValues vs.0 = all_weaker (IsGoodVersionIn form known clock) (λ (v : TableVersion). All IsColumnValue v.values) (λ v good. good.held) vs.0 vs.2 in
       let is = spelled_all [] tables known says.defined.each in
@@ -120,13 +120,13 @@ module _ (db : Database) (metas tables versions : List Row) (pm : IsPermutation 
         refl,
       )
 
-  pub points_fail : IsGoodStore NothingMore db → ((known : List TableDef) (form : Form) (clock : ℤ) → ¬ SayRows metas tables versions known form clock) → ⊥
+  pub points_fail : IsGoodStore NothingMore db → ((known : List TableDef) (form : Form) (clock : ℤ) → ¬ AreStoreRows metas tables versions known form clock) → ⊥
   points_fail good none =
       let c = good.contents in
       let is : tables ≡ defined 1 (map written_table c.tables) = definitions_in_order (db.trees 1) tables (map written_table c.tables) pt good.says.tables in
       let long : length tables ≡ length c.tables = ap length is ∙ length-defined 1 (map written_table c.tables) ∙ length-map c.tables written_table in
-      let meta : SayClock metas good.form c.clock = (one_permutation _ _ (subst (λ l. IsPermutation l metas) good.says.meta pm), good.clock) in
-      let says = SaysVersion good.form c.tables c.clock in
+      let meta : AreMetaRows metas good.form c.clock = (one_permutation _ _ (subst (λ l. IsPermutation l metas) good.says.meta pm), good.clock) in
+      let says = IsVersionRow good.form c.tables c.clock in
       let each : AllByRecursion says (map stored_version c.versions) = all-map says stored_version c.versions (all_weaker (IsGoodVersionIn good.form c.tables c.clock) (λ v. says (stored_version v)) (λ v good. (v, refl, good)) c.versions good.versions) in
       let shown = all-permutation says _ _ (subst (λ l. IsPermutation l (map version_shown (db.trees 2))) (twice c.versions) good.says.versions) each in
       none c.tables good.form c.clock (record {
@@ -135,25 +135,25 @@ module _ (db : Database) (metas tables versions : List Row) (pm : IsPermutation 
         each = all-permutation says _ _ pv shown;
       })
 
-  pub judged_good : HasStoreTables db.schema → KeepsKeys db → {L : Type 0} (r : Result (Catalog × Form × ℤ × L) OpenFault) → IfOk r (λ found. SayRows metas tables versions found.0.tables found.1 found.2)
+  pub judged_good : HasStoreTables db.schema → KeepsKeys db → {L : Type 0} (r : Result (Catalog × Form × ℤ × L) OpenFault) → IfOk r (λ found. AreStoreRows metas tables versions found.0.tables found.1 found.2)
       → IfOk r (λ found. (good : IsGoodStore NothingMore db) × (good.contents.tables ≡ found.0.tables) × (good.form ≡ found.1) × (good.contents.clock ≡ found.2))
   judged_good there keys (Err e) says = tt
   judged_good there keys (Ok found) says = points_hold there keys found.0.tables found.1 found.2 says
 
-  pub judged_bad : {L : Type 0} (r : Result (Catalog × Form × ℤ × L) OpenFault) → IfErr r (λ refusal. refusal ≡ BadStore → (known : List TableDef) (form : Form) (clock : ℤ) → ¬ SayRows metas tables versions known form clock)
+  pub judged_bad : {L : Type 0} (r : Result (Catalog × Form × ℤ × L) OpenFault) → IfErr r (λ refusal. refusal ≡ BadStore → (known : List TableDef) (form : Form) (clock : ℤ) → ¬ AreStoreRows metas tables versions known form clock)
       → IfErr r (λ refusal. refusal ≡ BadStore → ¬ IsGoodStore NothingMore db)
   judged_bad (Ok found) none = tt
   judged_bad (Err e) none = λ bad good. points_fail good (none bad)
 
 -- a good store has its contents
-pub has_contents : (db : Database) (good : IsGoodStore NothingMore db) → AreUntied (db.trees 2) → AllByRecursion (λ r. is_int (rowid r) ≡ true) (db.trees 2) → HasIn good.form db good.contents
+pub has_contents : (db : Database) (good : IsGoodStore NothingMore db) → HaveDistinctRowids (db.trees 2) → AllByRecursion (λ r. is_int (rowid r) ≡ true) (db.trees 2) → HasIn good.form db good.contents
 has_contents db good untied keyed = record {
   rows = record { schema = good.tables_there; says = good.says; untied = untied; keyed = keyed };
   definitions = good.readable;
   values = all_weaker (IsGoodVersionIn good.form good.contents.tables good.contents.clock) (λ (v : TableVersion). All IsColumnValue v.values) (λ v fine. fine.held) good.contents.versions good.versions;
 }
 
-pub found_contents : (db : Database) → AreUntied (db.trees 2) → AllByRecursion (λ r. is_int (rowid r) ≡ true) (db.trees 2) → {L : Type 0} (r : Result (Catalog × Form × ℤ × L) OpenFault)
+pub found_contents : (db : Database) → HaveDistinctRowids (db.trees 2) → AllByRecursion (λ r. is_int (rowid r) ≡ true) (db.trees 2) → {L : Type 0} (r : Result (Catalog × Form × ℤ × L) OpenFault)
     → IfOk r (λ found. (good : IsGoodStore NothingMore db) × (good.contents.tables ≡ found.0.tables) × (good.form ≡ found.1) × (good.contents.clock ≡ found.2))
     → IfOk r (λ found. (good : IsGoodStore NothingMore db) × HasIn good.form db good.contents × (good.contents.tables ≡ found.0.tables) × (good.form ≡ found.1) × (good.contents.clock ≡ found.2))
 found_contents db untied keyed (Err e) says = tt

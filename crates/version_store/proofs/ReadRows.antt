@@ -21,7 +21,7 @@ use Rattle.version_tables.specs.Represents.{version_shown}
 use Rattle.version_tables.specs.Rows.{AreBytesAt, IsNumberAt}
 use Rattle.version_tables.specs.declared.form.Form.{Form}
 use Rattle.version_store.specs.Contents.{AreVersionsOf, Contents, HasMore, HaveColumnValues, TableVersion, empty_contents, of_table, rows_of_table, version_in}
-use Rattle.version_store.specs.GoodStore.{AreReadAs, HasTimesOf, IsGoodVersionIn, IsReadAs, SaysVersion}
+use Rattle.version_store.specs.GoodStore.{AreReadAs, HasTimesOf, IsGoodVersionIn, IsReadAs, IsVersionRow}
 use Rattle.version_store.specs.Units.{in_microseconds, version_of}
 use Rattle.version_store.specs.Written.{HasIn}
 use Rattle.version_store.proofs.Judged.{row_bytes, row_number, table_known}
@@ -86,10 +86,10 @@ same_int : (row : Row) (at : ℕ) (m n : ℤ) → column row at ≡ Int m → co
 same_int row at m n p q = cc
 
 -- a good version's row is read as the version row of its values and times
-pub read_as : (form : Form) (tables : List TableDef) (clock : ℤ) (row : Row) (n : ℕ) (b : List ℕ) (read : VersionRow) (says : SaysVersion form tables clock row) → IsNumberAt row 0 (pos n) → AreBytesAt row 1 b → encoded read.values ≡ b → All IsColumnValue read.values
+pub read_as : (form : Form) (tables : List TableDef) (clock : ℤ) (row : Row) (n : ℕ) (b : List ℕ) (read : VersionRow) (says : IsVersionRow form tables clock row) → IsNumberAt row 0 (pos n) → AreBytesAt row 1 b → encoded read.values ≡ b → All IsColumnValue read.values
     → HasTimesOf form row read → IsReadAs form tables clock row n read
 read_as form tables clock row n b read (v, is, good) number bytes same held times =
-    let says : SaysVersion form tables clock row = (v, is, good) in
+    let says : IsVersionRow form tables clock row = (v, is, good) in
     let table : n ≡ v.table = row_number form tables clock row n says number in
     let values : read.values ≡ v.values = reads_back read.values v.values held good.held (same ∙ sym (row_bytes form tables clock row b says bytes)) in
     let start : read.period.start ≡ v.start = same_int row 2 read.period.start v.start times.start.1 (ap (λ (r : Row). column r 2) is) in
@@ -179,9 +179,9 @@ all_read form tables clock rows rest lists end was = record {
 pub not_all : (P : Row → Type 0) (rows front rest left : List Row) (row : Row) → rows ≡ front ++ rest → rest ≡ row ∷ left → ¬ P row → ¬ AllByRecursion P rows
 not_all P rows front rest left row is next none all = none (all_behind P front row left (subst (AllByRecursion P) (is ∙ ap (λ (l : List Row). front ++ l) next) all))
 
-pub say_all : (form : Form) (tables : List TableDef) (clock : ℤ) (rows : List Row) (lists : List (List VersionRow)) → AreReadAs form tables clock rows lists → AllByRecursion (SaysVersion form tables clock) rows
+pub say_all : (form : Form) (tables : List TableDef) (clock : ℤ) (rows : List Row) (lists : List (List VersionRow)) → AreReadAs form tables clock rows lists → AllByRecursion (IsVersionRow form tables clock) rows
 say_all form tables clock rows lists read =
-    let says = SaysVersion form tables clock in
+    let says = IsVersionRow form tables clock in
     subst (AllByRecursion says) (sym read.spelled)
     (all-map says stored_version read.versions (all_weaker (IsGoodVersionIn form tables clock) (λ v. says (stored_version v)) (λ v good. (v, refl, good)) read.versions read.good))
 

@@ -9,14 +9,14 @@ use Rattle.period_core.specs.Order.{values_cmp}
 use Rattle.period_core.specs.declared.row.PeriodRow.{PeriodRow}
 use Rattle.period_core.specs.declared.version.VersionRow.{VersionRow}
 use Rattle.version_store.specs.Contents.{Contents, TableVersion, added_in, of_table}
-use Rattle.version_store.specs.Changed.{closed_at, ended_at, is_ended, left_of, planned}
+use Rattle.version_store.specs.Changed.{closed_at, ended_at, is_ended, remains_of, planned}
 
 -- a test that no ended version passes, and that does not read where a version ends, finds what it found
 spared : (table : ℕ) (moment : ℤ) (ended : List VersionRow) (p : TableVersion → Bool) → ((v : TableVersion) → is_ended table ended v ≡ true → p v ≡ false)
-    → ((v : TableVersion) → p (record v { to = moment }) ≡ p v) → (vs : List TableVersion) → filter p (flat_map (left_of table moment ended) vs) ≡ filter p vs
+    → ((v : TableVersion) → p (record v { to = moment }) ≡ p v) → (vs : List TableVersion) → filter p (flat_map (remains_of table moment ended) vs) ≡ filter p vs
 spared table moment ended p off keeps [] = refl
 spared table moment ended p off keeps (v ∷ vs) =
-    filter-append p (left_of table moment ended v) (flat_map (left_of table moment ended) vs)
+    filter-append p (remains_of table moment ended v) (flat_map (remains_of table moment ended) vs)
     ∙ ap₂ (λ (a b : List TableVersion). a ++ b) (one (is_ended table ended v) refl) (spared table moment ended p off keeps vs)
     ∙ joined (p v)
   where
@@ -64,7 +64,7 @@ none_added table other moment off (row ∷ rows) =
 pub other_tables : (table other : ℕ) (moment : ℤ) (ended : List VersionRow) (added : List PeriodRow) (c : Contents) → (other ≡ table → ⊥)
     → of_table other (planned table moment ended added c).versions ≡ of_table other c.versions
 other_tables table other moment ended added c apart =
-    filter-append (λ (v : TableVersion). nat_eq v.table other) (flat_map (left_of table moment ended) c.versions) (map (added_in table moment forever) added)
+    filter-append (λ (v : TableVersion). nat_eq v.table other) (flat_map (remains_of table moment ended) c.versions) (map (added_in table moment forever) added)
     ∙ ap₂ (λ (a b : List TableVersion). a ++ b)
     (spared table moment ended (λ (v : TableVersion). nat_eq v.table other) (ended_here table other ended apart) (λ v. refl) c.versions)
     (none_added table other moment (off (nat_eq table other) refl) added)

@@ -21,7 +21,7 @@ use Rattle.period_core.specs.declared.row.PeriodRow.{PeriodRow}
 use Rattle.period_core.specs.declared.version.VersionRow.{VersionRow}
 use Rattle.version_tables.specs.Represents.{Records, Represents, Version, version, same_key, closing, ended, with_clock}
 use Rattle.version_store.specs.Contents.{Contents, HaveColumnValues, TableVersion, added_in, same_version, version_in}
-use Rattle.version_store.specs.Changed.{added_at, closed_at, ended_at, is_ended, left_of, with_clock as clock_in}
+use Rattle.version_store.specs.Changed.{added_at, closed_at, ended_at, is_ended, remains_of, with_clock as clock_in}
 use Rattle.version_store.specs.Written.{Has, written, written_version}
 
 -- ---- keys
@@ -56,7 +56,7 @@ or_false : (b : Bool) → (b || false) ≡ b
 or_false true = refl
 or_false false = refl
 
-pub one_row : (table : ℕ) (moment : ℤ) (row : VersionRow) → left_of table moment (row ∷ []) ≡ step (version_in table row) moment
+pub one_row : (table : ℕ) (moment : ℤ) (row : VersionRow) → remains_of table moment (row ∷ []) ≡ step (version_in table row) moment
 one_row table moment row = fun_ext (λ v. ap (λ b. cond b (closed_at moment v) (v ∷ [])) (or_false (same_version (version_in table row) v)))
 
 module _ (k : TableVersion) (moment : ℤ) (hk : All IsColumnValue k.values) where
@@ -99,16 +99,16 @@ closed_held moment v h = go (is_eq (int_cmp v.from moment))
     go true = tt
     go false = (h, tt)
 
-left_held : (table : ℕ) (moment : ℤ) (rows : List VersionRow) (v : TableVersion) → All IsColumnValue v.values → HaveColumnValues (left_of table moment rows v)
+left_held : (table : ℕ) (moment : ℤ) (rows : List VersionRow) (v : TableVersion) → All IsColumnValue v.values → HaveColumnValues (remains_of table moment rows v)
 left_held table moment rows v h = go (is_ended table rows v)
   where
     go : (b : Bool) → HaveColumnValues (cond b (closed_at moment v) (v ∷ []))
     go true = closed_held moment v h
     go false = (h, tt)
 
-pub ended_held : (table : ℕ) (moment : ℤ) (rows : List VersionRow) (vs : List TableVersion) → HaveColumnValues vs → HaveColumnValues (flat_map (left_of table moment rows) vs)
+pub ended_held : (table : ℕ) (moment : ℤ) (rows : List VersionRow) (vs : List TableVersion) → HaveColumnValues vs → HaveColumnValues (flat_map (remains_of table moment rows) vs)
 ended_held table moment rows vs h =
-    all-flat_map (λ (v : TableVersion). All IsColumnValue v.values) (left_of table moment rows) vs (all_weaker (λ (v : TableVersion). All IsColumnValue v.values) (λ v. HaveColumnValues (left_of table moment rows v)) (left_held table moment rows) vs h)
+    all-flat_map (λ (v : TableVersion). All IsColumnValue v.values) (remains_of table moment rows) vs (all_weaker (λ (v : TableVersion). All IsColumnValue v.values) (λ v. HaveColumnValues (remains_of table moment rows v)) (left_held table moment rows) vs h)
 
 -- ---- one row
 
@@ -141,14 +141,14 @@ flat_twice g f [] = refl
 flat_twice g f (x ∷ xs) = flat_map-append g (f x) (flat_map f xs) ∙ ap (λ l. flat_map g (f x) ++ l) (flat_twice g f xs)
 
 -- what is left of what is left
-left_again : (table : ℕ) (moment : ℤ) (rows : List VersionRow) (row : VersionRow) (v : TableVersion) (a : Bool) → flat_map (left_of table moment (row ∷ [])) (cond a (closed_at moment v) (v ∷ [])) ≡ cond (a || same_version (version_in table row) v) (closed_at moment v) (v ∷ [])
+left_again : (table : ℕ) (moment : ℤ) (rows : List VersionRow) (row : VersionRow) (v : TableVersion) (a : Bool) → flat_map (remains_of table moment (row ∷ [])) (cond a (closed_at moment v) (v ∷ [])) ≡ cond (a || same_version (version_in table row) v) (closed_at moment v) (v ∷ [])
 left_again table moment rows row v true = began (is_eq (int_cmp v.from moment)) refl
   where
     ends : (b : Bool) → (cond (b || false) (record v { to = moment } ∷ []) (record v { to = moment } ∷ []) ++ []) ≡ record v { to = moment } ∷ []
     ends true = refl
     ends false = refl
 
-    began : (z : Bool) → is_eq (int_cmp v.from moment) ≡ z → flat_map (left_of table moment (row ∷ [])) (cond z [] (record v { to = moment } ∷ [])) ≡ cond z [] (record v { to = moment } ∷ [])
+    began : (z : Bool) → is_eq (int_cmp v.from moment) ≡ z → flat_map (remains_of table moment (row ∷ [])) (cond z [] (record v { to = moment } ∷ [])) ≡ cond z [] (record v { to = moment } ∷ [])
     began true e = refl
     began false e = rw e (ends (same_version (version_in table row) v))
 left_again table moment rows row v false = stays (same_version (version_in table row) v)
@@ -160,9 +160,9 @@ left_again table moment rows row v false = stays (same_version (version_in table
 pub ended_more : (table : ℕ) (moment : ℤ) (rows : List VersionRow) (i : ℕ) (row : VersionRow) → i < length rows → row ≡ get_or rows i row → (c : Contents)
     → ended_at table moment (row ∷ []) (ended_at table moment (take i rows) c) ≡ ended_at table moment (take (i + 1) rows) c
 ended_more table moment rows i row low is c =
-    ap (λ vs. record c { versions = vs }) (flat_twice (left_of table moment (row ∷ [])) (left_of table moment (take i rows)) c.versions ∙ ap (λ f. flat_map f c.versions) (fun_ext each))
+    ap (λ vs. record c { versions = vs }) (flat_twice (remains_of table moment (row ∷ [])) (remains_of table moment (take i rows)) c.versions ∙ ap (λ f. flat_map f c.versions) (fun_ext each))
   where
-    each : (v : TableVersion) → flat_map (left_of table moment (row ∷ [])) (left_of table moment (take i rows) v) ≡ left_of table moment (take (i + 1) rows) v
+    each : (v : TableVersion) → flat_map (remains_of table moment (row ∷ [])) (remains_of table moment (take i rows) v) ≡ remains_of table moment (take (i + 1) rows) v
     each v =
         let more = list_any_more (λ row. same_version (version_in table row) v) rows i row low in
         let same = ap (λ row. same_version (version_in table row) v) is in
@@ -179,7 +179,7 @@ added_more table moment rows i row low is c =
 pub none_ended : (table : ℕ) (moment : ℤ) (c : Contents) → ended_at table moment [] c ≡ c
 none_ended table moment c = ap (λ vs. record c { versions = vs }) (all_stay c.versions)
   where
-    all_stay : (vs : List TableVersion) → flat_map (left_of table moment []) vs ≡ vs
+    all_stay : (vs : List TableVersion) → flat_map (remains_of table moment []) vs ≡ vs
     all_stay [] = refl
     all_stay (v ∷ vs) = ap (λ l. v ∷ l) (all_stay vs)
 

@@ -27,13 +27,13 @@ is_ended table ended v = list_any (λ row. same_version (version_in table row) v
 
 -- what is left of a version: it is closed at the moment if it is one of the ended rows, and else
 -- stays
-abbrev pub left_of : ℕ → ℤ → List VersionRow → TableVersion → List TableVersion
-left_of table moment ended v = cond (is_ended table ended v) (closed_at moment v) (v ∷ [])
+abbrev pub remains_of : ℕ → ℤ → List VersionRow → TableVersion → List TableVersion
+remains_of table moment ended v = cond (is_ended table ended v) (closed_at moment v) (v ∷ [])
 
 -- the rows of a table end at the moment
 abbrev pub ended_at : ℕ → ℤ → List VersionRow → Contents → Contents
 ended_at table moment ended c =
-    record c { versions = flat_map (left_of table moment ended) c.versions }
+    record c { versions = flat_map (remains_of table moment ended) c.versions }
 
 -- rows are added to a table: each is recorded from the moment on, and is current
 abbrev pub added_at : ℕ → ℤ → List PeriodRow → Contents → Contents

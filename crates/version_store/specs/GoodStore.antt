@@ -12,8 +12,8 @@ use Rattle.sqlite.specs.Order.{Row}
 use Rattle.sqlite.specs.Tree.{IsAscending}
 use Rattle.sqlite.specs.declared.types.Value.TheVariants.{Int, Blob}
 use Rattle.version_tables.specs.Forms.{end_in, moment_in}
-use Rattle.version_tables.specs.Good.{AreDays, AreMoments, IsClock, SayClock}
-use Rattle.version_tables.specs.Represents.{Says, stored}
+use Rattle.version_tables.specs.Good.{AreDays, AreMoments, IsClock, AreMetaRows}
+use Rattle.version_tables.specs.Represents.{HasRecords, stored}
 use Rattle.version_tables.specs.Rows.{IsNumberAt}
 use Rattle.version_tables.specs.Tables.{HasStoreTables}
 use Rattle.version_tables.specs.declared.form.Form.{Form}
@@ -56,7 +56,7 @@ pub record IsGoodStore (Constrained : Contents → Type 0) (db : Database) : Typ
   -- this form
   pub form : Form
   pub contents : Contents
-  pub says : Says db (written_in form contents)
+  pub says : HasRecords db (written_in form contents)
   -- 1: the three tables are there, as the store makes them; those of others are behind them
   pub tables_there : HasStoreTables db.schema
   -- 2: the one row of bt_meta has form 1 or 2, as `written_in` says, and a clock
@@ -108,8 +108,8 @@ pub record AreTables (rows : List Row) (tables : List TableDef) : Type 0 where
   pub each : AreTableRows [] rows tables
 
 -- a row of bt_version: that of a good version
-abbrev pub SaysVersion : Form → List TableDef → ℤ → Row → Type 0
-SaysVersion form tables clock row =
+abbrev pub IsVersionRow : Form → List TableDef → ℤ → Row → Type 0
+IsVersionRow form tables clock row =
     (v : TableVersion) × (row ≡ stored (written_version v)) × IsGoodVersionIn form tables clock v
 
 -- the version row has the period and the system time of a row of bt_version, in microseconds
@@ -136,8 +136,8 @@ pub record AreReadAs (form : Form) (tables : List TableDef) (clock : ℤ) (rows 
       ≡ map (version_of form) (of_table number versions)
 
 -- the rows of all three
-pub record SayRows (metas tables versions : List Row) (known : List TableDef) (form : Form)
+pub record AreStoreRows (metas tables versions : List Row) (known : List TableDef) (form : Form)
     (clock : ℤ) : Type 0 where
-  pub meta : SayClock metas form clock
+  pub meta : AreMetaRows metas form clock
   pub defined : AreTables tables known
-  pub each : AllByRecursion (SaysVersion form known clock) versions
+  pub each : AllByRecursion (IsVersionRow form known clock) versions

@@ -14,7 +14,7 @@ use Rattle.sqlite_trees.specs.declared.memory.MemStore.{MemStore}
 use Rattle.sqlite.specs.Schema.{Schema}
 use Rattle.version_tables.specs.Forms.{form_number}
 use Rattle.version_tables.specs.Making.{IsBegunIn}
-use Rattle.version_tables.specs.Presence.{AreAllThere}
+use Rattle.version_tables.specs.Presence.{HasEachStoreTable}
 use Rattle.version_tables.specs.Steps.{HasFault, IsAsBefore, KeepsFaults}
 use Rattle.version_tables.specs.Tables.{HasStoreTables}
 use Rattle.version_tables.specs.contracts.form.Form.{the_row as a_form}
@@ -123,4 +123,4 @@ IsOpenRefusal refusal = (refusal ≡ BadStore) ⊎ IsStoreRefusal refusal
 -- the three tables, where all of them are there, are as the store makes them; those of others are
 -- behind them
 abbrev pub IsOurs : Schema → Type 0
-IsOurs schema = AreAllThere schema → HasStoreTables schema
+IsOurs schema = HasEachStoreTable schema → HasStoreTables schema

@@ -6,7 +6,7 @@ ghost use Rattle.version_store.specs.StoreState.{MemoryIsUsable};
 
 /// A store in memory is always usable, so what the store's clauses say of usable connections holds
 /// after each call over one.
-pub fn memory_is_usable()
+pub fn kit_memory_is_usable()
     ensures { MemoryIsUsable }
 {}
 

@@ -4,21 +4,21 @@
 //! are opened in `specs/GoodStore`. Each change is made whole in one transaction, or not at all.
 #![tactic(auto)]
 
-mod adding;
 mod fault;
-mod inspecting;
-mod judging;
+mod insertion;
+mod inspection;
 pub mod laws;
-mod place;
 mod plans;
-mod reading;
+mod row_checks;
 mod row_values;
-mod scanning;
+mod scans;
 mod store;
+mod transactions;
+mod version_reader;
 mod visitor;
-mod writing;
+mod written_rows;
 
-pub use laws::{memory_is_usable, others_stay, plans_leave_other_tables};
+pub use laws::{kit_memory_is_usable, others_stay, plans_leave_other_tables};
 pub use store::VersionStore;
 pub use store::opened::OpenedStore;
-pub use visitor::{KeptRows, RowVisitor};
+pub use visitor::{RowCollector, RowVisitor};

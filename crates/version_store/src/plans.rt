@@ -1,23 +1,23 @@
 //! What a plan makes of a table, step by step inside a transaction: rows end, others are added, and
-//! last those are removed that ended as they began, where none was added at their place.
+//! last those are removed that ended as they began, where none was added with their key.
 
 ghost use Rattle.std.specs.Prelude.{◌≡◌, ◌∷◌, [], OnOk};
 ghost use Rattle.version_tables.specs.Represents.{removed};
 ghost use Rattle.version_tables.specs.Steps.{ChangesRecords, CommitsNothing};
 ghost use Rattle.version_store.specs.Changed.{ended_at, planned};
-ghost use Rattle.version_store.specs.Leaving.{CarriesBut, key_at};
+ghost use Rattle.version_store.specs.PendingRemovals.{CarriesExcept, key_at};
 ghost use Rattle.version_store.specs.Steps.{Carries};
 
-use crate::adding::add_rows;
 use crate::fault::StoreFault;
-use crate::place::place_of;
+use crate::insertion::add_rows;
+use crate::written_rows::version_key_of;
 use catalog_core::Plan;
 use period_core::{Moment, VersionRow};
 use sqlite::Transaction;
 use sqlite_trees::store::Alter;
 use std::alloc::Global;
 use std::collections::BTreeSet;
-use version_tables::{Place, end_version, remove_version};
+use version_tables::{VersionKey, end_version, remove_version};
 
 /// Ends a row of a table at a moment. If it began then, it has to be removed.
 fn end_row<S: Alter>(
@@ -26,24 +26,24 @@ fn end_row<S: Alter>(
     table: u8,
     moment: Moment,
     row: &VersionRow,
-    leaving: &mut BTreeSet<Place>,
+    pending: &mut BTreeSet<VersionKey>,
 ) -> Result<(), StoreFault>
     ensures same_reference { transaction.new.conn.ghost_name ≡ transaction.old.conn.ghost_name }
-    ensures made { CarriesBut S.Store transaction.old.conn.now transaction.new.conn.now result
-        table moment leaving.old.keys leaving.new.keys (ended_at table moment (row.now ∷ [])) }
+    ensures made { CarriesExcept S.Store transaction.old.conn.now transaction.new.conn.now result
+        table moment pending.old.keys pending.new.keys (ended_at table moment (row.now ∷ [])) }
     ensures inside { CommitsNothing S.Store transaction.old.conn.now transaction.new.conn.now }
 {
-    let place = place_of(alloc, &row.values, row.period)?;
+    let key = version_key_of(alloc, &row.values, row.period)?;
     let from = row.from.number();
     if from == moment.number() {
-        leaving.insert(place)?;
+        pending.insert(key)?;
         return Ok(());
     }
     end_version(
         transaction,
         u32::from(table),
-        place.values.as_slice(),
-        place.start,
+        key.values.as_slice(),
+        key.start,
         from,
         moment.number(),
     )?;
@@ -57,36 +57,36 @@ fn end_rows<S: Alter>(
     table: u8,
     moment: Moment,
     rows: &[VersionRow],
-    leaving: &mut BTreeSet<Place>,
+    pending: &mut BTreeSet<VersionKey>,
 ) -> Result<(), StoreFault>
     ensures same_reference { transaction.new.conn.ghost_name ≡ transaction.old.conn.ghost_name }
-    ensures made { CarriesBut S.Store transaction.old.conn.now transaction.new.conn.now result
-        table moment leaving.old.keys leaving.new.keys (ended_at table moment rows.now) }
+    ensures made { CarriesExcept S.Store transaction.old.conn.now transaction.new.conn.now result
+        table moment pending.old.keys pending.new.keys (ended_at table moment rows.now) }
     ensures inside { CommitsNothing S.Store transaction.old.conn.now transaction.new.conn.now }
 {
     for row in rows {
-        end_row(alloc, transaction, table, moment, row, leaving)?;
+        end_row(alloc, transaction, table, moment, row, pending)?;
     }
     Ok(())
 }
 
-/// Removes the version of a table that began at the moment and has this place, if there is one.
+/// Removes the version of a table that began at the moment and has this key, if there is one.
 fn remove_row<S: Alter>(
     transaction: &mut Transaction<'_, S>,
     table: u8,
     moment: Moment,
-    place: &Place,
+    key: &VersionKey,
 ) -> Result<(), StoreFault>
     ensures same_reference { transaction.new.conn.ghost_name ≡ transaction.old.conn.ghost_name }
     ensures made { ChangesRecords S.Store transaction.old.conn.now transaction.new.conn.now result
-        (removed (key_at table moment place.now)) }
+        (removed (key_at table moment key.now)) }
     ensures inside { CommitsNothing S.Store transaction.old.conn.now transaction.new.conn.now }
 {
     remove_version(
         transaction,
         u32::from(table),
-        place.values.as_slice(),
-        place.start,
+        key.values.as_slice(),
+        key.start,
         moment.number(),
     )?;
     Ok(())
@@ -97,15 +97,15 @@ fn remove_rows<S: Alter>(
     transaction: &mut Transaction<'_, S>,
     table: u8,
     moment: Moment,
-    leaving: &mut BTreeSet<Place>,
+    pending: &mut BTreeSet<VersionKey>,
 ) -> Result<(), StoreFault>
     ensures same_reference { transaction.new.conn.ghost_name ≡ transaction.old.conn.ghost_name }
-    ensures made { CarriesBut S.Store transaction.old.conn.now transaction.new.conn.now result
-        table moment leaving.old.keys [] (λ c. c) }
+    ensures made { CarriesExcept S.Store transaction.old.conn.now transaction.new.conn.now result
+        table moment pending.old.keys [] (λ c. c) }
     ensures inside { CommitsNothing S.Store transaction.old.conn.now transaction.new.conn.now }
 {
-    'places: while let Some(place) = leaving.pop_first() {
-        remove_row(transaction, table, moment, &place)?;
+    'removals: while let Some(key) = pending.pop_first() {
+        remove_row(transaction, table, moment, &key)?;
     }
     Ok(())
 }
@@ -123,14 +123,14 @@ pub(crate) fn put_plan<S: Alter>(
         (planned table moment plan.now.ended plan.now.added) }
     ensures inside { CommitsNothing S.Store transaction.old.conn.now transaction.new.conn.now }
 {
-    let mut leaving = BTreeSet::new(alloc);
+    let mut pending = BTreeSet::new(alloc);
     end_rows(
         alloc,
         transaction,
         table,
         moment,
         plan.ended.as_slice(),
-        &mut leaving,
+        &mut pending,
     )?;
     add_rows(
         alloc,
@@ -138,7 +138,7 @@ pub(crate) fn put_plan<S: Alter>(
         table,
         moment,
         plan.added.as_slice(),
-        &mut leaving,
+        &mut pending,
     )?;
-    remove_rows(transaction, table, moment, &mut leaving)
+    remove_rows(transaction, table, moment, &mut pending)
 }

@@ -8,7 +8,7 @@ ghost use Rattle.catalog_core.specs.declared.table.TableDef.{TableDef};
 ghost use Rattle.period_core.specs.Moments.{forever};
 ghost use Rattle.sqlite.specs.Held.{state};
 ghost use Rattle.version_tables.specs.Making.{HasCounters};
-ghost use Rattle.version_tables.specs.Presence.{IsNoneThere};
+ghost use Rattle.version_tables.specs.Presence.{HasNoStoreTable};
 ghost use Rattle.version_tables.specs.Steps.{IsAsBefore};
 ghost use Rattle.version_tables.specs.Tables.{no_schema};
 ghost use Rattle.version_store.specs.Changed.{planned, with_clock, with_table};
@@ -19,9 +19,9 @@ ghost use Rattle.version_store.specs.StoreState.{Changes, IsFailure, IsMadeBehin
 ghost use Rattle.version_store.specs.StoreState.{IsStoreRefusal, IsUsable, StoreRepresents};
 
 use crate::fault::refusal_of;
-use crate::scanning::{scan_rows, table_rows};
+use crate::scans::{scan_rows, table_rows};
+use crate::transactions::{write_clock, write_plan, write_table};
 use crate::visitor::RowVisitor;
-use crate::writing::{write_clock, write_plan, write_table};
 use catalog_core::{Catalog, Plan, TableDef, encode_def};
 use period_core::{Items, Moment, Refusal, VersionRow, Window};
 use sqlite::Connection;
@@ -80,7 +80,7 @@ impl<S: Alter> VersionStore<S> {
             → (state S.Store connection).now.schema ≡ no_schema
             → StoreRepresents S.Store store empty_contents) }
         ensures beside { IfOk result (λ store. IsUsable S.Store store.connection
-            → IsNoneThere (state S.Store connection).now.schema
+            → HasNoStoreTable (state S.Store connection).now.schema
             → HasCounters (state S.Store connection).now.schema
             → IsMadeBehind (state S.Store connection) (state S.Store store.connection)) }
         ensures empty { IfOk result (λ store. store.catalog.tables ≡ []) }

@@ -38,24 +38,24 @@ pub trait RowVisitor {
 
 /// A visitor that keeps all rows, in the order in which it takes them.
 #[derive(Drop, Debug)]
-pub struct KeptRows {
+pub struct RowCollector {
     /// The rows so far.
     pub rows: Vec<VersionRow>,
 }
 
-impl KeptRows {
+impl RowCollector {
     /// No rows so far.
-    pub fn new(alloc: Global) -> KeptRows
+    pub fn new(alloc: Global) -> RowCollector
         ensures { result.rows.items ≡ [] }
     {
-        KeptRows {
+        RowCollector {
             rows: Vec::new(alloc),
         }
     }
 }
 
 // A row is refused where there is no memory for it.
-impl RowVisitor for KeptRows {
+impl RowVisitor for RowCollector {
     ghost Meaning = { List AnyRow };
 
     ghost meaning = { λ kept. kept.rows.items };

@@ -21,7 +21,7 @@ use Rattle.sqlite.specs.Listing.{understood}
 use Rattle.sqlite.specs.Effect.{Database, value_rows}
 use Rattle.sqlite.specs.State.{State, mode_of, Executes, ExecutesInside}
 use Rattle.sqlite.proofs.Callers.{statement_of, runs_as}
-use Rattle.version_tables.specs.declared.place.NewRow.{NewRow}
+use Rattle.version_tables.specs.declared.version_key.NewRow.{NewRow}
 use Rattle.version_tables.specs.Adding.{IsBatch, cells, given_rows}
 use Rattle.version_tables.specs.Represents.{Version, Records, Represents, all_added, defined, meta_shown, new_version, stored, table_shown, version_shown}
 use Rattle.version_tables.specs.Tables.{Others, schema_with, version_table}
@@ -44,8 +44,8 @@ module _ (table : ℕ) (from to : ℤ) (params : Row) (table_at : column params 
   gives : (rows : List NewRow) (at : ℕ) → drop at params ≡ flat_map cells rows → value_rows params 7 (length rows) (batch_terms at (length rows)) ≡ map unnumbered (map (new_version table from to) rows)
   gives [] at h = refl
   gives (r ∷ rows) at h =
-      let values : column params at ≡ Blob r.place.values.items = ap (column params) (omega (arith)) ∙ sym (get_or-drop at params 0 Null) ∙ ap (λ l. column l 0) h in
-      let start : column params (at + 1) ≡ Int r.place.start = sym (get_or-drop at params 1 Null) ∙ ap (λ l. column l 1) h in
+      let values : column params at ≡ Blob r.key.values.items = ap (column params) (omega (arith)) ∙ sym (get_or-drop at params 0 Null) ∙ ap (λ l. column l 0) h in
+      let start : column params (at + 1) ≡ Int r.key.start = sym (get_or-drop at params 1 Null) ∙ ap (λ l. column l 1) h in
       let end : column params (at + 2) ≡ Int r.end = sym (get_or-drop at params 2 Null) ∙ ap (λ l. column l 2) h in
       let more = gives rows (at + 3) (sym (drop-drop 3 at params) ∙ ap (drop 3) h) in
       rw (table_at, from_at, to_at, values, start, end, more) refl

@@ -8,7 +8,7 @@ use Rattle.sqlite.specs.Order.{Row}
 use Rattle.sqlite.specs.Tree.{rowid}
 use Rattle.sqlite.specs.View.{is_int}
 use Rattle.version_tables.specs.Represents.{Version, version, meta_row, stored}
-use Rattle.version_tables.specs.Good.{IsClock, IsKnown, AreDays, AreMoments, IsGoodParts, SayClock, SaysVersion, IsDefinition}
+use Rattle.version_tables.specs.Good.{IsClock, IsKnown, AreDays, AreMoments, IsGoodParts, AreMetaRows, IsVersionRow, IsDefinition}
 use Rattle.version_tables.specs.Rows.{IsNumberAt, AreBytesAt, Rise}
 use Rattle.version_tables.specs.Forms.{form_number}
 use Rattle.version_tables.specs.declared.form.Form.{Form}
@@ -41,7 +41,7 @@ pub record ClockColumns (row : Row) (form : Form) (clock : ℤ) : Type 0 where
   pub at : IsNumberAt row 2 clock
   pub is_clock : IsClock form clock
 
-pub clock_columns : (row : Row) (form : Form) (clock : ℤ) → SayClock (row ∷ []) form clock → ClockColumns row form clock
+pub clock_columns : (row : Row) (form : Form) (clock : ℤ) → AreMetaRows (row ∷ []) form clock → ClockColumns row form clock
 clock_columns row form clock h =
     let same : row ≡ meta_row (form_number form) clock = let e = h.0 in cc in
     rw same (record { width = refl; id = (omega arith, refl); number = (omega arith, refl); at = (omega arith, refl); is_clock = h.1 })
@@ -85,7 +85,7 @@ pub record VersionColumns (form : Form) (clock : ℤ) (tables : ℕ) (row : Row)
   pub to : IsNumberAt row 5 it.to
   pub good : IsGoodParts form clock tables (pos it.table) it.start it.end it.from it.to
 
-pub version_columns : (form : Form) (clock : ℤ) (tables : ℕ) (row : Row) → SaysVersion form clock tables row → VersionColumns form clock tables row
+pub version_columns : (form : Form) (clock : ℤ) (tables : ℕ) (row : Row) → IsVersionRow form clock tables row → VersionColumns form clock tables row
 version_columns form clock tables row h =
     let at : (n : ℕ) → n < 6 → n < length row = λ n low. rw h.1 low in
     let v = h.0 in
@@ -107,7 +107,7 @@ natural tables (pos k) h = (k, refl)
 natural tables (negsuc k) h = absurd (let low = h.low in omega (arith, ints))
 
 pub says_version : (form : Form) (clock : ℤ) (tables : ℕ) (row : Row) (table : ℤ) (values : List ℕ) (start end from to : ℤ) → length row ≡ 6 → IsNumberAt row 0 table → AreBytesAt row 1 values
-    → IsNumberAt row 2 start → IsNumberAt row 3 end → IsNumberAt row 4 from → IsNumberAt row 5 to → IsKnown tables table → AreDays start end → AreMoments form clock from to → SaysVersion form clock tables row
+    → IsNumberAt row 2 start → IsNumberAt row 3 end → IsNumberAt row 4 from → IsNumberAt row 5 to → IsKnown tables table → AreDays start end → AreMoments form clock from to → IsVersionRow form clock tables row
 says_version form clock tables row table values start end from to width a b c d e f known days moments =
     let whole = six row width in
     let n = natural tables table known in
@@ -122,7 +122,7 @@ says_version form clock tables row table values start end from to width a b c d 
     (v, same, record { known = subst (IsKnown tables) n.1 known; days = days; moments = moments })
 
 pub good_parts : (form : Form) (clock : ℤ) (tables : ℕ) (row : Row) (table start end from to : ℤ) → IsNumberAt row 0 table → IsNumberAt row 2 start → IsNumberAt row 3 end → IsNumberAt row 4 from → IsNumberAt row 5 to
-    → SaysVersion form clock tables row → IsGoodParts form clock tables table start end from to
+    → IsVersionRow form clock tables row → IsGoodParts form clock tables table start end from to
 good_parts form clock tables row table start end from to a c d e f says =
     let has = version_columns form clock tables row says in
     let p = same_int table (pos has.it.table) _ a.1 has.table.1 in

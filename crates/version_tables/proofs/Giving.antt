@@ -18,7 +18,7 @@ use Rattle.sqlite_resolve.specs.declared.error.CompileError.{CompileError}
 use Rattle.version_tables.specs.Selections.{select_given, select_text}
 use Rattle.version_tables.specs.declared.selection.Selection.{Selection}
 use Rattle.version_tables.specs.Represents.{Records, Represents}
-use Rattle.version_tables.specs.Giving.{AreFirst, GivesNext, HasGivenRows, IsLeft, IsNotBegun, TellsWhy}
+use Rattle.version_tables.specs.Giving.{AreFirst, GivesNext, HasGivenRows, IsAfterQuery, HasNotBegun, FailsWithReason}
 use Rattle.version_tables.specs.Steps.{HasReason, Keeps, KeepsFaults}
 use Rattle.version_tables.proofs.Reasons.{fails_with_reason}
 use Rattle.version_tables.specs.Tables.{schema_with}
@@ -80,7 +80,7 @@ module _ {S : Type 0} (g : Ghosts S) (table : ℕ) (selection : Selection) (firs
   given_none of P (Err e) settled begun survives mode = tt
   given_none of P (Ok x) settled begun survives mode = goes_on (of x) [] settled mode (record { faults = survives.counts; limit = survives.limit }) (λ clean. let kept = survives.clean in omega arith) (λ clean. begins (of x) (begun clean))
 
-  pub not_begun : {X : Type 0} (now : Held S) → first.in_transaction ≡ false → IsSettled → (r : Result X Error) → OnErr r (IsRefused g text params first r now) → OnErr r (IsNotBegun g first r now)
+  pub not_begun : {X : Type 0} (now : Held S) → first.in_transaction ≡ false → IsSettled → (r : Result X Error) → OnErr r (IsRefused g text params first r now) → OnErr r (HasNotBegun g first r now)
   not_begun now mode settled (Ok x) h = tt
   not_begun now mode settled (Err e) h = record {
     left = record {
@@ -134,7 +134,7 @@ module _ {S : Type 0} (g : Ghosts S) (table : ℕ) (selection : Selection) (firs
     gives_next next (Ok x) ok same = gives next ok same
     gives_next next (Err e) ok same = tt
 
-    pub left_so : {X : Type 0} (r : Result X Error) → (HasCleanDisk (state g now) → IfErr r (λ e. Fails (state g before) (state g now) ⊥ e ⊎ IsUnchanged (state g before) (state g now))) → OnErr r (IsLeft g first now)
+    pub left_so : {X : Type 0} (r : Result X Error) → (HasCleanDisk (state g now) → IfErr r (λ e. Fails (state g before) (state g now) ⊥ e ⊎ IsUnchanged (state g before) (state g now))) → OnErr r (IsAfterQuery g first now)
     left_so (Ok x) kept = tt
     left_so (Err e) kept = record { clean = λ clean. was.left.clean (still_clean clean); keeps = λ clean. keeps e (kept clean) clean; mode = mode was.left.mode; faults = counted }
 
@@ -148,7 +148,7 @@ module _ {S : Type 0} (g : Ghosts S) (table : ℕ) (selection : Selection) (firs
       ])
     ]
 
-    pub why_so : {X : Type 0} (r : Result X Error) → (HasCleanDisk (state g now) → IfErr r (FailsToAdvance g before now)) → TellsWhy g first now r
+    pub why_so : {X : Type 0} (r : Result X Error) → (HasCleanDisk (state g now) → IfErr r (FailsToAdvance g before now)) → FailsWithReason g first now r
     why_so (Ok x) failed clean m stands = tt
     why_so (Err e) failed clean m stands =
         let so_far = was.unchanged (still_clean clean) in

@@ -15,7 +15,7 @@ use Rattle.sqlite.specs.Order.{Row}
 use Rattle.sqlite.specs.Tree.{rowid, IsTable}
 use Rattle.sqlite.specs.View.{is_int}
 use Rattle.std.proofs.lemmas.Int.{ints}
-use Rattle.version_tables.specs.Represents.{rowid_shown, table_shown, defined, tied, AreUntied}
+use Rattle.version_tables.specs.Represents.{rowid_shown, table_shown, defined, same_rowid, HaveDistinctRowids}
 use Rattle.version_tables.specs.Rows.{AreNumbered, AreRising, InOrder, Rise, by_rowid}
 use Rattle.version_tables.proofs.Goes.{untied_along, tied_turned}
 
@@ -44,10 +44,10 @@ defined_table n (d ∷ ds) = (defined_later n (n + 1) ds (omega arith), defined_
 
 -- ---- two lists of the same rows, both in the order of their rowids
 
-others_stay : (x : Row) (xs : List Row) → AllByRecursion (λ r. by_rowid x r ≡ Less) xs → filter (λ r. not (tied x r)) (x ∷ xs) ≡ xs
+others_stay : (x : Row) (xs : List Row) → AllByRecursion (λ r. by_rowid x r ≡ Less) xs → filter (λ r. not (same_rowid x r)) (x ∷ xs) ≡ xs
 others_stay x xs later =
     let here = tied_itself value_cmp_total (rowid x) in
-    rw here (filter_all (λ r. not (tied x r)) xs (all_weaker _ (λ r. not (tied x r) ≡ true) (λ r below. ap (λ o. not (is_eq o)) below) xs later))
+    rw here (filter_all (λ r. not (same_rowid x r)) xs (all_weaker _ (λ r. not (same_rowid x r) ≡ true) (λ r below. ap (λ o. not (is_eq o)) below) xs later))
 
 not_both : (x y : Row) → by_rowid x y ≡ Less → by_rowid y x ≡ Less → ⊥
 not_both x y p q = let e = value_cmp_total.trans _ _ _ p q in let same = tied_itself value_cmp_total (rowid x) in cc
@@ -68,8 +68,8 @@ same_tables (x ∷ xs) (y ∷ ys) p q h =
     let from_x : AllByRecursion (AtOrAfter x) (x ∷ xs) = (inl refl, all_weaker (λ r. by_rowid x r ≡ Less) (AtOrAfter x) (λ r below. inr below) xs p.0) in
     let from_y : AllByRecursion (AtOrAfter y) (y ∷ ys) = (inl refl, all_weaker (λ r. by_rowid y r ≡ Less) (AtOrAfter y) (λ r below. inr below) ys q.0) in
     let heads : x ≡ y = same_heads x y (all-permutation (AtOrAfter x) _ _ h from_x).0 (all-permutation (AtOrAfter y) _ _ (IsPermutation-sym _ _ h) from_y).0 in
-    let t = λ (r : Row). not (tied x r) in
-    let right : filter t (y ∷ ys) ≡ ys = subst (λ (z : Row). filter (λ r. not (tied z r)) (y ∷ ys) ≡ ys) (sym heads) (others_stay y ys q.0) in
+    let t = λ (r : Row). not (same_rowid x r) in
+    let right : filter t (y ∷ ys) ≡ ys = subst (λ (z : Row). filter (λ r. not (same_rowid z r)) (y ∷ ys) ≡ ys) (sym heads) (others_stay y ys q.0) in
     let left : filter t (x ∷ xs) ≡ xs = others_stay x xs p.0 in
     let rest : IsPermutation xs ys = rw (left, right) at (IsPermutation-filter t _ _ h) in
     let tails = same_tables xs ys p.1 q.1 rest in
@@ -77,7 +77,7 @@ same_tables (x ∷ xs) (y ∷ ys) p q h =
 
 -- ---- sorted rows
 
-not_after : (a b : Row) → is_lt (by_rowid b a) ≡ false → tied a b ≡ false → by_rowid a b ≡ Less
+not_after : (a b : Row) → is_lt (by_rowid b a) ≡ false → same_rowid a b ≡ false → by_rowid a b ≡ Less
 not_after a b h apart = go (by_rowid b a) (value_cmp_total.antisymm (rowid a) (rowid b)) h (tied_turned a b apart)
   where
     go : (o : Ordering) → by_rowid a b ≡ ordering_reverse o → is_lt o ≡ false → is_eq o ≡ false → by_rowid a b ≡ Less
@@ -91,7 +91,7 @@ rest_sorted x xs s k d low high =
     let next : suc k + 1 ≡ suc (k + 1) = omega arith in
     subst (λ (n : ℕ). is_lt (by_rowid (get_or (x ∷ xs) n d) (get_or xs k d)) ≡ false) next e
 
-pub sorted_table : (xs : List Row) → IsSorted by_rowid xs → AreUntied xs → IsTable xs
+pub sorted_table : (xs : List Row) → IsSorted by_rowid xs → HaveDistinctRowids xs → IsTable xs
 sorted_table [] s u = tt
 sorted_table (x ∷ []) s u = (tt, tt)
 sorted_table (x ∷ y ∷ xs) s u =
@@ -99,16 +99,16 @@ sorted_table (x ∷ y ∷ xs) s u =
     let first = not_after x y (s 0 [] (omega arith) (omega arith)) u.0.0 in
     ((first, all_weaker (λ r. by_rowid y r ≡ Less) (λ r. by_rowid x r ≡ Less) (λ r below. value_cmp_total.trans _ _ _ first below) xs rest.0), rest)
 
-table_untied : (xs : List Row) → IsTable xs → AreUntied xs
-table_untied xs = ascending_weaker (λ a b. by_rowid a b ≡ Less) (λ a b. tied a b ≡ false) (λ a b below. ap is_eq below) xs
+table_untied : (xs : List Row) → IsTable xs → HaveDistinctRowids xs
+table_untied xs = ascending_weaker (λ a b. by_rowid a b ≡ Less) (λ a b. same_rowid a b ≡ false) (λ a b below. ap is_eq below) xs
 
 pub definitions_in_order : (tree tables : List Row) (ds : List (List ℕ)) → InOrder table_shown by_rowid tree tables → IsPermutation (defined 1 ds) (map table_shown tree) → tables ≡ defined 1 ds
 definitions_in_order tree tables ds order says =
     let to = order.0 in
     let same : IsPermutation (defined 1 ds) (map table_shown to) = IsPermutation-trans _ _ _ says (IsPermutation-map table_shown _ _ order.1) in
     let table = defined_table 1 ds in
-    let untied : AreUntied (map table_shown to) = untied_along _ _ same (table_untied _ table) in
-    let up : IsTable to = sorted_table to order.3 (ascending_from_map (λ a b. tied a b ≡ false) table_shown to untied) in
+    let untied : HaveDistinctRowids (map table_shown to) = untied_along _ _ same (table_untied _ table) in
+    let up : IsTable to = sorted_table to order.3 (ascending_from_map (λ a b. same_rowid a b ≡ false) table_shown to untied) in
     order.2 ∙ sym (same_tables (defined 1 ds) (map table_shown to) table (ascending-map (λ a b. by_rowid a b ≡ Less) table_shown to up) same)
 
 -- ---- rowids
@@ -128,9 +128,9 @@ rising_table (x ∷ y ∷ rows) up =
     let first : by_rowid x y ≡ Less = rises_by x y (up 0 (omega arith)) in
     ((first, all_weaker (λ r. by_rowid y r ≡ Less) (λ r. by_rowid x r ≡ Less) (λ r below. value_cmp_total.trans _ _ _ first below) rows rest.0), rest)
 
-pub own_rowids : (tree ids : List Row) → IsPermutation (map rowid_shown tree) ids → AreNumbered ids → AreRising ids → AreUntied tree × AllByRecursion (λ r. is_int (rowid r) ≡ true) tree
+pub own_rowids : (tree ids : List Row) → IsPermutation (map rowid_shown tree) ids → AreNumbered ids → AreRising ids → HaveDistinctRowids tree × AllByRecursion (λ r. is_int (rowid r) ≡ true) tree
 own_rowids tree ids same ints up =
     let back = IsPermutation-sym _ _ same in (
-      ascending_from_map (λ a b. tied a b ≡ false) rowid_shown tree (untied_along _ _ back (table_untied ids (rising_table ids up))),
+      ascending_from_map (λ a b. same_rowid a b ≡ false) rowid_shown tree (untied_along _ _ back (table_untied ids (rising_table ids up))),
       all_from_map (λ r. is_int (rowid r) ≡ true) rowid_shown tree (all-permutation (λ r. is_int (rowid r) ≡ true) _ _ back (all_by_place (λ r. is_int (rowid r) ≡ true) [] ids ints)),
     )

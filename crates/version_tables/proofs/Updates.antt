@@ -30,7 +30,7 @@ use Rattle.sqlite.specs.State.{State, mode_of, Executes}
 use Rattle.sqlite.proofs.Callers.{IsPlain, command_of, statement_of, runs_as}
 use Rattle.sqlite_rules.specs.Calls.{ids_of}
 use Rattle.version_tables.specs.Tables.{Others, schema_with, version_table}
-use Rattle.version_tables.specs.Represents.{Version, Records, Represents, changed, defined, meta_shown, table_shown, version_shown, AreUntied, stored, same_key}
+use Rattle.version_tables.specs.Represents.{Version, Records, Represents, changed, defined, meta_shown, table_shown, version_shown, HaveDistinctRowids, stored, same_key}
 use Rattle.version_tables.proofs.Apart.{one_step_with}
 use Rattle.version_tables.proofs.Texts.{by_key, changing, updating}
 use Rattle.version_tables.proofs.Rows.{went, same_value, put_row_fresh}
@@ -59,7 +59,7 @@ put_fresh (r ∷ rs) rows fresh =
     IsPermutation-trans _ _ _ (IsPermutation-sym _ _ (IsPermutation-middle rs r rows))
     (IsPermutation-trans _ _ _ (IsPermutation-append_right rs _ _ (put_row_fresh r rows (free_is _ parts.0))) (put_fresh rs (put_row r rows) parts.1))
 
-pub put_table : (news rows : List Row) → are_fresh rows news ≡ true → AreUntied rows → AreUntied (put_all rows news)
+pub put_table : (news rows : List Row) → are_fresh rows news ≡ true → HaveDistinctRowids rows → HaveDistinctRowids (put_all rows news)
 put_table [] rows fresh up = up
 put_table (r ∷ rs) rows fresh up = let parts = and_parts _ _ fresh in put_table rs (put_row r rows) parts.1 (untied-put_row r rows (free_is _ parts.0) up)
 

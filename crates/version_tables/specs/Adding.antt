@@ -3,7 +3,7 @@ use Rattle.std.specs.Prelude.{◌≡◌, ◌⊎◌, ℕ, ℤ, pos, List, [], ◌
 use Rattle.std.specs.List.{flat_map}
 use Rattle.sqlite.specs.declared.types.Value.TheVariants.{Int, Blob}
 use Rattle.sqlite.specs.Order.{Row}
-use Rattle.version_tables.specs.declared.place.NewRow.{NewRow}
+use Rattle.version_tables.specs.declared.version_key.NewRow.{NewRow}
 
 -- a statement adds one, two, four or eight rows
 abbrev pub IsBatch : ℕ → Type 0
@@ -11,7 +11,7 @@ IsBatch rows = (rows ≡ 1) ⊎ ((rows ≡ 2) ⊎ ((rows ≡ 4) ⊎ (rows ≡ 8)
 
 -- the parameters of one row
 abbrev pub cells : NewRow → Row
-cells row = Blob row.place.values.items ∷ Int row.place.start ∷ Int row.end ∷ []
+cells row = Blob row.key.values.items ∷ Int row.key.start ∷ Int row.end ∷ []
 
 -- the parameters of a statement
 abbrev pub given_rows : ℕ → ℤ → ℤ → List NewRow → Row

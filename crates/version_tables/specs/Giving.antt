@@ -37,29 +37,29 @@ AreAll db table selection given =
 
 -- a connection after the query, wherever it ended: no transaction is open, and what was there is
 -- there
-pub record IsLeft {S : Type 0} (g : Ghosts S) (first now : Held S) : Type 0 where
+pub record IsAfterQuery {S : Type 0} (g : Ghosts S) (first now : Held S) : Type 0 where
   pub clean : HasCleanDisk (state g now) → HasCleanDisk (state g first)
   pub keeps : HasCleanDisk (state g now) → Keeps (state g first) (state g now)
   pub mode : now.in_transaction ≡ false
   pub faults : KeepsFaults (state g first) (state g now)
 
 -- where the three tables were there, an error of the query has a reason
-abbrev pub TellsWhy : {S X : Type 0} → Ghosts S → Held S → Held S → Result X Error → Type 0
-TellsWhy g first now result =
+abbrev pub FailsWithReason : {S X : Type 0} → Ghosts S → Held S → Held S → Result X Error → Type 0
+FailsWithReason g first now result =
     HasCleanDisk (state g now) → (records : Records) → Represents (state g first).now records
     → IfErr result (HasReason (state g first) (state g now))
 
 -- a query that did not begin
-pub record IsNotBegun {S X : Type 0} (g : Ghosts S) (first : Held S) (result : Result X Error)
+pub record HasNotBegun {S X : Type 0} (g : Ghosts S) (first : Held S) (result : Result X Error)
     (now : Held S) : Type 0 where
-  pub left : IsLeft g first now
-  pub why : TellsWhy g first now result
+  pub left : IsAfterQuery g first now
+  pub why : FailsWithReason g first now result
 
 -- the query goes on, and has given these rows since it began outside a transaction
 pub record HasGivenRows {S : Type 0} (g : Ghosts S) (table : ℕ) (selection : Selection)
     (first now : Held S) (given : List Row) : Type 0 where
   pub rows : HasCleanDisk (state g now) → AreFirst (state g first).now table selection given
-  pub left : IsLeft g first now
+  pub left : IsAfterQuery g first now
   pub unchanged : HasCleanDisk (state g now) → IsUnchanged (state g first) (state g now)
   pub goes_on : HasCleanDisk (state g now)
       → HasGiven g (select_text selection) (select_given table selection) now given
@@ -70,7 +70,7 @@ pub record HasGivenRows {S : Type 0} (g : Ghosts S) (table : ℕ) (selection : S
 pub record HasGivenAll {S : Type 0} (g : Ghosts S) (table : ℕ) (selection : Selection)
     (first now : Held S) (given : List Row) : Type 0 where
   pub rows : HasCleanDisk (state g now) → AreAll (state g first).now table selection given
-  pub left : IsLeft g first now
+  pub left : IsAfterQuery g first now
 
 -- it gives one row more, or ends
 abbrev pub GivesNext : {S : Type 0} → Ghosts S → ℕ → Selection → Held S → Held S → List Row

@@ -5,7 +5,7 @@ use Rattle.sqlite.specs.Change.{KeepsRows, created, next_tree}
 use Rattle.sqlite.specs.Does.{lacks_sequence}
 use Rattle.sqlite.specs.Effect.{Database}
 use Rattle.sqlite.specs.Schema.{Schema}
-use Rattle.version_tables.specs.Presence.{IsNoneThere}
+use Rattle.version_tables.specs.Presence.{HasNoStoreTable}
 use Rattle.version_tables.specs.Represents.{meta_row, meta_shown}
 use Rattle.version_tables.specs.Tables.{definition_table, meta_table, version_table}
 
@@ -43,7 +43,7 @@ HasCounters s = lacks_sequence s ≡ false
 -- had have the rows that they had there, and those that were made, in these trees, have none
 pub record IsMadeOf (old : Database) (schema : Schema) (made : List ℕ) (db : Database)
     : Type 0 where
-  pub absent : IsNoneThere old.schema
+  pub absent : HasNoStoreTable old.schema
   pub counters : HasCounters old.schema
   pub schema_is : db.schema ≡ schema
   pub others : KeepsRows old.schema.tables old.trees db.trees

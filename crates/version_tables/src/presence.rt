@@ -4,7 +4,7 @@
 ghost use Rattle.std.specs.Prelude.{◌≡◌, ◌↔◌, ◌&&◌, codes, is_some};
 ghost use Rattle.sqlite.specs.Held.{state};
 ghost use Rattle.sqlite_schema.specs.Names.{column_named, same_name};
-ghost use Rattle.version_tables.specs.Presence.{AreAllThere, IsNoneThere};
+ghost use Rattle.version_tables.specs.Presence.{HasEachStoreTable, HasNoStoreTable};
 ghost use Rattle.version_tables.specs.Presence.{definition_columns, has_column, has_columns};
 ghost use Rattle.version_tables.specs.Presence.{have_columns, meta_columns, version_columns};
 
@@ -26,9 +26,9 @@ pub enum Presence {
 /// counts as not there.
 pub fn tables_there<S: Alter>(connection: &Connection<S>) -> Presence
     ensures missing { result ≡ Presence.Missing
-        ↔ IsNoneThere (state S.Store connection.now).now.schema }
+        ↔ HasNoStoreTable (state S.Store connection.now).now.schema }
     ensures whole { result ≡ Presence.Whole
-        ↔ AreAllThere (state S.Store connection.now).now.schema }
+        ↔ HasEachStoreTable (state S.Store connection.now).now.schema }
 {
     let schema = connection.schema();
     let meta = schema.table_named(b"bt_meta").is_some();

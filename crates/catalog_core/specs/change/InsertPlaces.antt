@@ -10,8 +10,8 @@ use Rattle.catalog_core.specs.table.Kinds.{kind_of_column, kind_of_value, same_k
 use Rattle.catalog_core.specs.table.Naming.{Name, passes}
 use Rattle.catalog_core.specs.change.Resolution.{RowParts}
 use Rattle.catalog_core.specs.table.TableWords.{def_place, is_value_column, value_columns}
-use Rattle.catalog_core.specs.declared.change.insert_values.Wrong.{Wrong}
-use Rattle.catalog_core.specs.declared.change.insert_values.Wrong.TheVariants as wrong
+use Rattle.catalog_core.specs.declared.change.insert_values.ValueFault.{ValueFault}
+use Rattle.catalog_core.specs.declared.change.insert_values.ValueFault.TheVariants as fault
 use Rattle.catalog_core.specs.declared.table.Column.{Column}
 use Rattle.catalog_core.specs.declared.table.ColumnKind.{ColumnKind}
 use Rattle.catalog_core.specs.declared.table.TableDef.{TableDef}
@@ -21,24 +21,24 @@ abbrev pub ArePlaces : TableDef → Option (List Name) → List ℕ → Type 0
 ArePlaces t list places = map (def_place t) (given_names t list) ≡ map Some places
 
 -- a value is wrong in one of the two ways for a column of the kind
-unfoldable pub is_wrong_for : Wrong → ColumnKind → Value → Bool
-is_wrong_for wrong.Kind kind value = not (same_kind (kind_of_column kind) (kind_of_value value))
-is_wrong_for wrong.Length kind value = is_longer kind value
+unfoldable pub is_faulty_for : ValueFault → ColumnKind → Value → Bool
+is_faulty_for fault.Kind kind value = not (same_kind (kind_of_column kind) (kind_of_value value))
+is_faulty_for fault.Length kind value = is_longer kind value
 
 -- for the column at a place, among those of a row, and among those of the rows
-unfoldable pub is_wrong_at : Wrong → List Column → ℕ × Value → Bool
-is_wrong_at way columns given =
-    passes (λ (x : Column). is_wrong_for way x.kind given.1) (slice_get columns given.0)
+unfoldable pub is_faulty_at : ValueFault → List Column → ℕ × Value → Bool
+is_faulty_at way columns given =
+    passes (λ (x : Column). is_faulty_for way x.kind given.1) (slice_get columns given.0)
 
 -- a value of the row is wrong for the column at its place
-unfoldable pub gives_wrong_at : Wrong → List Column → List ℕ → List Value → Bool
-gives_wrong_at way columns places row =
-    list_any (λ (given : ℕ × Value). is_wrong_at way columns given) (zip places row)
+unfoldable pub gives_faulty_value_at : ValueFault → List Column → List ℕ → List Value → Bool
+gives_faulty_value_at way columns places row =
+    list_any (λ (given : ℕ × Value). is_faulty_at way columns given) (zip places row)
 
 -- some row gives such a value
-unfoldable pub has_wrong_at : Wrong → List Column → List ℕ → List (List Value) → Bool
-has_wrong_at way columns places rows =
-    list_any (λ (row : List Value). gives_wrong_at way columns places row) rows
+unfoldable pub has_faulty_value_at : ValueFault → List Column → List ℕ → List (List Value) → Bool
+has_faulty_value_at way columns places rows =
+    list_any (λ (row : List Value). gives_faulty_value_at way columns places row) rows
 
 -- the value that a row gives for the column at a place
 unfoldable pub value_at : List ℕ → List Value → ℕ → Option Value

@@ -15,12 +15,12 @@ use Rattle.period_core.specs.declared.value.Value.{Value}
 use Rattle.period_core.specs.declared.value.Value.TheVariants.{Text, Date}
 use Rattle.sql_statements.specs.declared.statement.InsertRows.{InsertRows}
 use Rattle.catalog_core.specs.table.Kinds.{differ, kind_of_value}
-use Rattle.catalog_core.specs.Judged.{Judged}
+use Rattle.catalog_core.specs.RefusalConditions.{RefusalCondition}
 use Rattle.catalog_core.specs.table.Naming.{Name, match_count, passes, repeats}
 use Rattle.catalog_core.specs.table.TableWords.{def_kind, is_system, some_def_match, table_of_name}
-use Rattle.catalog_core.specs.declared.table.matching.Matching.TheVariants.{Nothing, Several}
-use Rattle.catalog_core.specs.declared.change.insert_values.Wrong.{Wrong}
-use Rattle.catalog_core.specs.declared.change.insert_values.Wrong.TheVariants as wrong
+use Rattle.catalog_core.specs.declared.table.match_counts.MatchCount.TheVariants.{Zero, Many}
+use Rattle.catalog_core.specs.declared.change.insert_values.ValueFault.{ValueFault}
+use Rattle.catalog_core.specs.declared.change.insert_values.ValueFault.TheVariants as fault
 use Rattle.catalog_core.specs.declared.table.Column.{Column}
 use Rattle.catalog_core.specs.declared.table.ColumnKind.{ColumnKind}
 use Rattle.catalog_core.specs.declared.table.ColumnKind.TheVariants as kind
@@ -54,15 +54,15 @@ lacks_table catalog i = is_none (table_of_name catalog i.table)
 
 -- 24 and 25: a name in the list that matches no column, or several
 unfoldable pub lists_unknown : TableDef → InsertRows → Bool
-lists_unknown t i = passes (some_def_match t Nothing) i.columns
+lists_unknown t i = passes (some_def_match t Zero) i.columns
 
 -- 25: a name in the list that several columns match
 unfoldable pub lists_ambiguous : TableDef → InsertRows → Bool
-lists_ambiguous t i = passes (some_def_match t Several) i.columns
+lists_ambiguous t i = passes (some_def_match t Many) i.columns
 
 -- 26: the list repeats a name
-unfoldable pub lists_twice : InsertRows → Bool
-lists_twice i = passes repeats i.columns
+unfoldable pub repeats_column : InsertRows → Bool
+repeats_column i = passes repeats i.columns
 
 -- 27: a system column in the list
 unfoldable pub is_system_name : TableDef → Name → Bool
@@ -78,19 +78,19 @@ unfoldable pub lists_system : TableDef → InsertRows → Bool
 lists_system t i = passes (some_system_name t) i.columns
 
 -- 29: the list lacks a column; a row has another number of values than there are names
-unfoldable pub lacks_some : TableDef → List Name → Bool
-lacks_some t names =
+unfoldable pub omits_column : TableDef → List Name → Bool
+omits_column t names =
     list_any (λ (x : Column). not (is_system x.kind) && match_count names x.name == 0) t.columns
 
 -- some row has another number of values
-unfoldable pub some_other_length : ℕ → List (List Value) → Bool
-some_other_length count rows = list_any (λ (row : List Value). not (length row == count)) rows
+unfoldable pub has_row_of_other_length : ℕ → List (List Value) → Bool
+has_row_of_other_length count rows = list_any (λ (row : List Value). not (length row == count)) rows
 
 -- 29: the list lacks a column, or a row has another number of values
 unfoldable pub has_other_count : TableDef → InsertRows → Bool
 has_other_count t i =
-    passes (lacks_some t) i.columns
-    || some_other_length (length (given_names t i.columns)) i.rows
+    passes (omits_column t) i.columns
+    || has_row_of_other_length (length (given_names t i.columns)) i.rows
 
 -- 30: a value of another kind than its column
 unfoldable pub is_of_other_kind : TableDef → Name × Value → Bool
@@ -107,18 +107,19 @@ is_too_long t given =
     list_any (λ (x : Column). bytes_eq given.0 x.name && is_longer x.kind given.1) t.columns
 
 -- a value that is wrong in one of the two ways, among those of a row, and among those of the rows
-unfoldable pub is_wrong : Wrong → TableDef → Name × Value → Bool
-is_wrong wrong.Kind t given = is_of_other_kind t given
-is_wrong wrong.Length t given = is_too_long t given
+unfoldable pub is_faulty : ValueFault → TableDef → Name × Value → Bool
+is_faulty fault.Kind t given = is_of_other_kind t given
+is_faulty fault.Length t given = is_too_long t given
 
 -- a value of the row is wrong so
-unfoldable pub gives_wrong : Wrong → TableDef → Option (List Name) → List Value → Bool
-gives_wrong way t list row =
-    list_any (λ (given : Name × Value). is_wrong way t given) (given_values t list row)
+unfoldable pub gives_faulty_value : ValueFault → TableDef → Option (List Name) → List Value → Bool
+gives_faulty_value way t list row =
+    list_any (λ (given : Name × Value). is_faulty way t given) (given_values t list row)
 
 -- 30 and 31: some row gives such a value
-unfoldable pub has_wrong : Wrong → TableDef → InsertRows → Bool
-has_wrong way t i = list_any (λ (row : List Value). gives_wrong way t i.columns row) i.rows
+unfoldable pub has_faulty_value : ValueFault → TableDef → InsertRows → Bool
+has_faulty_value way t i =
+    list_any (λ (row : List Value). gives_faulty_value way t i.columns row) i.rows
 
 -- 41: the row's period does not end after its start
 unfoldable pub given_value : TableDef → Option (List Name) → List Value → Name → Option Value
@@ -148,33 +149,35 @@ has_no_period t i = list_any (λ (row : List Value). gives_no_period t i.columns
 -- ==== the whole ====
 
 -- 24 to 29, over the table that is there: the list of columns and the lengths of the rows
-abbrev pub shape_conditions : TableDef → InsertRows → List Judged
+abbrev pub shape_conditions : TableDef → InsertRows → List RefusalCondition
 shape_conditions t i =
     (UnknownColumn, lists_unknown t i)
     ∷ (AmbiguousColumn, lists_ambiguous t i)
-    ∷ (DuplicateName, lists_twice i)
+    ∷ (DuplicateName, repeats_column i)
     ∷ (PeriodColumn, lists_system t i)
     ∷ (ColumnCount, has_other_count t i)
     ∷ []
 
 -- 30 and 31: the values
-abbrev pub value_conditions : TableDef → InsertRows → List Judged
+abbrev pub value_conditions : TableDef → InsertRows → List RefusalCondition
 value_conditions t i =
-    (TypeMismatch, has_wrong wrong.Kind t i) ∷ (TextTooLong, has_wrong wrong.Length t i) ∷ []
+    (TypeMismatch, has_faulty_value fault.Kind t i)
+    ∷ (TextTooLong, has_faulty_value fault.Length t i)
+    ∷ []
 
 -- the refusals that INSERT may get by its statement and the catalog, each with its condition, but
 -- for an empty period. The limit on its tokens is judged on the text; no other limit is about
 -- INSERT.
-abbrev pub insert_conditions : List TableDef → InsertRows → List Judged
+abbrev pub insert_conditions : List TableDef → InsertRows → List RefusalCondition
 insert_conditions catalog i =
     (UnknownTable, lacks_table catalog i)
     ∷ (UnknownColumn, of_table (λ t. lists_unknown t i) catalog i)
     ∷ (AmbiguousColumn, of_table (λ t. lists_ambiguous t i) catalog i)
-    ∷ (DuplicateName, lists_twice i)
+    ∷ (DuplicateName, repeats_column i)
     ∷ (PeriodColumn, of_table (λ t. lists_system t i) catalog i)
     ∷ (ColumnCount, of_table (λ t. has_other_count t i) catalog i)
-    ∷ (TypeMismatch, of_table (λ t. has_wrong wrong.Kind t i) catalog i)
-    ∷ (TextTooLong, of_table (λ t. has_wrong wrong.Length t i) catalog i)
+    ∷ (TypeMismatch, of_table (λ t. has_faulty_value fault.Kind t i) catalog i)
+    ∷ (TextTooLong, of_table (λ t. has_faulty_value fault.Length t i) catalog i)
     ∷ []
 
 -- 41: a row whose period does not end after its start; the given rows decide it

@@ -11,9 +11,9 @@ use Rattle.sql_statements.specs.declared.statement.Assignment as written
 use Rattle.sql_statements.specs.declared.tree.Tree.{Tree}
 use Rattle.catalog_core.specs.Flaws.{has_test, is_flawed_compare, is_flawed_portion}
 use Rattle.catalog_core.specs.Flaws.{is_flawed_set, sets_twice}
-use Rattle.catalog_core.specs.Judged.{Judged}
-use Rattle.catalog_core.specs.Numbering.{ResolvesWhere, numbered_compare, numbered_set}
-use Rattle.catalog_core.specs.Numbering.{period_days, portion_days}
+use Rattle.catalog_core.specs.RefusalConditions.{RefusalCondition}
+use Rattle.catalog_core.specs.Positions.{ResolvesWhere, resolved_comparison, resolved_assignment}
+use Rattle.catalog_core.specs.Positions.{period_days, portion_days}
 use Rattle.catalog_core.specs.table.Naming.{Name, passes}
 use Rattle.catalog_core.specs.table.TableWords.{number_of, table_of, table_of_name}
 use Rattle.catalog_core.specs.declared.change.Action.{Action}
@@ -22,7 +22,7 @@ use Rattle.catalog_core.specs.declared.change.Assignment.{Assignment}
 use Rattle.catalog_core.specs.declared.change.Change.{Change}
 use Rattle.catalog_core.specs.declared.condition.CompareValues.{CompareValues}
 use Rattle.catalog_core.specs.declared.flaw.Flaw.{Flaw}
-use Rattle.catalog_core.specs.declared.flaw.Flaw.TheVariants.{Unknown, Ambiguous, NoValue}
+use Rattle.catalog_core.specs.declared.flaw.Flaw.TheVariants.{Unknown, Ambiguous, NotValueColumn}
 use Rattle.catalog_core.specs.declared.flaw.Flaw.TheVariants.{OtherKind, TooLong, Empty}
 use Rattle.catalog_core.specs.declared.table.TableDef.{TableDef}
 
@@ -49,47 +49,47 @@ is_flawed_delete flaw d t =
     is_flawed_portion flaw t d.portion || has_test (is_flawed_compare flaw t) d.condition
 
 -- 24 to 31 and 41 over the table that is there
-abbrev pub update_faults : TableDef → Update → List Judged
+abbrev pub update_faults : TableDef → Update → List RefusalCondition
 update_faults t u =
     (UnknownColumn, is_flawed_update Unknown u t)
     ∷ (AmbiguousColumn, is_flawed_update Ambiguous u t)
     ∷ (DuplicateName, sets_twice u.assignments)
-    ∷ (PeriodColumn, is_flawed_update NoValue u t)
+    ∷ (PeriodColumn, is_flawed_update NotValueColumn u t)
     ∷ (TypeMismatch, is_flawed_update OtherKind u t)
     ∷ (TextTooLong, is_flawed_update TooLong u t)
     ∷ (EmptyPeriod, is_flawed_update Empty u t)
     ∷ []
 
 -- 24 to 30 and 41 for a DELETE over the table that is there
-abbrev pub delete_faults : TableDef → Delete → List Judged
+abbrev pub delete_faults : TableDef → Delete → List RefusalCondition
 delete_faults t d =
     (UnknownColumn, is_flawed_delete Unknown d t)
     ∷ (AmbiguousColumn, is_flawed_delete Ambiguous d t)
-    ∷ (PeriodColumn, is_flawed_delete NoValue d t)
+    ∷ (PeriodColumn, is_flawed_delete NotValueColumn d t)
     ∷ (TypeMismatch, is_flawed_delete OtherKind d t)
     ∷ (EmptyPeriod, is_flawed_delete Empty d t)
     ∷ []
 
 -- the refusals that an UPDATE may get by its statement and the catalog, each with its condition
-abbrev pub update_conditions : List TableDef → Update → List Judged
+abbrev pub update_conditions : List TableDef → Update → List RefusalCondition
 update_conditions catalog u =
     (UnknownTable, lacks_named catalog u.table)
     ∷ (UnknownColumn, of_named (is_flawed_update Unknown u) catalog u.table)
     ∷ (AmbiguousColumn, of_named (is_flawed_update Ambiguous u) catalog u.table)
     ∷ (DuplicateName, sets_twice u.assignments)
-    ∷ (PeriodColumn, of_named (is_flawed_update NoValue u) catalog u.table)
+    ∷ (PeriodColumn, of_named (is_flawed_update NotValueColumn u) catalog u.table)
     ∷ (TypeMismatch, of_named (is_flawed_update OtherKind u) catalog u.table)
     ∷ (TextTooLong, of_named (is_flawed_update TooLong u) catalog u.table)
     ∷ (EmptyPeriod, of_named (is_flawed_update Empty u) catalog u.table)
     ∷ []
 
 -- those that a DELETE may get
-abbrev pub delete_conditions : List TableDef → Delete → List Judged
+abbrev pub delete_conditions : List TableDef → Delete → List RefusalCondition
 delete_conditions catalog d =
     (UnknownTable, lacks_named catalog d.table)
     ∷ (UnknownColumn, of_named (is_flawed_delete Unknown d) catalog d.table)
     ∷ (AmbiguousColumn, of_named (is_flawed_delete Ambiguous d) catalog d.table)
-    ∷ (PeriodColumn, of_named (is_flawed_delete NoValue d) catalog d.table)
+    ∷ (PeriodColumn, of_named (is_flawed_delete NotValueColumn d) catalog d.table)
     ∷ (TypeMismatch, of_named (is_flawed_delete OtherKind d) catalog d.table)
     ∷ (EmptyPeriod, of_named (is_flawed_delete Empty d) catalog d.table)
     ∷ []
@@ -100,8 +100,8 @@ delete_conditions catalog d =
 pub record IsUpdateOf (t : TableDef) (u : Update) (portion : Option Period)
     (assignments : List Assignment) (condition : Option (Tree CompareValues)) : Type 0 where
   pub days : portion_days u.portion ≡ period_days portion
-  pub sets : map (numbered_set t) u.assignments ≡ map (λ a. Some a) assignments
-  pub rows : ResolvesWhere (numbered_compare t) u.condition condition
+  pub sets : map (resolved_assignment t) u.assignments ≡ map (λ a. Some a) assignments
+  pub rows : ResolvesWhere (resolved_comparison t) u.condition condition
 
 -- the action is the same UPDATE
 abbrev pub UpdatesAs : TableDef → Update → Action → Type 0
@@ -113,7 +113,7 @@ UpdatesAs t u _ = ⊥
 pub record IsDeleteOf (t : TableDef) (d : Delete) (portion : Option Period)
     (condition : Option (Tree CompareValues)) : Type 0 where
   pub days : portion_days d.portion ≡ period_days portion
-  pub rows : ResolvesWhere (numbered_compare t) d.condition condition
+  pub rows : ResolvesWhere (resolved_comparison t) d.condition condition
 
 -- the action is the same DELETE
 abbrev pub DeletesAs : TableDef → Delete → Action → Type 0

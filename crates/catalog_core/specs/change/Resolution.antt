@@ -12,13 +12,13 @@ use Rattle.catalog_core.specs.change.Insertion.{given_value, gives_empty_row, in
 use Rattle.catalog_core.specs.change.Insertion.{value_for}
 use Rattle.catalog_core.specs.change.PortionChanges.{ResolvesDelete, ResolvesUpdate}
 use Rattle.catalog_core.specs.change.PortionChanges.{delete_conditions, update_conditions}
-use Rattle.catalog_core.specs.Judged.{Judged}
+use Rattle.catalog_core.specs.RefusalConditions.{RefusalCondition}
 use Rattle.catalog_core.specs.table.Naming.{Name}
 use Rattle.catalog_core.specs.table.TableWords.{number_of, table_of, value_names}
 use Rattle.catalog_core.specs.declared.change.Action.{Action}
 use Rattle.catalog_core.specs.declared.change.Action.TheVariants.{Insert, Update, Delete}
 use Rattle.catalog_core.specs.declared.change.Change.{Change}
-use Rattle.catalog_core.specs.declared.change.GivenRow.{GivenRow}
+use Rattle.catalog_core.specs.declared.change.InsertedRow.{InsertedRow}
 use Rattle.catalog_core.specs.declared.table.TableDef.{TableDef}
 
 -- the statement is a change
@@ -30,14 +30,14 @@ IsChange _ = ⊥
 
 -- the refusals that a change may get by its statement and the catalog, each with its condition, but
 -- for an empty row of INSERT; other statements have none
-abbrev pub change_conditions : List TableDef → Statement → List Judged
+abbrev pub change_conditions : List TableDef → Statement → List RefusalCondition
 change_conditions catalog (statement.insert i) = insert_conditions catalog i
 change_conditions catalog (statement.update u) = update_conditions catalog u
 change_conditions catalog (statement.delete d) = delete_conditions catalog d
 change_conditions catalog _ = []
 
 -- the one more: a row of INSERT whose period does not end after its start
-abbrev pub empty_period : List TableDef → Statement → Judged
+abbrev pub empty_period : List TableDef → Statement → RefusalCondition
 empty_period catalog (statement.insert i) = (EmptyPeriod, gives_empty_row catalog i)
 empty_period catalog _ = (EmptyPeriod, false)
 
@@ -58,7 +58,7 @@ written_row t list row =
     }
 
 -- of a given row
-abbrev pub row_parts : GivenRow → RowParts
+abbrev pub row_parts : InsertedRow → RowParts
 row_parts given =
     record {
       values = map Some given.values;
@@ -87,7 +87,7 @@ ResolvesChange catalog (statement.delete d) change = ResolvesDelete catalog d ch
 ResolvesChange catalog _ change = ⊥
 
 -- the given row ends at or before its start
-abbrev pub is_empty_row : GivenRow → Bool
+abbrev pub is_empty_row : InsertedRow → Bool
 is_empty_row given = int_le given.end given.start
 
 -- the change gives such a row

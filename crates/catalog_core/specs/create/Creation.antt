@@ -20,7 +20,7 @@ use Rattle.sql_statements.specs.declared.create.SystemElement.{SystemElement}
 use Rattle.sql_statements.specs.declared.create.KeyElement.{KeyElement}
 use Rattle.sql_statements.specs.declared.create.ReferenceElement.{ReferenceElement}
 use Rattle.sql_statements.specs.declared.create.CreateTable.{CreateTable}
-use Rattle.catalog_core.specs.Judged.{Judged}
+use Rattle.catalog_core.specs.RefusalConditions.{RefusalCondition}
 use Rattle.catalog_core.specs.Limits.{greatest_precision, most_code_points, most_columns}
 use Rattle.catalog_core.specs.Limits.{most_references, most_tables}
 use Rattle.catalog_core.specs.table.Matches.{is_matching, is_of_sort}
@@ -28,12 +28,12 @@ use Rattle.catalog_core.specs.table.Kinds.{kind_of_type, differ}
 use Rattle.catalog_core.specs.table.Naming.{Name, find_among, matches_among, passes, repeats}
 use Rattle.catalog_core.specs.table.Naming.{some_match_among}
 use Rattle.catalog_core.specs.table.TableWords.{def_kind, some_def_match, table_of_name}
-use Rattle.catalog_core.specs.declared.table.matching.ColumnSort.{ColumnSort}
-use Rattle.catalog_core.specs.declared.table.matching.ColumnSort.TheVariants.{System, RowStart}
-use Rattle.catalog_core.specs.declared.table.matching.ColumnSort.TheVariants.{RowEnd}
-use Rattle.catalog_core.specs.declared.table.matching.ColumnSort.TheVariants.{PlainDate}
-use Rattle.catalog_core.specs.declared.table.matching.Matching.{Matching}
-use Rattle.catalog_core.specs.declared.table.matching.Matching.TheVariants.{Nothing, Several}
+use Rattle.catalog_core.specs.declared.table.match_counts.ColumnSort.{ColumnSort}
+use Rattle.catalog_core.specs.declared.table.match_counts.ColumnSort.TheVariants.{System, RowStart}
+use Rattle.catalog_core.specs.declared.table.match_counts.ColumnSort.TheVariants.{RowEnd}
+use Rattle.catalog_core.specs.declared.table.match_counts.ColumnSort.TheVariants.{PlainDate}
+use Rattle.catalog_core.specs.declared.table.match_counts.MatchCount.{MatchCount}
+use Rattle.catalog_core.specs.declared.table.match_counts.MatchCount.TheVariants.{Zero, Many}
 use Rattle.catalog_core.specs.declared.table.Column.{Column}
 use Rattle.catalog_core.specs.declared.table.ValueKind.{ValueKind}
 use Rattle.catalog_core.specs.declared.table.TableDef.{TableDef}
@@ -53,17 +53,17 @@ abbrev pub parent_of : List TableDef → ReferenceElement → Option TableDef
 parent_of catalog r = table_of_name catalog r.parent
 
 -- some of the names matches so many of the statement's own columns
-abbrev pub some_own_match : CreateTable → Matching → List Name → Bool
+abbrev pub some_own_match : CreateTable → MatchCount → List Name → Bool
 some_own_match c wanted names =
     some_match_among (λ (x : ColumnElement). x.name) c.columns wanted names
 
 -- of the columns that a reference names in its parent
-unfoldable pub some_parent_match : List TableDef → Matching → ReferenceElement → Bool
+unfoldable pub some_parent_match : List TableDef → MatchCount → ReferenceElement → Bool
 some_parent_match catalog wanted x =
     passes (λ (t : TableDef). some_def_match t wanted x.parent_columns) (parent_of catalog x)
 
 -- some column that CREATE names matches so many
-unfoldable pub some_match : List TableDef → CreateTable → Matching → Bool
+unfoldable pub some_match : List TableDef → CreateTable → MatchCount → Bool
 some_match catalog c wanted =
     list_any (λ (x : PeriodElement). some_own_match c wanted (x.start ∷ x.end ∷ [])) c.periods
     || list_any (λ (x : SystemElement). some_own_match c wanted (x.start ∷ x.end ∷ []))
@@ -107,22 +107,22 @@ names_other_period catalog x =
 -- a key or a reference names a period that isn't there, of its own table or of the parent
 unfoldable pub lacks_period : List TableDef → CreateTable → Bool
 lacks_period catalog c =
-    list_any (λ (x : KeyElement). is_matching Nothing (period_matches c x.period)) c.keys
-    || list_any (λ (x : ReferenceElement). is_matching Nothing (period_matches c x.period))
+    list_any (λ (x : KeyElement). is_matching Zero (period_matches c x.period)) c.keys
+    || list_any (λ (x : ReferenceElement). is_matching Zero (period_matches c x.period))
     c.references
     || list_any (λ (x : ReferenceElement). names_other_period catalog x) c.references
 
 -- a column or a period
 unfoldable pub lacks_name : List TableDef → CreateTable → Bool
-lacks_name catalog c = some_match catalog c Nothing || lacks_period catalog c
+lacks_name catalog c = some_match catalog c Zero || lacks_period catalog c
 
 -- 25: a column that is named is there more than once
 unfoldable pub is_ambiguous : List TableDef → CreateTable → Bool
-is_ambiguous catalog c = some_match catalog c Several
+is_ambiguous catalog c = some_match catalog c Many
 
 -- 26: one name for two columns or periods, or twice in a list of a key or a reference
 unfoldable pub is_shared : CreateTable → Name → Bool
-is_shared c name = is_matching Several (own_matches c name + period_matches c name)
+is_shared c name = is_matching Many (own_matches c name + period_matches c name)
 
 -- some name is shared so, or repeated in a list
 unfoldable pub repeats_name : CreateTable → Bool
@@ -273,7 +273,7 @@ references_other_kind catalog c =
 -- ==== the whole ====
 
 -- the refusals that CREATE may get, each with its condition
-abbrev pub create_conditions : List TableDef → CreateTable → List Judged
+abbrev pub create_conditions : List TableDef → CreateTable → List RefusalCondition
 create_conditions catalog c =
     (LimitReached, exceeds_limits catalog c)
     ∷ (TableExists, is_there catalog c.name)

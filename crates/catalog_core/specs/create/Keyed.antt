@@ -15,6 +15,6 @@ is_keyed c name =
     || list_any (λ (x : ReferenceElement). list_any (bytes_eq name) x.columns) c.references
 
 -- one of the statement's columns is keyed and is no value column
-unfoldable pub some_keyed_no_value : CreateTable → Bool
-some_keyed_no_value c =
+unfoldable pub some_keyed_non_value_column : CreateTable → Bool
+some_keyed_non_value_column c =
     list_any (λ (x : ColumnElement). is_keyed c x.name && is_no_value_column c x.name) c.columns

@@ -2,7 +2,7 @@
 use Rattle.std.specs.Prelude.{List}
 use Rattle.period_core.specs.Leasts.{NoneApplies}
 use Rattle.sql_statements.specs.declared.create.CreateTable.{CreateTable}
-use Rattle.catalog_core.specs.Judged.{Holds}
+use Rattle.catalog_core.specs.RefusalConditions.{Holds}
 use Rattle.catalog_core.specs.create.Creation.{create_conditions}
 use Rattle.catalog_core.specs.create.Definition.{Defines}
 use Rattle.catalog_core.specs.declared.table.TableDef.{TableDef}

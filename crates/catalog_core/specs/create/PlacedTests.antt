@@ -11,7 +11,7 @@ use Rattle.catalog_core.specs.table.Matches.{is_matching}
 use Rattle.catalog_core.specs.table.Naming.{passes}
 use Rattle.catalog_core.specs.table.TableWords.{def_matches, has_date_period, has_distinct_names}
 use Rattle.catalog_core.specs.table.TableWords.{is_value_column, number_of, table_of}
-use Rattle.catalog_core.specs.declared.table.matching.Matching.TheVariants.{Nothing}
+use Rattle.catalog_core.specs.declared.table.match_counts.MatchCount.TheVariants.{Zero}
 use Rattle.catalog_core.specs.declared.table.Column.{Column}
 use Rattle.catalog_core.specs.declared.table.ColumnKind.{ColumnKind}
 use Rattle.catalog_core.specs.declared.table.ColumnKind.TheVariants.{Integer, Varchar, Date}
@@ -106,7 +106,7 @@ passes_all tables d =
     is_within_limits tables d
     && (not (is_there tables d.name)
     && (has_distinct_names d
-    && (is_matching Nothing (def_matches d d.period.name)
+    && (is_matching Zero (def_matches d d.period.name)
     && (has_date_period d
     && (has_system_columns d
     && (are_value_places d d.key && list_all (is_placed_reference tables d) d.references))))))

@@ -16,7 +16,7 @@ use Rattle.sql_statements.specs.declared.statement.Operand.{Operand}
 use Rattle.sql_statements.specs.declared.statement.Operand.TheVariants as operand
 use Rattle.sql_statements.specs.declared.statement.SelectItem.{SelectItem}
 use Rattle.sql_statements.specs.declared.statement.TableReference.{TableReference}
-use Rattle.catalog_core.specs.Judged.{Judged}
+use Rattle.catalog_core.specs.RefusalConditions.{RefusalCondition}
 use Rattle.catalog_core.specs.table.Kinds.{differ, kind_of_column, kind_of_value}
 use Rattle.catalog_core.specs.table.Naming.{repeats}
 use Rattle.catalog_core.specs.table.TableWords.{table_of_name}
@@ -27,7 +27,7 @@ use Rattle.catalog_core.specs.query.Scopes.{on_conditions, seen_columns, tables_
 use Rattle.catalog_core.specs.declared.query.faults.Faults.{Faults}
 use Rattle.catalog_core.specs.declared.table.ValueKind.{ValueKind}
 use Rattle.catalog_core.specs.declared.table.TableDef.{TableDef}
-use Rattle.catalog_core.specs.declared.table.matching.Matching.TheVariants.{Nothing, Several}
+use Rattle.catalog_core.specs.declared.table.match_counts.MatchCount.TheVariants.{Zero, Many}
 
 -- none of them
 abbrev pub no_faults : Faults
@@ -59,8 +59,8 @@ faults_among f [] = no_faults
 faults_among f (x ∷ xs) = either (f x) (faults_among f xs)
 
 -- the refusals with their conditions
-abbrev pub judged_faults : Faults → List Judged
-judged_faults f =
+abbrev pub fault_conditions : Faults → List RefusalCondition
+fault_conditions f =
     (UnknownTable, f.table)
     ∷ (UnknownColumn, f.unknown)
     ∷ (AmbiguousColumn, f.ambiguous)
@@ -79,8 +79,8 @@ matches_among columns reference = filter (names_column reference) columns
 -- of a name that matches these
 unfoldable pub match_faults : List SeenColumn → Faults
 match_faults matches = record no_faults {
-  unknown = are_matching Nothing matches;
-  ambiguous = are_matching Several matches;
+  unknown = are_matching Zero matches;
+  ambiguous = are_matching Many matches;
   period = are_of_period matches;
 }
 
@@ -129,8 +129,8 @@ abbrev pub lacks_one : List TableDef → TableReference → Bool
 lacks_one catalog reference = is_none (table_of_name catalog reference.table)
 
 -- one of the tables is not there
-abbrev pub lacks_some : List TableDef → List TableReference → Bool
-lacks_some catalog tables = list_any (λ (r : TableReference). lacks_one catalog r) tables
+abbrev pub lacks_any : List TableDef → List TableReference → Bool
+lacks_any catalog tables = list_any (λ (r : TableReference). lacks_one catalog r) tables
 
 -- two of them are known by one name
 abbrev pub known_twice : List TableReference → Bool
@@ -139,7 +139,7 @@ known_twice tables = repeats (map known_name tables)
 -- of the tables of a select
 abbrev pub reference_faults : List TableDef → List TableReference → Faults
 reference_faults catalog tables = record no_faults {
-  table = lacks_some catalog tables;
+  table = lacks_any catalog tables;
   twice = known_twice tables;
 }
 

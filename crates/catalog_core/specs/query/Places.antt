@@ -7,7 +7,7 @@ use Rattle.sql_statements.specs.Trees.{Condition, Select}
 use Rattle.sql_statements.specs.declared.statement.ColumnReference.{ColumnReference}
 use Rattle.sql_statements.specs.declared.statement.Compare.{Compare}
 use Rattle.sql_statements.specs.declared.statement.SelectItem.{SelectItem}
-use Rattle.catalog_core.specs.Numbering.{map_condition}
+use Rattle.catalog_core.specs.Positions.{map_condition}
 use Rattle.catalog_core.specs.Placing.{or_zero, place_compare}
 use Rattle.catalog_core.specs.query.Refusals.{lacks_table, names_period, some_column_matches}
 use Rattle.catalog_core.specs.query.Resolving.{Placed, column_position, members}
@@ -15,7 +15,7 @@ use Rattle.catalog_core.specs.query.Scopes.{Scope, ScopedCondition, SeenColumn, 
 use Rattle.catalog_core.specs.query.Scopes.{names_column, tables_of}
 use Rattle.catalog_core.specs.table.Naming.{Name}
 use Rattle.catalog_core.specs.declared.table.TableDef.{TableDef}
-use Rattle.catalog_core.specs.declared.table.matching.Matching.TheVariants.{Nothing}
+use Rattle.catalog_core.specs.declared.table.match_counts.MatchCount.TheVariants.{Zero}
 
 -- the columns that rows have a value for
 abbrev pub values_among : List SeenColumn → List SeenColumn
@@ -51,7 +51,7 @@ placed_item place item = (Some (place item.column), name_or item.new_name item.c
 abbrev pub is_refused : List TableDef → Select → Bool
 is_refused catalog select =
     lacks_table catalog select
-    || (some_column_matches Nothing catalog select || names_period catalog select)
+    || (some_column_matches Zero catalog select || names_period catalog select)
 
 -- how many table references selects have
 abbrev pub table_count : List Select → ℕ

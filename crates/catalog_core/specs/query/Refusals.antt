@@ -12,7 +12,7 @@ use Rattle.sql_statements.specs.declared.statement.Compare.{Compare}
 use Rattle.sql_statements.specs.declared.statement.ColumnReference.{ColumnReference}
 use Rattle.sql_statements.specs.declared.statement.SelectItem.{SelectItem}
 use Rattle.sql_statements.specs.declared.statement.TableReference.{TableReference}
-use Rattle.catalog_core.specs.Judged.{Judged}
+use Rattle.catalog_core.specs.RefusalConditions.{RefusalCondition}
 use Rattle.catalog_core.specs.Limits.{most_items, most_operators, most_select_tables}
 use Rattle.catalog_core.specs.table.Kinds.{differ}
 use Rattle.catalog_core.specs.table.Matches.{is_matching}
@@ -20,8 +20,8 @@ use Rattle.catalog_core.specs.table.Naming.{repeats}
 use Rattle.catalog_core.specs.table.TableWords.{table_of_name}
 use Rattle.catalog_core.specs.declared.table.ValueKind.{ValueKind}
 use Rattle.catalog_core.specs.declared.table.TableDef.{TableDef}
-use Rattle.catalog_core.specs.declared.table.matching.Matching.{Matching}
-use Rattle.catalog_core.specs.declared.table.matching.Matching.TheVariants.{Nothing, Several}
+use Rattle.catalog_core.specs.declared.table.match_counts.MatchCount.{MatchCount}
+use Rattle.catalog_core.specs.declared.table.match_counts.MatchCount.TheVariants.{Zero, Many}
 use Rattle.catalog_core.specs.query.QueryParts.{operator_count, selects_of, sides_of}
 use Rattle.catalog_core.specs.query.Scopes.{Scope, SeenColumn, column_kind, columns_in, has_value}
 use Rattle.catalog_core.specs.query.Scopes.{known_name, matches_of, side_kind, tables_of, tests_in}
@@ -47,7 +47,7 @@ some_column condition catalog select =
     (columns_in select)
 
 -- so many columns match
-abbrev pub are_matching : Matching → List SeenColumn → Bool
+abbrev pub are_matching : MatchCount → List SeenColumn → Bool
 are_matching wanted matches = is_matching wanted (length matches)
 
 -- one that matches is a period or system column, so that rows have no value for it
@@ -56,7 +56,7 @@ are_of_period matches = list_any (λ seen. not (has_value seen)) matches
 
 -- 24 and 25: a column that matches nothing, or several; a table's name that is not known there, or
 -- a period's name in the place of a column, matches nothing
-unfoldable pub some_column_matches : Matching → List TableDef → Select → Bool
+unfoldable pub some_column_matches : MatchCount → List TableDef → Select → Bool
 some_column_matches wanted catalog select = some_column (are_matching wanted) catalog select
 
 -- 26: two tables of a select are known by one name
@@ -96,14 +96,14 @@ have_other_kinds catalog (left, right) =
 
 -- the refusals that a query may get, each with its condition. That of too many tokens is judged on
 -- the text.
-abbrev pub refusals_of : List TableDef → Query → List Judged
+abbrev pub refusals_of : List TableDef → Query → List RefusalCondition
 refusals_of catalog query = (
   LimitReached,
   nat_lt most_operators (operator_count query) || list_any is_too_long (selects_of query),
 )
     ∷ (UnknownTable, list_any (lacks_table catalog) (selects_of query))
-    ∷ (UnknownColumn, list_any (some_column_matches Nothing catalog) (selects_of query))
-    ∷ (AmbiguousColumn, list_any (some_column_matches Several catalog) (selects_of query))
+    ∷ (UnknownColumn, list_any (some_column_matches Zero catalog) (selects_of query))
+    ∷ (AmbiguousColumn, list_any (some_column_matches Many catalog) (selects_of query))
     ∷ (DuplicateName, list_any names_twice (selects_of query))
     ∷ (PeriodColumn, list_any (names_period catalog) (selects_of query))
     ∷ (ColumnCount, list_any have_other_count (sides_of query))

@@ -12,8 +12,8 @@ use Rattle.sql_statements.specs.declared.statement.ColumnReference.{ColumnRefere
 use Rattle.sql_statements.specs.declared.statement.SelectItem.{SelectItem}
 use Rattle.sql_statements.specs.declared.statement.TableReference.{TableReference}
 use Rattle.sql_statements.specs.declared.tree.Tree.{Tree}
-use Rattle.catalog_core.specs.Judged.{Judged}
-use Rattle.catalog_core.specs.Numbering.{compare_by, map_condition}
+use Rattle.catalog_core.specs.RefusalConditions.{RefusalCondition}
+use Rattle.catalog_core.specs.Positions.{compare_by, map_condition}
 use Rattle.catalog_core.specs.SystemWindows.{window_of}
 use Rattle.catalog_core.specs.query.Fitting.{are_in_place}
 use Rattle.catalog_core.specs.query.Queries.{Query, both, one, references_of}
@@ -149,7 +149,7 @@ IsSequenced (sequenced query) = Unit {0}
 IsSequenced _ = ⊥
 
 -- the refusals that a statement may get as a sequenced query; others have none
-abbrev pub query_conditions : List TableDef → Statement → List Judged
+abbrev pub query_conditions : List TableDef → Statement → List RefusalCondition
 query_conditions catalog (sequenced query) = refusals_of catalog query
 query_conditions catalog _ = []
 

@@ -8,8 +8,8 @@ use Rattle.catalog_core.specs.declared.table.Column.{Column}
 use Rattle.catalog_core.specs.declared.table.TableDef.{TableDef}
 
 -- a column of this name is no value column
-unfoldable pub names_no_value : TableDef → Name → Bool
-names_no_value t name =
+unfoldable pub names_non_value_column : TableDef → Name → Bool
+names_non_value_column t name =
     list_any (λ (c : ℕ × Column). bytes_eq name c.1.name && not (is_value_column t c))
     (enumerate_from 0 t.columns)
 

@@ -14,14 +14,14 @@ use Rattle.sql_statements.specs.declared.statement.StoredTest.{StoredTest}
 use Rattle.sql_statements.specs.declared.statement.StoredTest.TheVariants as written_test
 use Rattle.sql_statements.specs.declared.tree.Tree.{Tree}
 use Rattle.catalog_core.specs.Flaws.{has_test, is_flawed_test}
-use Rattle.catalog_core.specs.Judged.{Judged}
-use Rattle.catalog_core.specs.Numbering.{map_condition, numbered_compare}
+use Rattle.catalog_core.specs.RefusalConditions.{RefusalCondition}
+use Rattle.catalog_core.specs.Positions.{map_condition, resolved_comparison}
 use Rattle.catalog_core.specs.SystemWindows.{window_of}
 use Rattle.catalog_core.specs.change.PortionChanges.{lacks_named, of_named}
 use Rattle.catalog_core.specs.table.TableWords.{number_of, table_of}
 use Rattle.catalog_core.specs.declared.condition.CompareValues.{CompareValues}
 use Rattle.catalog_core.specs.declared.flaw.Flaw.{Flaw}
-use Rattle.catalog_core.specs.declared.flaw.Flaw.TheVariants.{Unknown, Ambiguous, NoValue}
+use Rattle.catalog_core.specs.declared.flaw.Flaw.TheVariants.{Unknown, Ambiguous, NotValueColumn}
 use Rattle.catalog_core.specs.declared.flaw.Flaw.TheVariants.{OtherKind, Empty}
 use Rattle.catalog_core.specs.declared.stored.PeriodSide.{PeriodSide}
 use Rattle.catalog_core.specs.declared.stored.PeriodSide.TheVariants.{Row, Days}
@@ -42,29 +42,29 @@ unfoldable pub is_flawed_stored : Flaw → written.Stored → TableDef → Bool
 is_flawed_stored flaw s t = has_test (is_flawed_test flaw t) s.condition
 
 -- 24 to 30 and 41 over the table that is there
-abbrev pub stored_faults : TableDef → written.Stored → List Judged
+abbrev pub stored_faults : TableDef → written.Stored → List RefusalCondition
 stored_faults t s =
     (UnknownColumn, is_flawed_stored Unknown s t)
     ∷ (AmbiguousColumn, is_flawed_stored Ambiguous s t)
-    ∷ (PeriodColumn, is_flawed_stored NoValue s t)
+    ∷ (PeriodColumn, is_flawed_stored NotValueColumn s t)
     ∷ (TypeMismatch, is_flawed_stored OtherKind s t)
     ∷ (EmptyPeriod, is_flawed_stored Empty s t)
     ∷ []
 
 -- the refusals that a stored query may get by its statement and the catalog, each with its
 -- condition; a column in the place of a period is unknown
-abbrev pub stored_query_conditions : List TableDef → written.Stored → List Judged
+abbrev pub stored_query_conditions : List TableDef → written.Stored → List RefusalCondition
 stored_query_conditions catalog s =
     (UnknownTable, lacks_named catalog s.table)
     ∷ (UnknownColumn, of_named (is_flawed_stored Unknown s) catalog s.table)
     ∷ (AmbiguousColumn, of_named (is_flawed_stored Ambiguous s) catalog s.table)
-    ∷ (PeriodColumn, of_named (is_flawed_stored NoValue s) catalog s.table)
+    ∷ (PeriodColumn, of_named (is_flawed_stored NotValueColumn s) catalog s.table)
     ∷ (TypeMismatch, of_named (is_flawed_stored OtherKind s) catalog s.table)
     ∷ (EmptyPeriod, of_named (is_flawed_stored Empty s) catalog s.table)
     ∷ []
 
 -- the same of a statement; others have none
-abbrev pub stored_conditions : List TableDef → Statement → List Judged
+abbrev pub stored_conditions : List TableDef → Statement → List RefusalCondition
 stored_conditions catalog (stored s) = stored_query_conditions catalog s
 stored_conditions catalog _ = []
 
@@ -88,7 +88,7 @@ written_side (Dates start end) = FromTo start end
 
 -- a test as it is written, where its columns have positions
 abbrev pub written_parts : TableDef → StoredTest → Option PlainTest
-written_parts t (written_test.Values c) = option_map (λ n. Compared n) (numbered_compare t c)
+written_parts t (written_test.Values c) = option_map (λ n. Compared n) (resolved_comparison t c)
 written_parts t (written_test.Periods left predicate right) =
     Some (Related (written_side left) predicate (written_side right))
 written_parts t (written_test.ContainsDay side day) = Some (HasDay (written_side side) day)

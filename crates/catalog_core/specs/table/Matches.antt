@@ -7,16 +7,16 @@ use Rattle.sql_statements.specs.declared.create.Generated.TheVariants as generat
 use Rattle.sql_statements.specs.declared.create.TypeName.{TypeName}
 use Rattle.sql_statements.specs.declared.create.TypeName.TheVariants.{Integer, Date, Varchar}
 use Rattle.sql_statements.specs.declared.create.TypeName.TheVariants.{Timestamp}
-use Rattle.catalog_core.specs.declared.table.matching.ColumnSort.{ColumnSort}
-use Rattle.catalog_core.specs.declared.table.matching.ColumnSort.TheVariants.{System, RowStart}
-use Rattle.catalog_core.specs.declared.table.matching.ColumnSort.TheVariants.{RowEnd, PlainDate}
-use Rattle.catalog_core.specs.declared.table.matching.Matching.{Matching}
-use Rattle.catalog_core.specs.declared.table.matching.Matching.TheVariants.{Nothing, Several}
+use Rattle.catalog_core.specs.declared.table.match_counts.ColumnSort.{ColumnSort}
+use Rattle.catalog_core.specs.declared.table.match_counts.ColumnSort.TheVariants.{System, RowStart}
+use Rattle.catalog_core.specs.declared.table.match_counts.ColumnSort.TheVariants.{RowEnd, PlainDate}
+use Rattle.catalog_core.specs.declared.table.match_counts.MatchCount.{MatchCount}
+use Rattle.catalog_core.specs.declared.table.match_counts.MatchCount.TheVariants.{Zero, Many}
 
 -- the number of matches is the one that is wanted: none, or several
-unfoldable pub is_matching : Matching → ℕ → Bool
-is_matching Nothing count = count == 0
-is_matching Several count = nat_lt 1 count
+unfoldable pub is_matching : MatchCount → ℕ → Bool
+is_matching Zero count = count == 0
+is_matching Many count = nat_lt 1 count
 
 -- the type DATE
 abbrev pub is_date : TypeName → Bool

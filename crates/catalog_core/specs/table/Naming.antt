@@ -5,8 +5,8 @@ use Rattle.std.specs.Prelude.{ℕ, Bool, false, List, Option, Some, None, bytes_
 use Rattle.std.specs.Prelude.{find}
 use Rattle.std.specs.List.{list_any, position}
 use Rattle.catalog_core.specs.table.Matches.{is_matching}
-use Rattle.catalog_core.specs.declared.table.matching.Matching.{Matching}
-use Rattle.catalog_core.specs.declared.table.matching.Matching.TheVariants.{Several}
+use Rattle.catalog_core.specs.declared.table.match_counts.MatchCount.{MatchCount}
+use Rattle.catalog_core.specs.declared.table.match_counts.MatchCount.TheVariants.{Many}
 
 -- a name, by its bytes
 abbrev pub Name : Type 0
@@ -17,7 +17,7 @@ unfoldable pub matches_among : {X : Type 0} → (X → Name) → List X → Name
 matches_among named xs name = count_by (λ x. bytes_eq name (named x)) xs
 
 -- some of the names matches so many
-unfoldable pub some_match_among : {X : Type 0} → (X → Name) → List X → Matching → List Name → Bool
+unfoldable pub some_match_among : {X : Type 0} → (X → Name) → List X → MatchCount → List Name → Bool
 some_match_among named xs wanted names =
     list_any (λ name. is_matching wanted (matches_among named xs name)) names
 
@@ -35,7 +35,7 @@ match_count names name = matches_among (λ (x : Name). x) names name
 
 -- a name stands in the list more than once
 unfoldable pub repeats : List Name → Bool
-repeats names = list_any (λ name. is_matching Several (match_count names name)) names
+repeats names = list_any (λ name. is_matching Many (match_count names name)) names
 
 -- a test of a value that may not be there
 abbrev pub passes : {X : Type 0} → (X → Bool) → Option X → Bool

@@ -8,8 +8,8 @@ use Rattle.catalog_core.specs.table.Matches.{is_matching}
 use Rattle.catalog_core.specs.table.Naming.{Name, find_among, matches_among, passes}
 use Rattle.catalog_core.specs.table.Naming.{place_among}
 use Rattle.catalog_core.specs.table.Naming.{some_match_among}
-use Rattle.catalog_core.specs.declared.table.matching.Matching.{Matching}
-use Rattle.catalog_core.specs.declared.table.matching.Matching.TheVariants.{Several}
+use Rattle.catalog_core.specs.declared.table.match_counts.MatchCount.{MatchCount}
+use Rattle.catalog_core.specs.declared.table.match_counts.MatchCount.TheVariants.{Many}
 use Rattle.catalog_core.specs.declared.table.Column.{Column}
 use Rattle.catalog_core.specs.declared.table.ColumnKind.{ColumnKind}
 use Rattle.catalog_core.specs.declared.table.ColumnKind.TheVariants.{Integer, Varchar, Date}
@@ -37,13 +37,13 @@ abbrev pub def_matches : TableDef → Name → ℕ
 def_matches t name = matches_among (λ (x : Column). x.name) t.columns name
 
 -- some of the names matches so many
-abbrev pub some_def_match : TableDef → Matching → List Name → Bool
+abbrev pub some_def_match : TableDef → MatchCount → List Name → Bool
 some_def_match t wanted names = some_match_among (λ (x : Column). x.name) t.columns wanted names
 
 -- no two columns share a name: none's matches several
 unfoldable pub has_distinct_names : TableDef → Bool
 has_distinct_names t =
-    not (list_any (λ (x : Column). is_matching Several (def_matches t x.name)) t.columns)
+    not (list_any (λ (x : Column). is_matching Many (def_matches t x.name)) t.columns)
 
 -- the kind of the column that a name stands for
 unfoldable pub def_kind : TableDef → Name → Option ValueKind

@@ -2,14 +2,14 @@
 
 ghost use Rattle.std.specs.Prelude.{◌≡◌, length};
 ghost use Rattle.catalog_core.specs.change.Insertion.{given_names, has_other_count, is_system_name};
-ghost use Rattle.catalog_core.specs.change.Insertion.{lacks_some, lists_ambiguous, lists_system};
-ghost use Rattle.catalog_core.specs.change.Insertion.{lists_twice, lists_unknown};
-ghost use Rattle.catalog_core.specs.change.Insertion.{some_other_length};
+ghost use Rattle.catalog_core.specs.change.Insertion.{omits_column, lists_ambiguous, lists_system};
+ghost use Rattle.catalog_core.specs.change.Insertion.{repeats_column, lists_unknown};
+ghost use Rattle.catalog_core.specs.change.Insertion.{has_row_of_other_length};
 ghost use Rattle.catalog_core.specs.change.Insertion.{some_system_name, wanted_names};
 
 use crate::table::TableDef;
 use crate::table::kinds::is_system;
-use crate::table::matching::{Matching, match_count, repeats, some_def_match};
+use crate::table::match_counts::{MatchCount, match_count, repeats, some_def_match};
 use period_core::Value;
 use sql_statements::{InsertRows, Name, NonEmpty};
 
@@ -44,7 +44,7 @@ pub fn lists_unknown(table: &TableDef, insert: &InsertRows) -> bool
     ensures { result ≡ lists_unknown table.now insert.now }
 {
     match &insert.columns {
-        Some(names) => some_def_match(table, Matching::Nothing, names.as_slice()),
+        Some(names) => some_def_match(table, MatchCount::Zero, names.as_slice()),
         None => false,
     }
 }
@@ -55,15 +55,15 @@ pub fn lists_ambiguous(table: &TableDef, insert: &InsertRows) -> bool
     ensures { result ≡ lists_ambiguous table.now insert.now }
 {
     match &insert.columns {
-        Some(names) => some_def_match(table, Matching::Several, names.as_slice()),
+        Some(names) => some_def_match(table, MatchCount::Many, names.as_slice()),
         None => false,
     }
 }
 
 /// Whether the list repeats a name.
-#[tactic(auto, unfolding(crate::specs::change::Insertion::lists_twice))]
-pub fn lists_twice(insert: &InsertRows) -> bool
-    ensures { result ≡ lists_twice insert.now }
+#[tactic(auto, unfolding(crate::specs::change::Insertion::repeats_column))]
+pub fn repeats_column(insert: &InsertRows) -> bool
+    ensures { result ≡ repeats_column insert.now }
 {
     match &insert.columns {
         Some(names) => repeats(names.as_slice()),
@@ -109,9 +109,9 @@ pub fn lists_system(table: &TableDef, insert: &InsertRows) -> bool
 }
 
 /// Whether a column that a row is to give is not among the names.
-#[tactic(auto, unfolding(crate::specs::change::Insertion::lacks_some))]
-pub fn lacks_some(table: &TableDef, names: &[Name]) -> bool
-    ensures { result ≡ lacks_some table.now names.now }
+#[tactic(auto, unfolding(crate::specs::change::Insertion::omits_column))]
+pub fn omits_column(table: &TableDef, names: &[Name]) -> bool
+    ensures { result ≡ omits_column table.now names.now }
 {
     for x in table.columns.as_slice() {
         if !is_system(x.kind) && match_count(names, &x.name) == 0 {
@@ -122,9 +122,9 @@ pub fn lacks_some(table: &TableDef, names: &[Name]) -> bool
 }
 
 /// Whether a row has another number of values.
-#[tactic(auto, unfolding(crate::specs::change::Insertion::some_other_length))]
-pub fn some_other_length(count: usize, rows: &[NonEmpty<Value>]) -> bool
-    ensures { result ≡ some_other_length count rows.now }
+#[tactic(auto, unfolding(crate::specs::change::Insertion::has_row_of_other_length))]
+pub fn has_row_of_other_length(count: usize, rows: &[NonEmpty<Value>]) -> bool
+    ensures { result ≡ has_row_of_other_length count rows.now }
 {
     for x in rows {
         if x.as_slice().len() != count {
@@ -140,9 +140,9 @@ pub fn has_other_count(table: &TableDef, insert: &InsertRows) -> bool
     ensures { result ≡ has_other_count table.now insert.now }
 {
     if let Some(names) = &insert.columns {
-        if lacks_some(table, names.as_slice()) {
+        if omits_column(table, names.as_slice()) {
             return true;
         }
     }
-    some_other_length(given_count(table, &insert.columns), insert.rows.as_slice())
+    has_row_of_other_length(given_count(table, &insert.columns), insert.rows.as_slice())
 }

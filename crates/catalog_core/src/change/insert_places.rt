@@ -7,7 +7,7 @@ ghost use Rattle.catalog_core.specs.change.InsertPlaces.{ArePlaces};
 ghost use Rattle.catalog_core.specs.table.Naming.{passes};
 ghost use Rattle.catalog_core.specs.table.TableWords.{def_place, has_distinct_names};
 ghost use Rattle.catalog_core.specs.table.TableWords.{some_def_match};
-ghost use Rattle.catalog_core.specs.declared.table.matching.Matching.TheVariants.{Nothing};
+ghost use Rattle.catalog_core.specs.declared.table.match_counts.MatchCount.TheVariants.{Zero};
 
 use crate::table::TableDef;
 use crate::table::columns::def_places;
@@ -41,7 +41,7 @@ pub fn given_places(
     list: &Option<NonEmpty<Name>>,
 ) -> Result<Vec<usize>, Memory>
     requires distinct { has_distinct_names table.now ≡ true }
-    requires known { passes (some_def_match table.now Nothing) list.now ≡ false }
+    requires known { passes (some_def_match table.now Zero) list.now ≡ false }
     ensures { IfOk result (λ v. ArePlaces table.now list.now v.items) }
 {
     match list {

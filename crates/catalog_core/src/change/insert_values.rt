@@ -2,9 +2,10 @@
 //! columns that the values are given for. No test takes memory.
 
 ghost use Rattle.std.specs.Prelude.{◌≡◌, option_copied, true};
-ghost use Rattle.catalog_core.specs.change.Insertion.{has_wrong, is_longer};
-ghost use Rattle.catalog_core.specs.change.InsertPlaces.{ArePlaces, gives_wrong_at, has_wrong_at};
-ghost use Rattle.catalog_core.specs.change.InsertPlaces.{is_wrong_at, is_wrong_for, value_at};
+ghost use Rattle.catalog_core.specs.change.Insertion.{has_faulty_value, is_longer};
+ghost use Rattle.catalog_core.specs.change.InsertPlaces.{ArePlaces, gives_faulty_value_at};
+ghost use Rattle.catalog_core.specs.change.InsertPlaces.{has_faulty_value_at};
+ghost use Rattle.catalog_core.specs.change.InsertPlaces.{is_faulty_at, is_faulty_for, value_at};
 ghost use Rattle.catalog_core.specs.table.TableWords.{has_distinct_names};
 
 use crate::table::kinds::{kind_of_column, kind_of_value, same_kind};
@@ -14,27 +15,27 @@ use sql_statements::{InsertRows, NonEmpty};
 
 /// What may be wrong with a value.
 #[derive(Clone, Copy)]
-pub enum Wrong {
+pub enum ValueFault {
     Kind,
     Length,
 }
 
-impl Wrong {
+impl ValueFault {
     /// Whether a value is wrong in this way for a column of the kind.
-    #[tactic(auto, unfolding(crate::specs::change::InsertPlaces::is_wrong_for))]
+    #[tactic(auto, unfolding(crate::specs::change::InsertPlaces::is_faulty_for))]
     fn is_for(self, kind: ColumnKind, value: &Value) -> bool
-        ensures { result ≡ is_wrong_for self kind value.now }
+        ensures { result ≡ is_faulty_for self kind value.now }
     {
         match self {
-            Wrong::Kind => !same_kind(kind_of_column(kind), kind_of_value(value)),
-            Wrong::Length => is_longer(kind, value),
+            ValueFault::Kind => !same_kind(kind_of_column(kind), kind_of_value(value)),
+            ValueFault::Length => is_longer(kind, value),
         }
     }
 
     /// Whether a value is wrong in this way for the column at a place.
-    #[tactic(auto, unfolding(crate::specs::change::InsertPlaces::is_wrong_at))]
+    #[tactic(auto, unfolding(crate::specs::change::InsertPlaces::is_faulty_at))]
     fn is_at(self, columns: &[Column], place: usize, value: &Value) -> bool
-        ensures { result ≡ is_wrong_at self columns.now (place, value.now) }
+        ensures { result ≡ is_faulty_at self columns.now (place, value.now) }
     {
         match columns.get(place) {
             Some(column) => self.is_for(column.kind, value),
@@ -55,13 +56,18 @@ pub fn is_longer(kind: ColumnKind, value: &Value) -> bool
 }
 
 /// Whether a row gives a value that is wrong in this way.
-fn gives_wrong_at(wrong: Wrong, columns: &[Column], places: &[usize], row: &[Value]) -> bool
-    ensures { result ≡ gives_wrong_at wrong columns.now places.now row.now }
+fn gives_faulty_value_at(
+    fault: ValueFault,
+    columns: &[Column],
+    places: &[usize],
+    row: &[Value],
+) -> bool
+    ensures { result ≡ gives_faulty_value_at fault columns.now places.now row.now }
 {
     for i in 0..places.len().min(row.len()) {
         let place = places[i];
         let value = &row[i];
-        if wrong.is_at(columns, place, value) {
+        if fault.is_at(columns, place, value) {
             return true;
         }
     }
@@ -69,17 +75,17 @@ fn gives_wrong_at(wrong: Wrong, columns: &[Column], places: &[usize], row: &[Val
 }
 
 /// Whether one of the rows does.
-#[tactic(auto, unfolding(crate::specs::change::InsertPlaces::has_wrong_at))]
-fn has_wrong_at(
-    wrong: Wrong,
+#[tactic(auto, unfolding(crate::specs::change::InsertPlaces::has_faulty_value_at))]
+fn has_faulty_value_at(
+    fault: ValueFault,
     columns: &[Column],
     places: &[usize],
     rows: &[NonEmpty<Value>],
 ) -> bool
-    ensures { result ≡ has_wrong_at wrong columns.now places.now rows.now }
+    ensures { result ≡ has_faulty_value_at fault columns.now places.now rows.now }
 {
     for x in rows {
-        if gives_wrong_at(wrong, columns, places, x.as_slice()) {
+        if gives_faulty_value_at(fault, columns, places, x.as_slice()) {
             return true;
         }
     }
@@ -87,13 +93,18 @@ fn has_wrong_at(
 }
 
 /// Whether a row of INSERT gives a value that is wrong in this way for its column.
-pub fn has_wrong(wrong: Wrong, table: &TableDef, insert: &InsertRows, places: &[usize]) -> bool
+pub fn has_faulty_value(
+    fault: ValueFault,
+    table: &TableDef,
+    insert: &InsertRows,
+    places: &[usize],
+) -> bool
     requires placed { ArePlaces table.now insert.now.columns places.now }
     requires distinct { has_distinct_names table.now ≡ true }
-    ensures { result ≡ has_wrong wrong table.now insert.now }
+    ensures { result ≡ has_faulty_value fault table.now insert.now }
 {
-    has_wrong_at(
-        wrong,
+    has_faulty_value_at(
+        fault,
         table.columns.as_slice(),
         places,
         insert.rows.as_slice(),

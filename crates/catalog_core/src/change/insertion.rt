@@ -3,13 +3,13 @@
 ghost use Rattle.std.specs.Prelude.{◌≡◌, true};
 ghost use Rattle.catalog_core.specs.change.Insertion.{shape_conditions, value_conditions};
 ghost use Rattle.catalog_core.specs.change.InsertPlaces.{ArePlaces};
-ghost use Rattle.catalog_core.specs.Judged.{first_holding};
+ghost use Rattle.catalog_core.specs.RefusalConditions.{first_holding};
 ghost use Rattle.catalog_core.specs.table.TableWords.{has_distinct_names};
 
 use crate::change::insert_names::{
-    has_other_count, lists_ambiguous, lists_system, lists_twice, lists_unknown,
+    has_other_count, lists_ambiguous, lists_system, lists_unknown, repeats_column,
 };
-use crate::change::insert_values::{Wrong, has_wrong};
+use crate::change::insert_values::{ValueFault, has_faulty_value};
 use crate::table::TableDef;
 use period_core::Refusal;
 use sql_statements::InsertRows;
@@ -25,7 +25,7 @@ pub fn shape_fault(table: &TableDef, insert: &InsertRows) -> Option<Refusal>
     if lists_ambiguous(table, insert) {
         return Some(Refusal::AmbiguousColumn);
     }
-    if lists_twice(insert) {
+    if repeats_column(insert) {
         return Some(Refusal::DuplicateName);
     }
     if lists_system(table, insert) {
@@ -44,10 +44,10 @@ pub fn value_fault(table: &TableDef, insert: &InsertRows, places: &[usize]) -> O
     requires distinct { has_distinct_names table.now ≡ true }
     ensures { result ≡ first_holding (value_conditions table.now insert.now) }
 {
-    if has_wrong(Wrong::Kind, table, insert, places) {
+    if has_faulty_value(ValueFault::Kind, table, insert, places) {
         return Some(Refusal::TypeMismatch);
     }
-    if has_wrong(Wrong::Length, table, insert, places) {
+    if has_faulty_value(ValueFault::Length, table, insert, places) {
         return Some(Refusal::TextTooLong);
     }
     None

@@ -7,11 +7,11 @@ ghost use Rattle.catalog_core.specs.change.PortionChanges.{ResolvesDelete, Resol
 ghost use Rattle.catalog_core.specs.change.PortionChanges.{delete_conditions, delete_faults};
 ghost use Rattle.catalog_core.specs.change.PortionChanges.{is_flawed_delete, is_flawed_update};
 ghost use Rattle.catalog_core.specs.change.PortionChanges.{update_conditions, update_faults};
-ghost use Rattle.catalog_core.specs.Judged.{Holds, first_holding};
+ghost use Rattle.catalog_core.specs.RefusalConditions.{Holds, first_holding};
 
 use crate::change::{Action, Change};
 use crate::flaw::{Flaw, sets_twice};
-use crate::numbering::{number_sets, number_where, portion_period};
+use crate::positions::{portion_period, resolve_assignments, resolve_where};
 use crate::table::TableDef;
 use crate::table::catalog::Catalog;
 use period_core::Refusal;
@@ -56,7 +56,7 @@ fn update_fault(table: &TableDef, update: &UpdateRows) -> Option<Refusal>
     if sets_twice(update.assignments.as_slice()) {
         return Some(Refusal::DuplicateName);
     }
-    if is_in_update(Flaw::NoValue, update, table) {
+    if is_in_update(Flaw::NotValueColumn, update, table) {
         return Some(Refusal::PeriodColumn);
     }
     if is_in_update(Flaw::OtherKind, update, table) {
@@ -81,7 +81,7 @@ fn delete_fault(table: &TableDef, delete: &DeleteRows) -> Option<Refusal>
     if is_in_delete(Flaw::Ambiguous, delete, table) {
         return Some(Refusal::AmbiguousColumn);
     }
-    if is_in_delete(Flaw::NoValue, delete, table) {
+    if is_in_delete(Flaw::NotValueColumn, delete, table) {
         return Some(Refusal::PeriodColumn);
     }
     if is_in_delete(Flaw::OtherKind, delete, table) {
@@ -114,8 +114,8 @@ pub fn resolve_update(
         return Err(fault);
     }
     let portion = portion_period(table, &update.portion);
-    let assignments = number_sets(alloc, table, update.assignments.as_slice())?;
-    let condition = number_where(alloc, table, &update.condition)?;
+    let assignments = resolve_assignments(alloc, table, update.assignments.as_slice())?;
+    let condition = resolve_where(alloc, table, &update.condition)?;
     Ok(Change {
         table: number,
         action: Action::Update(portion, assignments, condition),
@@ -143,7 +143,7 @@ pub fn resolve_delete(
         return Err(fault);
     }
     let portion = portion_period(table, &delete.portion);
-    let condition = number_where(alloc, table, &delete.condition)?;
+    let condition = resolve_where(alloc, table, &delete.condition)?;
     Ok(Change {
         table: number,
         action: Action::Delete(portion, condition),

@@ -4,13 +4,13 @@ ghost use Rattle.std.specs.Prelude.{◌≡◌, IfErr, IfOk, OnOk};
 ghost use Rattle.period_core.specs.Leasts.{MayAnswer, NoneApplies};
 ghost use Rattle.sql_statements.specs.Plain.{plain};
 ghost use Rattle.catalog_core.specs.change.Insertion.{gives_empty_row, insert_conditions};
-ghost use Rattle.catalog_core.specs.Judged.{Holds};
+ghost use Rattle.catalog_core.specs.RefusalConditions.{Holds};
 ghost use Rattle.catalog_core.specs.change.Resolution.{IsChange, ResolvesChange, ResolvesInsert};
 ghost use Rattle.catalog_core.specs.change.Resolution.{change_conditions, empty_period};
 ghost use Rattle.catalog_core.specs.change.Resolution.{has_empty_row};
 
-use crate::change::given_rows::given_rows;
 use crate::change::insert_places::given_places;
+use crate::change::inserted_rows::inserted_rows;
 use crate::change::insertion::{shape_fault, value_fault};
 use crate::change::portion_changes::{resolve_delete, resolve_update};
 use crate::change::{Action, Change};
@@ -46,7 +46,7 @@ pub fn resolve_insert(
     if let Some(fault) = value_fault(table, insert, places.as_slice()) {
         return Err(fault);
     }
-    let rows = given_rows(alloc, table, insert, places.as_slice())?;
+    let rows = inserted_rows(alloc, table, insert, places.as_slice())?;
     Ok(Change {
         table: number,
         action: Action::Insert(Items::from_vec(rows)),

@@ -16,7 +16,7 @@ use crate::limits::{MOST_COLUMNS, MOST_REFERENCES, MOST_TABLES};
 use crate::table::catalog::Catalog;
 use crate::table::columns::is_value_column;
 use crate::table::kinds::{differ, kind_of_column};
-use crate::table::matching::{Matching, def_matches};
+use crate::table::match_counts::{MatchCount, def_matches};
 use crate::table::{ColumnKind, Reference, TableDef, ValueKind};
 
 /// Whether there is room for one table more, and its columns and references are not too many.
@@ -194,7 +194,7 @@ fn passes_all(catalog: &Catalog, definition: &TableDef) -> bool
     is_within_limits(catalog, definition)
         && !is_there(catalog, &definition.name)
         && definition.has_distinct_names()
-        && Matching::Nothing.takes(def_matches(definition, &definition.period.name))
+        && MatchCount::Zero.is(def_matches(definition, &definition.period.name))
         && definition.has_date_period()
         && has_system_columns(definition)
         && are_value_places(definition, definition.key.as_slice())

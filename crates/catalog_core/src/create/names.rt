@@ -12,16 +12,16 @@ ghost use Rattle.catalog_core.specs.create.Creation.{lacks_parent, lacks_period}
 ghost use Rattle.catalog_core.specs.create.Creation.{names_other_period};
 ghost use Rattle.catalog_core.specs.create.Creation.{parent_of, repeats_name, some_match};
 ghost use Rattle.catalog_core.specs.create.Creation.{some_parent_match};
-ghost use Rattle.catalog_core.specs.create.Keyed.{is_keyed, some_keyed_no_value};
+ghost use Rattle.catalog_core.specs.create.Keyed.{is_keyed, some_keyed_non_value_column};
 ghost use Rattle.catalog_core.specs.create.PeriodCounts.{AreCounts};
-ghost use Rattle.catalog_core.specs.declared.table.matching.Matching.TheVariants.{Nothing};
+ghost use Rattle.catalog_core.specs.declared.table.match_counts.MatchCount.TheVariants.{Zero};
 
 use crate::create::period_counts::count_of;
 use crate::limits::{MOST_COLUMNS, MOST_REFERENCES, MOST_TABLES};
 use crate::table::TableDef;
 use crate::table::catalog::Catalog;
-use crate::table::matching::{
-    ColumnSort, Matching, either_matches, has_sort, own_matches, repeats, some_def_match,
+use crate::table::match_counts::{
+    ColumnSort, MatchCount, either_matches, has_sort, own_matches, repeats, some_def_match,
     some_own_match,
 };
 use sql_statements::{CreateTable, Name, ReferenceElement};
@@ -40,7 +40,11 @@ pub fn parent_of<'a>(catalog: &'a Catalog, reference: &ReferenceElement) -> Opti
 
 /// Whether one of the columns that a reference names in its parent matches so many there.
 #[tactic(auto, unfolding(crate::specs::create::Creation::some_parent_match))]
-pub fn some_parent_match(catalog: &Catalog, wanted: Matching, reference: &ReferenceElement) -> bool
+pub fn some_parent_match(
+    catalog: &Catalog,
+    wanted: MatchCount,
+    reference: &ReferenceElement,
+) -> bool
     ensures { result ≡ some_parent_match catalog.now.tables wanted reference.now }
 {
     match parent_of(catalog, reference) {
@@ -51,7 +55,7 @@ pub fn some_parent_match(catalog: &Catalog, wanted: Matching, reference: &Refere
 
 /// Whether a column that CREATE names matches so many.
 #[tactic(auto, unfolding(crate::specs::create::Creation::some_match))]
-pub fn some_match(catalog: &Catalog, create: &CreateTable, wanted: Matching) -> bool
+pub fn some_match(catalog: &Catalog, create: &CreateTable, wanted: MatchCount) -> bool
     ensures { result ≡ some_match catalog.now.tables create.now wanted }
 {
     for period in create.periods.as_slice() {
@@ -136,12 +140,12 @@ pub fn lacks_period(catalog: &Catalog, create: &CreateTable, counts: &BTreeMap<&
     ensures { result ≡ lacks_period catalog.now.tables create.now }
 {
     for key in create.keys.as_slice() {
-        if Matching::Nothing.takes(count_of(counts, &key.period)) {
+        if MatchCount::Zero.is(count_of(counts, &key.period)) {
             return true;
         }
     }
     for reference in create.references.as_slice() {
-        if Matching::Nothing.takes(count_of(counts, &reference.period)) {
+        if MatchCount::Zero.is(count_of(counts, &reference.period)) {
             return true;
         }
     }
@@ -159,7 +163,7 @@ pub fn lacks_name(catalog: &Catalog, create: &CreateTable, counts: &BTreeMap<&st
     requires { AreCounts create.now counts.now }
     ensures { result ≡ lacks_name catalog.now.tables create.now }
 {
-    some_match(catalog, create, Matching::Nothing) || lacks_period(catalog, create, counts)
+    some_match(catalog, create, MatchCount::Zero) || lacks_period(catalog, create, counts)
 }
 
 /// Whether a column that is named is there more than once.
@@ -167,7 +171,7 @@ pub fn lacks_name(catalog: &Catalog, create: &CreateTable, counts: &BTreeMap<&st
 pub fn is_ambiguous(catalog: &Catalog, create: &CreateTable) -> bool
     ensures { result ≡ is_ambiguous catalog.now.tables create.now }
 {
-    some_match(catalog, create, Matching::Several)
+    some_match(catalog, create, MatchCount::Many)
 }
 
 /// Whether a name is that of several of the columns and periods.
@@ -259,9 +263,9 @@ fn is_keyed(create: &CreateTable, name: &Name) -> bool
 }
 
 /// Whether one of the table's columns is keyed and no value column.
-#[tactic(auto, unfolding(crate::specs::create::Keyed::some_keyed_no_value))]
-fn some_keyed_no_value(create: &CreateTable) -> bool
-    ensures { result ≡ some_keyed_no_value create.now }
+#[tactic(auto, unfolding(crate::specs::create::Keyed::some_keyed_non_value_column))]
+fn some_keyed_non_value_column(create: &CreateTable) -> bool
+    ensures { result ≡ some_keyed_non_value_column create.now }
 {
     for column in create.columns.as_slice() {
         if is_keyed(create, &column.name) && is_no_value_column(create, &column.name) {
@@ -274,8 +278,8 @@ fn some_keyed_no_value(create: &CreateTable) -> bool
 /// Whether a period or system column is in the key or in the columns of a reference. The columns
 /// that these name are there.
 pub fn keys_period_column(catalog: &Catalog, create: &CreateTable) -> bool
-    requires { some_match catalog.now.tables create.now Nothing ≡ false }
+    requires { some_match catalog.now.tables create.now Zero ≡ false }
     ensures { result ≡ keys_period_column create.now }
 {
-    some_keyed_no_value(create)
+    some_keyed_non_value_column(create)
 }

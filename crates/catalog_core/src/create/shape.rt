@@ -15,7 +15,7 @@ use crate::limits::{GREATEST_PRECISION, MOST_CODE_POINTS};
 use crate::table::TableDef;
 use crate::table::catalog::Catalog;
 use crate::table::kinds::{def_kind, differ, own_kind};
-use crate::table::matching::{ColumnSort, has_sort, sort_count};
+use crate::table::match_counts::{ColumnSort, has_sort, sort_count};
 use sql_statements::{CreateTable, Name, ReferenceElement, TypeName};
 
 /// Whether there is not exactly one of each: application period, SYSTEM_TIME period, ROW START

@@ -3,7 +3,7 @@
 ghost use Rattle.std.specs.Prelude.{◌≡◌, ◌++◌, ◌+◌, ◌<◌, ◌∷◌, IfOk, false, length};
 ghost use Rattle.std.specs.Prelude.{map, true};
 ghost use Rattle.sql_statements.specs.Plain.{plain_condition};
-ghost use Rattle.catalog_core.specs.query.Faults.{lacks_one, lacks_some};
+ghost use Rattle.catalog_core.specs.query.Faults.{lacks_one, lacks_any};
 ghost use Rattle.catalog_core.specs.query.Fitting.{are_in_place};
 ghost use Rattle.catalog_core.specs.query.Places.{placed_item, placed_members};
 ghost use Rattle.catalog_core.specs.query.Resolving as words;
@@ -12,7 +12,7 @@ ghost use Rattle.catalog_core.specs.query.Resolving.{written_reference};
 ghost use Rattle.catalog_core.specs.query.Selection.{item_parts};
 
 use crate::condition::Cond;
-use crate::numbering::{Positions, number_condition};
+use crate::positions::{Positions, resolve_condition};
 use crate::query::AnswerColumn;
 use crate::query::resolved::QueryReference;
 use crate::query::seen::name_or;
@@ -57,15 +57,15 @@ pub fn push_members<P: Positions>(
         ++ placed_members (P.place positions.now) (plain_condition condition.now)) }
 {
     let (first, others) = outer_and(condition);
-    conjuncts.push(number_condition(alloc, positions, first)?)?;
+    conjuncts.push(resolve_condition(alloc, positions, first)?)?;
     for part in others {
-        conjuncts.push(number_condition(alloc, positions, part)?)?;
+        conjuncts.push(resolve_condition(alloc, positions, part)?)?;
     }
     Ok(())
 }
 
 /// The items by positions, with their names.
-pub fn number_items<P: Positions>(
+pub fn convert_items<P: Positions>(
     alloc: Global,
     positions: &P,
     items: &[SelectItem],
@@ -98,7 +98,7 @@ fn value_kinds(alloc: Global, table: &TableDef) -> Result<Vec<ValueKind>, Memory
 }
 
 /// A reference to a table that is there, by the table's number.
-fn number_reference(
+fn convert_reference(
     alloc: Global,
     catalog: &Catalog,
     reference: &TableReference,
@@ -122,13 +122,13 @@ fn number_reference(
 }
 
 /// References to tables that are there. Their places count up from this one.
-pub fn number_references(
+pub fn convert_references(
     alloc: Global,
     catalog: &Catalog,
     references: &[&TableReference],
     place: usize,
 ) -> Result<Vec<QueryReference>, Memory>
-    requires there { lacks_some catalog.now.tables (map (λ r. r.now) references.now) ≡ false }
+    requires there { lacks_any catalog.now.tables (map (λ r. r.now) references.now) ≡ false }
     requires room { place + length references.now < 1_000 }
     ensures parts { IfOk result (λ numbered.
         map (written_reference catalog.now.tables) (map (λ r. r.now) references.now)
@@ -138,7 +138,7 @@ pub fn number_references(
     let mut numbered = Vec::new(alloc);
     let mut next = place;
     for reference in references {
-        numbered.push(number_reference(alloc, catalog, *reference, next)?)?;
+        numbered.push(convert_reference(alloc, catalog, *reference, next)?)?;
         next += 1;
     }
     Ok(numbered)

@@ -2,8 +2,8 @@
 //! lowest-numbered of them is reported.
 
 ghost use Rattle.std.specs.Prelude.{◌≡◌};
-ghost use Rattle.catalog_core.specs.Judged.{first_holding};
-ghost use Rattle.catalog_core.specs.query.Faults.{either, judged_faults, no_faults};
+ghost use Rattle.catalog_core.specs.RefusalConditions.{first_holding};
+ghost use Rattle.catalog_core.specs.query.Faults.{either, fault_conditions, no_faults};
 
 use period_core::Refusal;
 
@@ -59,7 +59,7 @@ impl Faults {
 
     /// The lowest-numbered.
     pub fn first(self) -> Option<Refusal>
-        ensures { result ≡ first_holding (judged_faults self) }
+        ensures { result ≡ first_holding (fault_conditions self) }
     {
         if self.table {
             return Some(Refusal::UnknownTable);

@@ -11,7 +11,7 @@ ghost use Rattle.catalog_core.specs.query.QueryParts.{selects_of};
 ghost use Rattle.catalog_core.specs.query.Resolving.{ResolvesTree};
 
 use crate::query::resolved::Query;
-use crate::query::select_conversion::number_select;
+use crate::query::select_conversion::convert_select;
 use crate::table::catalog::Catalog;
 use period_core::Memory;
 use sql_statements::{QueryTree, SelectDistinct, SetOperator};
@@ -29,7 +29,7 @@ fn combine(alloc: Global, operator: SetOperator, left: Query, right: Query) -> R
 
 /// An accepted query: its set operators apply from left to right. The places of its references
 /// count up from this one, which becomes that after the last.
-pub fn number_query(
+pub fn convert_query(
     alloc: Global,
     catalog: &Catalog,
     query: &QueryTree<SelectDistinct>,
@@ -49,14 +49,14 @@ pub fn number_query(
 {
     match query {
         QueryTree::Select(select) => {
-            let numbered = number_select(alloc, catalog, select, *place)?;
+            let numbered = convert_select(alloc, catalog, select, *place)?;
             *place += numbered.references.len();
             Ok(Query::Select(numbered))
         }
         QueryTree::Combined(first, steps) => {
-            let mut left = number_query(alloc, catalog, first, place)?;
+            let mut left = convert_query(alloc, catalog, first, place)?;
             for step in steps {
-                let right = number_query(alloc, catalog, &step.1, place)?;
+                let right = convert_query(alloc, catalog, &step.1, place)?;
                 left = combine(alloc, step.0, left, right)?;
             }
             Ok(left)

@@ -4,7 +4,7 @@
 ghost use Rattle.std.specs.Prelude.{◌≡◌, IfOk, MatchOption};
 ghost use Rattle.period_core.specs.Leasts.{IsLeast, NoneApplies};
 ghost use Rattle.sql_statements.specs.Plain.{plain_query, plain_select};
-ghost use Rattle.catalog_core.specs.Judged.{Holds};
+ghost use Rattle.catalog_core.specs.RefusalConditions.{Holds};
 ghost use Rattle.catalog_core.specs.query.Faults as words;
 ghost use Rattle.catalog_core.specs.query.Faults.{differ_somewhere, faults_among, kinds_faults};
 ghost use Rattle.catalog_core.specs.query.Faults.{operand_faults, select_faults, side_kinds};
@@ -12,10 +12,10 @@ ghost use Rattle.catalog_core.specs.query.QueryParts.{selects_of, sides_of};
 ghost use Rattle.catalog_core.specs.query.Refusals.{refusals_of};
 
 use crate::query::faults::Faults;
-use crate::query::judging::select_faults;
 use crate::query::query_parts::{first_select, is_above_limit};
 use crate::query::references::references_of;
 use crate::query::seen_column::{look_up, push_columns};
+use crate::query::select_checks::select_faults;
 use crate::table::ValueKind;
 use crate::table::catalog::Catalog;
 use crate::table::kinds::differ;

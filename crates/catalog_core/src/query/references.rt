@@ -2,13 +2,13 @@
 
 ghost use Rattle.std.specs.Prelude.{◌≡◌, ◌<◌, ◌++◌, IfOk, is_none, length, map};
 ghost use Rattle.sql_statements.specs.Plain.{plain_chain, plain_select};
-ghost use Rattle.catalog_core.specs.query.Faults.{known_twice, lacks_some};
+ghost use Rattle.catalog_core.specs.query.Faults.{known_twice, lacks_any};
 ghost use Rattle.catalog_core.specs.query.Scopes.{chain_tables, tables_of};
 ghost use Rattle.catalog_core.specs.table.TableWords.{table_of_name};
 
 use crate::query::seen::known_name;
 use crate::table::catalog::Catalog;
-use crate::table::matching::Matching;
+use crate::table::match_counts::MatchCount;
 use crate::table::named::{Named, matches_among};
 use period_core::Memory;
 use sql_statements::{JoinChain, Name, SelectDistinct, TableReference};
@@ -64,7 +64,7 @@ fn is_missing(catalog: &Catalog, reference: &TableReference) -> bool
 
 /// Whether one of their tables is not there.
 pub fn lacks_table(catalog: &Catalog, references: &[&TableReference]) -> bool
-    ensures { result ≡ lacks_some catalog.now.tables (map (λ r. r.now) references.now) }
+    ensures { result ≡ lacks_any catalog.now.tables (map (λ r. r.now) references.now) }
 {
     for reference in references {
         if is_missing(catalog, reference) {
@@ -79,7 +79,7 @@ pub fn names_twice(references: &[&TableReference]) -> bool
     ensures { result ≡ known_twice (map (λ r. r.now) references.now) }
 {
     for reference in references {
-        if Matching::Several.takes(matches_among(references, known_name(reference))) {
+        if MatchCount::Many.is(matches_among(references, known_name(reference))) {
             return true;
         }
     }

@@ -4,12 +4,12 @@ ghost use Rattle.std.specs.Prelude.{◌≡◌, IfErr, IfOk, OnOk};
 ghost use Rattle.period_core.specs.Leasts.{MayAnswer, NoneApplies};
 ghost use Rattle.sql_statements.specs.Plain.{plain, plain_query};
 ghost use Rattle.sql_statements.specs.Trees.{sequenced};
-ghost use Rattle.catalog_core.specs.Judged.{Holds};
+ghost use Rattle.catalog_core.specs.RefusalConditions.{Holds};
 ghost use Rattle.catalog_core.specs.query.Queries as resolved;
 ghost use Rattle.catalog_core.specs.query.Resolving.{IsSequenced, ResolvesQuery};
 ghost use Rattle.catalog_core.specs.query.Resolving.{query_conditions};
 
-use crate::query::query_conversion::number_query;
+use crate::query::query_conversion::convert_query;
 use crate::query::query_faults::query_fault;
 use crate::query::resolved::Query;
 use crate::table::catalog::Catalog;
@@ -35,7 +35,7 @@ pub fn resolve_sequenced(
         return Err(fault);
     }
     let mut place = 0;
-    Ok(number_query(alloc, catalog, query, &mut place)?)
+    Ok(convert_query(alloc, catalog, query, &mut place)?)
 }
 
 /// The query that a statement asks, with positions for names, as `resolve_sequenced` gives it. The

@@ -5,7 +5,7 @@ ghost use Rattle.std.specs.List.{position};
 ghost use Rattle.catalog_core.specs.query.Places.{values_among};
 ghost use Rattle.catalog_core.specs.query.Scopes.{names_column};
 
-use crate::numbering::Positions;
+use crate::positions::Positions;
 use crate::query::seen_column::SeenColumn;
 use sql_statements::ColumnReference;
 

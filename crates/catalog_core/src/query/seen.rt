@@ -6,8 +6,8 @@ ghost use Rattle.catalog_core.specs.query.Scopes as scope;
 ghost use Rattle.catalog_core.specs.query.Scopes.{matches_in, name_or};
 
 use crate::table::TableDef;
-use crate::table::columns::names_no_value;
-use crate::table::matching::def_matches;
+use crate::table::columns::names_non_value_column;
+use crate::table::match_counts::def_matches;
 use sql_statements::{ColumnReference, Name, TableReference};
 
 /// A new name, or else the old one.
@@ -54,5 +54,5 @@ pub fn count_in(known: &Name, table: &TableDef, column: &ColumnReference) -> usi
 pub fn names_period_in(known: &Name, table: &TableDef, column: &ColumnReference) -> bool
     ensures { result ≡ are_of_period (matches_in known.now table.now column.now) }
 {
-    is_qualified(&column.qualifier, known) && names_no_value(table, &column.name)
+    is_qualified(&column.qualifier, known) && names_non_value_column(table, &column.name)
 }

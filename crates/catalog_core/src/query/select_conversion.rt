@@ -11,10 +11,10 @@ ghost use Rattle.catalog_core.specs.query.Refusals.{lacks_table, names_period, s
 ghost use Rattle.catalog_core.specs.query.Resolving.{ResolvesSelect, conjunct_parts};
 ghost use Rattle.catalog_core.specs.query.Scopes.{chain_conditions, chain_tables, conditions_in};
 ghost use Rattle.catalog_core.specs.query.Scopes.{seen_columns, tables_of};
-ghost use Rattle.catalog_core.specs.declared.table.matching.Matching.TheVariants.{Nothing};
+ghost use Rattle.catalog_core.specs.declared.table.match_counts.MatchCount.TheVariants.{Zero};
 
 use crate::condition::Cond;
-use crate::query::conversion::{number_items, number_references, push_members};
+use crate::query::conversion::{convert_items, convert_references, push_members};
 use crate::query::references::references_of;
 use crate::query::resolved::Select;
 use crate::query::scope::Scope;
@@ -55,7 +55,7 @@ fn push_chain<'a>(
 }
 
 /// The members of all conditions of a select. The columns of its tables are added to none.
-fn number_conjuncts<'a>(
+fn convert_conjuncts<'a>(
     alloc: Global,
     catalog: &'a Catalog,
     select: &'a SelectDistinct,
@@ -82,14 +82,14 @@ fn number_conjuncts<'a>(
 }
 
 /// An accepted select. The places of its references count up from this one.
-pub fn number_select(
+pub fn convert_select(
     alloc: Global,
     catalog: &Catalog,
     select: &SelectDistinct,
     place: usize,
 ) -> Result<Select, Memory>
     requires there { lacks_table catalog.now.tables (plain_select select.now) ≡ false }
-    requires named { some_column_matches Nothing catalog.now.tables (plain_select select.now)
+    requires named { some_column_matches Zero catalog.now.tables (plain_select select.now)
         ≡ false }
     requires values { names_period catalog.now.tables (plain_select select.now) ≡ false }
     requires room { place + length (tables_of (plain_select select.now)) < 1_000 }
@@ -98,14 +98,14 @@ pub fn number_select(
     ensures placed { IfOk result (λ numbered. are_in_place place numbered.references ≡ true) }
 {
     let references = references_of(alloc, select)?;
-    let references = number_references(alloc, catalog, references.as_slice(), place)?;
+    let references = convert_references(alloc, catalog, references.as_slice(), place)?;
     let mut columns = Vec::new(alloc);
-    let conjuncts = number_conjuncts(alloc, catalog, select, &mut columns)?;
+    let conjuncts = convert_conjuncts(alloc, catalog, select, &mut columns)?;
     let scope = Scope {
         before: &[],
         seen: columns.as_slice(),
     };
-    let items = number_items(alloc, &scope, select.items.as_slice())?;
+    let items = convert_items(alloc, &scope, select.items.as_slice())?;
     Ok(Select {
         references: NonEmpty::from_vec(references),
         conjuncts: Items::from_vec(conjuncts),

@@ -3,7 +3,7 @@
 ghost use Rattle.std.specs.Prelude.{◌≡◌, IfErr, IfOk, OnOk};
 ghost use Rattle.period_core.specs.Leasts.{MayAnswer, NoneApplies};
 ghost use Rattle.sql_statements.specs.Plain.{plain, plain_stored};
-ghost use Rattle.catalog_core.specs.Judged.{Holds, first_holding};
+ghost use Rattle.catalog_core.specs.RefusalConditions.{Holds, first_holding};
 ghost use Rattle.catalog_core.specs.stored.StoredQueries.{IsStored, ResolvesStored};
 ghost use Rattle.catalog_core.specs.stored.StoredQueries.{ResolvesStoredQuery, is_flawed_stored};
 ghost use Rattle.catalog_core.specs.stored.StoredQueries.{stored_conditions, stored_faults};
@@ -11,7 +11,7 @@ ghost use Rattle.catalog_core.specs.stored.StoredQueries.{stored_query_condition
 
 use crate::flaw::Flaw;
 use crate::stored::Stored;
-use crate::stored::tests::number_stored_where;
+use crate::stored::conditions::resolve_stored_where;
 use crate::system_window::window_of;
 use crate::table::TableDef;
 use crate::table::catalog::Catalog;
@@ -40,7 +40,7 @@ fn stored_fault(table: &TableDef, query: &StoredQuery) -> Option<Refusal>
     if is_in_stored(Flaw::Ambiguous, query, table) {
         return Some(Refusal::AmbiguousColumn);
     }
-    if is_in_stored(Flaw::NoValue, query, table) {
+    if is_in_stored(Flaw::NotValueColumn, query, table) {
         return Some(Refusal::PeriodColumn);
     }
     if is_in_stored(Flaw::OtherKind, query, table) {
@@ -72,7 +72,7 @@ pub fn resolve_stored_query(
     if let Some(fault) = stored_fault(table, query) {
         return Err(fault);
     }
-    let condition = number_stored_where(alloc, table, &query.condition)?;
+    let condition = resolve_stored_where(alloc, table, &query.condition)?;
     Ok(Stored {
         table: number,
         window: window_of(&query.window),

@@ -4,16 +4,16 @@
 ghost use Rattle.std.specs.Prelude.{◌≡◌, ◌&&◌, ◌<◌, IfOk, IfSome, Some, bytes_eq, false};
 ghost use Rattle.std.specs.Prelude.{map, not, true};
 ghost use Rattle.catalog_core.specs.Limits.{number_limit};
-ghost use Rattle.catalog_core.specs.query.Selection.{names_no_value, value_position};
+ghost use Rattle.catalog_core.specs.query.Selection.{names_non_value_column, value_position};
 ghost use Rattle.catalog_core.specs.table.IsDefinition.{are_places};
 ghost use Rattle.catalog_core.specs.table.TableWords.{def_place, has_date_period};
 ghost use Rattle.catalog_core.specs.table.TableWords.{has_distinct_names};
 ghost use Rattle.catalog_core.specs.table.TableWords.{is_date_column, is_value_column};
 ghost use Rattle.catalog_core.specs.table.TableWords.{some_def_match};
-ghost use Rattle.catalog_core.specs.declared.table.matching.Matching.TheVariants.{Nothing};
+ghost use Rattle.catalog_core.specs.declared.table.match_counts.MatchCount.TheVariants.{Zero};
 
 use crate::table::kinds::{is_system, kind_of_column, same_kind};
-use crate::table::matching::{Matching, def_matches};
+use crate::table::match_counts::{MatchCount, def_matches};
 use crate::table::named::{place_among, places_among};
 use crate::table::{Column, TableDef, ValueKind};
 use period_core::Memory;
@@ -30,7 +30,7 @@ pub fn def_place(table: &TableDef, name: &Name) -> Option<usize>
 
 /// The places of a table's columns that the names stand for.
 pub fn def_places(alloc: Global, table: &TableDef, names: &[Name]) -> Result<Vec<usize>, Memory>
-    requires { some_def_match table.now Nothing names.now ≡ false }
+    requires { some_def_match table.now Zero names.now ≡ false }
     ensures value { IfOk result
         (λ v. map (def_place table.now) names.now ≡ map (λ i. Some i) v.items) }
     ensures small { IfOk result (λ v. are_places number_limit v.items ≡ true) }
@@ -72,7 +72,7 @@ impl TableDef {
         ensures { result ≡ has_distinct_names self.now }
     {
         for x in self.columns.as_slice() {
-            if Matching::Several.takes(def_matches(self, &x.name)) {
+            if MatchCount::Many.is(def_matches(self, &x.name)) {
                 return false;
             }
         }
@@ -97,9 +97,9 @@ fn is_other_column(table: &TableDef, place: usize, column: &Column, name: &Name)
 }
 
 /// Whether a column of this name is no value column.
-#[tactic(auto, unfolding(crate::specs::query::Selection::names_no_value))]
-pub fn names_no_value(table: &TableDef, name: &Name) -> bool
-    ensures { result ≡ names_no_value table.now name.now }
+#[tactic(auto, unfolding(crate::specs::query::Selection::names_non_value_column))]
+pub fn names_non_value_column(table: &TableDef, name: &Name) -> bool
+    ensures { result ≡ names_non_value_column table.now name.now }
 {
     let columns = table.columns.as_slice();
     for i in 0..columns.len() {

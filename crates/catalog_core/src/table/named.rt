@@ -5,10 +5,10 @@ ghost use Rattle.std.specs.Prelude.{option_copied, true};
 ghost use Rattle.catalog_core.specs.table.IsDefinition.{are_places};
 ghost use Rattle.catalog_core.specs.table.Naming.{find_among, matches_among, place_among};
 ghost use Rattle.catalog_core.specs.table.Naming.{some_match_among};
-ghost use Rattle.catalog_core.specs.declared.table.matching.Matching.TheVariants.{Nothing};
+ghost use Rattle.catalog_core.specs.declared.table.match_counts.MatchCount.TheVariants.{Zero};
 
 use crate::table::Column;
-use crate::table::matching::Matching;
+use crate::table::match_counts::MatchCount;
 use period_core::Memory;
 use sql_statements::{ColumnElement, Name};
 use std::alloc::Global;
@@ -62,11 +62,11 @@ pub fn matches_among<T: Named>(elements: &[T], name: &Name) -> usize
 
 /// Whether one of the names matches so many.
 #[tactic(auto, unfolding(crate::specs::table::Naming::some_match_among))]
-pub fn some_match_among<T: Named>(elements: &[T], wanted: Matching, names: &[Name]) -> bool
+pub fn some_match_among<T: Named>(elements: &[T], wanted: MatchCount, names: &[Name]) -> bool
     ensures { result ≡ some_match_among T.named elements.now wanted names.now }
 {
     for x in names {
-        if wanted.takes(matches_among(elements, x)) {
+        if wanted.is(matches_among(elements, x)) {
             return true;
         }
     }
@@ -106,7 +106,7 @@ pub fn places_among<T: Named>(
     elements: &[T],
     names: &[Name],
 ) -> Result<Vec<usize>, Memory>
-    requires { some_match_among T.named elements.now Nothing names.now ≡ false }
+    requires { some_match_among T.named elements.now Zero names.now ≡ false }
     ensures value { IfOk result
         (λ v. map (place_among T.named elements.now) names.now ≡ map (λ i. Some i) v.items) }
     ensures within { IfOk result (λ v. are_places (length elements.now) v.items ≡ true) }

@@ -16,8 +16,8 @@ use Rattle.catalog_core.specs.query.Resolving.{value_kinds}
 use Rattle.catalog_core.specs.table.TableWords.{table_of}
 use Rattle.ended_versions.specs.Packed.{seen_through}
 use Rattle.history_model.specs.Histories.{History}
-use Rattle.history_model.specs.Left.{AreLeftBy}
-use Rattle.history_model.specs.OrdinaryQuery.{HistorySights}
+use Rattle.history_model.specs.HistoryVersions.{AreVersionsOf}
+use Rattle.history_model.specs.OrdinaryQuery.{VisibleInHistory}
 use Rattle.history_model.specs.Versions.{row_of}
 use Rattle.version_store.specs.Contents.{Contents, version_in}
 use Rattle.version_store.specs.Scans.{seen_of}
@@ -33,7 +33,7 @@ pub record AreRowsSeen (c : Contents) (table : ℕ) (window : Window) (rows : Li
 abbrev pub AreSeenBy : History → QueryReference → List PeriodRow → Type 0
 AreSeenBy history reference rows =
     (day : ℤ) (values : List Value)
-    → (InSnapshot rows day values ↔ HistorySights history day reference values)
+    → (InSnapshot rows day values ↔ VisibleInHistory history day reference values)
 
 -- the reference sees these rows: of the versions that the history leaves of its table those that
 -- its window sees, without their system times, each once and in any order; so the rows hold on each
@@ -41,7 +41,7 @@ AreSeenBy history reference rows =
 pub record SeesRows (history : History) (reference : QueryReference) (rows : List PeriodRow)
     : Type 0 where
   pub versions : List VersionRow
-  pub left : AreLeftBy history reference.table versions
+  pub left : AreVersionsOf history reference.table versions
   pub all : IsPermutation (map row_of (seen_through reference.window versions)) rows
   pub daily : AreSeenBy history reference rows
 

@@ -11,7 +11,7 @@ use Rattle.catalog_core.specs.declared.query.resolved.QueryReference.{QueryRefer
 use Rattle.catalog_core.specs.query.Queries.{Query, both, one}
 use Rattle.catalog_core.specs.table.TableWords.{table_of}
 use Rattle.history_model.specs.Histories.{History}
-use Rattle.history_model.specs.OrdinaryQuery.{HistorySights}
+use Rattle.history_model.specs.OrdinaryQuery.{VisibleInHistory}
 use Rattle.sequenced_ops.specs.Planning.{IsPruned}
 
 -- the rows in memory of this key, of the table of a number; of a number without a table none
@@ -22,7 +22,7 @@ keyed_rows_in tables number key =
 -- all that the reference sees in the history has so many values
 abbrev pub SeesWidth : History → QueryReference → ℕ → Type 0
 SeesWidth history reference width =
-    (day : ℤ) (values : List Value) → HistorySights history day reference values
+    (day : ℤ) (values : List Value) → VisibleInHistory history day reference values
     → length values ≡ width
 
 -- the rows are of those that the reference sees in the history, and lack none that is part of a
@@ -30,7 +30,7 @@ SeesWidth history reference width =
 abbrev pub IsNeeded
     : History → List (Tree CompareValues) → ℕ → QueryReference → List PeriodRow → Type 0
 IsNeeded history conjuncts start reference =
-    IsPruned conjuncts start (λ day. HistorySights history day reference)
+    IsPruned conjuncts start (λ day. VisibleInHistory history day reference)
 
 -- so it is of each of the references, one after the other in the combined row
 abbrev pub SeeNeeded

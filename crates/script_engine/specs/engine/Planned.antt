@@ -3,7 +3,7 @@ use Rattle.std.specs.Prelude.{◌≡◌, ℕ, IfErr, IfOk, List, OnOk, Result, l
 use Rattle.period_core.specs.Leasts.{MayAnswer, NoneApplies}
 use Rattle.period_core.specs.declared.refusal.Refusal.{Refusal}
 use Rattle.sql_statements.specs.Trees.{Statement}
-use Rattle.catalog_core.specs.Judged.{Holds}
+use Rattle.catalog_core.specs.RefusalConditions.{Holds}
 use Rattle.catalog_core.specs.change.Resolution.{IsChange, ResolvesChange, change_conditions}
 use Rattle.catalog_core.specs.change.Resolution.{empty_period, has_empty_row}
 use Rattle.catalog_core.specs.declared.change.Action.{Action}
@@ -11,7 +11,7 @@ use Rattle.catalog_core.specs.declared.change.Action.TheVariants.{Delete, Insert
 use Rattle.catalog_core.specs.declared.change.Change.{Change}
 use Rattle.catalog_core.specs.declared.change.Plan.{Plan}
 use Rattle.catalog_core.specs.declared.table.TableDef.{TableDef}
-use Rattle.history_model.specs.Left.{touched_rows}
+use Rattle.history_model.specs.HistoryVersions.{touched_rows}
 use Rattle.history_model.specs.Versions.{PlainVersion}
 use Rattle.statement_reports.specs.declared.outcome.Word.{Word}
 use Rattle.statement_reports.specs.declared.outcome.Word.TheVariants as word

@@ -15,16 +15,16 @@ use Rattle.sql_statements.specs.Trees.{Statement}
 use Rattle.sql_statements.specs.Trees as statement
 use Rattle.catalog_core.specs.create.Creation.{create_conditions}
 use Rattle.catalog_core.specs.create.Definition.{Defines}
-use Rattle.catalog_core.specs.Judged.{Holds}
+use Rattle.catalog_core.specs.RefusalConditions.{Holds}
 use Rattle.catalog_core.specs.change.Resolution.{IsChange, ResolvesChange, change_conditions}
 use Rattle.catalog_core.specs.change.Resolution.{empty_period}
 use Rattle.catalog_core.specs.query.Queries.{Query}
 use Rattle.catalog_core.specs.query.Resolving.{ResolvesQuery, query_conditions}
 use Rattle.catalog_core.specs.stored.StoredQueries.{ResolvesStored, stored_conditions}
 use Rattle.catalog_core.specs.table.TableWords.{table_of}
-use Rattle.history_model.specs.Histories.{Advanced, Asked, Changed, Created, History}
+use Rattle.history_model.specs.Histories.{Advanced, Queried, Changed, Created, History}
 use Rattle.history_model.specs.Histories.{catalog_of, clock_of, last_state, with_event}
-use Rattle.history_model.specs.Left.{AreLeftBy, versions_of}
+use Rattle.history_model.specs.HistoryVersions.{AreVersionsOf, versions_of}
 use Rattle.history_model.specs.OrdinaryQuery.{InAnswerOn}
 use Rattle.period_keys.specs.Lawful.{IsLawfulChange}
 use Rattle.sqlite.specs.Store.{Ghosts}
@@ -41,7 +41,7 @@ use Rattle.script_engine.specs.Headline.{IsSequencedAnswer}
 use Rattle.script_engine.specs.engine.Answering.{columns_of}
 use Rattle.script_engine.specs.engine.Faults.{IsFault}
 use Rattle.script_engine.specs.engine.Planned.{count_of, word_of}
-use Rattle.script_engine.specs.engine.Shown.{AreShown, version_columns}
+use Rattle.script_engine.specs.engine.VersionLists.{AreShown, version_columns}
 use Rattle.statement_reports.specs.declared.outcome.Outcome.{Outcome}
 use Rattle.statement_reports.specs.declared.outcome.Outcome.TheVariants.{Done}
 use Rattle.statement_reports.specs.declared.outcome.Outcome.TheVariants.{Answer as Answered}
@@ -177,7 +177,7 @@ pub record Answers
   pub resolved : ResolvesQuery (catalog_of history) s query
   pub columns : answer.columns ≡ map (λ (item : AnswerColumn). item.name) (columns_of query)
   pub right : IsSequencedAnswer (InAnswerOn history query) answer
-  pub after : new ≡ with_event history Asked
+  pub after : new ≡ with_event history Queried
 
 -- a stored query shows the versions, of those that the history leaves of its table, that its window
 -- sees and its condition holds of, with the table's columns
@@ -192,9 +192,9 @@ pub record Shows
   pub table : table_of (catalog_of history) query.table ≡ Some definition
   pub columns : list.columns ≡ version_columns definition
   pub versions : List VersionRow
-  pub left : AreLeftBy history query.table versions
+  pub left : AreVersionsOf history query.table versions
   pub rows : AreShown query versions list.rows
-  pub after : new ≡ with_event history Asked
+  pub after : new ≡ with_event history Queried
 
 -- what follows where no condition of a refusal holds
 abbrev pub Accepts : History → Statement → Outcome → History → Type 0

@@ -5,7 +5,7 @@ use Rattle.period_core.specs.declared.version.VersionRow.{VersionRow}
 use Rattle.sqlite.specs.Effect.{Database}
 use Rattle.sqlite.specs.Held.{Held}
 use Rattle.sqlite.specs.Store.{Ghosts}
-use Rattle.version_tables.specs.Presence.{IsNoneThere}
+use Rattle.version_tables.specs.Presence.{HasNoStoreTable}
 use Rattle.version_tables.specs.Tables.{no_schema}
 use Rattle.version_tables.specs.declared.form.Form.{Form}
 use Rattle.version_store.specs.Contents.{Contents, TableVersion, of_table, version_in}
@@ -15,7 +15,7 @@ use Rattle.version_store.specs.Units.{in_microseconds}
 use Rattle.version_store.specs.Written.{HasIn}
 use Rattle.history_model.specs.Histories.{History, IsInOrder, catalog_of, clock_of, new_database}
 use Rattle.history_model.specs.Histories.{last_state, opened}
-use Rattle.history_model.specs.Left.{AreLeftBy}
+use Rattle.history_model.specs.HistoryVersions.{AreVersionsOf}
 use Rattle.period_keys.specs.Lawful.{IsLawfulState}
 use Rattle.ended_versions.specs.Packed.{PackedVersion}
 use Rattle.period_keys.specs.Rows.{RowsByKey}
@@ -28,7 +28,7 @@ use Rattle.script_engine.specs.engine.InMemory.{HaveCurrentRows}
 pub record HoldsTable (history : History) (versions : List TableVersion) (table : ℕ) : Type 0
   where
     pub rows : List VersionRow
-    pub left : AreLeftBy history table rows
+    pub left : AreVersionsOf history table rows
     pub all : IsPermutation (of_table table versions) (map (version_in table) rows)
 
 -- the contents are what the history says: its clock, its tables and, in any order, its versions
@@ -86,7 +86,7 @@ DatabaseRepresents history db =
 
 -- the database has some of the three tables, and is no good store
 abbrev pub IsBadStore : Database → Type 0
-IsBadStore db = (¬ IsNoneThere db.schema) × ¬ IsGoodStore AreConstrained db
+IsBadStore db = (¬ HasNoStoreTable db.schema) × ¬ IsGoodStore AreConstrained db
 
 -- the connection was usable before if it is so now
 abbrev pub WasUsable : {S : Type 0} → Ghosts S → Held S → Held S → Type 0

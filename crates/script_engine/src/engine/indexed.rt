@@ -167,7 +167,7 @@ pub fn apply_plan<S: Alter>(
             Ok(())
         }
         Err(refusal) => {
-            table.take_added(moment, &coming, added);
+            table.undo_add(moment, &coming, added);
             Err(refusal)
         }
     }

@@ -29,9 +29,11 @@ ghost use Rattle.script_engine.specs.engine.Needed.{AddNeeded, IsNeeded, IsNeede
 ghost use Rattle.script_engine.specs.engine.Needed.{SeeNeeded, SeesWidth};
 ghost use Rattle.script_engine.specs.engine.Stored.{RowsRepresent};
 
-use crate::engine::answering::{answer_over, push_current_of_key, push_ended_of_key, seen_by};
 use crate::engine::chained::chain_sequenced;
 use crate::engine::indexed::{positions_of_number, rows_of_number};
+use crate::engine::sequenced_queries::{
+    answer_over, push_current_of_key, push_ended_of_key, seen_by,
+};
 use catalog_core::resolved::{Query, QueryReference, Select, Tables};
 use catalog_core::{Catalog, Cond, TableDef, fits, is_value_column};
 use ended_versions::EndedVersions;

@@ -9,7 +9,7 @@ ghost use Rattle.period_keys.specs.Versions.{version_key};
 ghost use Rattle.version_store.specs.Contents.{Contents};
 ghost use Rattle.script_engine.specs.engine.Ended.{HaveEnded, ended_in};
 ghost use Rattle.script_engine.specs.engine.InMemory.{HaveCurrentRows, rows_in};
-ghost use Rattle.script_engine.specs.engine.Shown.{AreShownIn};
+ghost use Rattle.script_engine.specs.engine.VersionLists.{AreShownIn};
 
 use crate::engine::chained::chain_stored;
 use crate::engine::indexed::{positions_of_number, rows_of_number};

@@ -8,8 +8,8 @@ ghost use Rattle.script_engine.specs.script.Listening.{HearsAll, IsFrontRunBy};
 ghost use Rattle.script_engine.specs.script.Script.{MayRefuseScript};
 
 use crate::engine::Engine;
-use crate::script::kept::Kept;
 use crate::script::listener::Listener;
+use crate::script::piece_result::PieceResult;
 use crate::script::{run_pieces, script_pieces};
 use period_core::Refusal;
 use sqlite_trees::store::Alter;
@@ -19,7 +19,7 @@ use std::alloc::Global;
 /// the piece is done, its change in the database. Says whether the run came to the script's end: it
 /// ends before where the listener asks for no more. An `Err` is the refusal of the whole script, or
 /// out of memory: then nothing is run and nothing handed on.
-pub fn run_over<S: Alter, K: Kept<S>, L: Listener<K>>(
+pub fn run_over<S: Alter, K: PieceResult<S>, L: Listener<K>>(
     alloc: Global,
     engine: &mut Engine<S>,
     script: &[u8],

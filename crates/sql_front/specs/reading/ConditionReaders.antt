@@ -14,7 +14,7 @@ use Rattle.sql_front.specs.Builders.{column_reference_of, compare_of, all_of, an
 use Rattle.sql_front.specs.Grammar.{name}
 use Rattle.sql_front.specs.reading.Reading.{Reader, begins, sequence_read, built_read, choice_read}
 use Rattle.sql_front.specs.reading.Reading.{optional_read, preceded_read, separated_read}
-use Rattle.sql_front.specs.reading.Reading.{enclosed_read, stands_read}
+use Rattle.sql_front.specs.reading.Reading.{enclosed_read, denotes_read}
 use Rattle.sql_front.specs.reading.Leaves.{name_read, literal_read}
 
 -- name [ '.' name ]
@@ -32,12 +32,12 @@ operand_read =
 -- '=' | '<>' | '<' | '<=' | '>' | '>='
 unfoldable pub comparison_read : Reader Comparison
 comparison_read =
-    choice_read (begins (symbol (codes "="))) (stands_read Equal (symbol (codes "=")))
-    (choice_read (begins (symbol (codes "<>"))) (stands_read NotEqual (symbol (codes "<>")))
-    (choice_read (begins (symbol (codes "<"))) (stands_read Less (symbol (codes "<")))
-    (choice_read (begins (symbol (codes "<="))) (stands_read LessOrEqual (symbol (codes "<=")))
-    (choice_read (begins (symbol (codes ">"))) (stands_read Greater (symbol (codes ">")))
-    (stands_read GreaterOrEqual (symbol (codes ">=")))))))
+    choice_read (begins (symbol (codes "="))) (denotes_read Equal (symbol (codes "=")))
+    (choice_read (begins (symbol (codes "<>"))) (denotes_read NotEqual (symbol (codes "<>")))
+    (choice_read (begins (symbol (codes "<"))) (denotes_read Less (symbol (codes "<")))
+    (choice_read (begins (symbol (codes "<="))) (denotes_read LessOrEqual (symbol (codes "<=")))
+    (choice_read (begins (symbol (codes ">"))) (denotes_read Greater (symbol (codes ">")))
+    (denotes_read GreaterOrEqual (symbol (codes ">=")))))))
 
 -- operand comparison operand
 unfoldable pub compare_read : Reader Compare

@@ -20,7 +20,7 @@ use Rattle.sql_front.specs.Grammar.{name, comma}
 use Rattle.period_core.specs.TextReading.{◌>>=◌}
 use Rattle.sql_front.specs.reading.Reading.{Reader, begins, third_is, fixed_read, sequence_read}
 use Rattle.sql_front.specs.reading.Reading.{built_read, choice_read, optional_read, repetition_read}
-use Rattle.sql_front.specs.reading.Reading.{preceded_read, stands_read, separated_read}
+use Rattle.sql_front.specs.reading.Reading.{preceded_read, denotes_read, separated_read}
 use Rattle.sql_front.specs.reading.Reading.{enclosed_read}
 use Rattle.sql_front.specs.reading.Leaves.{name_read, number_read}
 
@@ -78,8 +78,8 @@ timestamp_read =
 unfoldable pub type_read : Reader TypeName
 type_read =
     choice_read (begins (keyword (codes "INTEGER")))
-    (stands_read Integer (keyword (codes "INTEGER")))
-    (choice_read (begins (keyword (codes "DATE"))) (stands_read Date (keyword (codes "DATE")))
+    (denotes_read Integer (keyword (codes "INTEGER")))
+    (choice_read (begins (keyword (codes "DATE"))) (denotes_read Date (keyword (codes "DATE")))
     (choice_read (begins (keyword (codes "VARCHAR")))
     (built_read Varchar (preceded_read (keyword (codes "VARCHAR")) length_read))
     (choice_read (begins (keyword (codes "CHARACTER")))
@@ -90,8 +90,8 @@ type_read =
 -- START | END
 unfoldable pub row_end_read : Reader Generated
 row_end_read =
-    choice_read (begins (keyword (codes "START"))) (stands_read Start (keyword (codes "START")))
-    (stands_read End (keyword (codes "END")))
+    choice_read (begins (keyword (codes "START"))) (denotes_read Start (keyword (codes "START")))
+    (denotes_read End (keyword (codes "END")))
 
 -- GENERATED ALWAYS AS ROW ( START | END )
 unfoldable pub generated_read : Reader Generated

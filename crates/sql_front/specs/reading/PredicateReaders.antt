@@ -16,7 +16,7 @@ use Rattle.sql_front.specs.Language.{keyword, symbol, or_test}
 use Rattle.sql_front.specs.Builders.{dates_of}
 use Rattle.sql_front.specs.Grammar.{comma, name}
 use Rattle.sql_front.specs.reading.Reading.{Reader, begins, third_is, sequence_read, built_read}
-use Rattle.sql_front.specs.reading.Reading.{choice_read, preceded_read, enclosed_read, stands_read}
+use Rattle.sql_front.specs.reading.Reading.{choice_read, preceded_read, enclosed_read, denotes_read}
 use Rattle.sql_front.specs.reading.Leaves.{date_read}
 use Rattle.sql_front.specs.reading.ConditionReaders.{column_read, compare_read}
 
@@ -35,18 +35,19 @@ period_operand_read =
 unfoldable pub relation_read : Reader PeriodPredicate
 relation_read =
     choice_read (begins (keyword (codes "OVERLAPS")))
-    (stands_read Overlaps (keyword (codes "OVERLAPS")))
-    (choice_read (begins (keyword (codes "EQUALS"))) (stands_read Equals (keyword (codes "EQUALS")))
+    (denotes_read Overlaps (keyword (codes "OVERLAPS")))
+    (choice_read (begins (keyword (codes "EQUALS")))
+    (denotes_read Equals (keyword (codes "EQUALS")))
     (choice_read (begins (keyword (codes "CONTAINS")))
-    (stands_read Contains (keyword (codes "CONTAINS")))
+    (denotes_read Contains (keyword (codes "CONTAINS")))
     (choice_read (begins (keyword (codes "IMMEDIATELY")))
     (preceded_read (keyword (codes "IMMEDIATELY"))
     (choice_read (begins (keyword (codes "PRECEDES")))
-    (stands_read ImmediatelyPrecedes (keyword (codes "PRECEDES")))
-    (stands_read ImmediatelySucceeds (keyword (codes "SUCCEEDS")))))
+    (denotes_read ImmediatelyPrecedes (keyword (codes "PRECEDES")))
+    (denotes_read ImmediatelySucceeds (keyword (codes "SUCCEEDS")))))
     (choice_read (begins (keyword (codes "PRECEDES")))
-    (stands_read Precedes (keyword (codes "PRECEDES")))
-    (stands_read Succeeds (keyword (codes "SUCCEEDS")))))))
+    (denotes_read Precedes (keyword (codes "PRECEDES")))
+    (denotes_read Succeeds (keyword (codes "SUCCEEDS")))))))
 
 -- ---- a predicate: a period, and what is said of it
 
@@ -57,25 +58,25 @@ begins_contains_date (first ∷ rest) =
     keyword (codes "CONTAINS") first && begins (keyword (codes "DATE")) rest
 
 -- what is said of a period: a day that it contains, or how it stands to another
-pub data Said : Type 0 where
-  contains_day : ℤ → Said
-  related : PeriodPredicate × PeriodOperand → Said
+pub data PredicateTail : Type 0 where
+  contains_day : ℤ → PredicateTail
+  related : PeriodPredicate × PeriodOperand → PredicateTail
 
 -- the test that says this of a period
-abbrev pub said_of : PeriodOperand × Said → StoredTest
-said_of (period, contains_day day) = ContainsDay period day
-said_of (period, related other) = Periods period other.0 other.1
+abbrev pub predicate_of : PeriodOperand × PredicateTail → StoredTest
+predicate_of (period, contains_day day) = ContainsDay period day
+predicate_of (period, related other) = Periods period other.0 other.1
 
 -- CONTAINS date, or a relation and a period
-abbrev pub said_read : Reader Said
-said_read =
+abbrev pub tail_read : Reader PredicateTail
+tail_read =
     choice_read begins_contains_date
     (built_read contains_day (preceded_read (keyword (codes "CONTAINS")) date_read))
     (built_read related (sequence_read relation_read period_operand_read))
 
 -- a period, and what is said of it
 unfoldable pub predicate_read : Reader StoredTest
-predicate_read = built_read said_of (sequence_read period_operand_read said_read)
+predicate_read = built_read predicate_of (sequence_read period_operand_read tail_read)
 
 -- ---- a predicate or a comparison
 

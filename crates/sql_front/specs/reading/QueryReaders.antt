@@ -13,7 +13,7 @@ use Rattle.sql_front.specs.Builders.{term_of, combined_of}
 use Rattle.sql_front.specs.Grammar.{name, comma}
 use Rattle.sql_front.specs.reading.Reading.{Reader, begins, sequence_read, built_read, choice_read}
 use Rattle.sql_front.specs.reading.Reading.{optional_read, repetition_read, preceded_read}
-use Rattle.sql_front.specs.reading.Reading.{preceded_or_not_read, stands_read, separated_read}
+use Rattle.sql_front.specs.reading.Reading.{preceded_or_not_read, denotes_read, separated_read}
 use Rattle.sql_front.specs.reading.Reading.{enclosed_read}
 use Rattle.sql_front.specs.reading.Leaves.{name_read}
 use Rattle.sql_front.specs.reading.ConditionReaders.{column_read, compare_read, condition_read}
@@ -88,12 +88,12 @@ select_read n =
 unfoldable pub operator_read : Reader SetOperator
 operator_read =
     choice_read (begins (keyword (codes "UNION")))
-    (stands_read Union (keyword (codes "UNION")))
-    (stands_read Except (keyword (codes "EXCEPT")))
+    (denotes_read Union (keyword (codes "UNION")))
+    (denotes_read Except (keyword (codes "EXCEPT")))
 
 -- the same, as the first token of a step
-abbrev pub begins_step : Lexeme → Bool
-begins_step = or_test (keyword (codes "UNION")) (keyword (codes "EXCEPT"))
+abbrev pub begins_set_operator : Lexeme → Bool
+begins_set_operator = or_test (keyword (codes "UNION")) (keyword (codes "EXCEPT"))
 
 -- a select, or a query in parentheses
 abbrev pub primary_with : Reader Select → Reader Query → Reader Query
@@ -103,7 +103,7 @@ primary_with select inner =
 -- INTERSECT [ DISTINCT ] primary
 abbrev pub intersection_with : Reader Query → Reader (SetOperator × Query)
 intersection_with primary =
-    sequence_read (stands_read Intersect (keyword (codes "INTERSECT")))
+    sequence_read (denotes_read Intersect (keyword (codes "INTERSECT")))
     (preceded_or_not_read (keyword (codes "DISTINCT")) primary)
 
 -- { intersection }
@@ -122,7 +122,7 @@ step_with term =
 
 -- { step }
 abbrev pub steps_with : Reader (SetOperator × Query) → Reader (List (SetOperator × Query))
-steps_with step = repetition_read (begins begins_step) step
+steps_with step = repetition_read (begins begins_set_operator) step
 
 -- term { step }
 abbrev pub query_with : Reader Query → Reader (List (SetOperator × Query)) → Reader Query

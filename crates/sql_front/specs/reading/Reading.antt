@@ -78,8 +78,8 @@ abbrev pub preceded_or_not_read : {A : Type 0} → (Lexeme → Bool) → Reader 
 preceded_or_not_read test p ts = p (behind_optional test ts)
 
 -- a token that meets the test, and means this value
-abbrev pub stands_read : {A : Type 0} → A → (Lexeme → Bool) → Reader A
-stands_read a test = built_read (λ (nothing : Unit {0}). a) (fixed_read test)
+abbrev pub denotes_read : {A : Type 0} → A → (Lexeme → Bool) → Reader A
+denotes_read a test = built_read (λ (nothing : Unit {0}). a) (fixed_read test)
 
 -- one or more values, with a separator between each two
 abbrev pub separated_read : {A : Type 0} → (Lexeme → Bool) → Reader A → Reader (List A)

@@ -4,7 +4,7 @@ ghost use Rattle.std.specs.Prelude.{◌≡◌, ◌≢◌, ◌⊎◌, [], false, 
 ghost use Rattle.period_core.specs.declared.refusal.Refusal.TheVariants.{BadStore};
 ghost use Rattle.sqlite.specs.Held.{state};
 ghost use Rattle.version_tables.specs.Making.{HasCounters};
-ghost use Rattle.version_tables.specs.Presence.{IsNoneThere};
+ghost use Rattle.version_tables.specs.Presence.{HasNoStoreTable};
 ghost use Rattle.version_tables.specs.Steps.{IsAsBefore};
 ghost use Rattle.version_tables.specs.Tables.{no_schema};
 ghost use Rattle.version_tables.specs.declared.form.Form.{Form as AnyForm};
@@ -18,9 +18,9 @@ ghost use Rattle.version_store.specs.StoreState.{StoreRepresents};
 ghost use Rattle.version_store.specs.Units.{in_microseconds};
 ghost use Rattle.version_store.specs.Written.{HasIn};
 
-use crate::inspecting::inspect;
+use crate::inspection::inspect;
 use crate::store::VersionStore;
-use crate::writing::write_move;
+use crate::transactions::write_move;
 use catalog_core::Catalog;
 use period_core::{Items, Moment, Refusal, VersionRow};
 use sqlite::Connection;
@@ -124,13 +124,13 @@ impl<S: Alter> VersionStore<S> {
             → (state S.Store connection).now.schema ≡ no_schema
             → OpenedRepresents S.Store found.0 empty_contents × (found.1.items ≡ [])) }
         ensures beside { IfOk result (λ found. IsUsable S.Store found.0.store.connection
-            → IsNoneThere (state S.Store connection).now.schema
+            → HasNoStoreTable (state S.Store connection).now.schema
             → HasCounters (state S.Store connection).now.schema
             → IsMadeBehind (state S.Store connection)
             (state S.Store found.0.store.connection)) }
         ensures good { IfOk result (λ found. IsUsable S.Store found.0.store.connection
             → IsOurs (state S.Store connection).now.schema
-            → IsNoneThere (state S.Store connection).now.schema
+            → HasNoStoreTable (state S.Store connection).now.schema
             ⊎ ((good : IsGoodStore NothingMore (state S.Store connection).now)
             × (good.form ≡ found.0.form)
             × OpenedRepresents S.Store found.0 (in_microseconds good.form good.contents)
@@ -147,11 +147,11 @@ impl<S: Alter> VersionStore<S> {
         ensures unchanged { IfOk result (λ found. IsUsable S.Store found.0.store.connection
             → ((found.0.store.catalog.tables ≡ []) × (found.0.form ≡ Microseconds))
             ⊎ IsAsBefore (state S.Store connection) (state S.Store found.0.store.connection)) }
-        ensures empty { IfOk result (λ found. IsNoneThere (state S.Store connection).now.schema
+        ensures empty { IfOk result (λ found. HasNoStoreTable (state S.Store connection).now.schema
             → (found.0.store.catalog.tables ≡ []) × (found.0.form ≡ Microseconds)) }
         ensures lawful { IfOk result (λ found. AreLawful [] found.0.store.catalog.tables) }
         ensures bad { IfErr result (λ failed. IsUsable S.Store failed.1 → failed.0 ≡ BadStore
-            → (¬ IsNoneThere (state S.Store connection).now.schema)
+            → (¬ HasNoStoreTable (state S.Store connection).now.schema)
             × ¬ IsGoodStore NothingMore (state S.Store connection).now) }
         ensures none { IfErr result (λ failed. IsUsable S.Store failed.1
             → IsAsBefore (state S.Store connection) (state S.Store failed.1)) }

@@ -8,7 +8,7 @@ use Rattle.bitemporal_file.proofs.over.run_store.Goals as goal
 
 pub returns-clause-ran : goal.returns-clause-ran
 returns-clause-ran g c =
-    given_so g.K.Kept.is_step g.K.Reported.refused g.W.Write.contents g.K.Reported.text g.K.Reported.status_of (LeadsEngine g.S.Store c.in_ok-engine.engine c.run_files-ended.new.engine) (LeadsDatabase g.S.Store c.args.connection c.close.result)
+    given_so g.K.PieceResult.is_step g.K.Reported.refused g.W.Write.contents g.K.Reported.text g.K.Reported.status_of (LeadsEngine g.S.Store c.in_ok-engine.engine c.run_files-ended.new.engine) (LeadsDatabase g.S.Store c.args.connection c.close.result)
     (λ (Led : History → History → Type 0) led usable history stands.
     let engine_usable = subst (IsUsable g.S.Store) c.close.ensures.same usable in
     let opened = c.in_ok-engine.ensures.opened (c.run_files-ended.ensures.usable engine_usable) history stands in

@@ -46,7 +46,7 @@ loop-name-preserved g c =
         λ usable history stands.
             let (middle, leads, represents) = did (c.run_named.ensures.usable usable) history stands in
             let (after, leads_on, represents_after) = went usable middle represents in
-            (after, leads-more g.K.Kept.is_step history runs more middle after leads leads_on, represents_after),
+            (after, leads-more g.K.PieceResult.is_step history runs more middle after leads leads_on, represents_after),
       );
     }
 
@@ -84,7 +84,7 @@ returns-in_err-goes_on-clause-ran g c =
       λ usable history stands.
           let (middle, leads, represents) = did (c.run_named.ensures.usable usable) history stands in
           let (after, leads_on, represents_after) = went usable middle represents in
-          (after, leads-more g.K.Kept.is_step history runs more middle after leads leads_on, represents_after),
+          (after, leads-more g.K.PieceResult.is_step history runs more middle after leads leads_on, represents_after),
     )
 
 pub returns-then-not-goes_on-clause-ran : goal.returns-then-not-goes_on-clause-ran
@@ -119,7 +119,7 @@ returns-then-not-goes_on-clause-ran g c =
       λ usable history stands.
           let (middle, leads, represents) = did (c.run_named.ensures.usable usable) history stands in
           let (after, leads_on, represents_after) = went usable middle represents in
-          (after, leads-more g.K.Kept.is_step history runs more middle after leads leads_on, represents_after),
+          (after, leads-more g.K.PieceResult.is_step history runs more middle after leads leads_on, represents_after),
     )
 
 pub returns-clause-ran : goal.returns-clause-ran

@@ -12,5 +12,5 @@ invariant-loop-name g l = record {
   ran : (runs : List (ScriptRun g.row.K.Denot))
       × AreOfReaders (map (g.Q.Scripts.content l.scripts) (map string_bytes (take l.name-index l.names))) runs
       × Ends g.W.Write.contents g.K.Reported.text g.K.Reported.status_of (map (g.Q.Scripts.content l.scripts) (map string_bytes (take l.name-index l.names))) l.fn.reporter runs (Ok true) l.reporter
-      × (IsUsable g.S.Store l.engine.connection → (history : History) → EngineRepresents g.S.Store history l.fn.engine → RepresentsSome g.S.Store (LeadsTo g.K.Kept.is_step history runs) l.engine);
+      × (IsUsable g.S.Store l.engine.connection → (history : History) → EngineRepresents g.S.Store history l.fn.engine → RepresentsSome g.S.Store (LeadsTo g.K.PieceResult.is_step history runs) l.engine);
 }

@@ -78,7 +78,7 @@ returns-in-Some-clause-ran g c =
       parts_failed _ _ (runs ++ run ∷ []) fault (cut-more runs run ended is_part) (taken-part _ _ _ runs run taken took)
           (λ refusal is. absurd (report_fault g.W.Write.contents g.K.Reported.text g.K.Reported.status_of c.args.reporter.now _ c.in_ok-goes_on.goes_on fault c.run_part.new.reporter c.in-Some.is all refusal is)),
       faulty_told g.W.Write.contents g.K.Reported.text g.K.Reported.status_of c.args.reporter.now _ c.in_ok-goes_on.goes_on fault c.run_part.new.reporter c.in-Some.is all,
-      ran_further g.S.Store g.K.Kept.is_step g.K.Reported.refused c.args.engine.now c.parts.engine c.run_part.new.engine c.parts.start runs run start c.run_part.ensures.usable did went,
+      ran_further g.S.Store g.K.PieceResult.is_step g.K.Reported.refused c.args.engine.now c.parts.engine c.run_part.new.engine c.parts.start runs run start c.run_part.ensures.usable did went,
     )
 
 -- it was the last
@@ -102,7 +102,7 @@ returns-then-part-clause-ran g c =
       runs ++ run ∷ [],
       parts_ended _ _ (runs ++ run ∷ []) c.in_ok-goes_on.goes_on (cut-more runs run ended is_part) (taken-part _ _ _ runs run taken took) end,
       quiet_told g.W.Write.contents g.K.Reported.text g.K.Reported.status_of c.args.reporter.now _ c.in_ok-goes_on.goes_on c.run_part.new.reporter c.in_default.is all,
-      ran_further g.S.Store g.K.Kept.is_step g.K.Reported.refused c.args.engine.now c.parts.engine c.run_part.new.engine c.parts.start runs run start c.run_part.ensures.usable did went,
+      ran_further g.S.Store g.K.PieceResult.is_step g.K.Reported.refused c.args.engine.now c.parts.engine c.run_part.new.engine c.parts.start runs run start c.run_part.ensures.usable did went,
     )
 
 -- more bytes than 64 bits count
@@ -121,7 +121,7 @@ returns-in-None-clause-ran g c =
       runs ++ run ∷ [],
       parts_failed _ _ (runs ++ run ∷ []) Read (cut-more runs run ended is_part) (taken-part _ _ _ runs run taken took) (λ refusal is. let no : ⊥ = cc in absurd no),
       failed_told g.W.Write.contents g.K.Reported.text g.K.Reported.status_of c.args.reporter.now _ c.in_ok-goes_on.goes_on Read c.run_part.new.reporter c.in_default.is all,
-      ran_further g.S.Store g.K.Kept.is_step g.K.Reported.refused c.args.engine.now c.parts.engine c.run_part.new.engine c.parts.start runs run start c.run_part.ensures.usable did went,
+      ran_further g.S.Store g.K.PieceResult.is_step g.K.Reported.refused c.args.engine.now c.parts.engine c.run_part.new.engine c.parts.start runs run start c.run_part.ensures.usable did went,
     )
 
 pub returns-clause-ran : goal.returns-clause-ran
@@ -157,6 +157,6 @@ parts-preserved g c =
         taken-part _ _ _ runs run taken took,
         omega (arith, sum, start, bytes-length runs run, c.len.ensures, c.as_slice-bytes.ensures.len),
         subst (λ (flow : Bool). TellsAll g.W.Write.contents g.K.Reported.text g.K.Reported.status_of c.args.reporter.now (results_of (runs ++ run ∷ [])) flow c.run_part.new.reporter) on all,
-        ran_further g.S.Store g.K.Kept.is_step g.K.Reported.refused c.args.engine.now c.parts.engine c.run_part.new.engine c.parts.start runs run start c.run_part.ensures.usable did went,
+        ran_further g.S.Store g.K.PieceResult.is_step g.K.Reported.refused c.args.engine.now c.parts.engine c.run_part.new.engine c.parts.start runs run start c.run_part.ensures.usable did went,
       );
     }

@@ -18,5 +18,5 @@ invariant-parts g l = record {
       × Consumes (g.R.Read.remaining l.fn.input) (g.R.Read.remaining l.input) (bytes_of runs)
       × (l.start ≡ length (bytes_of runs))
       × TellsAll g.W.Write.contents g.K.Reported.text g.K.Reported.status_of l.fn.reporter (results_of runs) true l.reporter
-      × (IsUsable g.S.Store l.engine.connection → (history : History) → EngineRepresents g.S.Store history l.fn.engine → RepresentsSome g.S.Store (LeadsThrough g.K.Kept.is_step g.K.Reported.refused 0 history runs) l.engine);
+      × (IsUsable g.S.Store l.engine.connection → (history : History) → EngineRepresents g.S.Store history l.fn.engine → RepresentsSome g.S.Store (LeadsThrough g.K.PieceResult.is_step g.K.Reported.refused 0 history runs) l.engine);
 }

@@ -14,14 +14,14 @@ use Rattle.catalog_core.proofs.lemmas.lists.AnyTests.{any_same}
 use Rattle.catalog_core.proofs.lemmas.create.Built.{place_within}
 use Rattle.catalog_core.proofs.lemmas.table.Distinct.{few_named, its_place, only_one, own_name}
 use Rattle.catalog_core.proofs.lemmas.change.GivenValues.{date_column, date_given, date_parts, found_first, given_there, value_plain}
-use Rattle.catalog_core.specs.change.Insertion.{given_names, given_value, gives_wrong, has_wrong, is_longer, is_of_other_kind, is_too_long, is_wrong, lacks_some, value_for}
-use Rattle.catalog_core.specs.change.InsertPlaces.{ArePlaces, HasDate, HasValue, HasValues, gives_wrong_at, has_wrong_at, is_wrong_at, is_wrong_for, row_at, value_at}
+use Rattle.catalog_core.specs.change.Insertion.{given_names, given_value, gives_faulty_value, has_faulty_value, is_longer, is_of_other_kind, is_too_long, is_faulty, omits_column, value_for}
+use Rattle.catalog_core.specs.change.InsertPlaces.{ArePlaces, HasDate, HasValue, HasValues, gives_faulty_value_at, has_faulty_value_at, is_faulty_at, is_faulty_for, row_at, value_at}
 use Rattle.catalog_core.specs.table.Kinds.{differ, kind_of_column, kind_of_value}
 use Rattle.catalog_core.specs.table.Naming.{Name, passes}
 use Rattle.catalog_core.specs.change.Resolution.{written_row}
 use Rattle.catalog_core.specs.table.TableWords.{def_kind, def_place, has_date_period, has_distinct_names, is_date_column, is_value_column, value_columns, value_names}
-use Rattle.catalog_core.specs.declared.change.insert_values.Wrong.{Wrong}
-use Rattle.catalog_core.specs.declared.change.insert_values.Wrong.TheVariants as wrong
+use Rattle.catalog_core.specs.declared.change.insert_values.ValueFault.{ValueFault}
+use Rattle.catalog_core.specs.declared.change.insert_values.ValueFault.TheVariants as fault
 use Rattle.catalog_core.specs.declared.table.Column.{Column}
 use Rattle.catalog_core.specs.declared.table.ValueKind.{ValueKind}
 use Rattle.catalog_core.specs.declared.table.TableDef.{TableDef}
@@ -67,16 +67,16 @@ stands t name place placed =
 
 -- ==== a value is wrong by name where it is wrong by place ====
 
-wrong_kind : (t : TableDef) (name : Name) (place : ℕ) (v : Value) → def_place t name ≡ Some place → is_wrong wrong.Kind t (name, v) ≡ is_wrong_at wrong.Kind t.columns (place, v)
-unfolding is_wrong is_of_other_kind differ is_wrong_at is_wrong_for
+wrong_kind : (t : TableDef) (name : Name) (place : ℕ) (v : Value) → def_place t name ≡ Some place → is_faulty fault.Kind t (name, v) ≡ is_faulty_at fault.Kind t.columns (place, v)
+unfolding is_faulty is_of_other_kind differ is_faulty_at is_faulty_for
 wrong_kind t name place v placed =
     let s = stands t name place placed in
     ap (λ (k : Option ValueKind). differ k (Some (kind_of_value v))) s.kinds
-    ∙ sym (ap (passes (λ (x : Column). is_wrong_for wrong.Kind x.kind v)) s.there)
+    ∙ sym (ap (passes (λ (x : Column). is_faulty_for fault.Kind x.kind v)) s.there)
 
 wrong_length : (t : TableDef) (name : Name) (place : ℕ) (v : Value) → has_distinct_names t ≡ true → def_place t name ≡ Some place
-    → is_wrong wrong.Length t (name, v) ≡ is_wrong_at wrong.Length t.columns (place, v)
-unfolding is_wrong is_too_long is_wrong_at is_wrong_for
+    → is_faulty fault.Length t (name, v) ≡ is_faulty_at fault.Length t.columns (place, v)
+unfolding is_faulty is_too_long is_faulty_at is_faulty_for
 wrong_length t name place v distinct placed =
     let s = stands t name place placed in
     let x : Column = s.column in
@@ -86,12 +86,12 @@ wrong_length t name place v distinct placed =
     ap (λ (n : Name). list_any (λ (y : Column). bytes_eq n y.name && is_longer y.kind v) t.columns) s.named
     ∙ only_one p q t.columns place x s.inside mine (few_named t place x distinct s.inside s.item)
     ∙ ap q (sym s.item)
-    ∙ sym (ap (passes (λ (y : Column). is_wrong_for wrong.Length y.kind v)) s.there)
+    ∙ sym (ap (passes (λ (y : Column). is_faulty_for fault.Length y.kind v)) s.there)
 
-wrong_same : (way : Wrong) (t : TableDef) (name : Name) (place : ℕ) (v : Value) → has_distinct_names t ≡ true → def_place t name ≡ Some place
-    → is_wrong way t (name, v) ≡ is_wrong_at way t.columns (place, v)
-wrong_same wrong.Kind t name place v distinct placed = wrong_kind t name place v placed
-wrong_same wrong.Length t name place v distinct placed = wrong_length t name place v distinct placed
+wrong_same : (way : ValueFault) (t : TableDef) (name : Name) (place : ℕ) (v : Value) → has_distinct_names t ≡ true → def_place t name ≡ Some place
+    → is_faulty way t (name, v) ≡ is_faulty_at way t.columns (place, v)
+wrong_same fault.Kind t name place v distinct placed = wrong_kind t name place v placed
+wrong_same fault.Length t name place v distinct placed = wrong_length t name place v distinct placed
 
 -- tests that agree pair by pair
 any_zip_same : {A B C : Type 0} (F : A → Option B) (f : A × C → Bool) (g : B × C → Bool)
@@ -124,18 +124,18 @@ find_zip_same {A} {B} {C} F f g same (a ∷ ws) (b ∷ bs) (c ∷ cs) placed =
       | false ↦ more
     ])
 
-gives_same : (way : Wrong) (t : TableDef) (list : Option (List Name)) (places : List ℕ) (row : List Value) → has_distinct_names t ≡ true → ArePlaces t list places
-    → gives_wrong_at way t.columns places row ≡ gives_wrong way t list row
-unfolding gives_wrong_at gives_wrong
+gives_same : (way : ValueFault) (t : TableDef) (list : Option (List Name)) (places : List ℕ) (row : List Value) → has_distinct_names t ≡ true → ArePlaces t list places
+    → gives_faulty_value_at way t.columns places row ≡ gives_faulty_value way t list row
+unfolding gives_faulty_value_at gives_faulty_value
 gives_same way t list places row distinct placed =
-    sym (any_zip_same (def_place t) (is_wrong way t) (is_wrong_at way t.columns)
+    sym (any_zip_same (def_place t) (is_faulty way t) (is_faulty_at way t.columns)
     (λ name place v stands. wrong_same way t name place v distinct stands) (given_names t list) places row placed)
 
-pub wrong_rows : (way : Wrong) (t : TableDef) (insert : InsertRows) (places : List ℕ) → has_distinct_names t ≡ true → ArePlaces t insert.columns places
-    → has_wrong_at way t.columns places insert.rows ≡ has_wrong way t insert
-unfolding has_wrong_at has_wrong
+pub wrong_rows : (way : ValueFault) (t : TableDef) (insert : InsertRows) (places : List ℕ) → has_distinct_names t ≡ true → ArePlaces t insert.columns places
+    → has_faulty_value_at way t.columns places insert.rows ≡ has_faulty_value way t insert
+unfolding has_faulty_value_at has_faulty_value
 wrong_rows way t insert places distinct placed =
-    any_same (gives_wrong_at way t.columns places) (gives_wrong way t insert.columns)
+    any_same (gives_faulty_value_at way t.columns places) (gives_faulty_value way t insert.columns)
     (λ row. gives_same way t insert.columns places row distinct placed) insert.rows
 
 -- ==== a row gives a column the same value ====
@@ -225,7 +225,7 @@ period_there t dated =
 -- ==== a row that no condition refuses gives each column a value ====
 
 pub has_values : (t : TableDef) (list : Option (List Name)) (places : List ℕ) (row : List Value) → has_distinct_names t ≡ true → ArePlaces t list places
-    → passes (lacks_some t) list ≡ false → length row ≡ length (given_names t list) → HasValues t places row
+    → passes (omits_column t) list ≡ false → length row ≡ length (given_names t list) → HasValues t places row
 has_values t list places row distinct placed names long i x there value =
     let here : i < length t.columns = slice_get_within t.columns i x there in
     let item : x ≡ get_or t.columns i x = sym (get_or_from_slice_get t.columns i x x there) in
@@ -235,7 +235,7 @@ has_values t list places row distinct placed names long i x there value =
     ]) refl
 
 pub has_date : (t : TableDef) (list : Option (List Name)) (places : List ℕ) (row : List Value) (place : ℕ) → has_distinct_names t ≡ true → ArePlaces t list places
-    → passes (lacks_some t) list ≡ false → length row ≡ length (given_names t list) → gives_wrong wrong.Kind t list row ≡ false → is_date_column t place ≡ true → HasDate places row place
+    → passes (omits_column t) list ≡ false → length row ≡ length (given_names t list) → gives_faulty_value fault.Kind t list row ≡ false → is_date_column t place ≡ true → HasDate places row place
 has_date t list places row place distinct placed names long right dated =
     let given = date_given t list row place names long right dated in
     let at = date_column t place dated in

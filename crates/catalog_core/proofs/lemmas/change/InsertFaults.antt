@@ -7,7 +7,7 @@ use Rattle.period_core.specs.declared.refusal.Refusal.TheVariants.{UnknownTable}
 use Rattle.sql_statements.specs.declared.statement.InsertRows.{InsertRows}
 use Rattle.catalog_core.proofs.lemmas.judged.Least.{Ascending, first_append, first_least, none_first}
 use Rattle.catalog_core.specs.change.Insertion.{insert_conditions, lacks_table, shape_conditions, value_conditions}
-use Rattle.catalog_core.specs.Judged.{Holds, first_holding}
+use Rattle.catalog_core.specs.RefusalConditions.{Holds, first_holding}
 use Rattle.catalog_core.specs.table.TableWords.{number_of, table_of, table_of_name}
 use Rattle.catalog_core.specs.declared.table.TableDef.{TableDef}
 

@@ -7,7 +7,7 @@ use Rattle.period_core.specs.declared.refusal.Refusal.TheVariants.{UnknownTable}
 use Rattle.sql_statements.specs.Trees.{Delete, Update}
 use Rattle.catalog_core.proofs.lemmas.judged.Least.{Ascending, first_least, none_first}
 use Rattle.catalog_core.specs.change.PortionChanges.{delete_conditions, delete_faults, lacks_named, update_conditions, update_faults}
-use Rattle.catalog_core.specs.Judged.{Holds, first_holding}
+use Rattle.catalog_core.specs.RefusalConditions.{Holds, first_holding}
 use Rattle.catalog_core.specs.table.TableWords.{number_of, table_of, table_of_name}
 use Rattle.catalog_core.specs.declared.table.TableDef.{TableDef}
 

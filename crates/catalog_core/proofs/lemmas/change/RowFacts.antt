@@ -11,7 +11,7 @@ use Rattle.catalog_core.specs.table.TableWords.{number_of, table_of, table_of_na
 use Rattle.catalog_core.specs.declared.change.Action.{Action}
 use Rattle.catalog_core.specs.declared.change.Action.TheVariants.{Delete, Insert, Update}
 use Rattle.catalog_core.specs.declared.change.Change.{Change}
-use Rattle.catalog_core.specs.declared.change.GivenRow.{GivenRow}
+use Rattle.catalog_core.specs.declared.change.InsertedRow.{InsertedRow}
 use Rattle.catalog_core.specs.declared.table.TableDef.{TableDef}
 
 any_map : {X Y : Type 0} (p : Y → Bool) (f : X → Y) (xs : List X) → list_any p (map f xs) ≡ list_any (λ x. p (f x)) xs
@@ -22,7 +22,7 @@ abbrev no_period : RowParts → Bool
 no_period parts = is_no_period parts.start parts.end
 
 -- the given rows say whether a row is empty
-empty_rows : (t : TableDef) (list : Option (List Name)) (rows : List (List Value)) (given : List GivenRow)
+empty_rows : (t : TableDef) (list : Option (List Name)) (rows : List (List Value)) (given : List InsertedRow)
     → map (written_row t list) rows ≡ map row_parts given → list_any (λ row. gives_no_period t list row) rows ≡ list_any is_empty_row given
 unfolding gives_no_period is_no_period
 empty_rows t list rows given same =

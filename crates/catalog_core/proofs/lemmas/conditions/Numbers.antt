@@ -20,13 +20,13 @@ use Rattle.catalog_core.proofs.lemmas.query.SeenColumns.{placed_in}
 use Rattle.catalog_core.specs.Flaws.{has_test, is_flawed_column, is_flawed_compare, is_flawed_portion, is_flawed_set, is_flawed_side, is_of_two_kinds, some_test, some_tests}
 use Rattle.catalog_core.specs.Placing.{or_zero, place_compare, placed_compare, placed_side}
 use Rattle.catalog_core.specs.change.PortionChanges.{is_flawed_delete, is_flawed_update}
-use Rattle.catalog_core.specs.Numbering.{map_condition, map_conditions, numbered_compare, numbered_side}
+use Rattle.catalog_core.specs.Positions.{map_condition, map_conditions, resolved_comparison, resolved_operand}
 use Rattle.catalog_core.specs.query.Selection.{value_position}
 use Rattle.catalog_core.specs.declared.condition.Comparand.{Comparand}
 use Rattle.catalog_core.specs.declared.condition.Comparand.TheVariants.{Position}
 use Rattle.catalog_core.specs.declared.condition.CompareValues.{CompareValues}
 use Rattle.catalog_core.specs.declared.flaw.Flaw.{Flaw}
-use Rattle.catalog_core.specs.declared.flaw.Flaw.TheVariants.{NoValue, Unknown}
+use Rattle.catalog_core.specs.declared.flaw.Flaw.TheVariants.{NotValueColumn, Unknown}
 use Rattle.catalog_core.specs.declared.table.TableDef.{TableDef}
 
 -- ---- conditions
@@ -86,7 +86,7 @@ sides_of flaw t c clean =
     let parts = or_parts (is_flawed_side flaw t c.left) (is_flawed_side flaw t c.right || is_of_two_kinds flaw t c) clean in
     (parts.0, (or_parts (is_flawed_side flaw t c.right) (is_of_two_kinds flaw t c) parts.1).0)
 
-pub column_positioned : (t : TableDef) (r : ColumnReference) → is_flawed_column Unknown t r ≡ false → is_flawed_column NoValue t r ≡ false → value_position t r.name ≡ None → ⊥
+pub column_positioned : (t : TableDef) (r : ColumnReference) → is_flawed_column Unknown t r ≡ false → is_flawed_column NotValueColumn t r ≡ false → value_position t r.name ≡ None → ⊥
 unfolding is_flawed_column
 column_positioned t r there value nowhere =
     placed_in t.name t r there value nowhere
@@ -98,7 +98,7 @@ placed_by place c = Some (place_compare place c)
 abbrev pub placed : TableDef → Compare → Option CompareValues
 placed t c = Some (placed_compare t c)
 
-side_placed : (t : TableDef) (side : Operand) → is_flawed_side Unknown t side ≡ false → is_flawed_side NoValue t side ≡ false → numbered_side t side ≡ Some (placed_side t side)
+side_placed : (t : TableDef) (side : Operand) → is_flawed_side Unknown t side ≡ false → is_flawed_side NotValueColumn t side ≡ false → resolved_operand t side ≡ Some (placed_side t side)
 side_placed t (operand.Column r) there value =
     (elim (value_position t r.name) as (λ o. value_position t r.name ≡ o → option_map (λ n. Position n) o ≡ Some (Position (or_zero o))) [
       | None ↦ (λ e. absurd (column_positioned t r there value e))
@@ -110,11 +110,11 @@ both : (left right : Option Comparand) (l r : Comparand) (comparison : Compariso
     → option_and_then (λ (x : Comparand). option_map (λ (y : Comparand). let c : CompareValues = record { left = x; comparison = comparison; right = y } in c) right) left ≡ Some (record { left = l; comparison = comparison; right = r })
 both left right l r comparison e f = rw (e, f) refl
 
-pub compare_placed : (t : TableDef) (c : Compare) → is_flawed_compare Unknown t c ≡ false → is_flawed_compare NoValue t c ≡ false → numbered_compare t c ≡ placed t c
+pub compare_placed : (t : TableDef) (c : Compare) → is_flawed_compare Unknown t c ≡ false → is_flawed_compare NotValueColumn t c ≡ false → resolved_comparison t c ≡ placed t c
 compare_placed t c there value =
     let unknown = sides_of Unknown t c there in
-    let other = sides_of NoValue t c value in
-    both (numbered_side t c.left) (numbered_side t c.right) (placed_side t c.left) (placed_side t c.right) c.comparison
+    let other = sides_of NotValueColumn t c value in
+    both (resolved_operand t c.left) (resolved_operand t c.right) (placed_side t c.left) (placed_side t c.right) c.comparison
     (side_placed t c.left unknown.0 other.0) (side_placed t c.right unknown.1 other.1)
 
 -- two ways to replace tests that agree on tests without three flaws
@@ -135,8 +135,8 @@ module _ {T R : Type 0} (p q r : T → Bool) (f g : T → R) (same : (x : T) →
         ap (λ (c : Condition R). more c (map_conditions f parts)) (agree part first.0 second.0 third.0) ∙ ap (λ (cs : Conditions R). more (map_condition g part) cs) (agree_each parts first.1 second.1 third.1)
 
 -- a sound condition by its positions
-pub condition_placed : (t : TableDef) (c : Condition Compare) → some_test (is_flawed_compare Unknown t) c ≡ false → some_test (is_flawed_compare NoValue t) c ≡ false → map_condition (numbered_compare t) c ≡ map_condition (placed t) c
-condition_placed t c there value = agree (is_flawed_compare Unknown t) (is_flawed_compare NoValue t) (is_flawed_compare NoValue t) (numbered_compare t) (placed t) (λ x h k l. compare_placed t x h k) c there value value
+pub condition_placed : (t : TableDef) (c : Condition Compare) → some_test (is_flawed_compare Unknown t) c ≡ false → some_test (is_flawed_compare NotValueColumn t) c ≡ false → map_condition (resolved_comparison t) c ≡ map_condition (placed t) c
+condition_placed t c there value = agree (is_flawed_compare Unknown t) (is_flawed_compare NotValueColumn t) (is_flawed_compare NotValueColumn t) (resolved_comparison t) (placed t) (λ x h k l. compare_placed t x h k) c there value value
 
 -- ---- loops over parts
 

@@ -15,7 +15,7 @@ use Rattle.catalog_core.specs.create.Definition.{Defines, column_parts, declared
 use Rattle.catalog_core.specs.table.Matches.{is_matching}
 use Rattle.catalog_core.specs.table.Naming.{Name, repeats}
 use Rattle.catalog_core.specs.table.TableWords.{def_matches, has_distinct_names}
-use Rattle.catalog_core.specs.declared.table.matching.Matching.TheVariants.{Several}
+use Rattle.catalog_core.specs.declared.table.match_counts.MatchCount.TheVariants.{Many}
 use Rattle.catalog_core.specs.declared.table.Column.{Column}
 use Rattle.catalog_core.specs.declared.table.ColumnKind.{ColumnKind}
 use Rattle.catalog_core.specs.declared.table.TableDef.{TableDef}
@@ -70,12 +70,12 @@ distinct_defined catalog c d single defines =
     let a = or_parts (columns || periods || keys) references single in
     let b = or_parts (columns || periods) keys a.0 in
     let e = or_parts columns periods b.0 in
-    let own : list_any (λ (x : ColumnElement). is_matching Several (own_matches c x.name)) c.columns ≡ false =
-    none_stronger (λ (x : ColumnElement). is_matching Several (own_matches c x.name)) (λ (x : ColumnElement). is_shared c x.name)
+    let own : list_any (λ (x : ColumnElement). is_matching Many (own_matches c x.name)) c.columns ≡ false =
+    none_stronger (λ (x : ColumnElement). is_matching Many (own_matches c x.name)) (λ (x : ColumnElement). is_shared c x.name)
     (λ x some. some_more (own_matches c x.name) (period_matches c x.name) some) c.columns e.0 in
-    let named : list_any (λ (x : Column). is_matching Several (def_matches d x.name)) d.columns ≡ false =
-    any_same (λ (x : Column). is_matching Several (def_matches d x.name)) (λ (x : Column). is_matching Several (own_matches c x.name))
-    (λ x. ap (is_matching Several) (sym (matches_same catalog c d x.name defines))) d.columns
-    ∙ sym (any_mapped (λ (name : Name). is_matching Several (own_matches c name)) c.columns d.columns defines.columns)
+    let named : list_any (λ (x : Column). is_matching Many (def_matches d x.name)) d.columns ≡ false =
+    any_same (λ (x : Column). is_matching Many (def_matches d x.name)) (λ (x : Column). is_matching Many (own_matches c x.name))
+    (λ x. ap (is_matching Many) (sym (matches_same catalog c d x.name defines))) d.columns
+    ∙ sym (any_mapped (λ (name : Name). is_matching Many (own_matches c name)) c.columns d.columns defines.columns)
     ∙ own in
     ap not named

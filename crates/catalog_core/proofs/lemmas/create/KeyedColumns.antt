@@ -11,10 +11,10 @@ use Rattle.catalog_core.proofs.lemmas.lists.AnyTests.{any_gives, any_weaker, or_
 use Rattle.catalog_core.proofs.lemmas.change.GivenValues.{any_counted}
 use Rattle.catalog_core.proofs.lemmas.create.Shape.{all_match}
 use Rattle.catalog_core.specs.create.Creation.{is_no_value_column, keys_period_column, own_matches, some_match, some_no_value}
-use Rattle.catalog_core.specs.create.Keyed.{is_keyed, some_keyed_no_value}
+use Rattle.catalog_core.specs.create.Keyed.{is_keyed, some_keyed_non_value_column}
 use Rattle.catalog_core.specs.table.Matches.{is_matching}
 use Rattle.catalog_core.specs.table.Naming.{Name}
-use Rattle.catalog_core.specs.declared.table.matching.Matching.TheVariants.{Nothing}
+use Rattle.catalog_core.specs.declared.table.match_counts.MatchCount.TheVariants.{Zero}
 use Rattle.catalog_core.specs.declared.table.TableDef.{TableDef}
 use Rattle.catalog_core.specs.table.Naming.{matches_among, some_match_among}
 
@@ -69,7 +69,7 @@ abbrev reference_names : ReferenceElement → List Name
 reference_names x = x.columns
 
 -- a column that a name matches passes what each of this name passes
-column_found : (c : CreateTable) (name : Name) (test : ColumnElement → Bool) → is_matching Nothing (own_matches c name) ≡ false
+column_found : (c : CreateTable) (name : Name) (test : ColumnElement → Bool) → is_matching Zero (own_matches c name) ≡ false
     → ((x : ColumnElement) → name ≡ x.name → test x ≡ true) → list_any test c.columns ≡ true
 unfolding matches_among is_matching
 column_found c name test matching passing =
@@ -82,20 +82,20 @@ both_ways false true there back = back refl
 both_ways false false there back = refl
 
 -- the name that was found, of the keys or of the references, is that of a column
-name_keyed : (c : CreateTable) (name : Name) → is_keyed c name ≡ true → is_no_value_column c name ≡ true → is_matching Nothing (own_matches c name) ≡ false → some_keyed_no_value c ≡ true
-unfolding some_keyed_no_value
+name_keyed : (c : CreateTable) (name : Name) → is_keyed c name ≡ true → is_no_value_column c name ≡ true → is_matching Zero (own_matches c name) ≡ false → some_keyed_non_value_column c ≡ true
+unfolding some_keyed_non_value_column
 name_keyed c name there other matching =
     column_found c name (λ (x : ColumnElement). is_keyed c x.name && is_no_value_column c x.name) matching
     (λ x same. rw (← same, there, other) refl)
 
-keyed_from : (catalog : List TableDef) (c : CreateTable) → some_match catalog c Nothing ≡ false → keys_period_column c ≡ true → some_keyed_no_value c ≡ true
+keyed_from : (catalog : List TableDef) (c : CreateTable) → some_match catalog c Zero ≡ false → keys_period_column c ≡ true → some_keyed_non_value_column c ≡ true
 unfolding keys_period_column some_no_value some_match_among is_keyed
 keyed_from catalog c matching some =
     let all = all_match catalog c matching in
     let other : Name → Bool = λ name. is_no_value_column c name in
-    let unmatched : Name → Bool = λ name. is_matching Nothing (own_matches c name) in
+    let unmatched : Name → Bool = λ name. is_matching Zero (own_matches c name) in
     (elim (list_any (λ (x : KeyElement). list_any other x.columns) c.keys) as (λ b. list_any (λ (x : KeyElement). list_any other x.columns) c.keys ≡ b
-    → (b || list_any (λ (x : ReferenceElement). list_any other x.columns) c.references) ≡ true → some_keyed_no_value c ≡ true) [
+    → (b || list_any (λ (x : ReferenceElement). list_any other x.columns) c.references) ≡ true → some_keyed_non_value_column c ≡ true) [
       | true ↦ (λ e s.
           let found = list_found key_names other unmatched c.keys e all.keys in
           name_keyed c found.name (rw found.there refl) found.passes found.fails)
@@ -114,10 +114,10 @@ keys_from c name there other =
       | false ↦ (λ e s. rw (list_passes reference_names test name c.references other s) (or_right (list_any (λ (x : KeyElement). list_any test x.columns) c.keys)))
     ]) refl there
 
-pub keyed_same : (catalog : List TableDef) (c : CreateTable) → some_match catalog c Nothing ≡ false → some_keyed_no_value c ≡ keys_period_column c
-unfolding some_keyed_no_value
+pub keyed_same : (catalog : List TableDef) (c : CreateTable) → some_match catalog c Zero ≡ false → some_keyed_non_value_column c ≡ keys_period_column c
+unfolding some_keyed_non_value_column
 keyed_same catalog c matching =
-    both_ways (some_keyed_no_value c) (keys_period_column c)
+    both_ways (some_keyed_non_value_column c) (keys_period_column c)
     (λ some. any_gives (λ (x : ColumnElement). is_keyed c x.name && is_no_value_column c x.name) (keys_period_column c)
     (λ x passing. let parts = and_parts (is_keyed c x.name) (is_no_value_column c x.name) passing in keys_from c x.name parts.0 parts.1) c.columns some)
     (keyed_from catalog c matching)

@@ -27,14 +27,14 @@ use Rattle.catalog_core.specs.create.Creation.{create_conditions, exceeds_limits
 use Rattle.catalog_core.specs.create.Definition.{Defines, column_parts, declared_column, declared_kind, declared_reference, reference_parts}
 use Rattle.catalog_core.specs.create.Lawful.{IsLawful}
 use Rattle.catalog_core.specs.create.PlacedTests.{are_value_places, has_system_columns, is_placed_reference, is_row_end, is_row_start, is_within_limits, passes_all}
-use Rattle.catalog_core.specs.Judged.{Holds}
+use Rattle.catalog_core.specs.RefusalConditions.{Holds}
 use Rattle.catalog_core.specs.table.IsDefinition.{is_reference}
 use Rattle.catalog_core.specs.table.Matches.{is_matching}
 use Rattle.catalog_core.specs.table.Naming.{Name, matches_among, repeats, some_match_among}
 use Rattle.catalog_core.specs.table.TableWords.{def_matches, has_date_period, has_distinct_names, is_date_column}
-use Rattle.catalog_core.specs.declared.table.matching.ColumnSort.TheVariants as sort
-use Rattle.catalog_core.specs.declared.table.matching.Matching.{Matching}
-use Rattle.catalog_core.specs.declared.table.matching.Matching.TheVariants.{Nothing, Several}
+use Rattle.catalog_core.specs.declared.table.match_counts.ColumnSort.TheVariants as sort
+use Rattle.catalog_core.specs.declared.table.match_counts.MatchCount.{MatchCount}
+use Rattle.catalog_core.specs.declared.table.match_counts.MatchCount.TheVariants.{Zero, Many}
 use Rattle.catalog_core.specs.declared.table.Column.{Column}
 use Rattle.catalog_core.specs.declared.table.ColumnKind.{ColumnKind}
 use Rattle.catalog_core.specs.declared.table.ColumnKind.TheVariants.{Integer, Varchar, Date, RowStart, RowEnd}
@@ -47,7 +47,7 @@ pub record Passed (tables : List TableDef) (d : TableDef) : Type 0 where
   pub limits : is_within_limits tables d ≡ true
   pub free : not (is_there tables d.name) ≡ true
   pub distinct : has_distinct_names d ≡ true
-  pub period : is_matching Nothing (def_matches d d.period.name) ≡ true
+  pub period : is_matching Zero (def_matches d d.period.name) ≡ true
   pub dated : has_date_period d ≡ true
   pub systems : has_system_columns d ≡ true
   pub key : are_value_places d d.key ≡ true
@@ -59,13 +59,13 @@ all_passed tables d all =
     let key : Bool = are_value_places d d.key && list_all (is_placed_reference tables d) d.references in
     let systems : Bool = has_system_columns d && key in
     let dated : Bool = has_date_period d && systems in
-    let period : Bool = is_matching Nothing (def_matches d d.period.name) && dated in
+    let period : Bool = is_matching Zero (def_matches d d.period.name) && dated in
     let distinct : Bool = has_distinct_names d && period in
     let free : Bool = not (is_there tables d.name) && distinct in
     let a = and_parts (is_within_limits tables d) free all in
     let b = and_parts (not (is_there tables d.name)) distinct a.1 in
     let e = and_parts (has_distinct_names d) period b.1 in
-    let f = and_parts (is_matching Nothing (def_matches d d.period.name)) dated e.1 in
+    let f = and_parts (is_matching Zero (def_matches d d.period.name)) dated e.1 in
     let g = and_parts (has_date_period d) systems f.1 in
     let h = and_parts (has_system_columns d) key g.1 in
     let k = and_parts (are_value_places d d.key) (list_all (is_placed_reference tables d) d.references) h.1 in
@@ -115,7 +115,7 @@ unfolding exceeds_limits
 limits_same tables d =
     rw (length-map d.columns spelled_column, length-map d.references (spelled_reference tables d (elements d))) refl
 
-matching : (tables : List TableDef) (d : TableDef) (w : Matching) → list_all has_distinct_names tables ≡ true → Passed tables d → some_match tables (create_of tables d) w ≡ false
+matching : (tables : List TableDef) (d : TableDef) (w : MatchCount) → list_all has_distinct_names tables ≡ true → Passed tables d → some_match tables (create_of tables d) w ≡ false
 unfolding some_match some_match_among
 matching tables d w distinct passed =
     let placed : IsPlaced d = record { distinct = passed.distinct; dated = passed.dated; systems = passed.systems } in
@@ -132,7 +132,7 @@ matching tables d w distinct passed =
 periods_there : (tables : List TableDef) (d : TableDef) → list_all has_distinct_names tables ≡ true → Passed tables d → lacks_period tables (create_of tables d) ≡ false
 unfolding lacks_period is_matching period_matches
 periods_there tables d distinct passed =
-    let own = each_reference tables d (λ (x : ReferenceElement). is_matching Nothing (period_matches (create_of tables d) x.period)) distinct passed (λ r s. s.period) in
+    let own = each_reference tables d (λ (x : ReferenceElement). is_matching Zero (period_matches (create_of tables d) x.period)) distinct passed (λ r s. s.period) in
     let other = each_reference tables d (λ (x : ReferenceElement). names_other_period tables x) distinct passed (λ r s. s.other) in
     rw (same_name d.period.name, own, other) refl
 
@@ -155,17 +155,17 @@ turned : (a b : Name) → bytes_eq a b ≡ false → bytes_eq b a ≡ false
 turned a b other = false_from_ne_true (bytes_eq b a) (λ e. false≢true (sym other ∙ (bytes_eq-Decides a b).1 (sym ((bytes_eq-Decides b a).0 e))))
 
 -- no column has the period's name
-period_apart : (tables : List TableDef) (d : TableDef) → is_matching Nothing (def_matches d d.period.name) ≡ true → def_matches d d.period.name ≡ 0
+period_apart : (tables : List TableDef) (d : TableDef) → is_matching Zero (def_matches d d.period.name) ≡ true → def_matches d d.period.name ≡ 0
 unfolding is_matching
 period_apart tables d e = eqb-true (def_matches d d.period.name) 0 e
 
-column_unshared : (tables : List TableDef) (d : TableDef) (x : Column) → is_matching Several (def_matches d x.name) ≡ false → bytes_eq d.period.name x.name ≡ false → is_shared (create_of tables d) x.name ≡ false
+column_unshared : (tables : List TableDef) (d : TableDef) (x : Column) → is_matching Many (def_matches d x.name) ≡ false → bytes_eq d.period.name x.name ≡ false → is_shared (create_of tables d) x.name ≡ false
 unfolding is_shared is_matching period_matches
 column_unshared tables d x once apart =
     rw (own_matched tables d x.name, turned d.period.name x.name apart)
     (let few = once in grind (arith, nat_tests))
 
-period_unshared : (tables : List TableDef) (d : TableDef) → is_matching Nothing (def_matches d d.period.name) ≡ true → is_shared (create_of tables d) d.period.name ≡ false
+period_unshared : (tables : List TableDef) (d : TableDef) → is_matching Zero (def_matches d d.period.name) ≡ true → is_shared (create_of tables d) d.period.name ≡ false
 unfolding is_shared is_matching period_matches
 period_unshared tables d none = rw (own_matched tables d d.period.name ∙ period_apart tables d none, same_name d.period.name) refl
 
@@ -177,8 +177,8 @@ unshared tables d distinct passed =
     let apart = none_counted (λ (x : Column). bytes_eq d.period.name x.name) d.columns (period_apart tables d passed.period) in
     let columns : list_any (λ (x : ColumnElement). is_shared (create_of tables d) x.name) (elements d) ≡ false =
     any_mapped (λ (x : ColumnElement). is_shared (create_of tables d) x.name) spelled_column d.columns
-    ∙ none_both (λ (x : Column). is_matching Several (def_matches d x.name)) (λ (x : Column). bytes_eq d.period.name x.name) (λ (x : Column). is_shared (create_of tables d) x.name)
-    (column_unshared tables d) d.columns (not-true (list_any (λ (x : Column). is_matching Several (def_matches d x.name)) d.columns) passed.distinct) apart in
+    ∙ none_both (λ (x : Column). is_matching Many (def_matches d x.name)) (λ (x : Column). bytes_eq d.period.name x.name) (λ (x : Column). is_shared (create_of tables d) x.name)
+    (column_unshared tables d) d.columns (not-true (list_any (λ (x : Column). is_matching Many (def_matches d x.name)) d.columns) passed.distinct) apart in
     let key = (values_named tables d d.key placed sounds.places passed.key).once in
     let references = each_reference tables d (λ (x : ReferenceElement). repeats x.columns || repeats x.parent_columns) distinct passed (λ r s. s.once) in
     rw (columns, period_unshared tables d passed.period, key, references) refl
@@ -228,9 +228,9 @@ none_applies tables d distinct passed =
       limits,
       free,
       parents,
-      matching tables d Nothing distinct passed,
+      matching tables d Zero distinct passed,
       periods_there tables d distinct passed,
-      matching tables d Several distinct passed,
+      matching tables d Many distinct passed,
       unshared tables d distinct passed,
       value_keys tables d distinct passed,
       good_definition tables d distinct passed,
@@ -305,7 +305,7 @@ references_passed tables d (r ∷ references) distinct placed fits parents once 
     (placed_from tables d r distinct placed fit.0 (record { parent = parent.0; once = single.0; value = value.0; key = key.0; kinds = kind.0; numbers = number }))
     (references_passed tables d references distinct placed fit.1 parent.1 single.1 value.1 key.1 kind.1 later)
 
-period_free : (tables : List TableDef) (d : TableDef) → is_shared (create_of tables d) d.period.name ≡ false → is_matching Nothing (def_matches d d.period.name) ≡ true
+period_free : (tables : List TableDef) (d : TableDef) → is_shared (create_of tables d) d.period.name ≡ false → is_matching Zero (def_matches d d.period.name) ≡ true
 unfolding is_shared is_matching period_matches
 period_free tables d unshared =
     let few : nat_lt 1 (def_matches d d.period.name + 1) ≡ false =

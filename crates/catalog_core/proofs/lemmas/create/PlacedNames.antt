@@ -17,8 +17,8 @@ use Rattle.catalog_core.specs.table.Kinds.{kind_of_column}
 use Rattle.catalog_core.specs.table.Matches.{is_matching}
 use Rattle.catalog_core.specs.table.Naming.{Name, find_among, matches_among, passes, place_among, repeats, some_match_among}
 use Rattle.catalog_core.specs.table.TableWords.{def_kind, def_matches, def_place, has_distinct_names, some_def_match}
-use Rattle.catalog_core.specs.declared.table.matching.Matching.{Matching}
-use Rattle.catalog_core.specs.declared.table.matching.Matching.TheVariants.{Nothing, Several}
+use Rattle.catalog_core.specs.declared.table.match_counts.MatchCount.{MatchCount}
+use Rattle.catalog_core.specs.declared.table.match_counts.MatchCount.TheVariants.{Zero, Many}
 use Rattle.catalog_core.specs.declared.table.Column.{Column}
 use Rattle.catalog_core.specs.declared.table.TableDef.{TableDef}
 
@@ -116,12 +116,12 @@ matched_once t i x distinct there =
     let counted = length-filter p t.columns in
     omega (arith, few, some, counted)
 
-matches_one : (w : Matching) (n : ℕ) → n ≡ 1 → is_matching w n ≡ false
+matches_one : (w : MatchCount) (n : ℕ) → n ≡ 1 → is_matching w n ≡ false
 unfolding is_matching
-matches_one Nothing n one = rw one refl
-matches_one Several n one = rw one refl
+matches_one Zero n one = rw one refl
+matches_one Many n one = rw one refl
 
-pub name_matches : (other : Name) (t : TableDef) (w : Matching) (i : ℕ) → has_distinct_names t ≡ true → nat_lt i (length t.columns) ≡ true
+pub name_matches : (other : Name) (t : TableDef) (w : MatchCount) (i : ℕ) → has_distinct_names t ≡ true → nat_lt i (length t.columns) ≡ true
     → is_matching w (def_matches t (named other t i)) ≡ false
 name_matches other t w i distinct here =
     let at = column_at t i here in
@@ -129,7 +129,7 @@ name_matches other t w i distinct here =
 
 -- ==== the names of several ====
 
-pub none_match : (other : Name) (t : TableDef) (w : Matching) (places : List ℕ) → has_distinct_names t ≡ true → are_places (length t.columns) places ≡ true
+pub none_match : (other : Name) (t : TableDef) (w : MatchCount) (places : List ℕ) → has_distinct_names t ≡ true → are_places (length t.columns) places ≡ true
     → some_def_match t w (map (named other t) places) ≡ false
 unfolding some_match_among
 none_match other t w places distinct within =

@@ -19,10 +19,10 @@ use Rattle.catalog_core.specs.create.Creation.{create_conditions, has_bad_system
 use Rattle.catalog_core.specs.create.Definition.{Defines, Numbers, declared_key, declared_period, declared_reference, reference_parts}
 use Rattle.catalog_core.specs.create.Lawful.{IsLawful}
 use Rattle.catalog_core.proofs.lemmas.create.Spelling.{create_of, create_with, name_of_sort, own_name, parent_name, reference_to, spelled_key, spelled_period, spelled_reference, spelled_system}
-use Rattle.catalog_core.specs.Judged.{Holds}
+use Rattle.catalog_core.specs.RefusalConditions.{Holds}
 use Rattle.catalog_core.specs.table.Naming.{Name, passes}
 use Rattle.catalog_core.specs.table.TableWords.{def_place, number_of, table_of, table_of_name}
-use Rattle.catalog_core.specs.declared.table.matching.ColumnSort.TheVariants.{RowStart, RowEnd}
+use Rattle.catalog_core.specs.declared.table.match_counts.ColumnSort.TheVariants.{RowStart, RowEnd}
 use Rattle.catalog_core.specs.declared.table.Column.{Column}
 use Rattle.catalog_core.specs.declared.table.Reference.{Reference}
 use Rattle.catalog_core.specs.declared.table.TableDef.{TableDef}

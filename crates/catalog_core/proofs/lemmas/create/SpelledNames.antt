@@ -21,9 +21,9 @@ use Rattle.catalog_core.specs.table.Kinds.{kind_of_column, kind_of_type, same_ki
 use Rattle.catalog_core.specs.table.Matches.{is_matching, is_of_sort}
 use Rattle.catalog_core.specs.table.Naming.{Name, find_among, matches_among, passes, place_among, repeats, some_match_among}
 use Rattle.catalog_core.specs.table.TableWords.{def_kind, def_matches, def_place, has_date_period, has_distinct_names, is_date_column, is_system, is_value_column}
-use Rattle.catalog_core.specs.declared.table.matching.ColumnSort.{ColumnSort}
-use Rattle.catalog_core.specs.declared.table.matching.ColumnSort.TheVariants as sort
-use Rattle.catalog_core.specs.declared.table.matching.Matching.{Matching}
+use Rattle.catalog_core.specs.declared.table.match_counts.ColumnSort.{ColumnSort}
+use Rattle.catalog_core.specs.declared.table.match_counts.ColumnSort.TheVariants as sort
+use Rattle.catalog_core.specs.declared.table.match_counts.MatchCount.{MatchCount}
 use Rattle.catalog_core.specs.declared.table.Column.{Column}
 use Rattle.catalog_core.specs.declared.table.ColumnKind.{ColumnKind}
 use Rattle.catalog_core.specs.declared.table.ColumnKind.TheVariants.{Integer, Varchar, Date, RowStart, RowEnd}
@@ -325,7 +325,7 @@ pub record OwnNames (tables : List TableDef) (d : TableDef) (places : List ℕ) 
   pub once : repeats (map (own_name d (elements d)) places) ≡ false
   pub value : some_no_value (create_of tables d) (map (own_name d (elements d)) places) ≡ false
 
-pub own_matching : (tables : List TableDef) (d : TableDef) (w : Matching) (places : List ℕ) → IsPlaced d → are_places (length d.columns) places ≡ true
+pub own_matching : (tables : List TableDef) (d : TableDef) (w : MatchCount) (places : List ℕ) → IsPlaced d → are_places (length d.columns) places ≡ true
     → some_own_match (create_of tables d) w (map (own_name d (elements d)) places) ≡ false
 unfolding some_match_among
 own_matching tables d w places placed within =
@@ -398,14 +398,14 @@ pub system_sorted : (tables : List TableDef) (d : TableDef) (wanted : ColumnSort
 system_sorted tables d wanted placed at =
     ap not (ap (has_sort (create_of tables d) wanted) (sort_name d wanted at) ∙ sort_of_named tables d wanted at.place at.column placed.distinct at.there ∙ at.sorted)
 
-pub system_matching : (tables : List TableDef) (d : TableDef) (w : Matching) (wanted : ColumnSort) → IsPlaced d → SortAt wanted d.columns
+pub system_matching : (tables : List TableDef) (d : TableDef) (w : MatchCount) (wanted : ColumnSort) → IsPlaced d → SortAt wanted d.columns
     → is_matching w (own_matches (create_of tables d) (name_of_sort wanted d.name (elements d))) ≡ false
 system_matching tables d w wanted placed at =
     ap (is_matching w) (own_matched tables d (name_of_sort wanted d.name (elements d)))
     ∙ ap (λ (n : Name). is_matching w (def_matches d n)) (sort_name d wanted at)
     ∙ name_matches d.name d w at.place placed.distinct (placed_within d.columns at.place at.column at.there)
 
-pub own_match : (tables : List TableDef) (d : TableDef) (w : Matching) (i : ℕ) → IsPlaced d → nat_lt i (length d.columns) ≡ true
+pub own_match : (tables : List TableDef) (d : TableDef) (w : MatchCount) (i : ℕ) → IsPlaced d → nat_lt i (length d.columns) ≡ true
     → is_matching w (own_matches (create_of tables d) (own_name d (elements d) i)) ≡ false
 own_match tables d w i placed here =
     ap (is_matching w) (own_matched tables d (own_name d (elements d) i))

@@ -20,7 +20,7 @@ use Rattle.catalog_core.proofs.lemmas.create.Spelling.{name_at, name_of_sort, na
 use Rattle.catalog_core.specs.table.Matches.{is_of_sort}
 use Rattle.catalog_core.specs.table.Naming.{Name, place_among}
 use Rattle.catalog_core.specs.table.TableWords.{number_of, table_of}
-use Rattle.catalog_core.specs.declared.table.matching.ColumnSort.{ColumnSort}
+use Rattle.catalog_core.specs.declared.table.match_counts.ColumnSort.{ColumnSort}
 use Rattle.catalog_core.specs.declared.table.Column.{Column}
 use Rattle.catalog_core.specs.declared.table.ColumnKind.{ColumnKind}
 use Rattle.catalog_core.specs.declared.table.ColumnKind.TheVariants.{Integer, Varchar, Date, RowStart, RowEnd}

@@ -19,8 +19,8 @@ use Rattle.catalog_core.specs.table.IsDefinition.{are_places, is_reference}
 use Rattle.catalog_core.specs.table.Matches.{is_matching}
 use Rattle.catalog_core.specs.table.Naming.{Name, passes, place_among, repeats}
 use Rattle.catalog_core.specs.table.TableWords.{def_kind, def_place, has_distinct_names, number_of, some_def_match, table_of, table_of_name}
-use Rattle.catalog_core.specs.declared.table.matching.Matching.{Matching}
-use Rattle.catalog_core.specs.declared.table.matching.Matching.TheVariants.{Nothing}
+use Rattle.catalog_core.specs.declared.table.match_counts.MatchCount.{MatchCount}
+use Rattle.catalog_core.specs.declared.table.match_counts.MatchCount.TheVariants.{Zero}
 use Rattle.catalog_core.specs.declared.table.Column.{Column}
 use Rattle.catalog_core.specs.declared.table.Reference.{Reference}
 use Rattle.catalog_core.specs.declared.table.TableDef.{TableDef}
@@ -65,9 +65,9 @@ spelled_to tables d t r there = ap (λ (o : Option TableDef). reference_to d (el
 -- none holds
 pub record IsSoundReference (tables : List TableDef) (d : TableDef) (x : ReferenceElement) (r : Reference) : Type 0 where
   pub parent : is_none (parent_of tables x) ≡ false
-  pub own : (w : Matching) → some_own_match (create_of tables d) w x.columns ≡ false
-  pub keys : (w : Matching) → some_parent_match tables w x ≡ false
-  pub period : is_matching Nothing (period_matches (create_of tables d) x.period) ≡ false
+  pub own : (w : MatchCount) → some_own_match (create_of tables d) w x.columns ≡ false
+  pub keys : (w : MatchCount) → some_parent_match tables w x ≡ false
+  pub period : is_matching Zero (period_matches (create_of tables d) x.period) ≡ false
   pub other : names_other_period tables x ≡ false
   pub once : (repeats x.columns || repeats x.parent_columns) ≡ false
   pub value : some_no_value (create_of tables d) x.columns ≡ false
@@ -90,7 +90,7 @@ kinds_same tables d t (i ∷ own) (k ∷ keys) placed distinct first second =
     let other : def_kind t (named d.name t k) ≡ kind_at t k = kind_named d.name t k distinct right.0 in
     rw (mine, other, kinds_same tables d t own keys placed distinct left.1 right.1) refl
 
-one_period : (tables : List TableDef) (d : TableDef) → is_matching Nothing (period_matches (create_of tables d) d.period.name) ≡ false
+one_period : (tables : List TableDef) (d : TableDef) → is_matching Zero (period_matches (create_of tables d) d.period.name) ≡ false
 unfolding is_matching period_matches
 one_period tables d = rw (same_name d.period.name) refl
 

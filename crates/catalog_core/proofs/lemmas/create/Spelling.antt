@@ -15,8 +15,8 @@ use Rattle.sql_statements.specs.declared.create.ReferenceElement.{ReferenceEleme
 use Rattle.catalog_core.specs.table.Matches.{is_of_sort}
 use Rattle.catalog_core.specs.table.Naming.{Name}
 use Rattle.catalog_core.specs.table.TableWords.{table_of}
-use Rattle.catalog_core.specs.declared.table.matching.ColumnSort.{ColumnSort}
-use Rattle.catalog_core.specs.declared.table.matching.ColumnSort.TheVariants as sort
+use Rattle.catalog_core.specs.declared.table.match_counts.ColumnSort.{ColumnSort}
+use Rattle.catalog_core.specs.declared.table.match_counts.ColumnSort.TheVariants as sort
 use Rattle.catalog_core.specs.declared.table.Column.{Column}
 use Rattle.catalog_core.specs.declared.table.ColumnKind.{ColumnKind}
 use Rattle.catalog_core.specs.declared.table.ColumnKind.TheVariants.{Integer, Varchar, Date}

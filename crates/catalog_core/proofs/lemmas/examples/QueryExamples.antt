@@ -14,7 +14,7 @@ use Rattle.sql_statements.specs.declared.statement.SelectItem.{SelectItem}
 use Rattle.sql_statements.specs.declared.statement.TableReference.{TableReference}
 use Rattle.sql_statements.specs.declared.tree.SetOperator.TheVariants.{Union, Except}
 use Rattle.catalog_core.proofs.lemmas.examples.Tables.{dep}
-use Rattle.catalog_core.specs.Judged.{first_holding}
+use Rattle.catalog_core.specs.RefusalConditions.{first_holding}
 use Rattle.catalog_core.specs.table.Kinds.{differ, kind_of_column, same_kind}
 use Rattle.catalog_core.specs.table.Matches.{is_matching}
 use Rattle.catalog_core.specs.table.Naming.{Name, matches_among, repeats}

@@ -21,7 +21,7 @@ use Rattle.sql_statements.specs.declared.statement.StoredTest.TheVariants as ask
 use Rattle.catalog_core.proofs.lemmas.examples.Tables.{dep}
 use Rattle.catalog_core.specs.Conditions.{is_satisfied}
 use Rattle.catalog_core.specs.Flaws.{is_flawed_column, is_flawed_compare, is_flawed_period, is_flawed_test}
-use Rattle.catalog_core.specs.Judged.{first_holding}
+use Rattle.catalog_core.specs.RefusalConditions.{first_holding}
 use Rattle.catalog_core.specs.change.PortionChanges.{lacks_named}
 use Rattle.catalog_core.specs.stored.StoredAnswers.{is_shown, passes_test}
 use Rattle.catalog_core.specs.stored.StoredQueries.{is_flawed_stored, stored_query_conditions}

@@ -15,12 +15,12 @@ use Rattle.sql_statements.specs.declared.statement.Portion.{Portion}
 use Rattle.catalog_core.proofs.lemmas.examples.Tables.{dep}
 use Rattle.catalog_core.specs.Flaws.{is_flawed_column, is_flawed_compare, is_flawed_portion, is_flawed_set, is_set_again, sets_twice}
 use Rattle.catalog_core.specs.change.Insertion.{is_longer, is_of_other_kind, is_too_long}
-use Rattle.catalog_core.specs.Judged.{first_holding}
+use Rattle.catalog_core.specs.RefusalConditions.{first_holding}
 use Rattle.catalog_core.specs.table.Kinds.{kind_of_column, same_kind, differ}
 use Rattle.catalog_core.specs.table.Matches.{is_matching}
 use Rattle.catalog_core.specs.table.Naming.{Name, find_among, matches_among}
 use Rattle.catalog_core.specs.change.PortionChanges.{is_flawed_update, lacks_named, update_conditions}
-use Rattle.catalog_core.specs.query.Selection.{names_no_value}
+use Rattle.catalog_core.specs.query.Selection.{names_non_value_column}
 use Rattle.catalog_core.specs.table.TableWords.{def_kind, is_value_column, number_of, table_of_name}
 
 abbrev set : Name → Value → Assignment
@@ -50,7 +50,7 @@ record Updates : Type 0 where
   other_qualifier : refusal (of_dep (named ∷ []) (Some (negated (equal (Some (codes "D")) (codes "DNO") (Int (pos 5)))))) ≡ Some UnknownColumn
 
 updates : Updates
-unfolding is_flawed_column is_flawed_compare is_flawed_portion is_flawed_set is_set_again sets_twice is_longer is_of_other_kind is_too_long kind_of_column same_kind differ is_matching is_flawed_update lacks_named names_no_value def_kind find_among matches_among is_value_column number_of table_of_name chars
+unfolding is_flawed_column is_flawed_compare is_flawed_portion is_flawed_set is_set_again sets_twice is_longer is_of_other_kind is_too_long kind_of_column same_kind differ is_matching is_flawed_update lacks_named names_non_value_column def_kind find_among matches_among is_value_column number_of table_of_name chars
 updates = record {
   accepted = refl;
   other_qualifier = refl;

@@ -15,7 +15,7 @@ use Rattle.sql_statements.specs.declared.tree.QueryTree as code
 use Rattle.catalog_core.proofs.lemmas.judged.Sound.{are_false}
 use Rattle.catalog_core.proofs.lemmas.query.QueryWalks.{Step, Written}
 use Rattle.catalog_core.proofs.lemmas.query.ValuePlaces.{drop_at, drop_past}
-use Rattle.catalog_core.specs.Judged.{Holds}
+use Rattle.catalog_core.specs.RefusalConditions.{Holds}
 use Rattle.catalog_core.specs.Limits.{most_operators}
 use Rattle.catalog_core.specs.query.Places.{is_refused, table_count}
 use Rattle.catalog_core.specs.query.Queries.{Query, both}
@@ -24,7 +24,7 @@ use Rattle.catalog_core.specs.query.Refusals.{is_too_long, lacks_table, names_pe
 use Rattle.catalog_core.specs.query.Resolving.{ResolvesSteps, ResolvesTree}
 use Rattle.catalog_core.specs.query.Scopes.{tables_of}
 use Rattle.catalog_core.specs.declared.table.TableDef.{TableDef}
-use Rattle.catalog_core.specs.declared.table.matching.Matching.TheVariants.{Nothing}
+use Rattle.catalog_core.specs.declared.table.match_counts.MatchCount.TheVariants.{Zero}
 
 -- ---- what is left of the steps
 
@@ -76,12 +76,12 @@ module _ (catalog : List TableDef) where
       ∙ sym (ap (λ (ss : Steps). list_any p (selects_among ss)) (rest_at steps i s here item)) ∙ sound)
 
   pub sound_one : (query : Written) (s : SelectDistinct) → query ≡ code.Select s → list_any (is_refused catalog) (selects_of (plain_query query)) ≡ false
-      → (lacks_table catalog (plain_select s) ≡ false) × (some_column_matches Nothing catalog (plain_select s) ≡ false) × (names_period catalog (plain_select s) ≡ false)
+      → (lacks_table catalog (plain_select s) ≡ false) × (some_column_matches Zero catalog (plain_select s) ≡ false) × (names_period catalog (plain_select s) ≡ false)
   sound_one query s is sound =
       let p : Select → Bool = is_refused catalog in
       let one = or_parts (p (plain_select s)) false (sym (ap (λ (w : written.Query). list_any p (selects_of w)) (ap plain_query is ∙ simple_view s)) ∙ sound) in
       let first = or_parts (lacks_table catalog (plain_select s)) _ one.0 in
-      let second = or_parts (some_column_matches Nothing catalog (plain_select s)) (names_period catalog (plain_select s)) first.1 in
+      let second = or_parts (some_column_matches Zero catalog (plain_select s)) (names_period catalog (plain_select s)) first.1 in
       (first.0, second.0, second.1)
 
 -- ---- how many tables
@@ -143,7 +143,7 @@ any_three p q r (s ∷ ss) h k l =
 pub nothing_refused : (catalog : List TableDef) (query : written.Query) → NoneApplies (Holds (refusals_of catalog query)) → list_any (is_refused catalog) (selects_of query) ≡ false
 nothing_refused catalog query none =
     let tests = are_false (refusals_of catalog query) none in
-    any_three (lacks_table catalog) (some_column_matches Nothing catalog) (names_period catalog) (selects_of query) tests.1.0 tests.1.1.0 tests.1.1.1.1.1.0
+    any_three (lacks_table catalog) (some_column_matches Zero catalog) (names_period catalog) (selects_of query) tests.1.0 tests.1.1.0 tests.1.1.1.1.1.0
 
 pub few_references : (catalog : List TableDef) (query : written.Query) → NoneApplies (Holds (refusals_of catalog query)) → 0 + table_count (selects_of query) < 1000
 few_references catalog query none =

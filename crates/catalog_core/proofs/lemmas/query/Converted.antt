@@ -21,7 +21,7 @@ use Rattle.catalog_core.proofs.lemmas.query.FaultParts.{column_asked, side_holds
 use Rattle.catalog_core.proofs.lemmas.query.ReferenceLists.{front_tables, join_tables, join_tables_more}
 use Rattle.catalog_core.proofs.lemmas.query.ScopeFaults.{conditions_push, joined_scope}
 use Rattle.catalog_core.proofs.lemmas.query.ValuePlaces.{some_value}
-use Rattle.catalog_core.specs.Numbering.{compare_by, map_condition, map_conditions, side_by}
+use Rattle.catalog_core.specs.Positions.{compare_by, map_condition, map_conditions, side_by}
 use Rattle.catalog_core.specs.Placing.{or_zero, place_compare, place_side}
 use Rattle.catalog_core.specs.query.Faults.{matches_among}
 use Rattle.catalog_core.specs.query.Places.{place_among, placed_item, placed_members, scope_place, scoped_members}
@@ -31,7 +31,7 @@ use Rattle.catalog_core.specs.query.Scopes.{Scope, ScopedCondition, SeenColumn, 
 use Rattle.catalog_core.specs.table.Naming.{Name}
 use Rattle.catalog_core.specs.declared.condition.CompareValues.{CompareValues}
 use Rattle.catalog_core.specs.declared.table.TableDef.{TableDef}
-use Rattle.catalog_core.specs.declared.table.matching.Matching.TheVariants.{Nothing}
+use Rattle.catalog_core.specs.declared.table.match_counts.MatchCount.TheVariants.{Zero}
 
 -- ---- loops
 
@@ -111,7 +111,7 @@ module _ (catalog : List TableDef) where
 -- ---- where no name is wrong
 
 module _ (catalog : List TableDef) (scope : Scope) where
-  pub position_there : (r : ColumnReference) → are_matching Nothing (matches_of catalog scope r) ≡ false → are_of_period (matches_of catalog scope r) ≡ false
+  pub position_there : (r : ColumnReference) → are_matching Zero (matches_of catalog scope r) ≡ false → are_of_period (matches_of catalog scope r) ≡ false
       → column_position catalog scope r ≡ Some (scope_place catalog scope r)
   position_there r some values =
       let before : ℕ = length (seen_values catalog scope.before) in
@@ -121,12 +121,12 @@ module _ (catalog : List TableDef) (scope : Scope) where
       ]) refl
 
   abbrev unknown : Compare → Bool
-  unknown t = test_holds (are_matching Nothing) (λ other. false) (seen_columns catalog scope.seen) t
+  unknown t = test_holds (are_matching Zero) (λ other. false) (seen_columns catalog scope.seen) t
 
   abbrev hidden : Compare → Bool
   hidden t = test_holds are_of_period (λ other. false) (seen_columns catalog scope.seen) t
 
-  side_there : (side : Operand) → side_holds (are_matching Nothing) (seen_columns catalog scope.seen) side ≡ false → side_holds are_of_period (seen_columns catalog scope.seen) side ≡ false
+  side_there : (side : Operand) → side_holds (are_matching Zero) (seen_columns catalog scope.seen) side ≡ false → side_holds are_of_period (seen_columns catalog scope.seen) side ≡ false
       → side_by (column_position catalog scope) side ≡ Some (place_side (scope_place catalog scope) side)
   side_there (operand.Column r) some values = rw (position_there r some values) refl
   side_there (operand.Literal value) some values = refl
@@ -134,7 +134,7 @@ module _ (catalog : List TableDef) (scope : Scope) where
   test_there : (t : Compare) → unknown t ≡ false → hidden t ≡ false → compare_by (column_position catalog scope) t ≡ Some (place_compare (scope_place catalog scope) t)
   test_there t some values =
       let cols : List SeenColumn = seen_columns catalog scope.seen in
-      let named = or_parts (side_holds (are_matching Nothing) cols t.left) (side_holds (are_matching Nothing) cols t.right) (or_parts (side_holds (are_matching Nothing) cols t.left || side_holds (are_matching Nothing) cols t.right) false some).0 in
+      let named = or_parts (side_holds (are_matching Zero) cols t.left) (side_holds (are_matching Zero) cols t.right) (or_parts (side_holds (are_matching Zero) cols t.left || side_holds (are_matching Zero) cols t.right) false some).0 in
       let valued = or_parts (side_holds are_of_period cols t.left) (side_holds are_of_period cols t.right) (or_parts (side_holds are_of_period cols t.left || side_holds are_of_period cols t.right) false values).0 in
       rw (side_there t.left named.0 valued.0, side_there t.right named.1 valued.1) refl
 
@@ -180,37 +180,37 @@ module _ (catalog : List TableDef) where
   abbrev some_test : (List SeenColumn → Bool) → ScopedCondition → Bool
   some_test κ c = list_any (test_holds κ (λ other. false) (seen_columns catalog c.0.seen)) (tests_of c.1)
 
-  conjuncts_agree : (cs : List ScopedCondition) → list_any (some_test (are_matching Nothing)) cs ≡ false → list_any (some_test are_of_period) cs ≡ false → flat_map (written_members catalog) cs ≡ flat_map (scoped_members catalog) cs
+  conjuncts_agree : (cs : List ScopedCondition) → list_any (some_test (are_matching Zero)) cs ≡ false → list_any (some_test are_of_period) cs ≡ false → flat_map (written_members catalog) cs ≡ flat_map (scoped_members catalog) cs
   conjuncts_agree [] h k = refl
   conjuncts_agree (c ∷ cs) h k =
-      let first = or_parts (some_test (are_matching Nothing) c) (list_any (some_test (are_matching Nothing)) cs) h in
+      let first = or_parts (some_test (are_matching Zero) c) (list_any (some_test (are_matching Zero)) cs) h in
       let second = or_parts (some_test are_of_period c) (list_any (some_test are_of_period) cs) k in
       ap (λ (ps : List Placed). ps ++ flat_map (written_members catalog) cs) (members_agree catalog c.0 c.1 first.0 second.0)
       ∙ ap (λ (ps : List Placed). scoped_members catalog c ++ ps) (conjuncts_agree cs first.1 second.1)
 
   items_agree : (s : Select) (items : List SelectItem)
-      → list_any (λ (item : SelectItem). are_matching Nothing (matches_among (seen_columns catalog (tables_of s)) item.column)) items ≡ false
+      → list_any (λ (item : SelectItem). are_matching Zero (matches_among (seen_columns catalog (tables_of s)) item.column)) items ≡ false
       → list_any (λ (item : SelectItem). are_of_period (matches_among (seen_columns catalog (tables_of s)) item.column)) items ≡ false
       → map (written_item catalog s) items ≡ map (placed_item (scope_place catalog (whole_scope s))) items
   items_agree s [] h k = refl
   items_agree s (item ∷ items) h k =
-      let f : SelectItem → Bool = λ x. are_matching Nothing (matches_among (seen_columns catalog (tables_of s)) x.column) in
+      let f : SelectItem → Bool = λ x. are_matching Zero (matches_among (seen_columns catalog (tables_of s)) x.column) in
       let g : SelectItem → Bool = λ x. are_of_period (matches_among (seen_columns catalog (tables_of s)) x.column) in
       let first = or_parts (f item) (list_any f items) h in
       let second = or_parts (g item) (list_any g items) k in
       ap (λ (o : Option ℕ). (o, name_or item.new_name item.column.name) ∷ map (written_item catalog s) items) (position_there catalog (whole_scope s) item.column first.0 second.0)
       ∙ ap (λ (ps : List (Option ℕ × Name)). placed_item (scope_place catalog (whole_scope s)) item ∷ ps) (items_agree s items first.1 second.1)
 
-  pub accepted_conjuncts : (s : Select) → some_column_matches Nothing catalog s ≡ false → names_period catalog s ≡ false → written_conjuncts catalog s ≡ flat_map (scoped_members catalog) (conditions_in s)
+  pub accepted_conjuncts : (s : Select) → some_column_matches Zero catalog s ≡ false → names_period catalog s ≡ false → written_conjuncts catalog s ≡ flat_map (scoped_members catalog) (conditions_in s)
   unfolding some_column_matches names_period
   accepted_conjuncts s named values =
-      let first = or_parts (list_any (some_test (are_matching Nothing)) (conditions_in s)) _ (sym (column_asked (are_matching Nothing) catalog s) ∙ named) in
+      let first = or_parts (list_any (some_test (are_matching Zero)) (conditions_in s)) _ (sym (column_asked (are_matching Zero) catalog s) ∙ named) in
       let second = or_parts (list_any (some_test are_of_period) (conditions_in s)) _ (sym (column_asked are_of_period catalog s) ∙ values) in
       conjuncts_agree (conditions_in s) first.0 second.0
 
-  pub accepted_items : (s : Select) → some_column_matches Nothing catalog s ≡ false → names_period catalog s ≡ false → map (written_item catalog s) s.items ≡ map (placed_item (scope_place catalog (whole_scope s))) s.items
+  pub accepted_items : (s : Select) → some_column_matches Zero catalog s ≡ false → names_period catalog s ≡ false → map (written_item catalog s) s.items ≡ map (placed_item (scope_place catalog (whole_scope s))) s.items
   unfolding some_column_matches names_period
   accepted_items s named values =
-      let first = or_parts (list_any (some_test (are_matching Nothing)) (conditions_in s)) _ (sym (column_asked (are_matching Nothing) catalog s) ∙ named) in
+      let first = or_parts (list_any (some_test (are_matching Zero)) (conditions_in s)) _ (sym (column_asked (are_matching Zero) catalog s) ∙ named) in
       let second = or_parts (list_any (some_test are_of_period) (conditions_in s)) _ (sym (column_asked are_of_period catalog s) ∙ values) in
       items_agree s s.items first.1 second.1

@@ -18,7 +18,7 @@ use Rattle.catalog_core.specs.query.Scopes.{Scope, ScopedCondition, SeenColumn, 
 use Rattle.catalog_core.specs.table.Kinds.{differ}
 use Rattle.catalog_core.specs.declared.query.faults.Faults.{Faults}
 use Rattle.catalog_core.specs.declared.table.TableDef.{TableDef}
-use Rattle.catalog_core.specs.declared.table.matching.Matching.TheVariants.{Nothing, Several}
+use Rattle.catalog_core.specs.declared.table.match_counts.MatchCount.TheVariants.{Zero, Many}
 
 pub or_none : (a : Bool) → (a || false) ≡ a
 or_none true = refl
@@ -187,11 +187,11 @@ told_count : Told (λ f. f.count) (λ matches. false) (λ other. false)
 unfolding match_faults
 told_count = record { parts = record { none = refl; both = λ f g. refl }; names = λ matches. refl; kinds = λ other. refl }
 
-told_unknown : Told (λ f. f.unknown) (are_matching Nothing) (λ other. false)
+told_unknown : Told (λ f. f.unknown) (are_matching Zero) (λ other. false)
 unfolding match_faults
 told_unknown = record { parts = record { none = refl; both = λ f g. refl }; names = λ matches. refl; kinds = λ other. refl }
 
-told_ambiguous : Told (λ f. f.ambiguous) (are_matching Several) (λ other. false)
+told_ambiguous : Told (λ f. f.ambiguous) (are_matching Many) (λ other. false)
 unfolding match_faults
 told_ambiguous = record { parts = record { none = refl; both = λ f g. refl }; names = λ matches. refl; kinds = λ other. refl }
 
@@ -214,13 +214,13 @@ twice_is catalog s = of_tables (λ f. f.twice) told_twice catalog s
 pub count_is : (catalog : List TableDef) (s : Select) → (select_faults catalog s).count ≡ false
 count_is catalog s = of_tables (λ f. f.count) told_count catalog s
 
-pub unknown_is : (catalog : List TableDef) (s : Select) → (select_faults catalog s).unknown ≡ some_column_matches Nothing catalog s
+pub unknown_is : (catalog : List TableDef) (s : Select) → (select_faults catalog s).unknown ≡ some_column_matches Zero catalog s
 unfolding some_column_matches
-unknown_is catalog s = of_names (λ f. f.unknown) (are_matching Nothing) told_unknown catalog s refl
+unknown_is catalog s = of_names (λ f. f.unknown) (are_matching Zero) told_unknown catalog s refl
 
-pub ambiguous_is : (catalog : List TableDef) (s : Select) → (select_faults catalog s).ambiguous ≡ some_column_matches Several catalog s
+pub ambiguous_is : (catalog : List TableDef) (s : Select) → (select_faults catalog s).ambiguous ≡ some_column_matches Many catalog s
 unfolding some_column_matches
-ambiguous_is catalog s = of_names (λ f. f.ambiguous) (are_matching Several) told_ambiguous catalog s refl
+ambiguous_is catalog s = of_names (λ f. f.ambiguous) (are_matching Many) told_ambiguous catalog s refl
 
 pub period_is : (catalog : List TableDef) (s : Select) → (select_faults catalog s).period ≡ names_period catalog s
 unfolding names_period

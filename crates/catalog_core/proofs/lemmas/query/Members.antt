@@ -7,7 +7,7 @@ use Rattle.sql_statements.specs.Trees.{Condition, any, conditions_of, more}
 use Rattle.sql_statements.specs.declared.tree.Tree as code
 use Rattle.catalog_core.proofs.lemmas.conditions.Truth.{and_view, not_view, or_view, test_view}
 use Rattle.catalog_core.proofs.lemmas.conditions.Numbers.{mapped}
-use Rattle.catalog_core.specs.Numbering.{map_condition}
+use Rattle.catalog_core.specs.Positions.{map_condition}
 use Rattle.catalog_core.specs.query.Resolving.{Placed, conjunct_parts, list_of, members}
 use Rattle.catalog_core.specs.declared.condition.CompareValues.{CompareValues}
 use Rattle.sql_statements.specs.declared.statement.Compare.{Compare}

@@ -12,15 +12,15 @@ use Rattle.catalog_core.proofs.lemmas.judged.Least.{Ascending, first_least, none
 use Rattle.catalog_core.proofs.lemmas.lists.AnyTests.{any_same}
 use Rattle.catalog_core.proofs.lemmas.query.FaultParts.{ambiguous_is, any_false, count_is, kinds_is, or_none, period_is, table_is, twice_is, unknown_is}
 use Rattle.catalog_core.proofs.lemmas.query.FaultSums.{IsPart, part_among}
-use Rattle.catalog_core.specs.Judged.{Holds, first_holding}
+use Rattle.catalog_core.specs.RefusalConditions.{Holds, first_holding}
 use Rattle.catalog_core.specs.Limits.{most_operators}
-use Rattle.catalog_core.specs.query.Faults.{faults_among, judged_faults, match_kind, matches_among, operand_faults, query_faults, select_faults, side_kinds}
+use Rattle.catalog_core.specs.query.Faults.{faults_among, fault_conditions, match_kind, matches_among, operand_faults, query_faults, select_faults, side_kinds}
 use Rattle.catalog_core.specs.query.QueryParts.{operator_count, selects_of, sides_of}
 use Rattle.catalog_core.specs.query.Refusals.{compares_kinds, have_other_count, have_other_kinds, is_too_long, lacks_table, names_period, names_twice, refusals_of, some_column_matches}
 use Rattle.catalog_core.specs.query.Scopes.{seen_columns, tables_of}
 use Rattle.catalog_core.specs.declared.query.faults.Faults.{Faults}
 use Rattle.catalog_core.specs.declared.table.TableDef.{TableDef}
-use Rattle.catalog_core.specs.declared.table.matching.Matching.TheVariants.{Nothing, Several}
+use Rattle.catalog_core.specs.declared.table.match_counts.MatchCount.TheVariants.{Zero, Many}
 
 -- above a limit
 abbrev pub above : Query → Bool
@@ -68,14 +68,14 @@ others_is catalog (left, right) = refl
 
 -- ---- the whole
 
-pub refusals_are : (catalog : List TableDef) (query : Query) → refusals_of catalog query ≡ (LimitReached, above query) ∷ judged_faults (query_faults catalog query)
+pub refusals_are : (catalog : List TableDef) (query : Query) → refusals_of catalog query ≡ (LimitReached, above query) ∷ fault_conditions (query_faults catalog query)
 refusals_are catalog query =
     let table : (query_faults catalog query).table ≡ list_any (lacks_table catalog) (selects_of query) =
     by_selects (λ f. f.table) (record { none = refl; both = λ f g. refl }) catalog query (lacks_table catalog) (table_is catalog) (λ sides. refl) in
-    let unknown : (query_faults catalog query).unknown ≡ list_any (some_column_matches Nothing catalog) (selects_of query) =
-    by_selects (λ f. f.unknown) (record { none = refl; both = λ f g. refl }) catalog query (some_column_matches Nothing catalog) (unknown_is catalog) (λ sides. refl) in
-    let ambiguous : (query_faults catalog query).ambiguous ≡ list_any (some_column_matches Several catalog) (selects_of query) =
-    by_selects (λ f. f.ambiguous) (record { none = refl; both = λ f g. refl }) catalog query (some_column_matches Several catalog) (ambiguous_is catalog) (λ sides. refl) in
+    let unknown : (query_faults catalog query).unknown ≡ list_any (some_column_matches Zero catalog) (selects_of query) =
+    by_selects (λ f. f.unknown) (record { none = refl; both = λ f g. refl }) catalog query (some_column_matches Zero catalog) (unknown_is catalog) (λ sides. refl) in
+    let ambiguous : (query_faults catalog query).ambiguous ≡ list_any (some_column_matches Many catalog) (selects_of query) =
+    by_selects (λ f. f.ambiguous) (record { none = refl; both = λ f g. refl }) catalog query (some_column_matches Many catalog) (ambiguous_is catalog) (λ sides. refl) in
     let twice : (query_faults catalog query).twice ≡ list_any names_twice (selects_of query) =
     by_selects (λ f. f.twice) (record { none = refl; both = λ f g. refl }) catalog query names_twice (twice_is catalog) (λ sides. refl) in
     let period : (query_faults catalog query).period ≡ list_any (names_period catalog) (selects_of query) =
@@ -92,19 +92,19 @@ ascending catalog query = (lit≤ tt, (lit≤ tt, (lit≤ tt, (lit≤ tt, (lit�
 pub least_limit : (catalog : List TableDef) (query : Query) → above query ≡ true → IsLeast (Holds (refusals_of catalog query)) LimitReached
 least_limit catalog query many = first_least (refusals_of catalog query) LimitReached (ascending catalog query) (rw many refl)
 
-behind_limit : (catalog : List TableDef) (query : Query) → above query ≡ false → first_holding (refusals_of catalog query) ≡ first_holding (judged_faults (query_faults catalog query))
+behind_limit : (catalog : List TableDef) (query : Query) → above query ≡ false → first_holding (refusals_of catalog query) ≡ first_holding (fault_conditions (query_faults catalog query))
 behind_limit catalog query few =
-    ap first_holding (refusals_are catalog query) ∙ ap (λ b. first_holding ((LimitReached, b) ∷ judged_faults (query_faults catalog query))) few
+    ap first_holding (refusals_are catalog query) ∙ ap (λ b. first_holding ((LimitReached, b) ∷ fault_conditions (query_faults catalog query))) few
 
-pub least_fault : (catalog : List TableDef) (query : Query) (refusal : Refusal) → above query ≡ false → first_holding (judged_faults (query_faults catalog query)) ≡ Some refusal
+pub least_fault : (catalog : List TableDef) (query : Query) (refusal : Refusal) → above query ≡ false → first_holding (fault_conditions (query_faults catalog query)) ≡ Some refusal
     → IsLeast (Holds (refusals_of catalog query)) refusal
 least_fault catalog query refusal few first = first_least (refusals_of catalog query) refusal (ascending catalog query) (behind_limit catalog query few ∙ first)
 
-pub no_fault : (catalog : List TableDef) (query : Query) → above query ≡ false → first_holding (judged_faults (query_faults catalog query)) ≡ None → NoneApplies (Holds (refusals_of catalog query))
+pub no_fault : (catalog : List TableDef) (query : Query) → above query ≡ false → first_holding (fault_conditions (query_faults catalog query)) ≡ None → NoneApplies (Holds (refusals_of catalog query))
 no_fault catalog query few first = none_first (refusals_of catalog query) (ascending catalog query) (behind_limit catalog query few ∙ first)
 
 -- what the first fault says
-pub fault_says : (catalog : List TableDef) (query : Query) (found : Option Refusal) → above query ≡ false → found ≡ first_holding (judged_faults (query_faults catalog query))
+pub fault_says : (catalog : List TableDef) (query : Query) (found : Option Refusal) → above query ≡ false → found ≡ first_holding (fault_conditions (query_faults catalog query))
     → MatchOption found (NoneApplies (Holds (refusals_of catalog query))) (IsLeast (Holds (refusals_of catalog query)))
 fault_says catalog query None few first = no_fault catalog query few (sym first)
 fault_says catalog query (Some refusal) few first = least_fault catalog query refusal few (sym first)

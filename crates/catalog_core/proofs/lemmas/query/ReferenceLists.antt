@@ -20,7 +20,7 @@ use Rattle.catalog_core.specs.table.Matches.{is_matching}
 use Rattle.catalog_core.specs.table.Naming.{Name, matches_among, repeats}
 use Rattle.catalog_core.specs.table.TableWords.{number_of, table_of, table_of_name}
 use Rattle.catalog_core.specs.declared.table.TableDef.{TableDef}
-use Rattle.catalog_core.specs.declared.table.matching.Matching.TheVariants.{Several}
+use Rattle.catalog_core.specs.declared.table.match_counts.MatchCount.TheVariants.{Many}
 
 -- those of chains, and of the first of them
 abbrev pub tables_in : List JoinChain → List TableReference
@@ -79,7 +79,7 @@ abbrev pub Borrowed : Type 0
 Borrowed = Bor TableReference
 
 abbrev pub known_to : List Borrowed → Borrowed → Bool
-known_to rs r = is_matching Several (matches_among (λ (x : Borrowed). known_name x.now) rs (known_name r.now))
+known_to rs r = is_matching Many (matches_among (λ (x : Borrowed). known_name x.now) rs (known_name r.now))
 
 counted : (rs : List Borrowed) (name : Name)
     → matches_among (λ (x : Name). x) (map known_name (map (λ (r : Borrowed). r.now) rs)) name ≡ matches_among (λ (x : Borrowed). known_name x.now) rs name
@@ -93,9 +93,9 @@ pub twice_by : (rs : List Borrowed) → known_twice (map (λ (r : Borrowed). r.n
 unfolding repeats
 twice_by rs =
     let names : List Name = map known_name (map (λ (r : Borrowed). r.now) rs) in
-    let among : Name → Bool = λ name. is_matching Several (matches_among (λ (x : Name). x) names name) in
-    let by : Name → Bool = λ name. is_matching Several (matches_among (λ (x : Borrowed). known_name x.now) rs name) in
-    any_same among by (λ name. ap (is_matching Several) (counted rs name)) names
+    let among : Name → Bool = λ name. is_matching Many (matches_among (λ (x : Name). x) names name) in
+    let by : Name → Bool = λ name. is_matching Many (matches_among (λ (x : Borrowed). known_name x.now) rs name) in
+    any_same among by (λ name. ap (is_matching Many) (counted rs name)) names
     ∙ any_map by known_name (map (λ (r : Borrowed). r.now) rs)
     ∙ any_map (λ (r : TableReference). by (known_name r)) (λ (r : Borrowed). r.now) rs
 

@@ -7,10 +7,10 @@ use Rattle.std.proofs.Common.{None, suc}
 use Rattle.std.proofs.lemmas.Bool.{false≢true}
 use Rattle.catalog_core.proofs.lemmas.table.Positions.{positioned}
 use Rattle.catalog_core.specs.table.Matches.{is_matching}
-use Rattle.catalog_core.specs.declared.table.matching.Matching.TheVariants.{Nothing}
+use Rattle.catalog_core.specs.declared.table.match_counts.MatchCount.TheVariants.{Zero}
 use Rattle.catalog_core.specs.query.Refusals.{are_matching, are_of_period}
 use Rattle.catalog_core.specs.query.Scopes.{SeenColumn, has_value, is_qualified, matches_in, names_column}
-use Rattle.catalog_core.specs.query.Selection.{names_no_value, value_position}
+use Rattle.catalog_core.specs.query.Selection.{names_non_value_column, value_position}
 use Rattle.catalog_core.specs.table.Naming.{Name, matches_among}
 use Rattle.catalog_core.specs.table.TableWords.{def_matches, is_value_column}
 use Rattle.catalog_core.specs.declared.table.Column.{Column}
@@ -63,17 +63,17 @@ period_from known t column k (x ∷ xs) true e =
     (list_any (hidden t column.name) (enumerate_from (k + 1) xs)) (period_from known t column (k + 1) xs true e))
 period_from known t column k (x ∷ xs) false e = rw e (period_from known t column (k + 1) xs false e)
 
-pub period_in : (known : Name) (t : TableDef) (column : ColumnReference) → are_of_period (matches_in known t column) ≡ (is_qualified column.qualifier known && names_no_value t column.name)
-unfolding names_no_value
+pub period_in : (known : Name) (t : TableDef) (column : ColumnReference) → are_of_period (matches_in known t column) ≡ (is_qualified column.qualifier known && names_non_value_column t column.name)
+unfolding names_non_value_column
 period_in known t column = period_from known t column 0 t.columns (is_qualified column.qualifier known) refl
 
 -- a reference that names a column, and no period or system column, has a position
-pub placed_in : (known : Name) (t : TableDef) (column : ColumnReference) → are_matching Nothing (matches_in known t column) ≡ false
+pub placed_in : (known : Name) (t : TableDef) (column : ColumnReference) → are_matching Zero (matches_in known t column) ≡ false
     → are_of_period (matches_in known t column) ≡ false → value_position t column.name ≡ None → ⊥
 unfolding is_matching
 placed_in known t column some values none =
-    by (is_qualified column.qualifier known) (ap (is_matching Nothing) (sym (count_in known t column)) ∙ some) (sym (period_in known t column) ∙ values)
+    by (is_qualified column.qualifier known) (ap (is_matching Zero) (sym (count_in known t column)) ∙ some) (sym (period_in known t column) ∙ values)
   where
-    by : (b : Bool) → is_matching Nothing (cond b (def_matches t column.name) 0) ≡ false → (b && names_no_value t column.name) ≡ false → ⊥
+    by : (b : Bool) → is_matching Zero (cond b (def_matches t column.name) 0) ≡ false → (b && names_non_value_column t column.name) ≡ false → ⊥
     by true there other = positioned t column.name there other none
     by false there other = false≢true (sym there)

@@ -6,7 +6,7 @@ use Rattle.std.proofs.lemmas.Bool.{false≢true}
 use Rattle.std.proofs.lemmas.Bool.Decides.{nat_tests}
 use Rattle.catalog_core.proofs.lemmas.table.Positions.{none_passes}
 use Rattle.catalog_core.specs.table.Matches.{is_matching}
-use Rattle.catalog_core.specs.declared.table.matching.Matching.TheVariants.{Nothing}
+use Rattle.catalog_core.specs.declared.table.match_counts.MatchCount.TheVariants.{Zero}
 
 -- what is left to be searched, behind so many
 abbrev pub place_behind : {X : Type 0} → (X → Bool) → (X → Bool) → ℕ → List X → Option ℕ
@@ -96,7 +96,7 @@ kept {X} p q (x ∷ xs) none =
     by next false true value named h = absurd (false≢true (sym h ∙ (rw value refl)))
     by next false false value named h = next h
 
-pub some_value : {X : Type 0} (p q : X → Bool) (xs : List X) → is_matching Nothing (length (filter p xs)) ≡ false → list_any (λ x. not (q x)) (filter p xs) ≡ false → position p (filter q xs) ≡ None → ⊥
+pub some_value : {X : Type 0} (p q : X → Bool) (xs : List X) → is_matching Zero (length (filter p xs)) ≡ false → list_any (λ x. not (q x)) (filter p xs) ≡ false → position p (filter q xs) ≡ None → ⊥
 unfolding is_matching
 some_value p q xs some values none =
     let zero : length (filter p xs) ≡ 0 = sym (kept p q xs values) ∙ none_passes p (filter q xs) none in

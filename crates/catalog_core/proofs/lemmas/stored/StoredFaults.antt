@@ -8,7 +8,7 @@ use Rattle.sql_statements.specs.Trees.{Stored}
 use Rattle.catalog_core.proofs.lemmas.judged.Least.{Ascending, first_least, none_first}
 use Rattle.catalog_core.specs.change.PortionChanges.{lacks_named}
 use Rattle.catalog_core.specs.stored.StoredQueries.{stored_faults, stored_query_conditions}
-use Rattle.catalog_core.specs.Judged.{Holds, first_holding}
+use Rattle.catalog_core.specs.RefusalConditions.{Holds, first_holding}
 use Rattle.catalog_core.specs.table.TableWords.{number_of, table_of, table_of_name}
 use Rattle.catalog_core.specs.declared.table.TableDef.{TableDef}
 

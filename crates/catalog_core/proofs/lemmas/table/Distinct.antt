@@ -10,7 +10,7 @@ use Rattle.catalog_core.proofs.lemmas.table.Positions.{none_passes}
 use Rattle.catalog_core.proofs.lemmas.judged.Sound.{fails_at}
 use Rattle.catalog_core.specs.table.Matches.{is_matching}
 use Rattle.catalog_core.specs.table.TableWords.{def_matches, def_place, has_distinct_names}
-use Rattle.catalog_core.specs.declared.table.matching.Matching.TheVariants.{Several}
+use Rattle.catalog_core.specs.declared.table.match_counts.MatchCount.TheVariants.{Many}
 use Rattle.catalog_core.specs.declared.table.Column.{Column}
 use Rattle.catalog_core.specs.declared.table.TableDef.{TableDef}
 use Rattle.catalog_core.specs.table.Naming.{matches_among, place_among}
@@ -81,7 +81,7 @@ pub few_named : (t : TableDef) (i : ℕ) (x : Column) → has_distinct_names t �
     → length (filter (λ (y : Column). bytes_eq x.name y.name) t.columns) ≤ 1
 unfolding has_distinct_names matches_among is_matching
 few_named t i x distinct here item =
-    let several : Column → Bool = λ y. is_matching Several (def_matches t y.name) in
+    let several : Column → Bool = λ y. is_matching Many (def_matches t y.name) in
     let p : Column → Bool = λ y. bytes_eq x.name y.name in
     let few : nat_lt 1 (count_by p t.columns) ≡ false = fails_at several t.columns i x here item (not_true (list_any several t.columns) distinct) in
     let kept : length (filter p t.columns) ≡ count_by p t.columns = length-filter p t.columns in

@@ -1,7 +1,7 @@
 use Rattle.std.proofs.Common.{◌≡◌, ◌++◌, ◌∷◌, [], ◌∙◌, List, append_assoc, append-nil, ap, arith, inl, inr, map, sym}
 use Rattle.std.proofs.lemmas.List.{map-append, nil_from_length}
 use Rattle.std.proofs.lemmas.Result.{err_from_is_err_and}
-use Rattle.catalog_core.specs.declared.change.GivenRow.{GivenRow}
+use Rattle.catalog_core.specs.declared.change.InsertedRow.{InsertedRow}
 use Rattle.history_model.specs.Portions.{PlainRow, plain_given, plain_row}
 use Rattle.portion_dml.proofs.Planned.{gives_empty, insert_plans}
 use Rattle.portion_dml.proofs.plan.plan_given.Goals as goal
@@ -16,21 +16,21 @@ loop-row-init c = (
 pub loop-row-preserved : goal.loop-row-preserved
 loop-row-preserved c =
     let (done, split, made) = c.loop-row.invariant in
-    let row : GivenRow = c.in-Some.row in
-    let left : List GivenRow = c.next.new.self.rest.items in (
+    let row : InsertedRow = c.in-Some.row in
+    let left : List InsertedRow = c.next.new.self.rest.items in (
       done ++ row ∷ [],
-      split ∙ ap (λ (l : List GivenRow). done ++ l) c.in-Some.ensures.steps.0 ∙ sym (append_assoc done (row ∷ []) left),
+      split ∙ ap (λ (l : List InsertedRow). done ++ l) c.in-Some.ensures.steps.0 ∙ sym (append_assoc done (row ∷ []) left),
       c.in_ok-push_given.ensures.ok ∙ ap (λ (l : List PlainRow). l ++ plain_given row ∷ []) made ∙ sym (map-append plain_given done (row ∷ [])),
     )
 
 pub returns-in_err-push_given-clause-refused : goal.returns-in_err-push_given-clause-refused
 returns-in_err-push_given-clause-refused c =
     let (done, split, made) = c.loop-row.invariant in
-    let row : GivenRow = c.in-Some.row in
-    let left : List GivenRow = c.next.new.self.rest.items in
+    let row : InsertedRow = c.in-Some.row in
+    let left : List InsertedRow = c.next.new.self.rest.items in
     let p = err_from_is_err_and c.from_residual.result c.from_residual.ensures.1 in
     rw (p.1, p.2) (elim c.in_err-push_given.ensures.refused [
-      | inl (e, none) ↦ inl (e, gives_empty done left row c.args.given (split ∙ ap (λ (l : List GivenRow). done ++ l) c.in-Some.ensures.steps.0) none)
+      | inl (e, none) ↦ inl (e, gives_empty done left row c.args.given (split ∙ ap (λ (l : List InsertedRow). done ++ l) c.in-Some.ensures.steps.0) none)
       | inr e ↦ inr e
     ])
 
@@ -38,6 +38,6 @@ pub returns-clause-plan : goal.returns-clause-plan
 returns-clause-plan c = λ current.
     let (done, split, made) = c.loop-row.invariant in
     let none : c.loop-row.row-iterator.rest.items ≡ [] = nil_from_length c.loop-row.row-iterator.rest.items (grind (arith, c.loop-row.row-iterator.rest.ok, c.in-None.ensures.steps)) in
-    let all : c.args.given ≡ done = split ∙ ap (λ (l : List GivenRow). done ++ l) none ∙ append-nil done in
+    let all : c.args.given ≡ done = split ∙ ap (λ (l : List InsertedRow). done ++ l) none ∙ append-nil done in
     insert_plans c.args.given current c.empty.result c.from_vec.result c.empty.ensures
     (ap (map plain_row) c.from_vec.ensures ∙ made ∙ ap (map plain_given) (sym all))

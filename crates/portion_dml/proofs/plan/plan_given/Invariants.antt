@@ -1,10 +1,10 @@
 use Rattle.std.proofs.Common.{◌≡◌, ◌++◌, List, map}
-use Rattle.catalog_core.specs.declared.change.GivenRow.{GivenRow}
+use Rattle.catalog_core.specs.declared.change.InsertedRow.{InsertedRow}
 use Rattle.history_model.specs.Portions.{plain_given, plain_row}
 use Rattle.portion_dml.proofs.plan.plan_given.Given as goal
 
 -- the rows so far are added
 abbrev pub invariant-loop-row : goal.invariant-loop-row
 invariant-loop-row l =
-    (done : List GivenRow) × (l.fn.given ≡ done ++ l.row-iterator.rest.items)
+    (done : List InsertedRow) × (l.fn.given ≡ done ++ l.row-iterator.rest.items)
     × (map plain_row l.added.items ≡ map plain_given done)

@@ -3,7 +3,7 @@ use Rattle.std.specs.Prelude.{IfErr, IfOk, IsTrue}
 use Rattle.catalog_core.specs.change.Resolution.{has_empty_row}
 use Rattle.catalog_core.specs.declared.change.Action.{Action}
 use Rattle.catalog_core.specs.declared.change.Action.TheVariants.{Insert}
-use Rattle.catalog_core.specs.declared.change.GivenRow.{GivenRow}
+use Rattle.catalog_core.specs.declared.change.InsertedRow.{InsertedRow}
 use Rattle.catalog_core.specs.declared.change.Plan.{Plan}
 use Rattle.period_core.specs.declared.refusal.Refusal.{Refusal}
 use Rattle.period_core.specs.declared.refusal.Refusal.TheVariants.{EmptyPeriod, Memory}
@@ -13,7 +13,7 @@ use Rattle.portion_dml.proofs.Planned.{insert_gives}
 use Rattle.portion_dml.proofs.plan.plan_insert.Goals as goal
 
 -- a plan over any versions is one over these
-over_these : (r : Result Plan Refusal) (given : List GivenRow) (action : Action) (current : List VersionRow) → Insert given ≡ action
+over_these : (r : Result Plan Refusal) (given : List InsertedRow) (action : Action) (current : List VersionRow) → Insert given ≡ action
     → IfOk r (λ plan. (versions : List VersionRow) → Plans (Insert given) versions plan) → IfOk r (λ plan. Plans action current plan)
 over_these (Ok plan) given action current is plans = subst (λ (a : Action). Plans a current plan) is (plans current)
 over_these (Err refusal) given action current is plans = plans

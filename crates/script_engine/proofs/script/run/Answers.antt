@@ -19,8 +19,8 @@ returns-clause-run g c = λ usable history stands.
     let same : c.run_pieces.new.listener.kept.items ≡ results = items ∙ ap (λ xs. xs ++ results) c.in-Ok-with_capacity.ensures.items in
     let cut = subst₂ (λ (tokens : List Token) (spans : List Span). IsCutInto c.args.script.now (map (spanned (lexemes tokens)) spans)) (sym c.as_slice-tokens.ensures.value) (sym c.as_slice-spans.ensures.value) c.in-Ok.ensures.cut in
     let pieces = map (spanned (lexemes c.as_slice-tokens.result.now)) c.as_slice-spans.result.now in
-    let all = front_is_whole g.K.Kept.is_step history pieces results c.run_pieces.result last run whole in
-    (record { pieces = pieces; cut = cut; last = last; run = subst (λ rs. StepPieces g.K.Kept.is_step history pieces rs last) (sym same) all }, represents)
+    let all = front_is_whole g.K.PieceResult.is_step history pieces results c.run_pieces.result last run whole in
+    (record { pieces = pieces; cut = cut; last = last; run = subst (λ rs. StepPieces g.K.PieceResult.is_step history pieces rs last) (sym same) all }, represents)
 
 pub returns-in-Err-clause-bad : goal.returns-in-Err-clause-bad
 returns-in-Err-clause-bad g c = λ usable bad. absurd (not_bad c.args.script.now c.in-Err.refusal c.in-Err.ensures.refused bad)

@@ -14,5 +14,5 @@ invariant-loop-i g l = record {
   run : (results : List g.row.K.Denot) × HearsAll g.L.Listener.hears 1 l.fn.listener results true l.listener
       × (length results ≡ l.i)
       × (IsUsable g.S.Store l.engine.connection → (history : History) → EngineRepresents g.S.Store history l.fn.engine →
-      RepresentsSome g.S.Store (StepPieces g.K.Kept.is_step history (map (spanned (lexemes l.tokens)) (take l.i l.pieces)) results) l.engine);
+      RepresentsSome g.S.Store (StepPieces g.K.PieceResult.is_step history (map (spanned (lexemes l.tokens)) (take l.i l.pieces)) results) l.engine);
 }

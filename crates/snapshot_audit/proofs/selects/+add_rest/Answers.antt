@@ -8,7 +8,7 @@ use Rattle.catalog_core.specs.declared.query.resolved.QueryReference.{QueryRefer
 use Rattle.sql_statements.specs.declared.tree.Tree.{Tree}
 use Rattle.catalog_core.specs.declared.condition.CompareValues.{CompareValues}
 use Rattle.history_model.specs.OrdinaryQuery.{meets_all}
-use Rattle.snapshot_audit.specs.ActiveRows.{ActiveLists, RowReferences, ActiveSights, active_for}
+use Rattle.snapshot_audit.specs.ActiveRows.{ActiveLists, RowReferences, VisibleInActive, active_for}
 use Rattle.snapshot_audit.specs.Selections.{InRest}
 use Rattle.snapshot_audit.proofs.ActiveFacts.{active_at}
 use Rattle.snapshot_audit.proofs.SelectSteps.{first_of}
@@ -19,8 +19,8 @@ pub returns-in_default : goal.returns-in_default
 returns-in_default t c =
     let none : c.args.references.now ≡ [] = nil_from_length c.args.references.now (omega (arith, c.in_default.len_below)) in
     on_ok_weaker c.add_selected.result (λ step row.
-    subst (λ references. Contains c.add_selected.new.rows.items row ↔ (Contains c.args.rows.now.items row ⊎ InRest (ActiveSights c.args.seen.now) c.args.select.now references c.args.front.now row)) (sym none)
-    (rest_done (ActiveSights c.args.seen.now) c.args.select.now c.args.front.now c.args.rows.now.items c.add_selected.new.rows.items step row))
+    subst (λ references. Contains c.add_selected.new.rows.items row ↔ (Contains c.args.rows.now.items row ⊎ InRest (VisibleInActive c.args.seen.now) c.args.select.now references c.args.front.now row)) (sym none)
+    (rest_done (VisibleInActive c.args.seen.now) c.args.select.now c.args.front.now c.args.rows.now.items c.add_selected.new.rows.items step row))
     c.add_selected.ensures
 
 pub loop-next-init : goal.loop-next-init
@@ -38,7 +38,7 @@ loop-next-preserved t c =
     let whole : c.as_slice-in-loop-next-3.result.now ≡ c.args.front.now ++ r.now.values = c.as_slice-in-loop-next-3.ensures ∙ c.in_ok-values.ensures ∙ ap (λ v. c.args.front.now ++ v) c.as_slice-in-loop-next-2.ensures in
     subst (λ l. HasRests c.args.seen.now c.args.select.now after c.args.front.now c.args.rows.now.items l c.add_rest.new.rows.items) (sym more)
     (HasRests-more c.args.seen.now c.args.select.now after c.args.front.now c.args.rows.now.items c.loop-next.rows.items c.add_rest.new.rows.items (take k list) r
-    c.loop-next.invariant (λ row. subst (λ v. Contains c.add_rest.new.rows.items row ↔ (Contains c.loop-next.rows.items row ⊎ InRest (ActiveSights c.args.seen.now) c.args.select.now after v row)) whole (c.in_ok-add_rest.ensures row)))
+    c.loop-next.invariant (λ row. subst (λ v. Contains c.add_rest.new.rows.items row ↔ (Contains c.loop-next.rows.items row ⊎ InRest (VisibleInActive c.args.seen.now) c.args.select.now after v row)) whole (c.in_ok-add_rest.ensures row)))
 
 pub loop-next-preserved-then-is_ruled_out : goal.loop-next-preserved-then-is_ruled_out
 loop-next-preserved-then-is_ruled_out t c =
@@ -67,5 +67,5 @@ returns t c = λ row.
     c.deref-next-items.ensures.value ∙ active_at seen c.reference-item.result.place c.in-Some.active.now c.in-Some.ensures.lookup.3.0 c.in-Some.ensures.lookup.1 in
     let has : HasRests seen c.args.select.now after c.args.front.now c.args.rows.now.items (active_for seen c.reference-item.result) c.loop-next.rows.items =
     subst (λ l. HasRests seen c.args.select.now after c.args.front.now c.args.rows.now.items l c.loop-next.rows.items) (all ∙ its) c.loop-next.invariant in
-    subst (λ l. Contains c.loop-next.rows.items row ↔ (Contains c.args.rows.now.items row ⊎ InRest (ActiveSights seen) c.args.select.now l c.args.front.now row)) (sym is)
+    subst (λ l. Contains c.loop-next.rows.items row ↔ (Contains c.args.rows.now.items row ⊎ InRest (VisibleInActive seen) c.args.select.now l c.args.front.now row)) (sym is)
     (HasRests-all seen c.args.select.now c.reference-item.result after c.args.front.now c.args.rows.now.items c.loop-next.rows.items has row)

@@ -31,25 +31,25 @@ read_condition-returns-in_err-next-clause-value g t c =
     (separated_read (keyword (codes "OR")) (conjunction_read g.T.Test.reader c.args.depth) (lexemes c.args.tokens.now))
     (fails (keyword (codes "OR")) (conjunction_read g.T.Test.reader c.args.depth) c.in_err-next.field-0.0
     (plain_condition c.in_ok-first.first ∷ map plain_condition c.others.others.items)
-    (lexemes c.others.rest.now) (lexemes c.in_ok-skip.field-0.now)
+    (lexemes c.others.rest.now) (lexemes c.in_ok-expect.field-0.now)
     (separated_read (keyword (codes "OR")) (conjunction_read g.T.Test.reader c.args.depth) (lexemes c.args.tokens.now))
-    (sym c.others-test.ensures) c.in_ok-skip.ensures.value c.in_err-next.ensures.value c.others.invariant.goes))
+    (sym c.others-test.ensures) c.in_ok-expect.ensures.value c.in_err-next.ensures.value c.others.invariant.goes))
 
 pub read_condition-others-preserved : goal.read_condition-others-preserved
 read_condition-others-preserved g t c =
     let e : map plain_condition c.push.new.self.items ≡ map plain_condition c.others.others.items ++ plain_condition c.in_ok-next.next ∷ [] =
     rw c.in_ok-push.ensures.items (map_push _ c.others.others.items c.in_ok-next.next) in
-    let less : length (lexemes c.in_ok-next.after.now) ≤ length (lexemes c.in_ok-skip.field-0.now) =
+    let less : length (lexemes c.in_ok-next.after.now) ≤ length (lexemes c.in_ok-expect.field-0.now) =
     simp length-map c.in_ok-next.ensures.rest in
     record {
       goes =
           rw e (goes_on (keyword (codes "OR")) (conjunction_read g.T.Test.reader c.args.depth)
           (plain_condition c.in_ok-first.first ∷ map plain_condition c.others.others.items)
-          (lexemes c.others.rest.now) (lexemes c.in_ok-skip.field-0.now)
+          (lexemes c.others.rest.now) (lexemes c.in_ok-expect.field-0.now)
           (lexemes c.in_ok-next.after.now) (plain_condition c.in_ok-next.next)
           (separated_read (keyword (codes "OR")) (conjunction_read g.T.Test.reader c.args.depth) (lexemes c.args.tokens.now))
-          (sym c.others-test.ensures) c.in_ok-skip.ensures.value c.in_ok-next.ensures.value less c.others.invariant.goes);
-      rest = omega (arith, c.in_ok-skip.ensures.rest, c.in_ok-next.ensures.rest);
+          (sym c.others-test.ensures) c.in_ok-expect.ensures.value c.in_ok-next.ensures.value less c.others.invariant.goes);
+      rest = omega (arith, c.in_ok-expect.ensures.rest, c.in_ok-next.ensures.rest);
       first = c.others.invariant.first;
     }
 
@@ -84,25 +84,25 @@ read_conjunction-returns-in_err-next-clause-value g t c =
     (separated_read (keyword (codes "AND")) (factor_read g.T.Test.reader c.args.depth) (lexemes c.args.tokens.now))
     (fails (keyword (codes "AND")) (factor_read g.T.Test.reader c.args.depth) c.in_err-next.field-0.0
     (plain_condition c.in_ok-first.first ∷ map plain_condition c.others.others.items)
-    (lexemes c.others.rest.now) (lexemes c.in_ok-skip.field-0.now)
+    (lexemes c.others.rest.now) (lexemes c.in_ok-expect.field-0.now)
     (separated_read (keyword (codes "AND")) (factor_read g.T.Test.reader c.args.depth) (lexemes c.args.tokens.now))
-    (sym c.others-test.ensures) c.in_ok-skip.ensures.value c.in_err-next.ensures.value c.others.invariant.goes))
+    (sym c.others-test.ensures) c.in_ok-expect.ensures.value c.in_err-next.ensures.value c.others.invariant.goes))
 
 pub read_conjunction-others-preserved : goal.read_conjunction-others-preserved
 read_conjunction-others-preserved g t c =
     let e : map plain_condition c.push.new.self.items ≡ map plain_condition c.others.others.items ++ plain_condition c.in_ok-next.next ∷ [] =
     rw c.in_ok-push.ensures.items (map_push _ c.others.others.items c.in_ok-next.next) in
-    let less : length (lexemes c.in_ok-next.after.now) ≤ length (lexemes c.in_ok-skip.field-0.now) =
+    let less : length (lexemes c.in_ok-next.after.now) ≤ length (lexemes c.in_ok-expect.field-0.now) =
     simp length-map c.in_ok-next.ensures.rest in
     record {
       goes =
           rw e (goes_on (keyword (codes "AND")) (factor_read g.T.Test.reader c.args.depth)
           (plain_condition c.in_ok-first.first ∷ map plain_condition c.others.others.items)
-          (lexemes c.others.rest.now) (lexemes c.in_ok-skip.field-0.now)
+          (lexemes c.others.rest.now) (lexemes c.in_ok-expect.field-0.now)
           (lexemes c.in_ok-next.after.now) (plain_condition c.in_ok-next.next)
           (separated_read (keyword (codes "AND")) (factor_read g.T.Test.reader c.args.depth) (lexemes c.args.tokens.now))
-          (sym c.others-test.ensures) c.in_ok-skip.ensures.value c.in_ok-next.ensures.value less c.others.invariant.goes);
-      rest = omega (arith, c.in_ok-skip.ensures.rest, c.in_ok-next.ensures.rest);
+          (sym c.others-test.ensures) c.in_ok-expect.ensures.value c.in_ok-next.ensures.value less c.others.invariant.goes);
+      rest = omega (arith, c.in_ok-expect.ensures.rest, c.in_ok-next.ensures.rest);
       first = c.others.invariant.first;
     }
 

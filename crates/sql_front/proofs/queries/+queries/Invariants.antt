@@ -3,7 +3,7 @@ use Rattle.sql_statements.specs.Lexemes.{lexemes}
 use Rattle.sql_front.specs.Language.{keyword}
 use Rattle.sql_front.specs.reading.Reading.{begins, repetition_read}
 use Rattle.sql_statements.specs.Plain.{plain_step}
-use Rattle.sql_front.specs.reading.QueryReaders.{begins_step, intersection_read, step_read}
+use Rattle.sql_front.specs.reading.QueryReaders.{begins_set_operator, intersection_read, step_read}
 use Rattle.sql_front.proofs.Loop.{Going}
 use Rattle.sql_front.proofs.queries.+queries.Given as goal
 
@@ -33,7 +33,7 @@ decreases-read_inner_query l = 8 * l.depth
 
 abbrev pub invariant-read_steps-items : goal.invariant-read_steps-items
 invariant-read_steps-items l = record {
-  goes : Going (begins begins_step) (step_read l.depth) (map plain_step l.items.items) (lexemes l.rest) (repetition_read (begins begins_step) (step_read l.depth) (lexemes l.tokens));
+  goes : Going (begins begins_set_operator) (step_read l.depth) (map plain_step l.items.items) (lexemes l.rest) (repetition_read (begins begins_set_operator) (step_read l.depth) (lexemes l.tokens));
   rest : length l.rest ≤ length l.tokens;
 }
 

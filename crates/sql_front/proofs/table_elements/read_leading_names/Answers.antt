@@ -12,11 +12,11 @@ pub returns-in_err-next-clause-value : goal.returns-in_err-next-clause-value
 returns-in_err-next-clause-value c =
     let p = err_from_is_err_and c.from_residual-in_err-next.result c.from_residual-in_err-next.ensures.1 in
     let rest = lexemes c.names.rest.now in
-    let between = lexemes c.in_ok-skip.field-0.now in
+    let between = lexemes c.in_ok-expect.field-0.now in
     let whole = leading_names_read (lexemes c.args.tokens.now) in
     rw (p.1, p.2)
     (leading_fails c.in_err-next.field-0.0 c.names.names.items rest between whole (sym c.names-test.ensures)
-    c.in_ok-skip.ensures.value c.in_err-next.ensures.value c.names.invariant.goes)
+    c.in_ok-expect.ensures.value c.in_err-next.ensures.value c.names.invariant.goes)
 
 pub returns-in_err-first-clause-value : goal.returns-in_err-first-clause-value
 returns-in_err-first-clause-value c =
@@ -35,31 +35,31 @@ names-init c =
     }
 
 -- where one more name comes, only memory can fail
-pub returns-in_err-skip-clause-value : goal.returns-in_err-skip-clause-value
-returns-in_err-skip-clause-value c =
-    let p = err_from_is_err_and c.from_residual-in_err-skip.result c.from_residual-in_err-skip.ensures.1 in
+pub returns-in_err-expect-clause-value : goal.returns-in_err-expect-clause-value
+returns-in_err-expect-clause-value c =
+    let p = err_from_is_err_and c.from_residual-in_err-expect.result c.from_residual-in_err-expect.ensures.1 in
     let rest = lexemes c.names.rest.now in
     let starts = comma_first rest (sym c.names-test.ensures) in
-    let memory = no_fail comma c.in_err-skip.field-0.0 rest starts c.in_err-skip.ensures.value in
+    let memory = no_fail comma c.in_err-expect.field-0.0 rest starts c.in_err-expect.ensures.value in
     rw (p.1, p.2, memory) tt
 
 pub names-preserved : goal.names-preserved
 names-preserved c =
     let rest = lexemes c.names.rest.now in
-    let between = lexemes c.in_ok-skip.field-0.now in
+    let between = lexemes c.in_ok-expect.field-0.now in
     let after = lexemes c.in_ok-next.after.now in
     let next = c.in_ok-next.next in
     let more : c.push-in-names.new.self.items ≡ c.names.names.items ++ next ∷ [] = c.in_ok-push-2.ensures.items in
     let shorter : length c.in_ok-next.after.now < length c.names.rest.now =
-    omega (arith, c.in_ok-skip.ensures.rest, c.in_ok-next.ensures.rest)
+    omega (arith, c.in_ok-expect.ensures.rest, c.in_ok-next.ensures.rest)
     in
     let less : length after < length rest = simp length-map shorter in
     let whole = leading_names_read (lexemes c.args.tokens.now) in
     record {
       goes = rw more
           (leading_on c.names.names.items rest between after next whole (sym c.names-test.ensures)
-          c.in_ok-skip.ensures.value c.in_ok-next.ensures.value less c.names.invariant.goes);
-      rest = omega (arith, c.in_ok-skip.ensures.rest, c.in_ok-next.ensures.rest);
+          c.in_ok-expect.ensures.value c.in_ok-next.ensures.value less c.names.invariant.goes);
+      rest = omega (arith, c.in_ok-expect.ensures.rest, c.in_ok-next.ensures.rest);
       filled = omega (arith, ap length more, length-append c.names.names.items (next ∷ []));
     }
 

@@ -1,13 +1,13 @@
 use Rattle.std.proofs.Common.{arith, rules, refl, ◌∙◌, subst, sym}
 use Rattle.sqlite.specs.Held.{state}
 use Rattle.version_tables.proofs.Steps.{nothing_then}
-use Rattle.version_store.specs.Leaving.{HasBut}
+use Rattle.version_store.specs.PendingRemovals.{HasExcept}
 use Rattle.version_store.proofs.Sweeps.{ended_more, none_ended}
 use Rattle.version_store.proofs.plans.end_rows.Goals as goal
 
 pub loop-row-init : goal.loop-row-init
 loop-row-init g c =
-    (refl, search rules, λ clean begun. (begun, λ m has. subst (HasBut (state g.S.Store c.args.transaction.now.conn.now).now c.args.table c.args.moment c.args.leaving.now.keys) (sym (none_ended c.args.table c.args.moment m)) has))
+    (refl, search rules, λ clean begun. (begun, λ m has. subst (HasExcept (state g.S.Store c.args.transaction.now.conn.now).now c.args.table c.args.moment c.args.pending.now.keys) (sym (none_ended c.args.table c.args.moment m)) has))
 
 pub loop-row-preserved : goal.loop-row-preserved
 loop-row-preserved g c =
@@ -18,5 +18,5 @@ loop-row-preserved g c =
       λ clean begun.
           let mid = was.2 (omega (arith, step.inside.survives.clean)) begun in
           let made = c.in_ok-end_row.ensures.made clean mid.0 in
-          (made.0, λ m stands. subst (HasBut (state g.S.Store c.end_row.new.transaction.conn.now).now c.args.table c.args.moment c.end_row.new.leaving.keys) (ended_more c.args.table c.args.moment c.args.rows.now c.loop-row.row-index c.row-item.result c.loop-row-test.true c.row-item.is m) (made.1 _ (mid.1 m stands))),
+          (made.0, λ m stands. subst (HasExcept (state g.S.Store c.end_row.new.transaction.conn.now).now c.args.table c.args.moment c.end_row.new.pending.keys) (ended_more c.args.table c.args.moment c.args.rows.now c.loop-row.row-index c.row-item.result c.loop-row-test.true c.row-item.is m) (made.1 _ (mid.1 m stands))),
     )

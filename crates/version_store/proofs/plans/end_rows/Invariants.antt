@@ -4,7 +4,7 @@ use Rattle.sqlite.specs.Held.{state}
 use Rattle.version_tables.specs.Steps.{CommitsNothing}
 use Rattle.version_store.specs.Changed.{ended_at}
 use Rattle.version_store.specs.Contents.{Contents}
-use Rattle.version_store.specs.Leaving.{HasBut}
+use Rattle.version_store.specs.PendingRemovals.{HasExcept}
 use Rattle.version_store.proofs.plans.end_rows.Given as goal
 
 abbrev pub invariant-loop-row : goal.invariant-loop-row
@@ -13,4 +13,4 @@ invariant-loop-row g l =
     let now = l.transaction.conn.now in
     (l.transaction.conn.ghost_name ≡ l.fn.transaction.conn.ghost_name) × CommitsNothing g.S.Store old now
     × (HasCleanDisk (state g.S.Store now) → IsTrue old.in_transaction → IsTrue now.in_transaction
-    × ((c : Contents) → HasBut (state g.S.Store old).now l.table l.moment l.fn.leaving.keys c → HasBut (state g.S.Store now).now l.table l.moment l.leaving.keys (ended_at l.table l.moment (take l.row-index l.rows) c)))
+    × ((c : Contents) → HasExcept (state g.S.Store old).now l.table l.moment l.fn.pending.keys c → HasExcept (state g.S.Store now).now l.table l.moment l.pending.keys (ended_at l.table l.moment (take l.row-index l.rows) c)))

@@ -2,9 +2,9 @@ use Rattle.std.proofs.Common.{List, arith, subst, subst₂, sym}
 use Rattle.sqlite.specs.Held.{state}
 use Rattle.period_core.specs.declared.row.PeriodRow.{PeriodRow}
 use Rattle.period_core.specs.declared.version.VersionRow.{VersionRow}
-use Rattle.version_tables.specs.declared.place.Place.{Place}
+use Rattle.version_tables.specs.declared.version_key.VersionKey.{VersionKey}
 use Rattle.version_store.specs.Changed.{planned}
-use Rattle.version_store.specs.Leaving.{HasBut}
+use Rattle.version_store.specs.PendingRemovals.{HasExcept}
 use Rattle.version_store.specs.Written.{Has}
 use Rattle.version_store.proofs.Leaves.{begins, settles}
 use Rattle.version_store.proofs.Standing.{on_ok}
@@ -22,7 +22,7 @@ returns-clause-made g k clean begun =
     (λ made. (
       made.0,
       λ c has.
-          let first = subst (λ (l : List Place). HasBut old table moment l c) (sym k.new-leaving.ensures.empty) (begins old table moment c has) in
+          let first = subst (λ (l : List VersionKey). HasExcept old table moment l c) (sym k.new-pending.ensures.empty) (begins old table moment c has) in
           subst₂ (λ (a : List VersionRow) (b : List PeriodRow). Has new (planned table moment a b c)) k.as_slice.ensures k.as_slice-2.ensures (settles new table moment _ (made.1 _ (added.1 _ (ended.1 c first)))),
     ))
     (k.remove_rows.ensures.made clean added.0)

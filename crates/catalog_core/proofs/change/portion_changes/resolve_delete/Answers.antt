@@ -5,7 +5,7 @@ use Rattle.catalog_core.proofs.lemmas.change.RowFacts.{table_named}
 use Rattle.catalog_core.proofs.lemmas.conditions.Numbers.{flawless_delete}
 use Rattle.catalog_core.proofs.lemmas.judged.Sound.{all_false}
 use Rattle.catalog_core.specs.change.PortionChanges.{delete_faults}
-use Rattle.catalog_core.specs.declared.flaw.Flaw.TheVariants.{Empty, NoValue, Unknown}
+use Rattle.catalog_core.specs.declared.flaw.Flaw.TheVariants.{Empty, NotValueColumn, Unknown}
 use Rattle.catalog_core.proofs.change.portion_changes.resolve_delete.Goals as goal
 
 pub returns-in_default-clause-refused : goal.returns-in_default-clause-refused
@@ -26,19 +26,19 @@ portion_period-portion-requires c =
     let tests = all_false (delete_faults t statement) (sym c.delete_fault.ensures ∙ c.in_default-delete_fault.is) in
     (flawless_delete Empty statement t tests.1.1.1.1.0).0
 
-pub number_where-requires-clause-there : goal.number_where-requires-clause-there
-number_where-requires-clause-there c =
+pub resolve_where-requires-clause-there : goal.resolve_where-requires-clause-there
+resolve_where-requires-clause-there c =
     let statement = plain_delete c.args.delete.now in
     let t = c.in-Some.table.now in
     let tests = all_false (delete_faults t statement) (sym c.delete_fault.ensures ∙ c.in_default-delete_fault.is) in
     (flawless_delete Unknown statement t tests.0).1
 
-pub number_where-requires-clause-value : goal.number_where-requires-clause-value
-number_where-requires-clause-value c =
+pub resolve_where-requires-clause-value : goal.resolve_where-requires-clause-value
+resolve_where-requires-clause-value c =
     let statement = plain_delete c.args.delete.now in
     let t = c.in-Some.table.now in
     let tests = all_false (delete_faults t statement) (sym c.delete_fault.ensures ∙ c.in_default-delete_fault.is) in
-    (flawless_delete NoValue statement t tests.1.1.0).1
+    (flawless_delete NotValueColumn statement t tests.1.1.0).1
 
 pub returns : goal.returns
 returns c =

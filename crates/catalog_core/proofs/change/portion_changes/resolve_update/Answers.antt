@@ -5,8 +5,8 @@ use Rattle.catalog_core.proofs.lemmas.change.RowFacts.{table_named}
 use Rattle.catalog_core.proofs.lemmas.conditions.Numbers.{flawless_update}
 use Rattle.catalog_core.proofs.lemmas.judged.Sound.{all_false}
 use Rattle.catalog_core.specs.change.PortionChanges.{update_faults}
-use Rattle.catalog_core.specs.Numbering.{numbered_set}
-use Rattle.catalog_core.specs.declared.flaw.Flaw.TheVariants.{Empty, NoValue, Unknown}
+use Rattle.catalog_core.specs.Positions.{resolved_assignment}
+use Rattle.catalog_core.specs.declared.flaw.Flaw.TheVariants.{Empty, NotValueColumn, Unknown}
 use Rattle.catalog_core.proofs.change.portion_changes.resolve_update.Goals as goal
 
 pub returns-in_default-clause-refused : goal.returns-in_default-clause-refused
@@ -27,33 +27,33 @@ portion_period-portion-requires c =
     let tests = all_false (update_faults t statement) (sym c.update_fault.ensures ∙ c.in_default-update_fault.is) in
     (flawless_update Empty statement t tests.1.1.1.1.1.1.0).0
 
-pub number_sets-requires-clause-there : goal.number_sets-requires-clause-there
-number_sets-requires-clause-there c =
+pub resolve_assignments-requires-clause-there : goal.resolve_assignments-requires-clause-there
+resolve_assignments-requires-clause-there c =
     let statement = plain_update c.args.update.now in
     let t = c.in-Some.table.now in
     let tests = all_false (update_faults t statement) (sym c.update_fault.ensures ∙ c.in_default-update_fault.is) in
     rw c.as_slice.ensures.value ((flawless_update Unknown statement t tests.0).1)
 
-pub number_sets-requires-clause-value : goal.number_sets-requires-clause-value
-number_sets-requires-clause-value c =
+pub resolve_assignments-requires-clause-value : goal.resolve_assignments-requires-clause-value
+resolve_assignments-requires-clause-value c =
     let statement = plain_update c.args.update.now in
     let t = c.in-Some.table.now in
     let tests = all_false (update_faults t statement) (sym c.update_fault.ensures ∙ c.in_default-update_fault.is) in
-    rw c.as_slice.ensures.value ((flawless_update NoValue statement t tests.1.1.1.0).1)
+    rw c.as_slice.ensures.value ((flawless_update NotValueColumn statement t tests.1.1.1.0).1)
 
-pub number_where-requires-clause-there : goal.number_where-requires-clause-there
-number_where-requires-clause-there c =
+pub resolve_where-requires-clause-there : goal.resolve_where-requires-clause-there
+resolve_where-requires-clause-there c =
     let statement = plain_update c.args.update.now in
     let t = c.in-Some.table.now in
     let tests = all_false (update_faults t statement) (sym c.update_fault.ensures ∙ c.in_default-update_fault.is) in
     (flawless_update Unknown statement t tests.0).2
 
-pub number_where-requires-clause-value : goal.number_where-requires-clause-value
-number_where-requires-clause-value c =
+pub resolve_where-requires-clause-value : goal.resolve_where-requires-clause-value
+resolve_where-requires-clause-value c =
     let statement = plain_update c.args.update.now in
     let t = c.in-Some.table.now in
     let tests = all_false (update_faults t statement) (sym c.update_fault.ensures ∙ c.in_default-update_fault.is) in
-    (flawless_update NoValue statement t tests.1.1.1.0).2
+    (flawless_update NotValueColumn statement t tests.1.1.1.0).2
 
 pub returns : goal.returns
 returns c =
@@ -70,7 +70,7 @@ returns c =
             table = c.in-Some.ensures.1;
             action = record {
               days = c.portion_period-portion.ensures;
-              sets = ap (map (numbered_set t)) (sym c.as_slice.ensures.value) ∙ c.in_ok-assignments.ensures;
+              sets = ap (map (resolved_assignment t)) (sym c.as_slice.ensures.value) ∙ c.in_ok-assignments.ensures;
               rows = c.in_ok-condition.ensures;
             };
           };

@@ -43,8 +43,8 @@ returns-in-Some-value_fault-clause-refused c =
     let there = table_named tables insert.table c.in-Some.number t c.in-Some.ensures.0 c.in-Some.ensures.1 in
     inl (value_least tables insert t c.in-Some-value_fault.fault there (sym c.shape_fault.ensures ∙ c.in_default-shape_fault.is) (sym c.value_fault.ensures ∙ c.in-Some-value_fault.is))
 
-pub given_rows-requires : goal.given_rows-requires
-given_rows-requires c =
+pub inserted_rows-requires : goal.inserted_rows-requires
+inserted_rows-requires c =
     let catalog = c.args.catalog.now in
     let insert = c.args.insert.now in
     let t = c.in-Some.table.now in

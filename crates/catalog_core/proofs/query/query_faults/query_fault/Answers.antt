@@ -1,8 +1,8 @@
 use Rattle.std.proofs.Common.{◌∙◌, ap, sym}
 use Rattle.sql_statements.specs.Plain.{plain_query}
 use Rattle.catalog_core.proofs.lemmas.query.QueryFaults.{fault_says, least_limit}
-use Rattle.catalog_core.specs.Judged.{first_holding}
-use Rattle.catalog_core.specs.query.Faults.{judged_faults}
+use Rattle.catalog_core.specs.RefusalConditions.{first_holding}
+use Rattle.catalog_core.specs.query.Faults.{fault_conditions}
 use Rattle.catalog_core.proofs.query.query_faults.query_fault.Goals as goal
 
 pub returns-then-is_above_limit : goal.returns-then-is_above_limit
@@ -11,4 +11,4 @@ returns-then-is_above_limit c = least_limit c.args.catalog.now.tables (plain_que
 pub returns : goal.returns
 returns c =
     fault_says c.args.catalog.now.tables (plain_query c.args.query.now) c.first.result (sym c.is_above_limit.ensures ∙ c.if-is_above_limit.false)
-    (c.first.ensures ∙ ap (λ f. first_holding (judged_faults f)) c.in_ok-faults.ensures)
+    (c.first.ensures ∙ ap (λ f. first_holding (fault_conditions f)) c.in_ok-faults.ensures)

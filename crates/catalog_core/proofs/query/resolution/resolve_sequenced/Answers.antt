@@ -3,12 +3,12 @@ use Rattle.std.specs.Prelude.{MatchOption}
 use Rattle.period_core.specs.Leasts.{IsLeast, NoneApplies}
 use Rattle.sql_statements.specs.Plain.{plain_query}
 use Rattle.catalog_core.proofs.lemmas.query.Accepted.{few_references, nothing_refused}
-use Rattle.catalog_core.specs.Judged.{Holds}
+use Rattle.catalog_core.specs.RefusalConditions.{Holds}
 use Rattle.catalog_core.specs.query.Refusals.{refusals_of}
 use Rattle.catalog_core.proofs.query.resolution.resolve_sequenced.Goals as goal
 
-pub number_query-requires : goal.number_query-requires
-number_query-requires c =
+pub convert_query-requires : goal.convert_query-requires
+convert_query-requires c =
     let catalog = c.args.catalog.now.tables in
     let query = plain_query c.args.query.now in
     let none : NoneApplies (Holds (refusals_of catalog query)) =
@@ -21,6 +21,6 @@ returns c =
     let query = plain_query c.args.query.now in
     record {
       sound = subst (λ o. MatchOption o (NoneApplies (Holds (refusals_of catalog query))) (IsLeast (Holds (refusals_of catalog query)))) c.in_default.is c.in_ok-fault.ensures;
-      resolved = record { same = c.in_ok-number_query.ensures.same; placed = c.in_ok-number_query.ensures.placed };
+      resolved = record { same = c.in_ok-convert_query.ensures.same; placed = c.in_ok-convert_query.ensures.placed };
       refused = tt;
     }

@@ -17,19 +17,19 @@ returns-in-Some-stored_fault-clause-refused c =
     let there = table_named tables statement.table c.in-Some.number t c.in-Some.ensures.0 c.in-Some.ensures.1 in
     inl (stored_least tables statement t c.in-Some-stored_fault.fault there (sym c.stored_fault.ensures ∙ c.in-Some-stored_fault.is))
 
-pub number_stored_where-requires-clause-there : goal.number_stored_where-requires-clause-there
+pub resolve_stored_where-requires-clause-there : goal.resolve_stored_where-requires-clause-there
 unfolding is_flawed_stored
-number_stored_where-requires-clause-there c =
+resolve_stored_where-requires-clause-there c =
     (all_false (stored_faults c.in-Some.table.now (plain_stored c.args.query.now)) (sym c.stored_fault.ensures ∙ c.in_default-stored_fault.is)).0
 
-pub number_stored_where-requires-clause-value : goal.number_stored_where-requires-clause-value
+pub resolve_stored_where-requires-clause-value : goal.resolve_stored_where-requires-clause-value
 unfolding is_flawed_stored
-number_stored_where-requires-clause-value c =
+resolve_stored_where-requires-clause-value c =
     (all_false (stored_faults c.in-Some.table.now (plain_stored c.args.query.now)) (sym c.stored_fault.ensures ∙ c.in_default-stored_fault.is)).1.1.0
 
-pub number_stored_where-requires-clause-days : goal.number_stored_where-requires-clause-days
+pub resolve_stored_where-requires-clause-days : goal.resolve_stored_where-requires-clause-days
 unfolding is_flawed_stored
-number_stored_where-requires-clause-days c =
+resolve_stored_where-requires-clause-days c =
     (all_false (stored_faults c.in-Some.table.now (plain_stored c.args.query.now)) (sym c.stored_fault.ensures ∙ c.in_default-stored_fault.is)).1.1.1.1.0
 
 pub returns : goal.returns

@@ -21,10 +21,10 @@ pub invariant_of-self-in-Err : goal.invariant_of-self-in-Err
 invariant_of-self-in-Err c =
     let rows : List PeriodRow = c.args.rows.now in
     let old : List VersionRow = c.self.inside.rows.rows in
-    let back : List VersionRow = c.take_added.new.self.rows in
+    let back : List VersionRow = c.undo_add.new.self.rows in
     let given : List PeriodIndex = c.as_mut_slice.result.now in
     let new : List PeriodIndex = c.add_to_each.new.indexes in
-    let same : IsPermutation back old = c.take_added.ensures.rows old c.in_ok-add_all.ensures.ok.rows in
+    let same : IsPermutation back old = c.undo_add.ensures.rows old c.in_ok-add_all.ensures.ok.rows in
     subst (EachIndexes (map row_of back)) (sym (written_back c.self.inside.indexes.len c.self.inside.indexes.items given new c.as_mut_slice.ensures.value c.as_mut_slice.ensures.len c.add_to_each.ensures.same))
     (each_moved (map row_of old) (map row_of back) new (IsPermutation-sym (map row_of back) (map row_of old) (IsPermutation-map row_of back old same))
     (c.in-Err.ensures.err (map row_of old) (subst (EachIndexes (map row_of old)) (sym c.as_mut_slice.ensures.value) c.self.invariant)))

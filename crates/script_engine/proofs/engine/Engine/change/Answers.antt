@@ -2,7 +2,7 @@ use Rattle.std.proofs.lemmas.Bool.{false≢true}
 use Rattle.std.proofs.lemmas.Result.{IfErr-at_err, err_from_is_err_and}
 use Rattle.std.proofs.Common.{◌≡◌, ◌∙◌, false, List, Ok, Some, ap, inl, inr, map, subst, subst₂, sym}
 use Rattle.period_core.specs.Leasts.{MayAnswer}
-use Rattle.catalog_core.specs.Judged.{Holds}
+use Rattle.catalog_core.specs.RefusalConditions.{Holds}
 use Rattle.catalog_core.specs.change.Resolution.{change_conditions, has_empty_row}
 use Rattle.catalog_core.specs.table.TableWords.{table_of}
 use Rattle.catalog_core.specs.declared.table.TableDef.{TableDef}

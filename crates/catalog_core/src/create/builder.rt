@@ -1,0 +1,173 @@
+//! The definition that a sound CREATE gives.
+
+ghost use Rattle.std.specs.Prelude.{◌≡◌, ◌<◌, IfOk, IfSome, Some, false, true, is_none, is_some};
+ghost use Rattle.std.specs.Prelude.{length, map};
+ghost use Rattle.std.specs.List.{list_all};
+ghost use Rattle.catalog_core.specs.create.Creation.{has_bad_column, has_unequal_lists};
+ghost use Rattle.catalog_core.specs.create.Creation.{is_bad_type};
+ghost use Rattle.catalog_core.specs.create.Creation.{lacks_parent, parent_of, some_match};
+ghost use Rattle.catalog_core.specs.create.Creation.{some_own_match};
+ghost use Rattle.catalog_core.specs.create.Creation.{some_parent_match};
+ghost use Rattle.catalog_core.specs.create.Definition.{Defines, column_parts, declared_column};
+ghost use Rattle.catalog_core.specs.create.Definition.{declared_kind, declared_reference};
+ghost use Rattle.catalog_core.specs.create.Definition.{own_place};
+ghost use Rattle.catalog_core.specs.create.Definition.{reference_parts};
+ghost use Rattle.catalog_core.specs.table.IsDefinition.{are_places, is_reference};
+ghost use Rattle.catalog_core.specs.Limits.{number_limit};
+ghost use Rattle.catalog_core.specs.table.TableWords.{def_place, some_def_match};
+ghost use Rattle.catalog_core.specs.declared.table.match_counts.MatchCount.TheVariants.{Zero};
+
+use crate::table::catalog::Catalog;
+use crate::table::columns::def_places;
+use crate::table::named::{place_among, places_among};
+use crate::table::{Column, ColumnKind, PeriodColumns, Reference, TableDef};
+use period_core::{Items, Memory};
+use sql_statements::{ColumnElement, CreateTable, Generated, Name, ReferenceElement, TypeName};
+use std::alloc::Global;
+
+/// The place of the statement's column that a name stands for.
+fn own_place(create: &CreateTable, name: &Name) -> Option<usize>
+    ensures { result ≡ own_place create.now name.now }
+{
+    place_among(create.columns.as_slice(), name)
+}
+
+/// The places of the statement's columns that the names stand for.
+fn own_places(alloc: Global, create: &CreateTable, names: &[Name]) -> Result<Vec<usize>, Memory>
+    requires { some_own_match create.now Zero names.now ≡ false }
+    ensures { IfOk result (λ v. map (own_place create.now) names.now ≡ map (λ i. Some i) v.items) }
+{
+    places_among(alloc, create.columns.as_slice(), names)
+}
+
+/// What a declared column holds.
+#[tactic(auto, unfolding(crate::specs::create::Definition::declared_kind, crate::specs::create::Creation::is_bad_type))]
+fn declared_kind(kind: TypeName, generated: Option<Generated>) -> ColumnKind
+    requires { is_bad_type kind (is_some generated) ≡ false }
+    ensures { declared_kind kind generated ≡ Some result }
+{
+    match (kind, generated) {
+        (TypeName::Integer, None) => ColumnKind::Integer,
+        (TypeName::Date, None) => ColumnKind::Date,
+        (TypeName::Varchar(n), None) => ColumnKind::Varchar(n as u16),
+        (TypeName::Timestamp(None), Some(Generated::Start)) => ColumnKind::RowStart(None),
+        (TypeName::Timestamp(None), Some(Generated::End)) => ColumnKind::RowEnd(None),
+        (TypeName::Timestamp(Some(p)), Some(Generated::Start)) => ColumnKind::RowStart(Some(
+            p as u8,
+        )),
+        (TypeName::Timestamp(Some(p)), Some(Generated::End)) => ColumnKind::RowEnd(Some(p as u8)),
+        _ => unreachable!(),
+    }
+}
+
+/// A declared column.
+fn declared_column(alloc: Global, element: &ColumnElement) -> Result<Column, Memory>
+    requires { is_bad_type element.now.kind (is_some element.now.generated) ≡ false }
+    ensures { IfOk result (λ x. declared_column element.now ≡ column_parts x) }
+{
+    Ok(Column {
+        name: element.name.copy(alloc)?,
+        kind: declared_kind(element.kind, element.generated),
+    })
+}
+
+/// The declared columns.
+fn declared_columns(alloc: Global, create: &CreateTable) -> Result<Vec<Column>, Memory>
+    requires { has_bad_column create.now ≡ false }
+    ensures { IfOk result
+        (λ v. map declared_column create.now.columns ≡ map column_parts v.items) }
+{
+    let mut columns = Vec::new(alloc);
+    for element in create.columns.as_slice() {
+        columns.push(declared_column(alloc, element)?)?;
+    }
+    Ok(columns)
+}
+
+/// A reference by numbers.
+#[tactic(auto, unfolding(crate::specs::create::Definition::declared_reference, crate::specs::table::TableWords::table_of_name))]
+fn declared_reference(
+    alloc: Global,
+    catalog: &Catalog,
+    create: &CreateTable,
+    element: &ReferenceElement,
+) -> Result<Reference, Memory>
+    requires there { is_none (parent_of catalog.now.tables element.now) ≡ false }
+    requires own { some_own_match create.now Zero element.now.columns ≡ false }
+    requires keys { some_parent_match catalog.now.tables Zero element.now ≡ false }
+    requires equal { length element.now.columns ≡ length element.now.parent_columns }
+    ensures value { IfOk result
+        (λ x. declared_reference catalog.now.tables create.now element.now ≡ reference_parts x) }
+    ensures kept { IfOk result (λ x. is_reference (length create.now.columns) x ≡ true) }
+{
+    let Some((parent, table)) = catalog.table_named(&element.parent) else {
+        unreachable!()
+    };
+    let own = own_places(alloc, create, element.columns.as_slice())?;
+    let keys = def_places(alloc, table, element.parent_columns.as_slice())?;
+    Ok(Reference {
+        parent,
+        own: Items::from_vec(own),
+        keys: Items::from_vec(keys),
+    })
+}
+
+/// The references by numbers.
+fn declared_references(
+    alloc: Global,
+    catalog: &Catalog,
+    create: &CreateTable,
+) -> Result<Vec<Reference>, Memory>
+    requires there { lacks_parent catalog.now.tables create.now ≡ false }
+    requires names { some_match catalog.now.tables create.now Zero ≡ false }
+    requires equal { has_unequal_lists create.now ≡ false }
+    ensures value { IfOk result
+        (λ v. map (declared_reference catalog.now.tables create.now) create.now.references
+        ≡ map reference_parts v.items) }
+    ensures kept { IfOk result
+        (λ v. list_all (is_reference (length create.now.columns)) v.items ≡ true) }
+{
+    let mut references = Vec::new(alloc);
+    for element in create.references.as_slice() {
+        references.push(declared_reference(alloc, catalog, create, element)?)?;
+    }
+    Ok(references)
+}
+
+/// The definition that a sound CREATE gives.
+pub fn build(alloc: Global, catalog: &Catalog, create: &CreateTable) -> Result<TableDef, Memory>
+    requires period { length create.now.periods ≡ 1 }
+    requires key { length create.now.keys ≡ 1 }
+    requires columns { has_bad_column create.now ≡ false }
+    requires parents { lacks_parent catalog.now.tables create.now ≡ false }
+    requires names { some_match catalog.now.tables create.now Zero ≡ false }
+    requires equal { has_unequal_lists create.now ≡ false }
+    ensures { IfOk result (λ d. Defines catalog.now.tables create.now d) }
+{
+    let [period] = create.periods.as_slice() else {
+        unreachable!()
+    };
+    let [key] = create.keys.as_slice() else {
+        unreachable!()
+    };
+    let Some(start) = own_place(create, &period.start) else {
+        unreachable!()
+    };
+    let Some(end) = own_place(create, &period.end) else {
+        unreachable!()
+    };
+    let columns = declared_columns(alloc, create)?;
+    let places = own_places(alloc, create, key.columns.as_slice())?;
+    let references = declared_references(alloc, catalog, create)?;
+    Ok(TableDef {
+        name: create.name.copy(alloc)?,
+        columns: Items::from_vec(columns),
+        period: PeriodColumns {
+            name: period.name.copy(alloc)?,
+            start,
+            end,
+        },
+        key: Items::from_vec(places),
+        references: Items::from_vec(references),
+    })
+}

@@ -1,0 +1,77 @@
+//! A store that is there, judged.
+
+ghost use Rattle.std.specs.Prelude.{◌≡◌, [], false, IfErr, IfOk, IsTrue};
+ghost use Rattle.sqlite.specs.Held.{state};
+ghost use Rattle.sqlite.specs.State.{HasCleanDisk};
+ghost use Rattle.version_tables.specs.Good.{IsClock};
+ghost use Rattle.version_tables.specs.Steps.{Keeps};
+ghost use Rattle.version_tables.specs.Tables.{HasStoreTables};
+ghost use Rattle.version_store.specs.Contents.{AreVersionsOf, Contents};
+ghost use Rattle.version_store.specs.GoodStore.{AreLawful, IsGoodStore, NothingMore};
+ghost use Rattle.version_store.specs.Units.{in_microseconds};
+ghost use Rattle.version_store.specs.Written.{HasIn};
+ghost use Rattle.version_store.specs.declared.fault.OpenFault.TheVariants.{BadStore};
+
+use crate::fault::{OpenFault, StoreFault};
+use crate::row_checks::check_rows;
+use catalog_core::Catalog;
+use period_core::{Items, VersionRow};
+use sqlite::Connection;
+use sqlite_trees::store::Alter;
+use std::alloc::Global;
+use version_tables::{
+    Form, are_numbered, are_rising, columns_there, meta_rows, repeat_key, rowids, table_rows,
+    version_rows,
+};
+
+/// Judges a store that is there. On `Ok` it has its tables, its form, its clock, a number in the
+/// form's unit, and the version rows of each table.
+pub(crate) fn inspect<S: Alter>(
+    alloc: Global,
+    connection: &mut Connection<S>,
+) -> Result<(Catalog, Form, i64, Vec<Items<VersionRow>>), OpenFault>
+    requires { connection.old.in_transaction ≡ false }
+    ensures good { HasCleanDisk (state S.Store connection.new)
+        → IsTrue (state S.Store connection.new).is_open
+        → HasStoreTables (state S.Store connection.old).now.schema
+        → IfOk result (λ found.
+        (good : IsGoodStore NothingMore (state S.Store connection.old).now)
+        × HasIn good.form (state S.Store connection.old).now good.contents
+        × (good.contents.tables ≡ found.0.tables) × (good.form ≡ found.1)
+        × (good.contents.clock ≡ found.2)) }
+    ensures versions { HasCleanDisk (state S.Store connection.new)
+        → IsTrue (state S.Store connection.new).is_open
+        → IfOk result (λ found.
+        (c : Contents) → HasIn found.1 (state S.Store connection.old).now c
+        → AreVersionsOf (in_microseconds found.1 c) found.3.items) }
+    ensures bad { HasCleanDisk (state S.Store connection.new)
+        → IsTrue (state S.Store connection.new).is_open
+        → HasStoreTables (state S.Store connection.old).now.schema
+        → IfErr result (λ fault. fault ≡ BadStore
+        → ¬ IsGoodStore NothingMore (state S.Store connection.old).now) }
+    ensures lawful { IfOk result (λ found. AreLawful [] found.0.tables) }
+    ensures clock { IfOk result (λ found. IsClock found.1 found.2) }
+    ensures same { HasCleanDisk (state S.Store connection.new)
+        → Keeps (state S.Store connection.old) (state S.Store connection.new) }
+    ensures mode { connection.new.in_transaction ≡ false }
+{
+    if !columns_there(connection) {
+        return Err(OpenFault::BadStore);
+    }
+    // For the proof alone: while a connection is open, no two rows share a key.
+    let _live = connection.schema();
+    let metas = meta_rows(connection)?;
+    let tables = table_rows(connection)?;
+    let versions = version_rows(connection)?;
+    let ids = rowids(connection)?;
+    if !are_numbered(&ids) {
+        return Err(OpenFault::Store(StoreFault::Database));
+    }
+    if !are_rising(&ids) {
+        return Err(OpenFault::Store(StoreFault::Database));
+    }
+    if repeat_key(&versions) {
+        return Err(OpenFault::BadStore);
+    }
+    check_rows(alloc, &metas, &tables, versions)
+}

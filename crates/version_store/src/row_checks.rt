@@ -1,0 +1,172 @@
+//! The rows of the three tables, judged.
+
+ghost use Rattle.std.specs.Prelude.{◌≡◌, ◌⊎◌, ◌≤◌, ◌<◌, ℕ, ℤ, List, [], IfErr, IfOk, OnOk, true};
+ghost use Rattle.std.specs.Prelude.{length};
+ghost use Rattle.std.specs.List.{AllByRecursion};
+ghost use Rattle.catalog_core.specs.Limits.{most_tables};
+ghost use Rattle.catalog_core.specs.table.TableWords.{has_date_period, has_distinct_names};
+ghost use Rattle.catalog_core.specs.declared.table.TableDef.{TableDef as AnyTable};
+ghost use Rattle.version_tables.specs.declared.form.Form.{Form as AnyForm};
+ghost use Rattle.version_store.specs.Contents.{HasMore, rows_of_table};
+ghost use Rattle.version_store.specs.GoodStore.{AreReadAs, AreTables, IsReadAs, IsTableRow};
+ghost use Rattle.version_store.specs.GoodStore.{AreStoreRows, IsVersionRow};
+ghost use Rattle.version_store.specs.declared.fault.OpenFault.TheVariants.{BadStore};
+
+use crate::fault::OpenFault;
+use crate::row_values::are_row_values;
+use crate::version_reader::dated_row;
+use catalog_core::{Catalog, MOST_TABLES, TableDef, decode_def, lawful};
+use period_core::{Items, Memory, Values, VersionRow, decode_values};
+use sqlite::Row;
+use std::alloc::Global;
+use version_tables::{Form, bytes_at, clock_of, is_definition, is_version, number_at};
+
+/// The definition that a row has behind those of the catalog.
+fn read_table(alloc: Global, catalog: &Catalog, row: &Row) -> Result<TableDef, OpenFault>
+    requires { length catalog.now.tables ≤ most_tables }
+    ensures good { IfOk result (IsTableRow catalog.now.tables row.now) }
+    ensures dated { IfOk result (λ d. has_date_period d ≡ true) }
+    ensures distinct { IfOk result (λ d. has_distinct_names d ≡ true) }
+    ensures bad { IfErr result (λ fault. fault ≡ BadStore
+        → (d : AnyTable) → ¬ IsTableRow catalog.now.tables row.now d) }
+{
+    if !is_definition(row, catalog.len() as u32 + 1) {
+        return Err(OpenFault::BadStore);
+    }
+    let Some(bytes) = bytes_at(row, 1) else {
+        return Err(OpenFault::BadStore);
+    };
+    let definition = decode_def(alloc, bytes)?;
+    if lawful(catalog, &definition) {
+        Ok(definition)
+    } else {
+        Err(OpenFault::BadStore)
+    }
+}
+
+/// The catalog of the definitions that the rows have.
+fn read_tables(alloc: Global, rows: &[Row]) -> Result<Catalog, OpenFault>
+    ensures good { IfOk result (λ catalog. AreTables rows.now catalog.tables) }
+    ensures bad { IfErr result (λ fault. fault ≡ BadStore
+        → (tables : List AnyTable) → ¬ AreTables rows.now tables) }
+{
+    let mut catalog = Catalog::new(alloc);
+    if rows.len() > MOST_TABLES {
+        return Err(OpenFault::BadStore);
+    }
+    for row in rows {
+        let definition = read_table(alloc, &catalog, row)?;
+        catalog.push(definition)?;
+    }
+    Ok(catalog)
+}
+
+/// Judges the row of a version, by the form, the tables and the clock. On `Ok` it has the number of
+/// its table, and what it is read as.
+fn check_version(
+    alloc: Global,
+    form: Form,
+    catalog: &Catalog,
+    clock: i64,
+    row: &Row,
+) -> Result<(u8, VersionRow), OpenFault>
+    ensures good { IfOk result
+        (λ found. IsReadAs form catalog.now.tables clock row.now found.0 found.1) }
+    ensures bad { IfErr result (λ fault. fault ≡ BadStore
+        → ¬ IsVersionRow form catalog.now.tables clock row.now) }
+{
+    if !is_version(row, form, clock, catalog.len() as u32) {
+        return Err(OpenFault::BadStore);
+    }
+    let Some(number) = number_at(row, 0) else {
+        return Err(OpenFault::BadStore);
+    };
+    let Some(bytes) = bytes_at(row, 1) else {
+        return Err(OpenFault::BadStore);
+    };
+    let Ok(number) = u8::try_from(number) else {
+        return Err(OpenFault::BadStore);
+    };
+    let Some(definition) = catalog.def(number) else {
+        return Err(OpenFault::BadStore);
+    };
+    let values = decode_values(alloc, bytes)?;
+    if !are_row_values(definition, values.as_slice()) {
+        return Err(OpenFault::BadStore);
+    }
+    let Some(version) = dated_row(form, row, Values::from_vec(values)) else {
+        return Err(OpenFault::BadStore);
+    };
+    Ok((number, version))
+}
+
+/// So many lists without rows.
+fn no_rows(alloc: Global, count: usize) -> Result<Vec<Items<VersionRow>>, Memory>
+    ensures count { IfOk result (λ lists. length lists.items ≡ count) }
+    ensures none { IfOk result (λ lists. (number : ℕ) → rows_of_table lists.items number ≡ []) }
+{
+    let mut lists = Vec::new(alloc);
+    'lists: for _turn in 0..count {
+        lists.push(Items::empty(alloc))?;
+    }
+    Ok(lists)
+}
+
+/// Adds a row to the list of the table of a number, which is there.
+fn push_row(lists: &mut Vec<Items<VersionRow>>, number: u8, row: VersionRow) -> Result<(), Memory>
+    requires { (0 < number) × (number ≤ length lists.old.items) }
+    ensures { OnOk result (HasMore number row lists.old.items lists.new.items) }
+{
+    let Some(list) = lists.get_mut(usize::from(number) - 1) else {
+        unreachable!()
+    };
+    list.push(row)
+}
+
+/// Judges the rows of the versions, each of which is dropped as soon as it is read. On `Ok` it has
+/// what they are read as: the version rows of each table.
+fn check_versions(
+    alloc: Global,
+    form: Form,
+    catalog: &Catalog,
+    clock: i64,
+    rows: Vec<Row>,
+) -> Result<Vec<Items<VersionRow>>, OpenFault>
+    ensures good { IfOk result
+        (λ _. AllByRecursion (IsVersionRow form catalog.now.tables clock) rows.items) }
+    ensures read { IfOk result
+        (λ lists. AreReadAs form catalog.now.tables clock rows.items lists.items) }
+    ensures bad { IfErr result (λ fault. fault ≡ BadStore
+        → ¬ AllByRecursion (IsVersionRow form catalog.now.tables clock) rows.items) }
+{
+    let mut lists = no_rows(alloc, catalog.len())?;
+    for row in rows {
+        let (number, version) = check_version(alloc, form, catalog, clock, &row)?;
+        push_row(&mut lists, number, version)?;
+    }
+    Ok(lists)
+}
+
+/// Judges the rows of the three tables. On `Ok` it has the tables, the form, the clock, a number
+/// in the form's unit, and the version rows of each table.
+pub(crate) fn check_rows(
+    alloc: Global,
+    metas: &[Row],
+    tables: &[Row],
+    versions: Vec<Row>,
+) -> Result<(Catalog, Form, i64, Vec<Items<VersionRow>>), OpenFault>
+    ensures good { IfOk result (λ found.
+        AreStoreRows metas.now tables.now versions.items found.0.tables found.1 found.2) }
+    ensures read { IfOk result (λ found.
+        AreReadAs found.1 found.0.tables found.2 versions.items found.3.items) }
+    ensures bad { IfErr result (λ fault. fault ≡ BadStore
+        → (known : List AnyTable) (form : AnyForm) (clock : ℤ)
+        → ¬ AreStoreRows metas.now tables.now versions.items known form clock) }
+{
+    let Some((form, clock)) = clock_of(metas) else {
+        return Err(OpenFault::BadStore);
+    };
+    let catalog = read_tables(alloc, tables)?;
+    let lists = check_versions(alloc, form, &catalog, clock, versions)?;
+    Ok((catalog, form, clock, lists))
+}

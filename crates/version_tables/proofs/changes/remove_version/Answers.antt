@@ -1,0 +1,16 @@
+use Rattle.std.proofs.Common.{w64}
+use Rattle.std.proofs.lemmas.Int.{to_z-of_z}
+use Rattle.sqlite.specs.Held.{state}
+use Rattle.version_tables.specs.Represents.{version}
+use Rattle.version_tables.proofs.Steps.{one_statement}
+use Rattle.version_tables.proofs.Removes.{removes_inside}
+use Rattle.version_tables.proofs.changes.remove_version.Goals as goal
+
+pub returns-clause-made : goal.returns-clause-made
+returns-clause-made g c clean begun =
+    let k = version c.args.table c.args.values.now c.args.start c.args.start c.args.from c.args.from in
+    removes_inside (state g.S.Store c.args.transaction.now.conn.now) (state g.S.Store c.execute.new.self.conn.now) k c.execute.result
+    (rw (c.params-to_sql.ensures, c.params-to_sql-2.ensures, c.params-to_sql-3.ensures, c.params-to_sql-4.ensures, to_z-of_z w64 c.args.start c.ranges.start, to_z-of_z w64 c.args.from c.ranges.from) at (c.execute.ensures.runs clean begun)) begun
+
+pub returns-clause-inside : goal.returns-clause-inside
+returns-clause-inside g c = one_statement g.S.Store _ _ _ _ c.execute.result c.execute.ensures.ended c.execute.ensures.runs c.execute.ensures.survives

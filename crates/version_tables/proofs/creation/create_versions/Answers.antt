@@ -1,0 +1,15 @@
+use Rattle.std.proofs.Common.{[]}
+use Rattle.sqlite.specs.Held.{state}
+use Rattle.version_tables.specs.Making.{HasDefinitions, HasThree}
+use Rattle.version_tables.proofs.Steps.{one_statement, turned}
+use Rattle.version_tables.proofs.Creates.{makes_versions}
+use Rattle.version_tables.proofs.creation.create_versions.Goals as goal
+
+pub returns-clause-made : goal.returns-clause-made
+returns-clause-made g c clean begun =
+    let old = state g.S.Store c.args.transaction.now.conn.now in
+    let new = state g.S.Store c.execute.new.self.conn.now in
+    turned old new _ [] c.execute.result HasDefinitions HasThree (makes_versions old new) (c.execute.ensures.runs clean begun)
+
+pub returns-clause-inside : goal.returns-clause-inside
+returns-clause-inside g c = one_statement g.S.Store _ _ _ _ c.execute.result c.execute.ensures.ended c.execute.ensures.runs c.execute.ensures.survives

@@ -1,0 +1,16 @@
+use Rattle.std.proofs.Common.{◌≡◌, rules, w64, to_z, of_z}
+use Rattle.std.proofs.lemmas.Int.{to_z-of_z}
+use Rattle.sqlite.specs.Held.{state}
+use Rattle.version_tables.specs.Forms.{form_number}
+use Rattle.version_tables.proofs.Steps.{one_statement}
+use Rattle.version_tables.proofs.Clocks.{sets_form_inside}
+use Rattle.version_tables.proofs.migration.set_form.Goals as goal
+
+pub returns-clause-made : goal.returns-clause-made
+returns-clause-made g c clean begun =
+    let n : to_z w64 (of_z w64 c.number-number.result) ≡ c.number-number.result = search rules in
+    sets_form_inside (state g.S.Store c.args.transaction.now.conn.now) (state g.S.Store c.execute.new.self.conn.now) (form_number c.args.form) c.args.clock c.execute.result
+    (rw (c.params-to_sql.ensures, c.params-to_sql-2.ensures, n, c.number-number.ensures, to_z-of_z w64 c.args.clock c.ranges.clock) at (c.execute.ensures.runs clean begun))
+
+pub returns-clause-inside : goal.returns-clause-inside
+returns-clause-inside g c = one_statement g.S.Store _ _ _ _ c.execute.result c.execute.ensures.ended c.execute.ensures.runs c.execute.ensures.survives

@@ -1,0 +1,16 @@
+//! Rows of bt_version as they are told apart and as they are added.
+
+/// What tells the versions of a table that begin at one moment: their values' bytes, and the number
+/// of the first day of the period.
+#[derive(PartialEq, Eq, PartialOrd, Ord, Debug, Drop)]
+pub struct VersionKey {
+    pub values: Vec<u8>,
+    pub start: i64,
+}
+
+/// A row that is added: its key, and the number of the day before which its period ends.
+#[derive(Debug, Drop)]
+pub struct NewRow {
+    pub key: VersionKey,
+    pub end: i64,
+}
