@@ -82,9 +82,20 @@ fn is_among(text: &str, words: &[&str]) -> bool
     words.iter().any(|word| is_same_word(text, word))
 }
 
-/// Whether this word, in any case, is reserved, so that it is no name.
-pub fn is_reserved(text: &str) -> bool
+/// Whether it is one of the reserved words.
+fn is_listed(text: &str) -> bool
     ensures { result ≡ words.is_reserved text.now }
 {
     is_among(text, RESERVED.as_slice())
+}
+
+/// Whether this word, in any case, is reserved, so that it is no name. (Each reserved word has 2 to
+/// 11 letters: names of one letter are many, and long ones are some.)
+pub fn is_reserved(text: &str) -> bool
+    ensures { result ≡ words.is_reserved text.now }
+{
+    match text.len() {
+        2..=11 => is_listed(text),
+        _ => false,
+    }
 }

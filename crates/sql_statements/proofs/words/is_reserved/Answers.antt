@@ -1,10 +1,9 @@
-use Rattle.std.proofs.Common.{◌∙◌, ℕ, List, Bor, ap, map}
-use Rattle.sql_statements.proofs.WordsFacts.{among_texts}
-use Rattle.sql_statements.specs.Words.{is_among, is_reserved}
+use Rattle.std.proofs.Common.{rules}
+use Rattle.sql_statements.proofs.WordsFacts.{too_long, too_short}
 use Rattle.sql_statements.proofs.words.is_reserved.Goals as goal
 
-pub returns : goal.returns
-unfolding is_reserved
-returns c =
-    c.is_among.ensures ∙ among_texts c.args.text.now c.as_slice.result.now
-    ∙ ap (λ (words : List (Bor (List ℕ))). is_among c.args.text.now (map (λ (word : Bor (List ℕ)). word.now) words)) c.as_slice.ensures
+pub returns-in_default : goal.returns-in_default
+returns-in_default c = search (rules, too_short)
+
+pub returns-in_default-2 : goal.returns-in_default-2
+returns-in_default-2 c = search (rules, too_long)
