@@ -1,9 +1,9 @@
 -- Lists of words, and the reserved words.
-use Rattle.std.proofs.Common.{◌≡◌, ℕ, ◌<◌, List, [], ◌∷◌, Bool, true, false, ◌&&◌, ◌||◌, Bor, length, leb, map, refl, sym, ap, ◌∙◌}
+use Rattle.std.proofs.Common.{◌≡◌, ℕ, ◌<◌, ◌≤◌, List, [], ◌∷◌, Bool, cond, true, false, ◌&&◌, ◌||◌, Bor, length, leb, map, refl, sym, ap, arith, ◌∙◌}
 use Rattle.std.specs.Char.{to_ascii_lowercase}
-use Rattle.std.specs.List.{list_all, list_any}
+use Rattle.std.specs.List.{filter, list_any}
 use Rattle.std.specs.Str.{bytes_eq}
-use Rattle.std.proofs.lemmas.Bool.{and_parts, false≢true, lt-leb}
+use Rattle.std.proofs.lemmas.Bool.{false≢true, le-leb}
 use Rattle.std.proofs.lemmas.List.{length-map}
 use Rattle.std.proofs.lemmas.Slice.Eq.{bytes_eq-Decides}
 use Rattle.sql_statements.specs.Words.{folded, is_among, reserved, is_reserved}
@@ -27,39 +27,46 @@ pub reserved_same : (a b : List ℕ) → folded a ≡ folded b → is_reserved a
 unfolding is_reserved
 reserved_same a b e = among_same a b reserved e
 
--- ---- reserved words have 2 to 11 letters
-
-abbrev has_length : ℕ → Bool
-has_length n = leb 2 n && leb n 11
+-- ---- of the reserved words, those of about a length suffice
 
 same_length : (a b : List ℕ) → folded a ≡ folded b → length a ≡ length b
 same_length a b e = sym (length-map a to_ascii_lowercase) ∙ ap length e ∙ length-map b to_ascii_lowercase
 
-differ : (text w : List ℕ) → has_length (length text) ≡ false → has_length (length w) ≡ true → bytes_eq (folded text) (folded w) ≡ false
-differ text w short long = go (bytes_eq (folded text) (folded w)) refl
+differ : (p : ℕ → Bool) (text w : List ℕ) → p (length text) ≡ true → p (length w) ≡ false → bytes_eq (folded text) (folded w) ≡ false
+differ p text w within without = go (bytes_eq (folded text) (folded w)) refl
   where
     go : (b : Bool) → bytes_eq (folded text) (folded w) ≡ b → b ≡ false
     go false e = refl
     go true e =
         let same : length text ≡ length w = same_length text w ((bytes_eq-Decides (folded text) (folded w)).0 e) in
-        absurd (false≢true (sym short ∙ ap has_length same ∙ long))
+        absurd (false≢true (sym without ∙ ap p (sym same) ∙ within))
 
-none : (text : List ℕ) → has_length (length text) ≡ false → (words : List (List ℕ)) → list_all (λ w. has_length (length w)) words ≡ true → is_among text words ≡ false
-none text short [] all = refl
-none text short (w ∷ words) all =
-    let (long, rest) = and_parts _ _ all in
-    ap (λ (b : Bool). b || is_among text words) (differ text w short long) ∙ none text short words rest
+narrowed : (p : ℕ → Bool) (text : List ℕ) → p (length text) ≡ true → (words : List (List ℕ)) → is_among text (filter (λ w. p (length w)) words) ≡ is_among text words
+narrowed p text within [] = refl
+narrowed p text within (w ∷ words) = go (p (length w)) refl (narrowed p text within words)
+  where
+    go : (b : Bool) → p (length w) ≡ b → is_among text (filter (λ v. p (length v)) words) ≡ is_among text words →
+        is_among text (cond b (w ∷ filter (λ v. p (length v)) words) (filter (λ v. p (length v)) words)) ≡ is_among text (w ∷ words)
+    go true e rest = ap (λ (b : Bool). bytes_eq (folded text) (folded w) || b) rest
+    go false e rest = rest ∙ sym (ap (λ (b : Bool). b || is_among text words) (differ p text w within e))
 
-unlisted : (text : List ℕ) → has_length (length text) ≡ false → false ≡ is_reserved text
+abbrev pub from_to : ℕ → ℕ → ℕ → Bool
+from_to least most n = leb least n && leb n most
+
+-- those of these lengths alone
+abbrev pub of_length : ℕ → ℕ → List (List ℕ)
+of_length least most = filter (λ w. from_to least most (length w)) reserved
+
+within : (least most n : ℕ) → least ≤ n → n ≤ most → from_to least most n ≡ true
+within least most n from to = ap (λ (b : Bool). b && leb n most) (le-leb least n from) ∙ le-leb n most to
+
+pub by_length : (least most : ℕ) (text : List ℕ) → least ≤ length text → length text ≤ most → is_among text (of_length least most) ≡ is_reserved text
 unfolding is_reserved
-unlisted text short = sym (none text short reserved refl)
+by_length least most text from to = narrowed (from_to least most) text (within least most (length text) from to) reserved
 
 pub too_short : (text : List ℕ) → length text < 2 → false ≡ is_reserved text
-too_short text short = unlisted text (ap (λ (b : Bool). b && leb (length text) 11) (lt-leb 2 (length text) short))
+too_short text short = by_length 0 1 text (omega arith) (omega (arith, short))
 
 pub too_long : (text : List ℕ) → 11 < length text → false ≡ is_reserved text
-too_long text long = unlisted text (ap (λ (b : Bool). leb 2 (length text) && b) (lt-leb (length text) 11 long) ∙ and_false (leb 2 (length text)))
-  where
-    and_false : (b : Bool) → (b && false) ≡ false
-    and_false true = refl
-    and_false false = refl
+unfolding is_reserved
+too_long text long = narrowed (λ n. leb 12 n) text (le-leb 12 (length text) (omega (arith, long))) reserved

@@ -6,65 +6,39 @@ ghost use Rattle.std.specs.Str.{bytes_eq};
 ghost use Rattle.sql_statements.specs.Words as words;
 ghost use Rattle.sql_statements.specs.Words.{folded};
 
-/// The words that are no names.
-static RESERVED: [&str; 57] = [
-    "ALWAYS",
-    "AND",
-    "AS",
-    "AT",
-    "BETWEEN",
+/// The words of 2 or 3 letters that are no names.
+static OF_TWO_OR_THREE: [&str; 13] = [
+    "AND", "AS", "AT", "END", "FOR", "KEY", "NOT", "OF", "ON", "OR", "ROW", "SET", "TO",
+];
+
+/// The words of 4 or 5 letters that are no names.
+static OF_FOUR_OR_FIVE: [&str; 11] = [
+    "DATE", "FROM", "INNER", "INTO", "JOIN", "NULL", "START", "TABLE", "UNION", "WHERE", "WITH",
+];
+
+/// The words of 6 letters that are no names.
+static OF_SIX: [&str; 11] = [
+    "ALWAYS", "CREATE", "DELETE", "EQUALS", "EXCEPT", "INSERT", "PERIOD", "SELECT", "SYSTEM",
+    "UPDATE", "VALUES",
+];
+
+/// The words of 7 or 8 letters that are no names.
+static OF_SEVEN_OR_EIGHT: [&str; 13] = [
+    "BETWEEN", "CONTAINS", "DISTINCT", "FOREIGN", "INTEGER", "OVERLAPS", "PORTION", "PRECEDES",
+    "PRIMARY", "SUCCEEDS", "VARCHAR", "VARYING", "WITHOUT",
+];
+
+/// The words of 9 to 11 letters that are no names.
+static OF_NINE_TO_ELEVEN: [&str; 9] = [
     "CHARACTER",
-    "CONTAINS",
-    "CREATE",
-    "DATE",
-    "DELETE",
-    "DISTINCT",
-    "END",
-    "EQUALS",
-    "EXCEPT",
-    "FOR",
-    "FOREIGN",
-    "FROM",
     "GENERATED",
     "IMMEDIATELY",
-    "INNER",
-    "INSERT",
-    "INTEGER",
     "INTERSECT",
-    "INTO",
-    "JOIN",
-    "KEY",
-    "NOT",
-    "NULL",
-    "OF",
-    "ON",
-    "OR",
-    "OVERLAPS",
-    "PERIOD",
-    "PORTION",
-    "PRECEDES",
-    "PRIMARY",
     "REFERENCES",
-    "ROW",
-    "SELECT",
-    "SET",
-    "START",
-    "SUCCEEDS",
-    "SYSTEM",
     "SYSTEM_TIME",
-    "TABLE",
     "TIMESTAMP",
-    "TO",
-    "UNION",
-    "UPDATE",
     "VALIDTIME",
-    "VALUES",
-    "VARCHAR",
-    "VARYING",
     "VERSIONING",
-    "WHERE",
-    "WITH",
-    "WITHOUT",
 ];
 
 /// Whether the two are one word: case tells nothing.
@@ -82,20 +56,17 @@ fn is_among(text: &str, words: &[&str]) -> bool
     words.iter().any(|word| is_same_word(text, word))
 }
 
-/// Whether it is one of the reserved words.
-fn is_listed(text: &str) -> bool
-    ensures { result ≡ words.is_reserved text.now }
-{
-    is_among(text, RESERVED.as_slice())
-}
-
-/// Whether this word, in any case, is reserved, so that it is no name. (Each reserved word has 2 to
-/// 11 letters: names of one letter are many, and long ones are some.)
+/// Whether this word, in any case, is reserved, so that it is no name. Only words of about its length
+/// are looked at.
 pub fn is_reserved(text: &str) -> bool
     ensures { result ≡ words.is_reserved text.now }
 {
     match text.len() {
-        2..=11 => is_listed(text),
+        2..=3 => is_among(text, OF_TWO_OR_THREE.as_slice()),
+        4..=5 => is_among(text, OF_FOUR_OR_FIVE.as_slice()),
+        6 => is_among(text, OF_SIX.as_slice()),
+        7..=8 => is_among(text, OF_SEVEN_OR_EIGHT.as_slice()),
+        9..=11 => is_among(text, OF_NINE_TO_ELEVEN.as_slice()),
         _ => false,
     }
 }
