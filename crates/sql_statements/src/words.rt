@@ -56,8 +56,8 @@ fn is_among(text: &str, words: &[&str]) -> bool
     words.iter().any(|word| is_same_word(text, word))
 }
 
-/// Whether this word, in any case, is reserved, so that it is no name. Only words of about its length
-/// are looked at.
+/// Whether this word, in any case, is reserved, so that it is no name. Only words of about its
+/// length are looked at.
 pub fn is_reserved(text: &str) -> bool
     ensures { result ≡ words.is_reserved text.now }
 {
