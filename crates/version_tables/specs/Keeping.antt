@@ -18,7 +18,7 @@ pub record KeepsOthers (old new : Database) : Type 0 where
   pub schema_is : new.schema ≡ old.schema
   pub others : KeepsRows (tables_behind old.schema) old.trees new.trees
 
--- so it is in a database that has the three tables
+-- so it is of a database that had the three tables, where the disk has returned what was written
 abbrev pub LeavesOthers : {S : Type 0} → Ghosts S → Held S → Held S → Type 0
 LeavesOthers g old new =
     HasCleanDisk (state g new) → HasStoreTables (state g old).now.schema
