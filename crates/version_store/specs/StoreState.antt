@@ -13,6 +13,7 @@ use Rattle.sqlite.specs.Steps.{over_memory}
 use Rattle.sqlite_trees.specs.declared.memory.MemStore.{MemStore}
 use Rattle.sqlite.specs.Schema.{Schema}
 use Rattle.version_tables.specs.Forms.{form_number}
+use Rattle.version_tables.specs.Keeping.{LeavesOthers}
 use Rattle.version_tables.specs.Making.{IsBegunIn}
 use Rattle.version_tables.specs.Presence.{HasEachStoreTable}
 use Rattle.version_tables.specs.Steps.{HasFault, IsAsBefore, KeepsFaults}
@@ -45,6 +46,11 @@ IsUsable g connection = HasCleanDisk (state g connection) × IsTrue (state g con
 -- a store in memory is always so
 abbrev pub MemoryIsUsable : Type 0
 MemoryIsUsable = (connection : Held MemStore) → IsUsable over_memory connection
+
+-- where the connection is usable as a call ends, others have in its database what they had, which
+-- has the store's three tables before what is theirs
+abbrev pub SparesOthers : {S : Type 0} → Ghosts S → Held S → Held S → Type 0
+SparesOthers g old new = IsUsable g new → LeavesOthers g old new
 
 -- the database has these contents, as they were last committed, and so has what is kept in memory;
 -- their versions can be read

@@ -1,8 +1,9 @@
 //! Rows that a plan adds. A row that ended as it began has to be removed: where a row is added at
 //! its place it becomes that row, which saves a removal and an insertion.
 
-ghost use Rattle.std.specs.Prelude.{◌≡◌, ◌∷◌, [], map};
+ghost use Rattle.std.specs.Prelude.{◌≡◌, ◌∷◌, [], map, OnOk};
 ghost use Rattle.period_core.specs.Moments.{forever};
+ghost use Rattle.version_tables.specs.Keeping.{LeavesOthers};
 ghost use Rattle.version_tables.specs.Represents.{added, all_added, new_version, removed};
 ghost use Rattle.version_tables.specs.Steps.{ChangesRecords, CommitsNothing};
 ghost use Rattle.version_store.specs.Changed.{added_at};
@@ -29,6 +30,8 @@ fn insert_rows<S: Alter>(
     ensures same_reference { transaction.new.conn.ghost_name ≡ transaction.old.conn.ghost_name }
     ensures made { ChangesRecords S.Store transaction.old.conn.now transaction.new.conn.now result
         (all_added (map (new_version table moment forever) new.now)) }
+    ensures others { OnOk result
+        (LeavesOthers S.Store transaction.old.conn.now transaction.new.conn.now) }
     ensures inside { CommitsNothing S.Store transaction.old.conn.now transaction.new.conn.now }
 {
     let until = Moment::forever().number();
@@ -54,6 +57,8 @@ fn insert_row<S: Alter>(
     ensures same_reference { transaction.new.conn.ghost_name ≡ transaction.old.conn.ghost_name }
     ensures made { ChangesRecords S.Store transaction.old.conn.now transaction.new.conn.now result
         (added (new_version table moment forever new.now)) }
+    ensures others { OnOk result
+        (LeavesOthers S.Store transaction.old.conn.now transaction.new.conn.now) }
     ensures inside { CommitsNothing S.Store transaction.old.conn.now transaction.new.conn.now }
 {
     insert_rows(alloc, transaction, table, moment, slice::from_ref(new))
@@ -71,6 +76,8 @@ fn replace_row<S: Alter>(
     ensures made { ChangesRecords S.Store transaction.old.conn.now transaction.new.conn.now result
         (λ records. added (new_version table moment forever new.now)
         (removed (key_at table moment new.now.key) records)) }
+    ensures others { OnOk result
+        (LeavesOthers S.Store transaction.old.conn.now transaction.new.conn.now) }
     ensures inside { CommitsNothing S.Store transaction.old.conn.now transaction.new.conn.now }
 {
     let to = Moment::forever().number();
@@ -103,6 +110,8 @@ fn add_row<S: Alter>(
     ensures same_reference { transaction.new.conn.ghost_name ≡ transaction.old.conn.ghost_name }
     ensures made { CarriesExcept S.Store transaction.old.conn.now transaction.new.conn.now result
         table moment pending.old.keys pending.new.keys (added_at table moment (row.now ∷ [])) }
+    ensures others { OnOk result
+        (LeavesOthers S.Store transaction.old.conn.now transaction.new.conn.now) }
     ensures inside { CommitsNothing S.Store transaction.old.conn.now transaction.new.conn.now }
 {
     let new = new_row(alloc, row)?;
@@ -125,6 +134,8 @@ pub(crate) fn add_rows<S: Alter>(
     ensures same_reference { transaction.new.conn.ghost_name ≡ transaction.old.conn.ghost_name }
     ensures made { CarriesExcept S.Store transaction.old.conn.now transaction.new.conn.now result
         table moment pending.old.keys pending.new.keys (added_at table moment rows.now) }
+    ensures others { OnOk result
+        (LeavesOthers S.Store transaction.old.conn.now transaction.new.conn.now) }
     ensures inside { CommitsNothing S.Store transaction.old.conn.now transaction.new.conn.now }
 {
     if pending.is_empty() {

@@ -2,6 +2,7 @@
 //! last those are removed that ended as they began, where none was added with their key.
 
 ghost use Rattle.std.specs.Prelude.{◌≡◌, ◌∷◌, [], OnOk};
+ghost use Rattle.version_tables.specs.Keeping.{LeavesOthers};
 ghost use Rattle.version_tables.specs.Represents.{removed};
 ghost use Rattle.version_tables.specs.Steps.{ChangesRecords, CommitsNothing};
 ghost use Rattle.version_store.specs.Changed.{ended_at, planned};
@@ -31,6 +32,8 @@ fn end_row<S: Alter>(
     ensures same_reference { transaction.new.conn.ghost_name ≡ transaction.old.conn.ghost_name }
     ensures made { CarriesExcept S.Store transaction.old.conn.now transaction.new.conn.now result
         table moment pending.old.keys pending.new.keys (ended_at table moment (row.now ∷ [])) }
+    ensures others { OnOk result
+        (LeavesOthers S.Store transaction.old.conn.now transaction.new.conn.now) }
     ensures inside { CommitsNothing S.Store transaction.old.conn.now transaction.new.conn.now }
 {
     let key = version_key_of(alloc, &row.values, row.period)?;
@@ -62,6 +65,8 @@ fn end_rows<S: Alter>(
     ensures same_reference { transaction.new.conn.ghost_name ≡ transaction.old.conn.ghost_name }
     ensures made { CarriesExcept S.Store transaction.old.conn.now transaction.new.conn.now result
         table moment pending.old.keys pending.new.keys (ended_at table moment rows.now) }
+    ensures others { OnOk result
+        (LeavesOthers S.Store transaction.old.conn.now transaction.new.conn.now) }
     ensures inside { CommitsNothing S.Store transaction.old.conn.now transaction.new.conn.now }
 {
     for row in rows {
@@ -80,6 +85,8 @@ fn remove_row<S: Alter>(
     ensures same_reference { transaction.new.conn.ghost_name ≡ transaction.old.conn.ghost_name }
     ensures made { ChangesRecords S.Store transaction.old.conn.now transaction.new.conn.now result
         (removed (key_at table moment key.now)) }
+    ensures others { OnOk result
+        (LeavesOthers S.Store transaction.old.conn.now transaction.new.conn.now) }
     ensures inside { CommitsNothing S.Store transaction.old.conn.now transaction.new.conn.now }
 {
     remove_version(
@@ -102,6 +109,8 @@ fn remove_rows<S: Alter>(
     ensures same_reference { transaction.new.conn.ghost_name ≡ transaction.old.conn.ghost_name }
     ensures made { CarriesExcept S.Store transaction.old.conn.now transaction.new.conn.now result
         table moment pending.old.keys [] (λ c. c) }
+    ensures others { OnOk result
+        (LeavesOthers S.Store transaction.old.conn.now transaction.new.conn.now) }
     ensures inside { CommitsNothing S.Store transaction.old.conn.now transaction.new.conn.now }
 {
     'removals: while let Some(key) = pending.pop_first() {
@@ -121,6 +130,8 @@ pub(crate) fn put_plan<S: Alter>(
     ensures same_reference { transaction.new.conn.ghost_name ≡ transaction.old.conn.ghost_name }
     ensures made { Carries S.Store transaction.old.conn.now transaction.new.conn.now result
         (planned table moment plan.now.ended plan.now.added) }
+    ensures others { OnOk result
+        (LeavesOthers S.Store transaction.old.conn.now transaction.new.conn.now) }
     ensures inside { CommitsNothing S.Store transaction.old.conn.now transaction.new.conn.now }
 {
     let mut pending = BTreeSet::new(alloc);

@@ -16,7 +16,8 @@ ghost use Rattle.version_store.specs.Contents.{AreRowsOf, Contents, empty_conten
 ghost use Rattle.version_store.specs.DistinctKeys.{HaveDistinctKeys};
 ghost use Rattle.version_store.specs.Scans.{AnswersRefusal, IsOwnRefusal, Visits, is_empty};
 ghost use Rattle.version_store.specs.StoreState.{Changes, IsFailure, IsMadeBehind, IsOnlyRead};
-ghost use Rattle.version_store.specs.StoreState.{IsStoreRefusal, IsUsable, StoreRepresents};
+ghost use Rattle.version_store.specs.StoreState.{IsStoreRefusal, IsUsable, SparesOthers};
+ghost use Rattle.version_store.specs.StoreState.{StoreRepresents};
 
 use crate::fault::refusal_of;
 use crate::scans::{scan_rows, table_rows};
@@ -141,6 +142,7 @@ impl<S: Alter> VersionStore<S> {
             (self.new.catalog.tables ≡ self.old.catalog.tables ++ definition ∷ []) }
         ensures none { OnErr result (self.new.catalog.tables ≡ self.old.catalog.tables) }
         ensures clock { self.new.clock ≡ self.old.clock }
+        ensures others { SparesOthers S.Store self.old.connection self.new.connection }
         ensures usable { IsUsable S.Store self.new.connection
             → IsUsable S.Store self.old.connection }
         ensures named { IfErr result IsStoreRefusal }
@@ -166,6 +168,7 @@ impl<S: Alter> VersionStore<S> {
         ensures catalog { self.new.catalog ≡ self.old.catalog }
         ensures advanced { OnOk result (self.new.clock ≡ moment) }
         ensures clock { OnErr result (self.new.clock ≡ self.old.clock) }
+        ensures others { SparesOthers S.Store self.old.connection self.new.connection }
         ensures usable { IsUsable S.Store self.new.connection
             → IsUsable S.Store self.old.connection }
         ensures named { IfErr result IsStoreRefusal }
@@ -190,6 +193,7 @@ impl<S: Alter> VersionStore<S> {
             (planned table moment plan.now.ended plan.now.added) }
         ensures catalog { self.new.catalog ≡ self.old.catalog }
         ensures clock { self.new.clock ≡ self.old.clock }
+        ensures others { SparesOthers S.Store self.old.connection self.new.connection }
         ensures usable { IsUsable S.Store self.new.connection
             → IsUsable S.Store self.old.connection }
         ensures distinct { IsUsable S.Store self.new.connection

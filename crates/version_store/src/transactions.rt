@@ -1,6 +1,7 @@
 //! The changes: inside a transaction, and each whole in one of its own.
 
-ghost use Rattle.std.specs.Prelude.{◌≡◌, ◌+◌, false, length};
+ghost use Rattle.std.specs.Prelude.{◌≡◌, ◌+◌, false, length, OnOk};
+ghost use Rattle.version_tables.specs.Keeping.{LeavesOthers};
 ghost use Rattle.version_tables.specs.Moves.{AreInSeconds, moved};
 ghost use Rattle.version_tables.specs.Represents.{with_definition};
 ghost use Rattle.version_store.specs.Changed.{planned, with_clock};
@@ -28,6 +29,7 @@ pub(crate) fn write_plan<S: Alter>(
     requires { connection.old.in_transaction ≡ false }
     ensures made { Commits S.Store connection.old connection.new result
         (planned table moment plan.now.ended plan.now.added) }
+    ensures others { OnOk result (LeavesOthers S.Store connection.old connection.new) }
     ensures none { Undoes S.Store connection.old connection.new result }
     ensures usable { IsUsable S.Store connection.new → IsUsable S.Store connection.old }
     ensures mode { connection.new.in_transaction ≡ false }
@@ -49,6 +51,8 @@ fn put_table<S: Alter>(
     ensures same_reference { transaction.new.conn.ghost_name ≡ transaction.old.conn.ghost_name }
     ensures made { ChangesWhere S.Store transaction.old.conn.now transaction.new.conn.now result
         (λ records. number ≡ length records.tables + 1) (with_definition definition.now) }
+    ensures others { OnOk result
+        (LeavesOthers S.Store transaction.old.conn.now transaction.new.conn.now) }
     ensures inside { CommitsNothing S.Store transaction.old.conn.now transaction.new.conn.now }
 {
     insert_definition(transaction, number, definition)?;
@@ -63,6 +67,8 @@ fn put_clock<S: Alter>(
     ensures same_reference { transaction.new.conn.ghost_name ≡ transaction.old.conn.ghost_name }
     ensures made { Carries S.Store transaction.old.conn.now transaction.new.conn.now result
         (with_clock moment) }
+    ensures others { OnOk result
+        (LeavesOthers S.Store transaction.old.conn.now transaction.new.conn.now) }
     ensures inside { CommitsNothing S.Store transaction.old.conn.now transaction.new.conn.now }
 {
     set_clock(transaction, moment.number())?;
@@ -78,6 +84,7 @@ pub(crate) fn write_table<S: Alter>(
     requires { connection.old.in_transaction ≡ false }
     ensures made { CommitsWhere S.Store connection.old connection.new result
         (λ records. number ≡ length records.tables + 1) (with_definition definition.now) }
+    ensures others { OnOk result (LeavesOthers S.Store connection.old connection.new) }
     ensures none { Undoes S.Store connection.old connection.new result }
     ensures usable { IsUsable S.Store connection.new → IsUsable S.Store connection.old }
     ensures mode { connection.new.in_transaction ≡ false }
@@ -97,6 +104,7 @@ pub(crate) fn write_clock<S: Alter>(
 ) -> Result<(), StoreFault>
     requires { connection.old.in_transaction ≡ false }
     ensures made { Commits S.Store connection.old connection.new result (with_clock moment) }
+    ensures others { OnOk result (LeavesOthers S.Store connection.old connection.new) }
     ensures none { Undoes S.Store connection.old connection.new result }
     ensures usable { IsUsable S.Store connection.new → IsUsable S.Store connection.old }
     ensures mode { connection.new.in_transaction ≡ false }
@@ -117,6 +125,8 @@ fn put_microseconds<S: Alter>(
     ensures same_reference { transaction.new.conn.ghost_name ≡ transaction.old.conn.ghost_name }
     ensures made { ChangesWhere S.Store transaction.old.conn.now transaction.new.conn.now result
         (AreInSeconds clock) moved }
+    ensures others { OnOk result
+        (LeavesOthers S.Store transaction.old.conn.now transaction.new.conn.now) }
     ensures inside { CommitsNothing S.Store transaction.old.conn.now transaction.new.conn.now }
 {
     move_to_microseconds(transaction, clock.number())?;
@@ -132,6 +142,7 @@ pub(crate) fn write_move<S: Alter>(
     requires { connection.old.in_transaction ≡ false }
     ensures made { CommitsWhere S.Store connection.old connection.new result
         (AreInSeconds clock) moved }
+    ensures others { OnOk result (LeavesOthers S.Store connection.old connection.new) }
     ensures none { Undoes S.Store connection.old connection.new result }
     ensures usable { IsUsable S.Store connection.new → IsUsable S.Store connection.old }
     ensures mode { connection.new.in_transaction ≡ false }

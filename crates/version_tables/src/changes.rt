@@ -1,7 +1,8 @@
 //! The changes, each one statement inside a transaction that the caller opens and commits. Days and
 //! moments are numbers of the calendar.
 
-ghost use Rattle.std.specs.Prelude.{◌≡◌, ◌+◌, length};
+ghost use Rattle.std.specs.Prelude.{◌≡◌, ◌+◌, length, OnOk};
+ghost use Rattle.version_tables.specs.Keeping.{LeavesOthers};
 ghost use Rattle.version_tables.specs.Represents.{ended, key_of, removed};
 ghost use Rattle.version_tables.specs.Represents.{with_clock, with_definition, with_ends};
 ghost use Rattle.version_tables.specs.Steps.{CommitsNothing, ChangesKey, ChangesRecords};
@@ -21,6 +22,8 @@ pub fn remove_version<S: Alter>(
     ensures same_reference { transaction.new.conn.ghost_name ≡ transaction.old.conn.ghost_name }
     ensures made { ChangesRecords S.Store transaction.old.conn.now transaction.new.conn.now result
         (removed (key_of table values.now start from)) }
+    ensures others { OnOk result
+        (LeavesOthers S.Store transaction.old.conn.now transaction.new.conn.now) }
     ensures inside { CommitsNothing S.Store transaction.old.conn.now transaction.new.conn.now }
 {
     transaction.execute(
@@ -41,6 +44,8 @@ pub fn end_version<S: Alter>(
     ensures same_reference { transaction.new.conn.ghost_name ≡ transaction.old.conn.ghost_name }
     ensures made { ChangesRecords S.Store transaction.old.conn.now transaction.new.conn.now result
         (ended (key_of table values.now start from) to) }
+    ensures others { OnOk result
+        (LeavesOthers S.Store transaction.old.conn.now transaction.new.conn.now) }
     ensures inside { CommitsNothing S.Store transaction.old.conn.now transaction.new.conn.now }
 {
     transaction.execute(
@@ -63,6 +68,8 @@ pub fn move_ends<S: Alter>(
     ensures same_reference { transaction.new.conn.ghost_name ≡ transaction.old.conn.ghost_name }
     ensures made { ChangesKey S.Store transaction.old.conn.now transaction.new.conn.now result
         (key_of table values.now start from) (with_ends end to) }
+    ensures others { OnOk result
+        (LeavesOthers S.Store transaction.old.conn.now transaction.new.conn.now) }
     ensures inside { CommitsNothing S.Store transaction.old.conn.now transaction.new.conn.now }
 {
     transaction.execute(
@@ -82,6 +89,8 @@ pub fn insert_definition<S: Alter>(
     ensures same_reference { transaction.new.conn.ghost_name ≡ transaction.old.conn.ghost_name }
     ensures made { ChangesWhere S.Store transaction.old.conn.now transaction.new.conn.now result
         (λ records. id ≡ length records.tables + 1) (with_definition definition.now) }
+    ensures others { OnOk result
+        (LeavesOthers S.Store transaction.old.conn.now transaction.new.conn.now) }
     ensures inside { CommitsNothing S.Store transaction.old.conn.now transaction.new.conn.now }
 {
     transaction.execute(
@@ -95,6 +104,8 @@ pub fn set_clock<S: Alter>(transaction: &mut Transaction<'_, S>, clock: i64) -> 
     ensures same_reference { transaction.new.conn.ghost_name ≡ transaction.old.conn.ghost_name }
     ensures made { ChangesRecords S.Store transaction.old.conn.now transaction.new.conn.now result
         (with_clock clock) }
+    ensures others { OnOk result
+        (LeavesOthers S.Store transaction.old.conn.now transaction.new.conn.now) }
     ensures inside { CommitsNothing S.Store transaction.old.conn.now transaction.new.conn.now }
 {
     transaction.execute("UPDATE bt_meta SET clock = ?1", params![clock])

@@ -1,8 +1,9 @@
 //! The move of a store from form 1 to form 2, inside a transaction that the caller opens and
 //! commits: each statement changes all rows, so that no two of them are of one key in between.
 
-ghost use Rattle.std.specs.Prelude.{◌≡◌};
+ghost use Rattle.std.specs.Prelude.{◌≡◌, OnOk};
 ghost use Rattle.version_tables.specs.Forms.{form_number};
+ghost use Rattle.version_tables.specs.Keeping.{LeavesOthers};
 ghost use Rattle.version_tables.specs.Moves.{AreInSeconds, HaveSeconds, moved};
 ghost use Rattle.version_tables.specs.Moves.{with_moved_versions};
 ghost use Rattle.version_tables.specs.Represents.{with_form};
@@ -17,6 +18,8 @@ fn move_versions<S: Alter>(transaction: &mut Transaction<'_, S>) -> Result<usize
     ensures same_reference { transaction.new.conn.ghost_name ≡ transaction.old.conn.ghost_name }
     ensures made { ChangesWhere S.Store transaction.old.conn.now transaction.new.conn.now result
         HaveSeconds with_moved_versions }
+    ensures others { OnOk result
+        (LeavesOthers S.Store transaction.old.conn.now transaction.new.conn.now) }
     ensures inside { CommitsNothing S.Store transaction.old.conn.now transaction.new.conn.now }
 {
     let open_end = Form::Seconds.open_end();
@@ -37,6 +40,8 @@ fn set_form<S: Alter>(
     ensures same_reference { transaction.new.conn.ghost_name ≡ transaction.old.conn.ghost_name }
     ensures made { ChangesRecords S.Store transaction.old.conn.now transaction.new.conn.now result
         (with_form (form_number form) clock) }
+    ensures others { OnOk result
+        (LeavesOthers S.Store transaction.old.conn.now transaction.new.conn.now) }
     ensures inside { CommitsNothing S.Store transaction.old.conn.now transaction.new.conn.now }
 {
     let number = form.number();
@@ -55,6 +60,8 @@ pub fn move_to_microseconds<S: Alter>(
     ensures same_reference { transaction.new.conn.ghost_name ≡ transaction.old.conn.ghost_name }
     ensures made { ChangesWhere S.Store transaction.old.conn.now transaction.new.conn.now result
         (AreInSeconds clock) moved }
+    ensures others { OnOk result
+        (LeavesOthers S.Store transaction.old.conn.now transaction.new.conn.now) }
     ensures inside { CommitsNothing S.Store transaction.old.conn.now transaction.new.conn.now }
 {
     move_versions(transaction)?;

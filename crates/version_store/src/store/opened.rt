@@ -14,7 +14,7 @@ ghost use Rattle.version_store.specs.GoodStore.{AreGood, AreLawful, HaveTables, 
 ghost use Rattle.version_store.specs.GoodStore.{NothingMore};
 ghost use Rattle.version_store.specs.StoreState.{IsMadeBehind, IsOpenRefusal, IsOurs};
 ghost use Rattle.version_store.specs.StoreState.{IsStoreRefusal, IsUsable, OpenedRepresents};
-ghost use Rattle.version_store.specs.StoreState.{StoreRepresents};
+ghost use Rattle.version_store.specs.StoreState.{SparesOthers, StoreRepresents};
 ghost use Rattle.version_store.specs.Units.{in_microseconds};
 ghost use Rattle.version_store.specs.Written.{HasIn};
 
@@ -74,6 +74,8 @@ impl<S: Alter> OpenedStore<S> {
             → (c : Contents) → OpenedRepresents S.Store self c → StoreRepresents S.Store store c) }
         ensures kept { IfOk result (λ store. (store.catalog ≡ self.store.catalog)
             × (store.clock ≡ self.store.clock)) }
+        ensures others { IfOk result (λ store.
+            SparesOthers S.Store self.store.connection store.connection) }
         ensures usable { IfOk result (λ store. IsUsable S.Store store.connection
             → IsUsable S.Store self.store.connection) }
         ensures unwritten { self.form ≡ Microseconds
@@ -147,6 +149,8 @@ impl<S: Alter> VersionStore<S> {
         ensures unchanged { IfOk result (λ found. IsUsable S.Store found.0.store.connection
             → ((found.0.store.catalog.tables ≡ []) × (found.0.form ≡ Microseconds))
             ⊎ IsAsBefore (state S.Store connection) (state S.Store found.0.store.connection)) }
+        ensures others { IfOk result (λ found.
+            SparesOthers S.Store connection found.0.store.connection) }
         ensures empty { IfOk result (λ found. HasNoStoreTable (state S.Store connection).now.schema
             → (found.0.store.catalog.tables ≡ []) × (found.0.form ≡ Microseconds)) }
         ensures lawful { IfOk result (λ found. AreLawful [] found.0.store.catalog.tables) }

@@ -3,6 +3,7 @@ use Rattle.std.proofs.lemmas.List.{nil_from_length}
 use Rattle.sqlite.specs.Held.{state}
 use Rattle.period_core.specs.Moments.{forever}
 use Rattle.version_tables.specs.Represents.{Records, Represents, all_added, new_version}
+use Rattle.version_tables.proofs.Keeping.{leaves_same, leaves_then}
 use Rattle.version_tables.proofs.Steps.{nothing_then}
 use Rattle.version_store.specs.Changed.{added_at}
 use Rattle.version_store.specs.PendingRemovals.{HasExcept}
@@ -31,7 +32,7 @@ returns-then-is_empty-clause-made g c clean begun =
 
 pub loop-row-init : goal.loop-row-init
 loop-row-init g c =
-    (refl, search rules, λ clean begun. (begun, λ m has. subst (HasExcept (state g.S.Store c.args.transaction.now.conn.now).now c.args.table c.args.moment c.args.pending.now.keys) (sym (none_added c.args.table c.args.moment m)) has))
+    (refl, search rules, leaves_same g.S.Store c.args.transaction.now.conn.now c.args.transaction.now.conn.now refl, λ clean begun. (begun, λ m has. subst (HasExcept (state g.S.Store c.args.transaction.now.conn.now).now c.args.table c.args.moment c.args.pending.now.keys) (sym (none_added c.args.table c.args.moment m)) has))
 
 pub loop-row-preserved : goal.loop-row-preserved
 loop-row-preserved g c =
@@ -39,8 +40,9 @@ loop-row-preserved g c =
     let step = c.add_row.ensures in (
       step.same_reference ∙ was.0,
       nothing_then g.S.Store _ _ _ was.1 step.inside,
+      leaves_then g.S.Store c.args.transaction.now.conn.now _ _ was.2 step.inside c.in_ok-add_row.ensures.others,
       λ clean begun.
-          let mid = was.2 (omega (arith, step.inside.survives.clean)) begun in
+          let mid = was.3 (omega (arith, step.inside.survives.clean)) begun in
           let made = c.in_ok-add_row.ensures.made clean mid.0 in
           (made.0, λ m stands. subst (HasExcept (state g.S.Store c.add_row.new.transaction.conn.now).now c.args.table c.args.moment c.add_row.new.pending.keys) (added_more c.args.table c.args.moment c.args.rows.now c.loop-row.row-index c.row-item.result c.loop-row-test.true c.row-item.is m) (made.1 _ (mid.1 m stands))),
     )

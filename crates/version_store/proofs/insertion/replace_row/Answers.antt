@@ -1,6 +1,7 @@
 use Rattle.std.proofs.Common.{◌≡◌, arith, rules, w64, to_z, of_z}
 use Rattle.sqlite.specs.Held.{state}
 use Rattle.period_core.specs.Moments.{forever}
+use Rattle.version_tables.proofs.Keeping.{leaves_then}
 use Rattle.version_tables.proofs.Steps.{nothing_then}
 use Rattle.version_store.proofs.Leaves.{same_moved, one_moved, none_moved}
 use Rattle.version_store.proofs.Standing.{on_ok}
@@ -23,6 +24,10 @@ returns-in-0-clause-made g c clean begun =
 
 pub returns-in-0-clause-inside : goal.returns-in-0-clause-inside
 returns-in-0-clause-inside g c = nothing_then g.S.Store _ _ _ c.in_ok-replaced.ensures.inside c.insert_row.ensures.inside
+
+pub returns-in-0-clause-others : goal.returns-in-0-clause-others
+returns-in-0-clause-others g c =
+    on_ok c.insert_row.result (leaves_then g.S.Store c.args.transaction.now.conn.now _ _ c.in_ok-replaced.ensures.others c.insert_row.ensures.inside) c.insert_row.ensures.others
 
 pub returns-in-1-clause-made : goal.returns-in-1-clause-made
 returns-in-1-clause-made g c clean begun =

@@ -1,5 +1,6 @@
-use Rattle.std.proofs.Common.{◌≡◌, ◌||◌, sym, ap, ◌∙◌, rules, w64, to_z, of_z}
+use Rattle.std.proofs.Common.{◌≡◌, ◌||◌, refl, sym, ap, ◌∙◌, rules, w64, to_z, of_z}
 use Rattle.sqlite.specs.Held.{state}
+use Rattle.version_tables.proofs.Keeping.{leaves_same}
 use Rattle.version_store.specs.PendingRemovals.{is_pending}
 use Rattle.version_store.proofs.Leaves.{closes, notes, same_place}
 use Rattle.version_store.proofs.Places.{one_more}
@@ -41,3 +42,6 @@ returns-clause-made g c clean begun =
     let began = other_moment row.from c.args.moment (λ e. c.if-from-number.false (ap (of_z w64) (c.number-from.ensures.value ∙ e ∙ sym c.number.ensures.value))) in
     let it = c.in_ok-end_version.ensures.made clean begun in
     (it.0, λ m was. closes c.args.table c.args.moment row c.in_ok-key.ensures.held old new c.args.pending.now.keys m was began (same_ended old new c.args.table c.args.moment row _ _ _ _ _ table bytes start from to it.1))
+
+pub returns-then-from-number-clause-others : goal.returns-then-from-number-clause-others
+returns-then-from-number-clause-others g c = leaves_same g.S.Store c.args.transaction.now.conn.now c.args.transaction.now.conn.now refl

@@ -3,6 +3,7 @@ use Rattle.sqlite.specs.Held.{state}
 use Rattle.period_core.specs.declared.row.PeriodRow.{PeriodRow}
 use Rattle.period_core.specs.declared.version.VersionRow.{VersionRow}
 use Rattle.version_tables.specs.declared.version_key.VersionKey.{VersionKey}
+use Rattle.version_tables.proofs.Keeping.{leaves_then}
 use Rattle.version_store.specs.Changed.{planned}
 use Rattle.version_store.specs.PendingRemovals.{HasExcept}
 use Rattle.version_store.specs.Written.{Has}
@@ -26,3 +27,8 @@ returns-clause-made g k clean begun =
           subst₂ (λ (a : List VersionRow) (b : List PeriodRow). Has new (planned table moment a b c)) k.as_slice.ensures k.as_slice-2.ensures (settles new table moment _ (made.1 _ (added.1 _ (ended.1 c first)))),
     ))
     (k.remove_rows.ensures.made clean added.0)
+
+pub returns-clause-others : goal.returns-clause-others
+returns-clause-others g k =
+    let added = leaves_then g.S.Store k.args.transaction.now.conn.now _ _ k.in_ok-end_rows.ensures.others k.add_rows.ensures.inside k.in_ok-add_rows.ensures.others in
+    on_ok k.remove_rows.result (leaves_then g.S.Store k.args.transaction.now.conn.now _ _ added k.remove_rows.ensures.inside) k.remove_rows.ensures.others

@@ -1,12 +1,13 @@
 use Rattle.std.proofs.Common.{arith, rules, refl, ap, ◌∙◌}
 use Rattle.sqlite.specs.Held.{state}
+use Rattle.version_tables.proofs.Keeping.{leaves_same, leaves_then}
 use Rattle.version_tables.proofs.Steps.{nothing_then}
 use Rattle.version_store.specs.PendingRemovals.{is_pending, key_at}
 use Rattle.version_store.proofs.Leaves.{leaves}
 use Rattle.version_store.proofs.plans.remove_rows.Goals as goal
 
 pub removals-init : goal.removals-init
-removals-init g c = (refl, search rules, λ clean begun. (begun, λ m has. has))
+removals-init g c = (refl, search rules, leaves_same g.S.Store c.args.transaction.now.conn.now c.args.transaction.now.conn.now refl, λ clean begun. (begun, λ m has. has))
 
 pub removals-preserved : goal.removals-preserved
 removals-preserved g c =
@@ -17,8 +18,9 @@ removals-preserved g c =
     let key = c.in-Some.key in (
       step.same_reference ∙ was.0,
       nothing_then g.S.Store _ _ _ was.1 step.inside,
+      leaves_then g.S.Store c.args.transaction.now.conn.now _ _ was.2 step.inside c.in_ok-remove_row.ensures.others,
       λ clean begun.
-          let mid = was.2 (omega (arith, step.inside.survives.clean)) begun in
+          let mid = was.3 (omega (arith, step.inside.survives.clean)) begun in
           let made = c.in_ok-remove_row.ensures.made clean mid.0 in (
             made.0,
             λ m has.

@@ -1,6 +1,7 @@
 use Rattle.std.proofs.Common.{◌≡◌, length, IsTrue}
 use Rattle.sqlite.specs.State.{HasCleanDisk}
 use Rattle.sqlite.specs.Held.{state}
+use Rattle.version_tables.specs.Keeping.{LeavesOthers}
 use Rattle.version_tables.specs.Steps.{CommitsNothing}
 use Rattle.version_store.specs.Contents.{Contents}
 use Rattle.version_store.specs.PendingRemovals.{HasExcept}
@@ -10,7 +11,7 @@ abbrev pub invariant-removals : goal.invariant-removals
 invariant-removals g l =
     let old = l.fn.transaction.conn.now in
     let now = l.transaction.conn.now in
-    (l.transaction.conn.ghost_name ≡ l.fn.transaction.conn.ghost_name) × CommitsNothing g.S.Store old now
+    (l.transaction.conn.ghost_name ≡ l.fn.transaction.conn.ghost_name) × CommitsNothing g.S.Store old now × LeavesOthers g.S.Store old now
     × (HasCleanDisk (state g.S.Store now) → IsTrue old.in_transaction → IsTrue now.in_transaction
     × ((c : Contents) → HasExcept (state g.S.Store old).now l.table l.moment l.fn.pending.keys c → HasExcept (state g.S.Store now).now l.table l.moment l.pending.keys c))
 

@@ -1,9 +1,11 @@
-use Rattle.std.proofs.Common.{w64}
+use Rattle.std.proofs.Common.{w64, refl}
 use Rattle.std.proofs.lemmas.Int.{to_z-of_z}
 use Rattle.sqlite.specs.Held.{state}
 use Rattle.version_tables.specs.Represents.{version}
 use Rattle.version_tables.proofs.Steps.{one_statement}
 use Rattle.version_tables.proofs.Ends.{moves_inside}
+use Rattle.version_tables.proofs.Keeping.{statement_leaves, version_own}
+use Rattle.version_tables.proofs.Texts.{move_is}
 use Rattle.version_tables.proofs.changes.move_ends.Goals as goal
 
 pub returns-clause-made : goal.returns-clause-made
@@ -25,3 +27,6 @@ returns-clause-made g c clean begun =
 
 pub returns-clause-inside : goal.returns-clause-inside
 returns-clause-inside g c = one_statement g.S.Store _ _ _ _ c.execute.result c.execute.ensures.ended c.execute.ensures.runs c.execute.ensures.survives
+
+pub returns-clause-others : goal.returns-clause-others
+returns-clause-others g c = statement_leaves version_own _ _ _ move_is refl g.S.Store _ _ c.execute.result c.execute.ensures.ended c.execute.ensures.runs

@@ -1,9 +1,10 @@
-use Rattle.std.proofs.Common.{◌≡◌, Ok, ap, ◌∙◌, w64}
+use Rattle.std.proofs.Common.{◌≡◌, Ok, ap, refl, ◌∙◌, w64}
 use Rattle.std.proofs.lemmas.Int.{to_z-of_z}
 use Rattle.sqlite.specs.Values.{bound}
 use Rattle.sqlite.specs.Held.{state}
 use Rattle.version_tables.specs.Adding.{given_rows}
 use Rattle.version_tables.proofs.Adds.{adds_inside, batches}
+use Rattle.version_tables.proofs.Keeping.{statement_leaves, version_own}
 use Rattle.version_tables.proofs.Steps.{one_statement}
 use Rattle.version_tables.proofs.insertion.insert_batch.Goals as goal
 
@@ -17,3 +18,9 @@ returns-in-Ok-clause-made g c clean begun =
 
 pub returns-clause-inside : goal.returns-clause-inside
 returns-clause-inside g c = one_statement g.S.Store _ _ _ _ c.execute.result c.execute.ensures.ended c.execute.ensures.runs c.execute.ensures.survives
+
+pub returns-in-Ok-clause-others : goal.returns-in-Ok-clause-others
+returns-in-Ok-clause-others g c =
+    let texts = c.text_for.ensures in
+    let is = (batches c.args.rows.now c.text_for.result.now c.requires texts.one texts.two texts.four texts.eight).0 in
+    statement_leaves version_own _ _ _ is refl g.S.Store _ _ (Ok c.in-Ok.field-0) c.in-Ok.ensures.ended c.in-Ok.ensures.runs

@@ -3,6 +3,7 @@ use Rattle.sqlite.specs.State.{HasCleanDisk}
 use Rattle.sqlite.specs.Held.{state}
 use Rattle.version_tables.specs.declared.version_key.NewRow.{NewRow}
 use Rattle.version_tables.specs.Represents.{Records, Represents, all_added, new_version}
+use Rattle.version_tables.specs.Keeping.{LeavesOthers}
 use Rattle.version_tables.specs.Steps.{CommitsNothing}
 use Rattle.version_tables.proofs.insertion.insert_versions.Given as goal
 
@@ -10,7 +11,7 @@ abbrev pub invariant-batches : goal.invariant-batches
 invariant-batches g l =
     let old = l.fn.transaction.conn.now in
     let now = l.transaction.conn.now in
-    (l.transaction.conn.ghost_name ≡ l.fn.transaction.conn.ghost_name) × CommitsNothing g.S.Store old now
+    (l.transaction.conn.ghost_name ≡ l.fn.transaction.conn.ghost_name) × CommitsNothing g.S.Store old now × LeavesOthers g.S.Store old now
     × (done : List NewRow) × (l.rows ≡ done ++ l.rest)
     × (HasCleanDisk (state g.S.Store now) → IsTrue old.in_transaction → IsTrue now.in_transaction
     × ((records : Records) → Represents (state g.S.Store old).now records → Represents (state g.S.Store now).now (all_added (map (new_version l.table l.from l.to) done) records)))

@@ -5,6 +5,7 @@ use Rattle.version_tables.specs.Forms.{form_number}
 use Rattle.version_tables.specs.Moves.{with_moved_versions}
 use Rattle.version_tables.specs.Represents.{Represents, with_form}
 use Rattle.version_tables.specs.declared.form.Form.TheVariants.{Microseconds}
+use Rattle.version_tables.proofs.Keeping.{leaves_then}
 use Rattle.version_tables.proofs.migration.move_to_microseconds.Goals as goal
 
 pub returns-clause-made : goal.returns-clause-made
@@ -17,3 +18,7 @@ returns-clause-made g c clean begun =
           subst (λ n. Represents new (with_form (form_number Microseconds) n (with_moved_versions records))) (sym seconds.0)
           (meta.1 (with_moved_versions records) (versions.1 records seconds.1 was)),
     )
+
+pub returns-clause-others : goal.returns-clause-others
+returns-clause-others g c =
+    leaves_then g.S.Store c.args.transaction.now.conn.now _ _ c.in_ok-move_versions.ensures.others c.set_form.ensures.inside c.in_ok-set_form.ensures.others

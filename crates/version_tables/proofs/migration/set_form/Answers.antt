@@ -1,9 +1,11 @@
-use Rattle.std.proofs.Common.{◌≡◌, rules, w64, to_z, of_z}
+use Rattle.std.proofs.Common.{◌≡◌, rules, w64, to_z, of_z, refl}
 use Rattle.std.proofs.lemmas.Int.{to_z-of_z}
 use Rattle.sqlite.specs.Held.{state}
 use Rattle.version_tables.specs.Forms.{form_number}
 use Rattle.version_tables.proofs.Steps.{one_statement}
 use Rattle.version_tables.proofs.Clocks.{sets_form_inside}
+use Rattle.version_tables.proofs.Keeping.{statement_leaves, meta_own}
+use Rattle.version_tables.proofs.Texts.{form_is}
 use Rattle.version_tables.proofs.migration.set_form.Goals as goal
 
 pub returns-clause-made : goal.returns-clause-made
@@ -14,3 +16,6 @@ returns-clause-made g c clean begun =
 
 pub returns-clause-inside : goal.returns-clause-inside
 returns-clause-inside g c = one_statement g.S.Store _ _ _ _ c.execute.result c.execute.ensures.ended c.execute.ensures.runs c.execute.ensures.survives
+
+pub returns-clause-others : goal.returns-clause-others
+returns-clause-others g c = statement_leaves meta_own _ _ _ form_is refl g.S.Store _ _ c.execute.result c.execute.ensures.ended c.execute.ensures.runs

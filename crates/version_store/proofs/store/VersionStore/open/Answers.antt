@@ -8,6 +8,7 @@ use Rattle.version_tables.specs.Good.{IsClock}
 use Rattle.version_tables.specs.declared.form.Form.{Form}
 use Rattle.version_tables.specs.declared.presence.Presence.TheVariants.{Missing, Partial, Whole}
 use Rattle.version_store.proofs.Opens.{are_dated, good_dated, have_tables, same_contents}
+use Rattle.version_store.proofs.Beside.{spares_same}
 use Rattle.version_store.proofs.Opened.{opened_new}
 use Rattle.version_store.proofs.Units.{tables_in}
 use Rattle.version_store.specs.Contents.{AreVersionsOf, empty_contents}
@@ -132,3 +133,9 @@ returns-in-Some-clause-empty g c = λ none. absurd (not_both_ways c.args.connect
 
 pub returns-in-Some-clause-beside : goal.returns-in-Some-clause-beside
 returns-in-Some-clause-beside g c = λ usable none. absurd (not_both_ways c.args.connection.schema none (c.in-Whole.ensures.whole.0 refl))
+
+pub returns-in-Ok-clause-others : goal.returns-in-Ok-clause-others
+returns-in-Ok-clause-others g c = λ usable clean has. absurd (not_both_ways c.args.connection.schema (c.in-Missing.ensures.missing.0 refl) (store_is_whole c.args.connection.schema has))
+
+pub returns-in-Some-clause-others : goal.returns-in-Some-clause-others
+returns-in-Some-clause-others g c = spares_same g.S.Store c.args.connection c.inspect.new.connection (λ usable. (c.in-Ok-inspect.ensures.same usable.0).now usable.1)
