@@ -100,12 +100,12 @@ def build(tell):
     said of a crate that was not proved, else None."""
     crates = sums.repository_crates()
     waiting = longest_chain_first(crates, sums.program_crates())
-    before = sums.PROVED.sources(), sums.sum_of(sums.folders(['proofs']))
+    before = sums.PROVED.source_sums()
     said = prove(crates, waiting, tell)
-    if said is None and before != (sums.PROVED.sources(), sums.sum_of(sums.folders(['proofs']))):
+    if said is None and before != sums.PROVED.source_sums():
         return 'a source was changed during the proof\n'
     if said is None:
-        sums.PROVED.write_stamp()
+        sums.PROVED.write_stamp(before)
     return said
 
 

@@ -57,10 +57,13 @@ class Build:
     def sources(self):
         return sum_of(['crates.txt', *self.more, *folders(self.parts)])
 
-    def sums(self):
-        """The lines of a stamp for the sources and the build as they are now."""
-        proofs = sum_of(folders(['proofs']))
-        return [f'sources {self.sources()}', f'proofs {proofs}', f'build {sum_of_file(self.file)}']
+    def source_sums(self):
+        """The lines of a stamp for the sources and the proofs as they are now."""
+        return [f'sources {self.sources()}', f"proofs {sum_of(folders(['proofs']))}"]
+
+    def sums(self, sources=None):
+        """The lines of a stamp for the build as it is now, of these sources, else of those now."""
+        return [*(sources or self.source_sums()), f'build {sum_of_file(self.file)}']
 
     def is_current(self, with_proofs):
         """Whether the build is of the sources as they are, by the sums of its stamp."""
@@ -77,8 +80,8 @@ class Build:
         parts = ['crates.txt', *self.more, *folders([*self.parts, 'proofs'])]
         return all(changed(at) < made for part in parts for at in within(ROOT / part))
 
-    def write_stamp(self):
-        self.stamp.write_text('\n'.join(self.sums()) + '\n', encoding='utf-8')
+    def write_stamp(self, sources=None):
+        self.stamp.write_text('\n'.join(self.sums(sources)) + '\n', encoding='utf-8')
 
 
 PROVED = Build(OUT / PROGRAM, ['src', 'specs'], [])
