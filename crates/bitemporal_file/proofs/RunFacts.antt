@@ -49,6 +49,7 @@ module _ {W K : Type 0} (contents : W → Option (List ℕ)) (text : ℕ → K �
       Ends contents text status readers old [] (Err fault) (record old { next = next })
   none_run readers old next fault quiet may = record {
     stops = refl;
+    unused = λ is. (is, refl);
     worst = refl;
     low = λ low. low;
     written = λ none. Appends-nil (contents old.out);
@@ -65,6 +66,7 @@ module _ {W K : Type 0} (contents : W → Option (List ℕ)) (text : ℕ → K �
   pub none_yet : (old : Reporter W) → old.fault ≡ None → Ends {K = K} contents text status [] old [] (Ok true) old
   none_yet old quiet = record {
     stops = refl;
+    unused = λ is. (is, refl);
     worst = refl;
     low = λ low. low;
     written = λ none. Appends-nil (contents old.out);
@@ -92,6 +94,7 @@ module _ {W K : Type 0} (contents : W → Option (List ℕ)) (text : ℕ → K �
       Ends contents text status (known ∷ []) old (one script results goes_on) (Ok goes_on) new
   one_ended known script old results goes_on new quiet told = record {
     stops = told.stops;
+    unused = λ is. let (was, none) = told.unused is in (was, append-nil results ∙ none);
     worst = told.worst ∙ ap (greatest_from status old.worst) (sym (append-nil results));
     low = told.low;
     written = λ none. subst (Appends (contents old.out) (contents new.out)) (sym (append-nil (texts_from text 1 results))) (told.written none).0;
@@ -133,6 +136,7 @@ module _ {W K : Type 0} (contents : W → Option (List ℕ)) (text : ℕ → K �
       let may = faulty_flow goes_on (record old { next = 1 }) new results fault is told in
       record {
         stops = told.stops;
+        unused = λ is. let (was, none) = told.unused is in (was, append-nil results ∙ none);
         worst = told.worst ∙ ap (greatest_from status old.worst) (sym (append-nil results));
         low = told.low;
         written = λ none. let no : ⊥ = cc in absurd no;
@@ -191,6 +195,10 @@ module _ {W K : Type 0} (contents : W → Option (List ℕ)) (text : ℕ → K �
       let ((count, wholes), zeros) = first.whole refl in
       record {
         stops = last.stops ∙ first.stops;
+        unused = λ is.
+            let (between, none) = last.unused is in
+            let (was, nothing) = first.unused between in
+            (was, results-more runs more ∙ ap (λ (rs : List K). rs ++ results_of more) nothing ∙ none);
         worst = last.worst ∙ ap (λ w. greatest_from status w (results_of more)) first.worst ∙ sym (greatest-more contents text status old.worst (results_of runs) (results_of more)) ∙ ap (greatest_from status old.worst) (sym (results-more runs more));
         low = λ low. last.low (first.low low);
         written = λ none. subst (Appends (contents old.out) (contents new.out)) (sym (reports-more runs more))
@@ -213,6 +221,7 @@ module _ {W K : Type 0} (contents : W → Option (List ℕ)) (text : ℕ → K �
       Ends contents text status (readers ++ rest) old runs ended new
   ends_within readers rest old runs ended new before ends = record {
     stops = ends.stops;
+    unused = ends.unused;
     worst = ends.worst;
     low = ends.low;
     written = ends.written;

@@ -1,11 +1,10 @@
 -- What a reporter has written and found, once it was handed all results of a script.
-use Rattle.std.proofs.Common.{◌≡◌, ◌≤◌, ◌==◌, ◌||◌, ◌+◌, ◌++◌, ◌∷◌, ◌∙◌, ℕ, Bool, List, [], Option, None, Some, All, Result, Ok, Err, false, true, not, ap, add-zero, arith, inl, inr, length, refl, subst, sym, append_assoc}
+use Rattle.std.proofs.Common.{◌≡◌, ◌+◌, ◌++◌, ◌∷◌, ◌∙◌, ℕ, Bool, List, [], Option, None, Some, All, Result, Ok, Err, false, true, ap, add-zero, arith, inl, inr, length, refl, subst, sym, append_assoc}
 use Rattle.std.specs.Prelude.{IfSome, IsSome, max}
 use Rattle.std.specs.Io.KnownBytes.{Appends}
 use Rattle.std.proofs.KnownBytes.{Appends-nil, Appends-trans}
 use Rattle.std.proofs.lemmas.List.{length-append}
 use Rattle.std.proofs.lemmas.List.Elements.{All-append, All-cons, All-head, All-nil, All-tail}
-use Rattle.std.proofs.lemmas.Bool.{eqb-false, eqb-true}
 use Rattle.command_line.specs.declared.fault.RunFault.{RunFault}
 use Rattle.script_engine.specs.script.Listening.{HearsAll}
 use Rattle.bitemporal_file.specs.Reporting.{EndsAtRefusal, EndsWith, IsReportFault, Tells, TellsAll, greatest_from, texts_from}
@@ -15,6 +14,7 @@ module _ {W K : Type 0} (contents : W → Option (List ℕ)) (text : ℕ → K �
   pub nothing_told : (old : Reporter W) → old.fault ≡ None → TellsAll contents text status old [] true old
   nothing_told old quiet = record {
     stops = refl;
+    unused = λ is. (is, refl);
     worst = refl;
     low = λ low. low;
     written = λ none. (Appends-nil (contents old.out), sym (add-zero old.next));
@@ -25,6 +25,7 @@ module _ {W K : Type 0} (contents : W → Option (List ℕ)) (text : ℕ → K �
   last_told : (old : Reporter W) (result : K) (new : Reporter W) → old.fault ≡ None → Tells contents text status old result false new → TellsAll contents text status old (result ∷ []) false new
   last_told old result new quiet told = record {
     stops = told.stops;
+    unused = λ is. let used : new.is_unused ≡ false = told.used in let no : ⊥ = cc in absurd no;
     worst = told.worst;
     low = told.low;
     written = λ none.
@@ -47,6 +48,10 @@ module _ {W K : Type 0} (contents : W → Option (List ℕ)) (text : ℕ → K �
       let silent : middle.fault ≡ None = same ∙ quiet in
       record {
         stops = rest.stops ∙ told.stops;
+        unused = λ is.
+            let used : middle.is_unused ≡ false = told.used in
+            let unused : middle.is_unused ≡ true = (rest.unused is).0 in
+            let no : ⊥ = cc in absurd no;
         worst = rest.worst ∙ ap (λ w. greatest_from status w results) told.worst;
         low = λ low. rest.low (told.low low);
         written = λ none.
@@ -103,6 +108,10 @@ module _ {W K : Type 0} (contents : W → Option (List ℕ)) (text : ℕ → K �
       let (quiet, zeros) = first.on refl in
       record {
         stops = last.stops ∙ first.stops;
+        unused = λ is.
+            let (between, none) = last.unused is in
+            let (was, nothing) = first.unused between in
+            (was, ap (λ (rs : List K). rs ++ more) nothing ∙ none);
         worst = last.worst ∙ ap (λ w. greatest_from status w more) first.worst ∙ sym (greatest-more old.worst results more);
         low = λ low. last.low (first.low low);
         written = λ none.
@@ -137,6 +146,7 @@ module _ {W K : Type 0} (contents : W → Option (List ℕ)) (text : ℕ → K �
       IfSome new.fault (λ fault. IsReportFault fault × (ended ≡ Err fault)) → ((flow : Bool) → ended ≡ Ok flow → (flow ≡ goes_on) × (new.fault ≡ None)) → EndsWith contents text status old results ended new
   ends_told old results goes_on ended new told faulty flows = record {
     stops = told.stops;
+    unused = told.unused;
     worst = told.worst;
     low = told.low;
     written = λ none. (told.written none).0;
@@ -150,44 +160,4 @@ module _ {W K : Type 0} (contents : W → Option (List ℕ)) (text : ℕ → K �
           | inl some ↦ absurd (no_fault new.fault quiet some)
           | inr stopped ↦ stopped
         ];
-  }
-
-  -- ---- one result
-
-  flow_on : (stops zero : Bool) → true ≡ (not stops || zero) → stops ≡ true → zero ≡ true
-  flow_on false zero on stops = let no : ⊥ = cc in absurd no
-  flow_on true zero on stops = sym on
-
-  flow_off : (stops zero : Bool) → false ≡ (not stops || zero) → (stops ≡ true) × (zero ≡ false)
-  flow_off false zero off = let no : ⊥ = cc in absurd no
-  flow_off true zero off = (refl, sym off)
-
-  low_of : (worst status new : ℕ) → new ≡ max worst status → status ≤ 3 → worst ≤ 3 → new ≤ 3
-  low_of worst status new is low worst_low = rw is (omega (arith, low, worst_low))
-
-  -- its records are written
-  pub tells_ok : (old new : Reporter W) (kept : K) (goes_on : Bool) → new.stops ≡ old.stops → new.worst ≡ max old.worst (status kept) → new.fault ≡ old.fault → status kept ≤ 3 →
-      Appends (contents old.out) (contents new.out) (text old.next kept) → new.next ≡ old.next + 1 → goes_on ≡ (not old.stops || (status kept == 0)) → Tells contents text status old kept goes_on new
-  tells_ok old new kept goes_on stops worst fault low wrote next flow = record {
-    stops = stops;
-    worst = worst;
-    low = low_of old.worst (status kept) new.worst worst low;
-    written = λ none. (wrote, next);
-    on = λ on. (fault, λ stopping. eqb-true (status kept) 0 (flow_on old.stops (status kept == 0) (sym on ∙ flow) stopping));
-    off = λ off quiet.
-        let (stopping, refused) = flow_off old.stops (status kept == 0) (sym off ∙ flow) in
-        let none : new.fault ≡ None = fault ∙ quiet in
-        (rw none tt, inr (stopping, eqb-false (status kept) 0 refused));
-  }
-
-  -- they are not
-  pub tells_fault : (old new : Reporter W) (kept : K) (fault : RunFault) → new.stops ≡ old.stops → new.worst ≡ max old.worst (status kept) → new.fault ≡ Some fault → status kept ≤ 3 →
-      IsReportFault fault → Tells contents text status old kept false new
-  tells_fault old new kept fault stops worst is low may = record {
-    stops = stops;
-    worst = worst;
-    low = low_of old.worst (status kept) new.worst worst low;
-    written = λ none. let no : ⊥ = cc in absurd no;
-    on = λ on. let no : ⊥ = cc in absurd no;
-    off = λ off quiet. (rw is may, inl (rw is refl));
   }

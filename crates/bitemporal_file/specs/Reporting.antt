@@ -28,6 +28,7 @@ pub record IsUnused {W : Type 0} (reporter : Reporter W) : Type 0 where
   pub next : reporter.next ≡ 1
   pub worst : reporter.worst ≡ 0
   pub fault : reporter.fault ≡ None
+  pub unused : reporter.is_unused ≡ true
 
 -- the fault of a report
 abbrev pub IsReportFault : RunFault → Type 0
@@ -39,6 +40,7 @@ pub record Tells {W K : Type 0} (contents : W → Option (List ℕ)) (text : ℕ
     (status : K → ℕ) (old : Reporter W) (kept : K) (goes_on : Bool) (new : Reporter W)
     : Type 0 where
   pub stops : new.stops ≡ old.stops
+  pub used : new.is_unused ≡ false
   -- the greatest status so far
   pub worst : new.worst ≡ max old.worst (status kept)
   pub low : old.worst ≤ 3 → new.worst ≤ 3
@@ -76,6 +78,8 @@ pub record TellsAll {W K : Type 0} (contents : W → Option (List ℕ)) (text : 
     (status : K → ℕ) (old : Reporter W) (results : List K) (goes_on : Bool) (new : Reporter W)
     : Type 0 where
   pub stops : new.stops ≡ old.stops
+  -- it is unused only where there are none
+  pub unused : new.is_unused ≡ true → (old.is_unused ≡ true) × (results ≡ [])
   pub worst : new.worst ≡ greatest_from status old.worst results
   pub low : old.worst ≤ 3 → new.worst ≤ 3
   pub written : new.fault ≡ None
@@ -92,6 +96,8 @@ pub record EndsWith {W K : Type 0} (contents : W → Option (List ℕ)) (text : 
     (status : K → ℕ) (old : Reporter W) (results : List K) (ended : Result Bool RunFault)
     (new : Reporter W) : Type 0 where
   pub stops : new.stops ≡ old.stops
+  -- it is unused only where there are none
+  pub unused : new.is_unused ≡ true → (old.is_unused ≡ true) × (results ≡ [])
   pub worst : new.worst ≡ greatest_from status old.worst results
   pub low : old.worst ≤ 3 → new.worst ≤ 3
   -- the output got the reports, and nothing else, unless the report was at fault

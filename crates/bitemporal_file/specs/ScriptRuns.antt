@@ -63,6 +63,8 @@ pub record Ends {W K : Type 0} (contents : W → Option (List ℕ)) (text : ℕ 
     (status : K → ℕ) (readers : List (Option (List ℕ))) (old : Reporter W)
     (runs : List (ScriptRun K)) (ended : Result Bool RunFault) (new : Reporter W) : Type 0 where
   pub stops : new.stops ≡ old.stops
+  -- it is unused only where no statement was run
+  pub unused : new.is_unused ≡ true → (old.is_unused ≡ true) × (results_of runs ≡ [])
   -- the greatest status of all statements
   pub worst : new.worst ≡ greatest_from status old.worst (results_of runs)
   pub low : old.worst ≤ 3 → new.worst ≤ 3

@@ -1,12 +1,12 @@
 -- What the program does with a store: it opens it, runs what its command line asks for, and closes
 -- it.
 use Rattle.std.specs.Prelude.{◌≡◌, ◌⊎◌, ◌∷◌, ℕ, Bool, List, [], Option, Result, Ok, Err, IfErr}
-use Rattle.std.specs.Prelude.{false, map, true}
+use Rattle.std.specs.Prelude.{IfOk, false, map, true, ⊤}
 use Rattle.std.specs.String.{string_bytes}
 use Rattle.sqlite.specs.Held.{Held, state}
 use Rattle.sqlite.specs.Store.{Ghosts}
 use Rattle.period_core.specs.declared.refusal.Refusal.{Refusal}
-use Rattle.period_core.specs.declared.refusal.Refusal.TheVariants.{BadStore}
+use Rattle.period_core.specs.declared.refusal.Refusal.TheVariants.{BadStore, Store}
 use Rattle.sql_statements.specs.Lexemes.{Lexeme}
 use Rattle.history_model.specs.Histories.{History}
 use Rattle.statement_reports.specs.AuditedReport.{entry_text}
@@ -19,7 +19,10 @@ use Rattle.script_engine.specs.engine.Stored.{RepresentsSome}
 use Rattle.script_engine.specs.script.AuditedRuns.{AuditedPieceStep}
 use Rattle.script_engine.specs.script.Script.{PieceStep}
 use Rattle.command_line.specs.declared.fault.RunFault.{RunFault}
-use Rattle.command_line.specs.declared.fault.RunFault.TheVariants.{Script}
+use Rattle.command_line.specs.Lines.{IsReported, MayBeReportedAs, fault_line}
+use Rattle.command_line.specs.declared.fault.ProgramName.TheVariants.{BitemporalFile}
+use Rattle.command_line.specs.declared.fault.RunFault.TheVariants.{Locked, Memory, NoStore, Read}
+use Rattle.command_line.specs.declared.fault.RunFault.TheVariants.{Script, Words, Write}
 use Rattle.command_line.specs.declared.file_command.Asked.{Asked}
 use Rattle.bitemporal_file.specs.Reporting.{EndsWith, entry_status, refused_entry, result_status}
 use Rattle.bitemporal_file.specs.ScriptRuns.{AreOfReaders, Ends, LeadsTo, ScriptRun, results_of}
@@ -87,6 +90,17 @@ RunsAs g contents true readers known old opened ended closed new =
     RunsGiven AuditedPieceStep refused_entry contents entry_text entry_status
     (LeadsDatabase g opened closed) readers known old ended new
 
+-- why there is no connection: the file does not open, another program has it, it is no database, its
+-- disk is at fault, or memory is out
+abbrev pub MayNotOpen : RunFault → Type 0
+MayNotOpen (Script refusal) = (refusal ≡ BadStore) ⊎ (refusal ≡ Store)
+MayNotOpen Memory = ⊤
+MayNotOpen Words = ⊥
+MayNotOpen Read = ⊥
+MayNotOpen Write = ⊥
+MayNotOpen NoStore = ⊤
+MayNotOpen Locked = ⊤
+
 -- how the store is opened and closed, and what is run in between
 abbrev pub Uses : {S W : Type 0} → Ghosts S → (Held S → Type 0) → (Held S → Type 0)
     → (Held S → Result Bool RunFault → Held S → Reporter W → Type 0)
@@ -99,7 +113,7 @@ Uses {S} g Opens Keeps Runs old (Ok status) new =
 -- nothing was run, since there is no connection, or since its database is no store; or the run
 -- ended in the fault, or the store was not closed
 Uses {S} g Opens Keeps Runs old (Err fault) new =
-    (new.out ≡ old.out)
+    (MayNotOpen fault × (new.out ≡ old.out))
     ⊎ ((opened : Held S) × Opens opened
     × (((refusal : Refusal) × (left : Held S) × RefusesStore g opened refusal left
     × (fault ≡ Script refusal) × (new.out ≡ old.out))
@@ -117,7 +131,18 @@ RunsAsked g contents Opens Keeps content_of known asked old =
     (record old { stops = asked.stops }))
     old
 
--- the exit status: 2 is that of a fault
-abbrev pub exit_status : Result ℕ RunFault → ℕ
-exit_status (Ok status) = status
-exit_status (Err fault) = 2
+-- the tables are listed: the report has no statement, and a store that was listed is closed with
+-- all that is committed in it
+pub record Lists {S W : Type 0} (g : Ghosts S) (Opens Keeps : Held S → Type 0) (old : Reporter W)
+    (ended : Result ℕ RunFault) (new : Reporter W) : Type 0 where
+  pub unreported : new ≡ record old { out = new.out }
+  pub closed : IfOk ended (λ status. (status ≡ 0)
+      × (opened : Held S) × (closed : Held S) × Opens opened × Keeps closed)
+
+-- how the program exits, and what standard error gets: nothing; or with status 2 the line of a
+-- fault, whole unless a write failed
+abbrev pub ExitsAs : Result ℕ RunFault → ℕ → Bool → Option (List ℕ) → Option (List ℕ) → Type 0
+ExitsAs (Ok status) exit err_failed old new = (exit ≡ status) × (new ≡ old)
+ExitsAs (Err fault) exit err_failed old new =
+    (exit ≡ 2) × (told : RunFault) × MayBeReportedAs fault told
+    × IsReported err_failed old new (fault_line BitemporalFile told)

@@ -4,6 +4,7 @@ ghost use Rattle.std.specs.Prelude.{◌≡◌, ◌≤◌, IfErr, IfOk, None, Ok,
 ghost use Rattle.std.specs.String.{string_bytes};
 ghost use Rattle.script_engine.specs.engine.Stored.{WasUsable};
 ghost use Rattle.sqlite_wal.specs.Files.{image_at};
+ghost use Rattle.bitemporal_file.specs.Reporting.{IsUnused};
 ghost use Rattle.bitemporal_file.specs.StoreFiles.{Finds, IsInFiles};
 ghost use Rattle.bitemporal_file.specs.StoreRuns.{LeadsDatabase, LeadsEngine, RefusesStore};
 ghost use Rattle.bitemporal_file.specs.StoreRuns.{RunsAs, RunsAsked, RunsGiven};
@@ -101,10 +102,10 @@ fn run_opened<S: Alter, Q: Scripts, R: Read, W: Write>(
 
 /// Closes the store after what was done over it. Where that failed before any statement was run,
 /// and the store is new, no file of it stays.
-pub(crate) fn end_over<S: Start, T: Drop>(
+pub(crate) fn end_over<S: Start, T: Drop, W>(
     stores: &StoreFiles<'_, S>,
     name: &str,
-    is_unused: bool,
+    report: &Reporter<W>,
     ended: Result<T, RunFault>,
     connection: Connection<Filed<S>>,
 ) -> Result<(), RunFault>
@@ -114,8 +115,8 @@ pub(crate) fn end_over<S: Start, T: Drop>(
 {
     match ended {
         Ok(_) => close_store(connection),
-        Err(fault) if is_unused && stores.is_new() => {
-            stores.give_up(name, connection);
+        Err(fault) if report.is_unused && stores.is_new() => {
+            stores.give_up(name, report, connection);
             Err(fault)
         }
         Err(fault) => {
@@ -134,7 +135,7 @@ pub(crate) fn run_over<S: Start, Q: Scripts, R: Read, W: Write>(
     input: &mut R,
     reporter: &mut Reporter<W>,
 ) -> Result<u8, RunFault>
-    requires { reporter.old.fault ≡ None }
+    requires { IsUnused reporter.old }
     ensures ran { RunsAsked ⟦<Filed<S> as Store>⟧ W.contents (Finds (image_at S.Start)) IsInFiles
         (Q.content scripts.now) (R.remaining input.old) asked.now
         reporter.old result reporter.new }
@@ -145,11 +146,11 @@ pub(crate) fn run_over<S: Start, Q: Scripts, R: Read, W: Write>(
     reporter.stops = asked.stops;
     match run_opened::<Filed<S>, Q, R, W>(alloc, connection, scripts, asked, input, reporter) {
         Ok((ended, connection)) => {
-            end_over(stores, name, reporter.is_unused, ended, connection)?;
+            end_over(stores, name, reporter, ended, connection)?;
             Ok(reporter.worst)
         }
         Err((refusal, connection)) => {
-            stores.give_up(name, connection);
+            stores.give_up(name, reporter, connection);
             Err(RunFault::Script(refusal))
         }
     }

@@ -1,6 +1,6 @@
 //! The program: what its command line asks for, over the store that it names.
 
-ghost use Rattle.std.specs.Prelude.{◌≡◌, ◌≤◌, ◌⊎◌, ℕ, IfOk, None, Result, false, map};
+ghost use Rattle.std.specs.Prelude.{◌≡◌, ◌≤◌, ◌⊎◌, ℕ, IfOk, Result, false, map, true};
 ghost use Rattle.std.specs.String.{string_bytes};
 ghost use Rattle.clap.specs.Words.{matches_of};
 ghost use Rattle.sqlite_wal.specs.Files.{image_at};
@@ -9,7 +9,7 @@ ghost use Rattle.command_line.specs.declared.fault.RunFault.{RunFault};
 ghost use Rattle.command_line.specs.declared.file_command.Asked.{Asked};
 ghost use Rattle.bitemporal_file.specs.Reporting.{IsUnused};
 ghost use Rattle.bitemporal_file.specs.StoreFiles.{Finds, IsInFiles};
-ghost use Rattle.bitemporal_file.specs.StoreRuns.{RunsAsked, exit_status};
+ghost use Rattle.bitemporal_file.specs.StoreRuns.{ExitsAs, Lists, RunsAsked};
 
 use crate::listing::list_store;
 use crate::over::{end_over, run_over};
@@ -39,19 +39,22 @@ fn list_asked<S: Start, W: Write>(
     alloc: Global,
     stores: &mut StoreFiles<'_, S>,
     asked: &Asked,
-    out: &mut W,
+    reporter: &mut Reporter<W>,
 ) -> Result<u8, RunFault>
-    ensures { IfOk result (λ status. status ≡ 0) }
+    requires { IsUnused reporter.old }
+    ensures lists { Lists ⟦<Filed<S> as Store>⟧ (Finds (image_at S.Start)) IsInFiles
+        reporter.old result reporter.new }
+    ensures low { IfOk result (λ status. status ≤ 3) }
 {
     let name = asked.store.as_str();
     let connection = stores.open_store(name, false)?;
-    match list_store(alloc, connection, out) {
+    match list_store(alloc, connection, &mut reporter.out) {
         Ok((listed, connection)) => {
-            end_over(stores, name, false, listed, connection)?;
+            end_over(stores, name, reporter, listed, connection)?;
             Ok(0)
         }
         Err((refusal, connection)) => {
-            stores.give_up(name, connection);
+            stores.give_up(name, reporter, connection);
             Err(RunFault::Script(refusal))
         }
     }
@@ -66,7 +69,10 @@ fn run_asked<S: Start, Q: Scripts, R: Read, W: Write>(
     input: &mut Tracked<R>,
     reporter: &mut Reporter<W>,
 ) -> Result<u8, RunFault>
-    requires { reporter.old.fault ≡ None }
+    requires { IsUnused reporter.old }
+    ensures listed { asked.now.lists ≡ true
+        → Lists ⟦<Filed<S> as Store>⟧ (Finds (image_at S.Start)) IsInFiles
+        reporter.old result reporter.new × (input.new ≡ input.old) }
     ensures ran { asked.now.lists ≡ false
         → RunsAsked ⟦<Filed<S> as Store>⟧ W.contents (Finds (image_at S.Start)) IsInFiles
         (Q.content scripts.now) (R.remaining input.old.inner) asked.now
@@ -74,7 +80,7 @@ fn run_asked<S: Start, Q: Scripts, R: Read, W: Write>(
     ensures low { reporter.old.worst ≤ 3 → IfOk result (λ status. status ≤ 3) }
 {
     if asked.lists {
-        return list_asked::<S, W>(alloc, stores, asked, &mut reporter.out);
+        return list_asked::<S, W>(alloc, stores, asked, reporter);
     }
     let Ok(mut input) = BufReader::new(alloc, input) else {
         return Err(RunFault::Memory);
@@ -98,13 +104,20 @@ pub fn run_file_program<S: Start, Q: Scripts, R: Read, W: Write, E: Write>(
     requires { IsUnused report.old }
     ensures status { result ≤ 3 }
 
-    // It shows a text or is out of memory, and opens nothing; or it does what the words ask for.
-    // Whatever history the store stood for, all results are then a run from it on, the report is
-    // theirs, and the store stands for the history to which they led: so it is for the next run.
-    ensures runs { ((result ≤ 2) × (stores.new ≡ stores.old) × (input.new ≡ input.old))
+    // It shows a text or is out of memory, and opens and reads nothing; or it does what the words
+    // ask for. A run of scripts is from whatever history the store stood for: all results are of
+    // that run, the report is theirs, and the store stands for the history to which they led: so
+    // it is for the next run. To list the tables nothing is run and nothing is read.
+    ensures runs { ((result ≤ 2) × (stores.new ≡ stores.old) × (input.new ≡ input.old)
+        × (report.new ≡ record report.old { out = report.new.out }))
         ⊎ ((asked : Asked) × Asks (matches_of bitemporal_file (map string_bytes words.now)) asked
-        × (asked.lists ≡ false → (ended : Result ℕ RunFault) × (result ≡ exit_status ended)
-        × RunsAsked ⟦<Filed<S> as Store>⟧ W.contents (Finds (image_at S.Start)) IsInFiles
+        × (ended : Result ℕ RunFault) × ExitsAs ended result err.new.has_failed
+        (E.contents err.old.inner) (E.contents err.new.inner)
+        × (asked.lists ≡ true
+        → Lists ⟦<Filed<S> as Store>⟧ (Finds (image_at S.Start)) IsInFiles
+        report.old ended report.new × (input.new ≡ input.old))
+        × (asked.lists ≡ false
+        → RunsAsked ⟦<Filed<S> as Store>⟧ W.contents (Finds (image_at S.Start)) IsInFiles
         (Q.content scripts.now) (R.remaining input.old.inner) asked report.old ended report.new)) }
 {
     let program = ProgramName::BitemporalFile;

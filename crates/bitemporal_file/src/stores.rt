@@ -1,9 +1,11 @@
 //! Where the stores of a command line are: the database files that their names open.
 
-ghost use Rattle.std.specs.Prelude.{◌≡◌, IfOk, OnOk, false};
+ghost use Rattle.std.specs.Prelude.{◌≡◌, IfErr, IfOk, OnOk, false, true};
 ghost use Rattle.sqlite_wal.specs.Files.{image_at};
 ghost use Rattle.bitemporal_file.specs.StoreFiles.{Finds, IsInFiles};
+ghost use Rattle.bitemporal_file.specs.StoreRuns.{MayNotOpen};
 
+use crate::reporter::Reporter;
 use command_line::RunFault;
 use period_core::Refusal;
 use sqlite::{Connection, Error, ErrorCode, FileFrom, FileStore, Start};
@@ -21,7 +23,9 @@ struct Present {
 }
 
 // Why a database did not open.
-fn fault_of(error: Error) -> RunFault {
+fn fault_of(error: Error) -> RunFault
+    ensures { MayNotOpen result }
+{
     match error {
         Error::SqliteFailure(ErrorCode::DatabaseBusy) => RunFault::Locked,
         Error::SqliteFailure(ErrorCode::CannotOpen) => RunFault::NoStore,
@@ -119,6 +123,7 @@ impl<S: Start> StoreFiles<'_, S> {
     ) -> Result<Connection<Filed<S>>, RunFault>
         ensures settled { IfOk result (λ connection. connection.in_transaction ≡ false) }
         ensures opened { IfOk result (Finds (image_at S.Start)) }
+        ensures refused { IfErr result MayNotOpen }
     {
         self.before = files_there(self.rt, name);
         if !may_make && !self.before.store {
@@ -147,8 +152,16 @@ impl<S: Start> StoreFiles<'_, S> {
         !self.before.store
     }
 
-    /// Gives a connection up, as the program ends: no file is left that was not there before.
-    pub(crate) fn give_up(&self, name: &str, connection: Connection<Filed<S>>) {
+    /// Gives a connection up, as the program ends and its report has no statement: no file is left
+    /// that was not there before.
+    pub(crate) fn give_up<W>(
+        &self,
+        name: &str,
+        report: &Reporter<W>,
+        connection: Connection<Filed<S>>,
+    )
+        requires { report.now.is_unused ≡ true }
+    {
         let _connection = ManuallyDrop::new(connection);
         remove_new(self.rt, name, self.before);
     }

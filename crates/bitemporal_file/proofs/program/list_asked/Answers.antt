@@ -1,0 +1,19 @@
+use Rattle.std.proofs.Common.{refl}
+use Rattle.std.proofs.lemmas.Result.{err_from_is_err_and}
+use Rattle.bitemporal_file.proofs.program.list_asked.Goals as goal
+
+pub returns-in_err-connection-clause-lists : goal.returns-in_err-connection-clause-lists
+returns-in_err-connection-clause-lists g c =
+    let p = err_from_is_err_and c.from_residual.result c.from_residual.ensures.1 in
+    rw (p.1, p.2) (record { unreported = refl; closed = tt })
+
+pub returns-in_err-end_over-in-Ok-clause-lists : goal.returns-in_err-end_over-in-Ok-clause-lists
+returns-in_err-end_over-in-Ok-clause-lists g c =
+    let p = err_from_is_err_and c.from_residual-in_err-end_over-in-Ok.result c.from_residual-in_err-end_over-in-Ok.ensures.1 in
+    rw (p.1, p.2) (record { unreported = refl; closed = tt })
+
+pub returns-in_ok-end_over-in-Ok-clause-lists : goal.returns-in_ok-end_over-in-Ok-clause-lists
+returns-in_ok-end_over-in-Ok-clause-lists g c = record {
+  unreported = refl;
+  closed = (refl, c.in_ok-connection.connection, c.in-Ok.connection, c.in_ok-connection.ensures.opened, c.in_ok-end_over-in-Ok.ensures.kept);
+}
