@@ -90,8 +90,8 @@ RunsAs g contents true readers known old opened ended closed new =
     RunsGiven AuditedPieceStep refused_entry contents entry_text entry_status
     (LeadsDatabase g opened closed) readers known old ended new
 
--- why there is no connection: the file does not open, another program has it, it is no database, its
--- disk is at fault, or memory is out
+-- why there is no connection: the file does not open, another program has it, it is no database,
+-- its disk is at fault, or memory is out
 abbrev pub MayNotOpen : RunFault → Type 0
 MayNotOpen (Script refusal) = (refusal ≡ BadStore) ⊎ (refusal ≡ Store)
 MayNotOpen Memory = ⊤
