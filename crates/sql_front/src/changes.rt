@@ -8,17 +8,14 @@ ghost use Rattle.sql_front.specs.reading.ChangeReaders.{inserted_read, named_por
 ghost use Rattle.sql_front.specs.reading.ChangeReaders.{portion_read, set_read, update_read};
 ghost use Rattle.sql_front.specs.reading.ChangeReaders.{values_read};
 ghost use Rattle.sql_front.specs.reading.Gives.{Gives};
-ghost use Rattle.sql_front.specs.Grammar.{comma};
-ghost use Rattle.sql_front.specs.reading.Leaves.{tuple_read};
 ghost use Rattle.sql_statements.specs.Lexemes.{lexemes};
 ghost use Rattle.sql_statements.specs.Plain.{plain_condition, plain_delete, plain_update};
 ghost use Rattle.std.specs.Option.{option_map};
-ghost use Rattle.sql_front.specs.reading.Reading.{separated_read};
 ghost use Rattle.sql_statements.specs.declared.statement.Assignment as assignments;
 
 use crate::conditions::read_where;
 use crate::leaves::{read_clock_moment, read_date, read_literal, read_name, read_names};
-use crate::list::{Item, separated};
+use crate::list::{Item, listed};
 use crate::read_error::ReadError;
 use crate::terminal::{Terminal, expect, starts};
 use period_core::{Day, Value};
@@ -55,19 +52,6 @@ fn read_columns<'a, 'b>(
     Ok((Some(columns), rest))
 }
 
-/// Rows with commas, and the tokens after them.
-fn read_rows<'a, 'b>(
-    alloc: Global,
-    tokens: &'b [Token<'a>],
-) -> Result<(NonEmpty<NonEmpty<Value>>, &'b [Token<'a>]), ReadError>
-    ensures value { Gives (λ x. (x.0, lexemes x.1.now)) result
-        (separated_read comma tuple_read (lexemes tokens.now)) }
-    ensures rest { IfOk result (λ x. length x.1.now ≤ length tokens.now) }
-{
-    let (rows, rest) = separated::<NonEmpty<Value>>(alloc, 0, tokens)?;
-    Ok((NonEmpty::from_vec(rows), rest))
-}
-
 /// VALUES with rows, and the tokens after them.
 #[tactic(auto, unfolding(crate::specs::reading::ChangeReaders::values_read))]
 fn read_values<'a, 'b>(
@@ -77,7 +61,7 @@ fn read_values<'a, 'b>(
     ensures value { Gives (λ x. (x.0, lexemes x.1.now)) result (values_read (lexemes tokens.now)) }
     ensures rest { IfOk result (λ x. length x.1.now ≤ length tokens.now) }
 {
-    read_rows(alloc, expect(tokens, Terminal::Keyword("VALUES"))?)
+    listed::<NonEmpty<Value>>(alloc, 0, expect(tokens, Terminal::Keyword("VALUES"))?)
 }
 
 /// A table with columns and rows, and the tokens after them.
@@ -198,19 +182,6 @@ impl<'a> Item<'a> for Assignment {
     }
 }
 
-/// Assignments with commas, and the tokens after them.
-fn read_assignments<'a, 'b>(
-    alloc: Global,
-    tokens: &'b [Token<'a>],
-) -> Result<(NonEmpty<Assignment>, &'b [Token<'a>]), ReadError>
-    ensures value { Gives (λ x. (x.0, lexemes x.1.now)) result
-        (separated_read comma assignment_read (lexemes tokens.now)) }
-    ensures rest { IfOk result (λ x. length x.1.now ≤ length tokens.now) }
-{
-    let (assignments, rest) = separated::<Assignment>(alloc, 0, tokens)?;
-    Ok((NonEmpty::from_vec(assignments), rest))
-}
-
 /// SET with assignments and a condition, and the tokens after them. At most `depth` parentheses
 /// open in it.
 #[tactic(auto, unfolding(crate::specs::reading::ChangeReaders::set_read))]
@@ -229,7 +200,8 @@ fn read_set<'a, 'b>(
         (set_read depth (lexemes tokens.now)) }
     ensures rest { IfOk result (λ x. length x.1.now ≤ length tokens.now) }
 {
-    let (assignments, rest) = read_assignments(alloc, expect(tokens, Terminal::Keyword("SET"))?)?;
+    let rest = expect(tokens, Terminal::Keyword("SET"))?;
+    let (assignments, rest) = listed::<Assignment>(alloc, 0, rest)?;
     let (condition, rest) = read_where::<Compare>(alloc, depth, rest)?;
     Ok(((assignments, condition), rest))
 }

@@ -14,9 +14,11 @@ ghost use Rattle.sql_front.specs.reading.Leaves.{tuple_read, unsigned_read};
 
 use crate::date_tokens::{named_clock_moment, named_day, named_moment};
 use crate::digits::{negative_value, number_value};
-use crate::list::{Item, separated};
+use crate::list::{Item, enclosed};
 use crate::read_error::ReadError;
-use crate::terminal::{Terminal, expect, name, number, skip_optional, starts, starts_text, text};
+use crate::terminal::{
+    Terminal, accept, expect, name, number, skip_optional, starts, starts_text, text,
+};
 use crate::texts::text_of;
 use period_core::{Day, Moment, Value};
 use sql_statements::clock_moment::ClockMoment;
@@ -121,8 +123,8 @@ pub fn read_literal<'a, 'b>(
     ensures value { Gives (λ x. (x.0, lexemes x.1.now)) result (literal_read (lexemes tokens.now)) }
     ensures rest { IfOk result (λ x. length x.1.now ≤ length tokens.now) }
 {
-    if starts(tokens, Terminal::Symbol("-")) {
-        let (digits, rest) = number(expect(tokens, Terminal::Symbol("-"))?)?;
+    if let Some(rest) = accept(tokens, Terminal::Symbol("-")) {
+        let (digits, rest) = number(rest)?;
         return Ok((Value::Int(negative_value(digits)), rest));
     }
     if starts_text(tokens) {
@@ -178,12 +180,8 @@ pub fn read_names<'a, 'b>(
     ensures value { Gives (λ x. (x.0, lexemes x.1.now)) result (names_read (lexemes tokens.now)) }
     ensures rest { IfOk result (λ x. length x.1.now ≤ length tokens.now) }
 {
-    let inside = expect(tokens, Terminal::Symbol("("))?;
-    let (names, after) = separated::<Name>(alloc, 0, inside)?;
-    Ok((
-        NonEmpty::from_vec(names),
-        expect(after, Terminal::Symbol(")"))?,
-    ))
+    let (names, rest) = enclosed::<Name>(alloc, 0, tokens)?;
+    Ok((NonEmpty::from_vec(names), rest))
 }
 
 /// Literals in parentheses with commas, and the tokens after them.
@@ -195,12 +193,8 @@ pub fn read_tuple<'a, 'b>(
     ensures value { Gives (λ x. (x.0, lexemes x.1.now)) result (tuple_read (lexemes tokens.now)) }
     ensures rest { IfOk result (λ x. length x.1.now ≤ length tokens.now) }
 {
-    let inside = expect(tokens, Terminal::Symbol("("))?;
-    let (values, after) = separated::<Value>(alloc, 0, inside)?;
-    Ok((
-        NonEmpty::from_vec(values),
-        expect(after, Terminal::Symbol(")"))?,
-    ))
+    let (values, rest) = enclosed::<Value>(alloc, 0, tokens)?;
+    Ok((NonEmpty::from_vec(values), rest))
 }
 
 impl<'a> Item<'a> for NonEmpty<Value> {

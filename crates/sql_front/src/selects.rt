@@ -8,14 +8,12 @@ ghost use Rattle.sql_statements.specs.Plain.{plain_select};
 ghost use Rattle.sql_front.specs.reading.Reading.{begins};
 ghost use Rattle.sql_statements.specs.Trees as trees;
 ghost use Rattle.sql_front.specs.reading.QueryReaders.{begins_join, chain_read, from_read};
-ghost use Rattle.sql_front.specs.reading.QueryReaders.{item_read, join_read, joined_read};
+ghost use Rattle.sql_front.specs.reading.QueryReaders.{join_read, joined_read};
 ghost use Rattle.sql_front.specs.reading.QueryReaders.{select_read, selected_read};
-ghost use Rattle.sql_front.specs.Grammar.{comma};
-ghost use Rattle.sql_front.specs.reading.Reading.{separated_read};
 ghost use Rattle.std.specs.Option.{option_map};
 
 use crate::conditions::{read_condition, read_where};
-use crate::list::{Item, separated};
+use crate::list::{Item, listed};
 use crate::read_error::ReadError;
 use crate::references::read_reference;
 use crate::terminal::{Terminal, expect, skip_optional, starts};
@@ -117,33 +115,6 @@ impl<'a> Item<'a> for JoinChain {
     }
 }
 
-/// The items of a select list with commas, and the tokens after them.
-fn read_items<'a, 'b>(
-    alloc: Global,
-    tokens: &'b [Token<'a>],
-) -> Result<(NonEmpty<SelectItem>, &'b [Token<'a>]), ReadError>
-    ensures value { Gives (λ x. (x.0, lexemes x.1.now)) result
-        (separated_read comma item_read (lexemes tokens.now)) }
-    ensures rest { IfOk result (λ x. length x.1.now ≤ length tokens.now) }
-{
-    let (items, rest) = separated::<SelectItem>(alloc, 0, tokens)?;
-    Ok((NonEmpty::from_vec(items), rest))
-}
-
-/// Joined tables with commas, and the tokens after them. At most `depth` parentheses open in them.
-fn read_chains<'a, 'b>(
-    alloc: Global,
-    depth: usize,
-    tokens: &'b [Token<'a>],
-) -> Result<(NonEmpty<JoinChain>, &'b [Token<'a>]), ReadError>
-    ensures value { Gives (λ x. (map plain_chain x.0, lexemes x.1.now)) result
-        (separated_read comma (chain_read depth) (lexemes tokens.now)) }
-    ensures rest { IfOk result (λ x. length x.1.now ≤ length tokens.now) }
-{
-    let (chains, rest) = separated::<JoinChain>(alloc, depth, tokens)?;
-    Ok((NonEmpty::from_vec(chains), rest))
-}
-
 /// FROM with tables and a condition, and the tokens after them. At most `depth` parentheses open
 /// in it.
 #[tactic(auto, unfolding(crate::specs::reading::QueryReaders::from_read))]
@@ -163,7 +134,8 @@ fn read_from<'a, 'b>(
         (from_read depth (lexemes tokens.now)) }
     ensures rest { IfOk result (λ x. length x.1.now ≤ length tokens.now) }
 {
-    let (chains, rest) = read_chains(alloc, depth, expect(tokens, Terminal::Keyword("FROM"))?)?;
+    let rest = expect(tokens, Terminal::Keyword("FROM"))?;
+    let (chains, rest) = listed::<JoinChain>(alloc, depth, rest)?;
     let (condition, rest) = read_where::<Compare>(alloc, depth, rest)?;
     Ok(((chains, condition), rest))
 }
@@ -180,7 +152,7 @@ fn read_selected<'a, 'b>(
         (selected_read depth (lexemes tokens.now)) }
     ensures rest { IfOk result (λ x. length x.1.now ≤ length tokens.now) }
 {
-    let (items, rest) = read_items(alloc, tokens)?;
+    let (items, rest) = listed::<SelectItem>(alloc, 0, tokens)?;
     let ((chains, condition), rest) = read_from(alloc, depth, rest)?;
     Ok((
         SelectDistinct {

@@ -11,7 +11,7 @@ ghost use Rattle.sql_front.specs.PlainElements.{plain_element, with_element};
 
 use crate::column_elements::read_column_element;
 use crate::leaves::read_name;
-use crate::list::{Item, separated};
+use crate::list::{Item, enclosed};
 use crate::read_error::ReadError;
 use crate::table_elements::{
     read_key_element, read_period_element, read_reference_element, read_system_element,
@@ -106,9 +106,7 @@ fn read_elements<'a, 'b>(
     ensures rest { IfOk result (λ x. length x.1.now ≤ length tokens.now) }
     ensures filled { IfOk result (λ x. 0 < length x.0.items) }
 {
-    let rest = expect(tokens, Terminal::Symbol("("))?;
-    let (elements, rest) = separated::<TableElement>(alloc, 0, rest)?;
-    Ok((elements, expect(rest, Terminal::Symbol(")"))?))
+    enclosed::<TableElement>(alloc, 0, tokens)
 }
 
 // The table with one more element, which is the last of its kind.
