@@ -63,15 +63,15 @@ unread_found : (word : List ℕ) (read : List ℕ → Option ℤ) (Named : List 
     → (u : Lexeme) × (more : List Lexeme) × (rest ≡ u ∷ more) × (keyword word t ≡ true) × (text u ≡ true) × (Named u.text → ⊥)
 unread_found word read Named there t [] e = absurd cc
 unread_found word read Named there t (u ∷ more) e =
-    let p = and_parts (keyword word t && text u) (is_none (read u.text)) (sym (text_unread read (keyword word t && text u) u.text) ∙ e) in
-    let q = and_parts (keyword word t) (text u) p.0 in
-    (u, more, refl, q.0, q.1, absent (read u.text) (Named u.text) (there u.text) p.1)
+    let p = and_parts (text u && keyword word t) (is_none (read u.text)) (sym (text_unread read (text u && keyword word t) u.text) ∙ e) in
+    let q = and_parts (text u) (keyword word t) p.0 in
+    (u, more, refl, q.1, q.0, absent (read u.text) (Named u.text) (there u.text) p.1)
 
 unread_here : (word : List ℕ) (read : List ℕ → Option ℤ) (Named : List ℕ → Type 0) → ((x : List ℕ) → IsSome (read x) ↔ Named x) → (t u : Lexeme) (more : List Lexeme)
     → keyword word t ≡ true → text u ≡ true → (Named u.text → ⊥) → is_unread word read t (u ∷ more) ≡ true
 unread_here word read Named there t u more k x never =
-    text_unread read (keyword word t && text u) u.text
-    ∙ both (keyword word t && text u) (is_none (read u.text)) (both (keyword word t) (text u) k x) (absent_if (read u.text) (Named u.text) (there u.text) never)
+    text_unread read (text u && keyword word t) u.text
+    ∙ both (text u && keyword word t) (is_none (read u.text)) (both (text u) (keyword word t) x k) (absent_if (read u.text) (Named u.text) (there u.text) never)
 
 -- ---- dates
 
@@ -100,15 +100,15 @@ open_end_here ts h =
     ap (somewhere is_bad_moment) h.5
     ∙ somewhere_here is_bad_moment h.0 h.1 (h.2 ∷ h.3 ∷ h.4)
     (or_right (is_no_moment h.1 (h.2 ∷ h.3 ∷ h.4)) (is_open_end h.1 (h.2 ∷ h.3 ∷ h.4))
-    (both (or_test (keyword (codes "AT")) (keyword (codes "OF")) h.1) (is_unread (codes "TIMESTAMP") clock_of_token h.2 (h.3 ∷ h.4)) h.6
-    (unread_here (codes "TIMESTAMP") clock_of_token IsClockToken clock_there h.2 h.3 h.4 h.7 h.8 h.9)))
+    (both (is_unread (codes "TIMESTAMP") clock_of_token h.2 (h.3 ∷ h.4)) (or_test (keyword (codes "AT")) (keyword (codes "OF")) h.1)
+    (unread_here (codes "TIMESTAMP") clock_of_token IsClockToken clock_there h.2 h.3 h.4 h.7 h.8 h.9) h.6))
 
 open_end_found : (front : List Lexeme) (t : Lexeme) (rest ts : List Lexeme) → ts ≡ front ++ t ∷ rest → is_open_end t rest ≡ true → HasOpenEnd ts
 open_end_found front t [] ts at e = absurd cc
 open_end_found front t (u ∷ rest) ts at e =
-    let p = and_parts (or_test (keyword (codes "AT")) (keyword (codes "OF")) t) (is_unread (codes "TIMESTAMP") clock_of_token u rest) e in
-    let k = unread_found (codes "TIMESTAMP") clock_of_token IsClockToken clock_there u rest p.1 in
-    (front, t, u, k.0, k.1, at ∙ ap (λ (z : List Lexeme). front ++ t ∷ u ∷ z) k.2, p.0, k.3, k.4, k.5)
+    let p = and_parts (is_unread (codes "TIMESTAMP") clock_of_token u rest) (or_test (keyword (codes "AT")) (keyword (codes "OF")) t) e in
+    let k = unread_found (codes "TIMESTAMP") clock_of_token IsClockToken clock_there u rest p.0 in
+    (front, t, u, k.0, k.1, at ∙ ap (λ (z : List Lexeme). front ++ t ∷ u ∷ z) k.2, p.1, k.3, k.4, k.5)
 
 pub bad_moment_somewhere : (ts : List Lexeme) → somewhere is_bad_moment ts ≡ true ↔ HasBadMoment ts
 bad_moment_somewhere ts = (

@@ -7,7 +7,7 @@ use Rattle.sql_statements.specs.Names.{is_plain_word}
 use Rattle.sql_statements.specs.Words.{is_reserved}
 use Rattle.sql_statements.specs.Trees.{Statement, stored}
 use Rattle.sql_front.specs.Grammar.{IsStatement}
-use Rattle.sql_front.specs.reading.LeafValues.{moment_of_token, moment_value}
+use Rattle.sql_front.specs.reading.LeafValues.{clock_of_token, moment_of_token, moment_value}
 use Rattle.sql_front.specs.reading.Leaves.{moment_read, name_read}
 use Rattle.sql_front.specs.reading.ConditionReaders.{column_read, where_read}
 use Rattle.sql_front.specs.reading.WindowReaders.{for_window_read, window_read, two_moments_read}
@@ -58,5 +58,5 @@ several_tree = selected_from (
     ∷ [])
 
 several_spelled : IsStatement several several_tree
-unfolding statement_read later_statement_read query_statement_read sequenced_read query_read term_read intersections_read primary_read steps_read step_read select_read selected_read from_read item_read chain_read joins_read reference_read new_name_read for_window_read window_read two_moments_read moment_read moment_value moment_of_token moment_of_text date_at time_at fraction_at date_parts_of time_parts_of is_date is_time where_read column_read name_read bounded_read is_plain_word is_reserved
+unfolding statement_read later_statement_read query_statement_read sequenced_read query_read term_read intersections_read primary_read steps_read step_read select_read selected_read from_read item_read chain_read joins_read reference_read new_name_read for_window_read window_read two_moments_read moment_read moment_value moment_of_token clock_of_token moment_of_text date_at time_at fraction_at date_parts_of time_parts_of is_date is_time where_read column_read name_read bounded_read is_plain_word is_reserved
 several_spelled = spelled_if_read 0 several several_tree refl refl refl refl

@@ -15,7 +15,7 @@ somewhere test (t ∷ rest) = test t rest || somewhere test rest
 -- the text behind this word
 abbrev pub text_behind : List ℕ → Lexeme → List Lexeme → Option (List ℕ)
 text_behind word t [] = None
-text_behind word t (u ∷ rest) = cond (keyword word t && text u) (Some u.text) None
+text_behind word t (u ∷ rest) = cond (text u && keyword word t) (Some u.text) None
 
 -- there is a text, and nothing is read of it
 abbrev pub names_none : (List ℕ → Option ℤ) → Option (List ℕ) → Bool
@@ -38,8 +38,8 @@ is_no_moment = is_unread (codes "TIMESTAMP") moment_of_token
 abbrev pub is_open_end : Lexeme → List Lexeme → Bool
 is_open_end t [] = false
 is_open_end t (u ∷ rest) =
-    or_test (keyword (codes "AT")) (keyword (codes "OF")) t
-    && is_unread (codes "TIMESTAMP") clock_of_token u rest
+    is_unread (codes "TIMESTAMP") clock_of_token u rest
+    && or_test (keyword (codes "AT")) (keyword (codes "OF")) t
 
 -- either of the two
 abbrev pub is_bad_moment : Lexeme → List Lexeme → Bool

@@ -16,13 +16,15 @@ use period_core::{GREATEST_NUMBER, Refusal};
 use sql_statements::token::{Token, TokenKind};
 
 /// The text behind this keyword, if the token behind it is one.
+// Few tokens are texts, so that is asked first.
+#[inline(always)]
 fn text_behind<'a>(word: &str, first: &Token<'_>, after: &[Token<'a>]) -> Option<&'a str>
     ensures { option_copied result
         ≡ tests.text_behind word.now (lexeme first.now) (lexemes after.now) }
 {
     match after {
         [token, ..]
-            if is_terminal(first, Terminal::Keyword(word)) && token.kind == TokenKind::Text => {
+            if token.kind == TokenKind::Text && is_terminal(first, Terminal::Keyword(word)) => {
             Some(token.text)
         }
         _ => None,
@@ -63,9 +65,9 @@ fn is_open_end(first: &Token<'_>, after: &[Token<'_>]) -> bool
     match after {
         [] => false,
         [word, rest @ ..] => {
-            (is_terminal(first, Terminal::Keyword("AT"))
-                || is_terminal(first, Terminal::Keyword("OF")))
-                && is_no_clock_moment(word, rest)
+            is_no_clock_moment(word, rest)
+                && (is_terminal(first, Terminal::Keyword("AT"))
+                    || is_terminal(first, Terminal::Keyword("OF")))
         }
     }
 }
