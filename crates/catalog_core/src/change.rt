@@ -48,7 +48,7 @@ pub struct Change {
 /// What a change does to the rows of a table.
 #[derive(Drop)]
 pub struct Plan {
-    /// The rows that end: each is told by its values, period start and system start.
+    /// The rows that end: each is identified by its values, period start and system start.
     pub ended: Items<VersionRow>,
     /// The rows that are added.
     pub added: Items<PeriodRow>,

@@ -72,8 +72,8 @@ date_time_text y m d h mi s = date_text y m d ++ codes " " ++ time_text h mi s
 abbrev pub six_digits : ℕ → List ℕ
 six_digits us = two_digits (us / 10_000) ++ two_digits (us / 100 % 100) ++ two_digits (us % 100)
 
--- digits of a fraction of a second show so many microseconds: they are six at the most, and filled
--- on the right with zeros they are its six digits
+-- digits of a fraction of a second show `us` microseconds: they are six at the most, and filled on
+-- the right with zeros they are the six digits of `us`
 pub record ShowsFraction (digits : List ℕ) (us : ℕ) : Type 0 where
   pub few : length digits ≤ 6
   pub filled : digits ++ replicate (6 - length digits) 48 ≡ six_digits us
@@ -107,7 +107,7 @@ moment_of_day n = moments_before n % moments_per_day
 abbrev pub moment_of_second : ℤ → ℕ
 moment_of_second n = moments_before n % moments_per_second
 
--- the text of the time of day before which so many moments of the day come, without its fraction
+-- the text of the time of day before which `k` moments of the day come, without its fraction
 abbrev pub time_of_day_text : ℕ → List ℕ
 time_of_day_text k =
     time_text (k / moments_per_hour) (k % moments_per_hour / moments_per_minute)

@@ -1,4 +1,4 @@
--- Runs: rows of the same values, one behind the other in a list.
+-- Runs: rows of the same values, one after the other in a list.
 use Rattle.std.specs.Prelude.{◌≡◌, ◌≢◌, ◌<◌, ◌≤◌, ℕ, List, Option, length, slice_get}
 use Rattle.std.specs.Option.{option_map}
 use Rattle.period_core.specs.declared.value.Value.{Value}

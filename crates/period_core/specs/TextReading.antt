@@ -63,12 +63,12 @@ six_of a b c d e f = do
   low ← two_of e f
   Some (high * 10_000 + middle * 100 + low)
 
--- the byte of a text at a place, and behind its end the digit 0
+-- the byte of a text at a place, or the digit 0 past its end
 abbrev pub digit_at : List ℕ → ℕ → ℕ
 digit_at text place = slice_index_or text place 48
 
 -- the microseconds of a text that ends with its nineteenth byte, or has a point and one to six
--- digits behind it
+-- digits after it
 unfoldable pub fraction_at : List ℕ → Option ℕ
 fraction_at text =
     cond (length text == 19) (Some 0)

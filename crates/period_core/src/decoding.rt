@@ -61,7 +61,7 @@ pub fn decode_values(alloc: Global, bytes: &[u8]) -> Result<Vec<Value>, DecodeFa
     Ok(values)
 }
 
-/// The first value of the bytes, and the bytes behind it.
+/// The first value of the bytes, and the remaining bytes.
 fn decode_value(alloc: Global, bytes: &[u8]) -> Result<(Value, &[u8]), DecodeFault>
     ensures found { IfOk result (λ read. encoded_value read.0 ++ read.1.now ≡ bytes.now) }
     ensures held { IfOk result (λ read. IsColumnValue read.0) }
@@ -75,7 +75,7 @@ fn decode_value(alloc: Global, bytes: &[u8]) -> Result<(Value, &[u8]), DecodeFau
     }
 }
 
-/// The integer behind its tag, and the bytes behind it.
+/// The integer after its tag, and the remaining bytes.
 fn decode_integer(bytes: &[u8]) -> Result<(Value, &[u8]), DecodeFault>
     ensures found { IfOk result (λ read. encoded_value read.0 ++ read.1.now ≡ 1 ∷ bytes.now) }
     ensures held { IfOk result (λ read. IsColumnValue read.0) }
@@ -89,7 +89,7 @@ fn decode_integer(bytes: &[u8]) -> Result<(Value, &[u8]), DecodeFault>
     Ok((Value::Int(number), rest))
 }
 
-/// The date behind its tag, and the bytes behind it.
+/// The date after its tag, and the remaining bytes.
 fn decode_date(bytes: &[u8]) -> Result<(Value, &[u8]), DecodeFault>
     ensures found { IfOk result (λ read. encoded_value read.0 ++ read.1.now ≡ 3 ∷ bytes.now) }
     ensures held { IfOk result (λ read. IsColumnValue read.0) }
@@ -108,7 +108,7 @@ fn decode_date(bytes: &[u8]) -> Result<(Value, &[u8]), DecodeFault>
     }
 }
 
-/// The text behind its tag, and the bytes behind its end.
+/// The text after its tag, and the bytes after its end.
 fn decode_text(alloc: Global, bytes: &[u8]) -> Result<(Value, &[u8]), DecodeFault>
     ensures found { IfOk result (λ read. encoded_value read.0 ++ read.1.now ≡ 2 ∷ bytes.now) }
     ensures held { IfOk result (λ read. IsColumnValue read.0) }
@@ -121,7 +121,7 @@ fn decode_text(alloc: Global, bytes: &[u8]) -> Result<(Value, &[u8]), DecodeFaul
     }
 }
 
-/// The bytes of a text, and the bytes behind its end.
+/// The bytes of a text, and the bytes after its end.
 fn unescape(alloc: Global, bytes: &[u8]) -> Result<(Vec<u8>, &[u8]), DecodeFault>
     ensures found { IfOk result (λ read. escaped_text read.0.items ++ read.1.now ≡ bytes.now) }
     ensures malformed { IfErr result (λ fault. fault ≡ Malformed →

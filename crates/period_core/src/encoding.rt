@@ -1,6 +1,6 @@
 //! Values as bytes, whose order is that of the values.
 //!
-//! The values stand one after the other, each behind the tag of its kind:
+//! The values stand one after the other, each preceded by the tag of its kind:
 //!
 //! | Kind | Bytes |
 //! |---|---|

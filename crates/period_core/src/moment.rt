@@ -208,8 +208,8 @@ impl Moment {
     }
 
     /// Writes the date and the time of day in ASCII, and says how many bytes that took: 19 as
-    /// YYYY-MM-DD HH:MM:SS where the fraction of the second is zero, else 26, with a point and all
-    /// six digits behind them. The bytes behind those that are written stay as they are.
+    /// YYYY-MM-DD HH:MM:SS where the fraction of the second is zero, else 26, where a point and all
+    /// six digits follow. The remaining bytes stay as they are.
     pub fn write_text(self, text: &mut [u8; 26]) -> usize
         ensures length { result ≡ length (moment_text self) }
         ensures text { take result text.new ≡ moment_text self }

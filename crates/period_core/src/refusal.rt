@@ -7,7 +7,7 @@ use crate::day::Day;
 use crate::memory::Memory;
 use std::alloc::{AllocError, AllocFailed};
 
-/// Why a script, a statement or a store was refused. What it carries is said beside each variant.
+/// Why a script, a statement or a store was refused. Each variant says what it carries.
 #[derive(Clone, Copy, Debug, PartialEq, Eq)]
 pub enum Refusal {
     /// A script of at most 4 MiB that is not UTF-8.

@@ -1,11 +1,11 @@
-//! Runs: rows of the same values, one behind the other in a list.
+//! Runs: rows of the same values, one after the other in a list.
 
 ghost use Rattle.std.specs.Prelude.{◌<◌, length};
 ghost use Rattle.period_core.specs.Runs.{IsRunEnd};
 
 use crate::row::PeriodRow;
 
-/// Where the run of the row at this index ends: the first index behind it whose values differ, or
+/// Where the run of the row at this index ends: the first index after it whose values differ, or
 /// the number of rows.
 pub fn run_end(rows: &[PeriodRow], at: usize) -> usize
     requires { at < length rows.now }

@@ -65,7 +65,7 @@ fn time_parts(time: [u8; 6]) -> Option<(u8, u8, u8)>
     Some((hour, minute, second))
 }
 
-/// The hour, the minute and the second of a text that has HH:MM:SS behind a date and one more byte,
+/// The hour, the minute and the second of a text that has HH:MM:SS after a date and one more byte,
 /// of whatever size.
 #[tactic(auto, unfolding(crate::specs::TextReading::time_at))]
 fn time_at(text: &[u8]) -> Option<(u8, u8, u8)>
@@ -90,14 +90,14 @@ fn six(digits: [u8; 6]) -> Option<u32>
     Some(high * 10_000 + middle * 100 + low)
 }
 
-/// The byte at a place, and behind the end of the text the digit 0.
+/// The byte at a place, or the digit 0 past the end of the text.
 fn digit_at(text: &[u8], place: usize) -> u8
     ensures { result ≡ reading.digit_at text.now place }
 {
     text.get(place).copied().unwrap_or(b'0')
 }
 
-/// The microseconds of a text that ends behind a time of day, or has a point and one to six digits
+/// The microseconds of a text that ends after a time of day, or has a point and one to six digits
 /// there.
 #[tactic(auto, unfolding(crate::specs::TextReading::fraction_at))]
 fn fraction_at(text: &[u8]) -> Option<u32>

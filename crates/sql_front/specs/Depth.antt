@@ -27,7 +27,7 @@ IsDeeper n lexemes =
     (front : List Lexeme) × (rest : List Lexeme) × (lexemes ≡ front ++ rest)
     × (n + passing_count closes front < passing_count opens front)
 
--- how many more may still open after these tokens, where so many may open before them
+-- how many more may still open after these tokens, where `k` may open before them
 unfoldable pub room : ℕ → List Lexeme → Option ℕ
 room k [] = Some k
 room zero (t ∷ ts) = cond (opens t) None (cond (closes t) (room 1 ts) (room zero ts))

@@ -1,5 +1,5 @@
--- What is wrong with the literals of a piece. A date is a text behind the word DATE, a moment is
--- one behind TIMESTAMP, and a number counts with the minus before it.
+-- What is wrong with the literals of a piece. A date is a text after the word DATE, a moment is
+-- one after TIMESTAMP, and a number counts with the minus before it.
 use Rattle.std.specs.Prelude.{◌≡◌, ◌<◌, ◌⊎◌, ◌+◌, ℕ, Bool, true, false, cond, List, [], ◌∷◌, ◌++◌}
 use Rattle.std.specs.Prelude.{codes}
 use Rattle.sql_statements.specs.Lexemes.{Lexeme}
@@ -8,7 +8,7 @@ use Rattle.sql_front.specs.LiteralValues.{IsClockToken, IsDateToken, IsMomentTok
 use Rattle.sql_front.specs.LiteralValues.{number_of_digits}
 use Rattle.period_core.specs.Encoding.{greatest_number}
 
--- two tokens, the one right behind the other
+-- two tokens, the second right after the first
 abbrev pub Neighbours : (Lexeme → Lexeme → Type 0) → List Lexeme → Type 0
 Neighbours P lexemes =
     (front : List Lexeme) × (one : Lexeme) × (next : Lexeme) × (rest : List Lexeme)
@@ -25,7 +25,7 @@ HasNoMoment = Neighbours (λ word token.
     (keyword (codes "TIMESTAMP") word ≡ true) × (text token ≡ true)
     × (IsMomentToken token.text → ⊥))
 
--- some TIMESTAMP behind AT or OF names no moment before the open end
+-- some TIMESTAMP after AT or OF names no moment before the open end
 abbrev pub HasOpenEnd : List Lexeme → Type 0
 HasOpenEnd lexemes =
     (front : List Lexeme) × (before : Lexeme) × (word : Lexeme) × (token : Lexeme)
@@ -45,7 +45,7 @@ ends_in_minus [] = false
 ends_in_minus (t ∷ []) = symbol (codes "-") t
 ends_in_minus (t ∷ u ∷ more) = ends_in_minus (u ∷ more)
 
--- how great digits may be behind these tokens, for a number of 64 bits signed
+-- the greatest value that digits after these tokens may have, for a number of 64 bits signed
 abbrev pub limit_behind : List Lexeme → ℕ
 limit_behind front = cond (ends_in_minus front) (greatest_number + 1) greatest_number
 

@@ -7,12 +7,12 @@ use Rattle.sql_front.specs.LiteralValues.{number_of_digits}
 use Rattle.period_core.specs.Encoding.{greatest_number}
 use Rattle.sql_front.specs.reading.LeafValues.{clock_of_token, day_of_token, moment_of_token}
 
--- the test holds of some token and those behind it
+-- the test holds of some token and those after it
 abbrev pub somewhere : (Lexeme → List Lexeme → Bool) → List Lexeme → Bool
 somewhere test [] = false
 somewhere test (t ∷ rest) = test t rest || somewhere test rest
 
--- the text behind this word
+-- the text after this word
 abbrev pub text_behind : List ℕ → Lexeme → List Lexeme → Option (List ℕ)
 text_behind word t [] = None
 text_behind word t (u ∷ rest) = cond (text u && keyword word t) (Some u.text) None

@@ -21,7 +21,7 @@ number_of_digits digits = number_of_digits_after 0 digits
 abbrev pub NamesNumber : List ℕ → ℕ → Type 0
 NamesNumber digits value = (value ≡ number_of_digits digits) × (value ≤ greatest_number)
 
--- a number behind a minus: one more below zero than above
+-- a number after a minus: one more below zero than above
 abbrev pub NamesNegative : List ℕ → ℤ → Type 0
 NamesNegative digits value =
     (value ≡ neg_ℤ (pos (number_of_digits digits)))

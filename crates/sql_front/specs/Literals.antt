@@ -8,13 +8,13 @@ use Rattle.sql_front.specs.LiteralValues.{NamesNumber}
 pub record Literals : Type 1 where
   -- a number without a sign, or with a plus
   pub plain_number : Language ℕ
-  -- a number behind a minus
+  -- a number after a minus
   pub minus_number : Language ℤ
-  -- a text behind DATE
+  -- a text after DATE
   pub day : Language ℤ
-  -- a text behind TIMESTAMP
+  -- a text after TIMESTAMP
   pub moment : Language ℤ
-  -- a text behind TIMESTAMP, where the open end is none
+  -- a text after TIMESTAMP, where the open end is none
   pub clock_moment : Language ℤ
 
 -- each token is the value that it names

@@ -15,7 +15,7 @@ use crate::terminal::{Terminal, is_terminal};
 use period_core::{GREATEST_NUMBER, Refusal};
 use sql_statements::token::{Token, TokenKind};
 
-/// The text behind this keyword, if the token behind it is one.
+/// The text after this keyword, if the next token is one.
 // Few tokens are texts, so that is asked first.
 #[inline(always)]
 fn text_behind<'a>(word: &str, first: &Token<'_>, after: &[Token<'a>]) -> Option<&'a str>
@@ -132,7 +132,7 @@ pub fn has_bad_date(tokens: &[Token<'_>]) -> bool
     date_fails(tokens)
 }
 
-/// Whether some TIMESTAMP names no moment, or one behind AT or OF none before the open end.
+/// Whether some TIMESTAMP names no moment, or one after AT or OF names none before the open end.
 #[tactic(auto, using(crate::proofs::LiteralFaultFacts::bad_moment_somewhere))]
 pub fn has_bad_moment(tokens: &[Token<'_>]) -> bool
     ensures { IsTrue result ↔ HasBadMoment (lexemes tokens.now) }

@@ -119,7 +119,7 @@ fn no_steps<'a, 'b>(
     (Vec::new(alloc), tokens)
 }
 
-/// UNION and EXCEPT with the terms behind them, or none, and the tokens after them.
+/// Each UNION or EXCEPT with the term that follows it, or none, and the remaining tokens.
 #[cycle(queries)]
 fn read_steps<'a, 'b>(
     alloc: Global,
@@ -145,7 +145,7 @@ fn read_steps<'a, 'b>(
     Ok((items, rest))
 }
 
-/// UNION or EXCEPT with the term behind it, and the tokens after them.
+/// UNION or EXCEPT with the term that follows it, and the remaining tokens.
 #[cycle(queries)]
 #[tactic(auto, unfolding(crate::specs::reading::QueryReaders::step_read))]
 fn read_step<'a, 'b>(
@@ -186,8 +186,8 @@ fn read_term<'a, 'b>(
     }
 }
 
-/// Each INTERSECT with the select or query in parentheses behind it, or none, and the tokens after
-/// them.
+/// Each INTERSECT with the select or query in parentheses that follows it, or none, and the
+/// remaining tokens.
 #[cycle(queries)]
 fn read_intersections<'a, 'b>(
     alloc: Global,
@@ -213,7 +213,7 @@ fn read_intersections<'a, 'b>(
     Ok((items, rest))
 }
 
-/// INTERSECT with the select or query in parentheses behind it, and the tokens after them.
+/// INTERSECT with the select or query in parentheses that follows it, and the remaining tokens.
 #[cycle(queries)]
 #[tactic(auto, unfolding(crate::specs::reading::QueryReaders::intersection_read))]
 fn read_intersection<'a, 'b>(

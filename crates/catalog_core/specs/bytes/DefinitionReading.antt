@@ -10,7 +10,7 @@ use Rattle.catalog_core.specs.declared.table.Column.{Column}
 use Rattle.catalog_core.specs.declared.table.PeriodColumns.{PeriodColumns}
 use Rattle.catalog_core.specs.declared.table.Reference.{Reference}
 
--- the part that was read is fit, and the values are the part's and those behind it
+-- the part that was read is fit, and the values are the part's and then the rest
 abbrev pub IsFront :
     {A : Type 0} → (A → Bool) → (A → List Value) → List Value → A → List Value → Type 0
 IsFront fits written values part rest = (fits part ≡ true) × (values ≡ written part ++ rest)
@@ -28,7 +28,7 @@ is_any n = true
 abbrev pub is_below : ℕ → ℕ → Bool
 is_below limit n = nat_lt n limit
 
--- so many, each of which passes the test
+-- `count` elements, each of which passes the test
 abbrev pub are_so_many : {X : Type 0} → ℕ → (X → Bool) → List X → Bool
 are_so_many count test xs = length xs == count && list_all test xs
 
@@ -40,10 +40,10 @@ name_values name = Text name ∷ []
 abbrev pub is_column : Column → Bool
 is_column c = is_name c.name && is_kind c.kind
 
--- a period of a table with so many columns, whose name is one
+-- a period of a table with `count` columns, whose name is one
 abbrev pub is_named_period : ℕ → PeriodColumns → Bool
 is_named_period count p = is_name p.name && is_period count p
 
--- a reference of a table with so many columns, whose parent's number is one of a table
+-- a reference of a table with `count` columns, whose parent's number is one of a table
 abbrev pub is_small_reference : ℕ → Reference → Bool
 is_small_reference count r = nat_lt r.parent table_number_limit && is_reference count r

@@ -52,7 +52,7 @@ period_matches c name = count_by (λ (x : PeriodElement). bytes_eq name x.name) 
 abbrev pub parent_of : List TableDef → ReferenceElement → Option TableDef
 parent_of catalog r = table_of_name catalog r.parent
 
--- some of the names matches so many of the statement's own columns
+-- some of the names matches the wanted number of the statement's own columns
 abbrev pub some_own_match : CreateTable → MatchCount → List Name → Bool
 some_own_match c wanted names =
     some_match_among (λ (x : ColumnElement). x.name) c.columns wanted names
@@ -62,7 +62,7 @@ unfoldable pub some_parent_match : List TableDef → MatchCount → ReferenceEle
 some_parent_match catalog wanted x =
     passes (λ (t : TableDef). some_def_match t wanted x.parent_columns) (parent_of catalog x)
 
--- some column that CREATE names matches so many
+-- some column that CREATE names matches the wanted number of columns
 unfoldable pub some_match : List TableDef → CreateTable → MatchCount → Bool
 some_match catalog c wanted =
     list_any (λ (x : PeriodElement). some_own_match c wanted (x.start ∷ x.end ∷ [])) c.periods

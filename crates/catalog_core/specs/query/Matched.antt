@@ -1,4 +1,4 @@
--- For private functions: what a name matches, told in one pass over the columns.
+-- For private functions: what a name matches, found in one pass over the columns.
 use Rattle.std.specs.Prelude.{◌||◌, not, List, Some, is_some, length, nat_lt}
 use Rattle.std.specs.Prelude.{is_none}
 use Rattle.std.specs.Option.{option_or}

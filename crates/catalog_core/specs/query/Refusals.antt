@@ -46,7 +46,7 @@ some_column condition catalog select =
     list_any (λ (c : Scope × ColumnReference). condition (matches_of catalog c.0 c.1))
     (columns_in select)
 
--- so many columns match
+-- the wanted number of columns matches
 abbrev pub are_matching : MatchCount → List SeenColumn → Bool
 are_matching wanted matches = is_matching wanted (length matches)
 

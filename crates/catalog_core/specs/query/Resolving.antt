@@ -127,7 +127,7 @@ abbrev mutual
   ResolvesTree catalog (written.combined first steps) query =
       (left : Query) × ResolvesTree catalog first left × ResolvesSteps catalog left steps query
 
-  -- the query behind these steps, from the query on their left
+  -- the query that these steps give, from the query on their left
   pub ResolvesSteps : List TableDef → Query → written.Steps → Query → Type 0
   ResolvesSteps catalog left written.last query = left ≡ query
   ResolvesSteps catalog left (written.step operator next steps) query =

@@ -16,7 +16,7 @@ Name = List ℕ
 unfoldable pub matches_among : {X : Type 0} → (X → Name) → List X → Name → ℕ
 matches_among named xs name = count_by (λ x. bytes_eq name (named x)) xs
 
--- some of the names matches so many
+-- some of the names matches the wanted number of elements
 unfoldable pub some_match_among : {X : Type 0} → (X → Name) → List X → MatchCount → List Name → Bool
 some_match_among named xs wanted names =
     list_any (λ name. is_matching wanted (matches_among named xs name)) names

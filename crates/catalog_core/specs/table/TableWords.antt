@@ -36,7 +36,7 @@ table_of_name catalog name = option_and_then (table_of catalog) (number_of catal
 abbrev pub def_matches : TableDef → Name → ℕ
 def_matches t name = matches_among (λ (x : Column). x.name) t.columns name
 
--- some of the names matches so many
+-- some of the names matches the wanted number of a table's columns
 abbrev pub some_def_match : TableDef → MatchCount → List Name → Bool
 some_def_match t wanted names = some_match_among (λ (x : Column). x.name) t.columns wanted names
 

@@ -36,7 +36,7 @@ fn precision_of(number: i64) -> Option<Option<u8>>
     }
 }
 
-/// What a column holds, by the number of its kind and the number behind it.
+/// What a column holds, by the number of its kind and the number after it.
 fn kind_of(kind: i64, number: i64) -> Option<ColumnKind>
     ensures { MatchOption result
         ((k : AnyKind) → is_kind k ≡ true → kind_values k ≡ Int kind ∷ Int number ∷ [] → ⊥)
@@ -54,7 +54,7 @@ fn kind_of(kind: i64, number: i64) -> Option<ColumnKind>
     }
 }
 
-/// What a column holds, and the values behind it.
+/// What a column holds, and the remaining values.
 fn read_kind(values: &[Value]) -> Result<(ColumnKind, &[Value]), DecodeFault>
     ensures found { IfOk result (λ x. IsFront is_kind kind_values values.now x.0 x.1.now) }
     ensures malformed { IfErr result
@@ -79,7 +79,7 @@ fn read_column<'a>(alloc: Global, values: &'a [Value]) -> Result<(Column, &'a [V
     Ok((Column { name, kind }, rest))
 }
 
-/// So many columns, and the values behind them.
+/// `count` columns, and the remaining values.
 fn read_each_column<'a>(
     alloc: Global,
     values: &'a [Value],
@@ -101,7 +101,7 @@ fn read_each_column<'a>(
     Ok((columns, rest))
 }
 
-/// How many columns there are, the columns, and the values behind them.
+/// How many columns there are, the columns, and the remaining values.
 fn read_columns<'a>(
     alloc: Global,
     values: &'a [Value],
@@ -115,7 +115,7 @@ fn read_columns<'a>(
     read_each_column(alloc, behind, count)
 }
 
-/// The application period over two of so many columns, and the values behind it.
+/// The application period of a table with `count` columns, and the remaining values.
 fn read_period<'a>(
     alloc: Global,
     values: &'a [Value],
@@ -132,7 +132,7 @@ fn read_period<'a>(
     Ok((PeriodColumns { name, start, end }, rest))
 }
 
-/// How many columns a key has, their places among so many, and the values behind them.
+/// How many columns a key has, their places among `count` columns, and the remaining values.
 fn read_key(
     alloc: Global,
     values: &[Value],
@@ -150,7 +150,7 @@ fn read_key(
     read_places(alloc, behind, length, count)
 }
 
-/// A reference of a table with so many columns, and the values behind it.
+/// A reference of a table with `count` columns, and the remaining values.
 fn read_reference(
     alloc: Global,
     values: &[Value],
@@ -175,7 +175,7 @@ fn read_reference(
     Ok((reference, rest))
 }
 
-/// So many references of a table with so many columns, and the values behind them.
+/// `length` references of a table with `count` columns, and the remaining values.
 fn read_each_reference(
     alloc: Global,
     values: &[Value],
@@ -198,7 +198,7 @@ fn read_each_reference(
     Ok((references, rest))
 }
 
-/// How many references there are, the references, and the values behind them.
+/// How many references there are, the references, and the remaining values.
 fn read_references(
     alloc: Global,
     values: &[Value],

@@ -12,7 +12,7 @@ use period_core::{DecodeFault, Value};
 use sql_statements::Name;
 use std::alloc::Global;
 
-/// A name, and the values behind it.
+/// A name, and the remaining values.
 pub fn read_name<'a>(alloc: Global, values: &'a [Value]) -> Result<(Name, &'a [Value]), DecodeFault>
     ensures found { IfOk result (λ x. IsFront is_name name_values values.now x.0 x.1.now) }
     ensures malformed { IfErr result
@@ -30,7 +30,7 @@ pub fn read_name<'a>(alloc: Global, values: &'a [Value]) -> Result<(Name, &'a [V
     }
 }
 
-/// A number that is not negative, and the values behind it.
+/// A number that is not negative, and the remaining values.
 pub fn read_number(values: &[Value]) -> Result<(usize, &[Value]), DecodeFault>
     ensures found { IfOk result (λ x. IsFront is_any place_values values.now x.0 x.1.now) }
     ensures malformed { IfErr result
@@ -45,7 +45,7 @@ pub fn read_number(values: &[Value]) -> Result<(usize, &[Value]), DecodeFault>
     Ok((*n as usize, rest))
 }
 
-/// A number below a limit, and the values behind it.
+/// A number below a limit, and the remaining values.
 pub fn read_place(values: &[Value], limit: usize) -> Result<(usize, &[Value]), DecodeFault>
     ensures found { IfOk result
         (λ x. IsFront (is_below limit) place_values values.now x.0 x.1.now) }
@@ -59,7 +59,7 @@ pub fn read_place(values: &[Value], limit: usize) -> Result<(usize, &[Value]), D
     Ok((place, rest))
 }
 
-/// So many numbers below a limit, and the values behind them.
+/// `count` numbers below a limit, and the remaining values.
 pub fn read_places(
     alloc: Global,
     values: &[Value],

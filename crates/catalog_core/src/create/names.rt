@@ -38,7 +38,8 @@ pub fn parent_of<'a>(catalog: &'a Catalog, reference: &ReferenceElement) -> Opti
     }
 }
 
-/// Whether one of the columns that a reference names in its parent matches so many there.
+/// Whether one of the columns that a reference names in its parent matches the wanted number of
+/// columns there.
 #[tactic(auto, unfolding(crate::specs::create::Creation::some_parent_match))]
 pub fn some_parent_match(
     catalog: &Catalog,
@@ -53,7 +54,7 @@ pub fn some_parent_match(
     }
 }
 
-/// Whether a column that CREATE names matches so many.
+/// Whether a column that CREATE names matches the wanted number of columns.
 #[tactic(auto, unfolding(crate::specs::create::Creation::some_match))]
 pub fn some_match(catalog: &Catalog, create: &CreateTable, wanted: MatchCount) -> bool
     ensures { result ≡ some_match catalog.now.tables create.now wanted }

@@ -53,7 +53,7 @@ fn all_fit(query: &Query, tables: &Tables) -> bool
     }
 }
 
-/// The place behind the references, where their places count up from this one and all are below the
+/// The place after the references, where their places count up from this one and all are below the
 /// bound.
 fn next_place(references: &[QueryReference], place: usize, bound: usize) -> Option<usize>
     requires { place ≤ bound }

@@ -58,7 +58,7 @@ fn has_long_select(query: &QueryTree<SelectDistinct>) -> bool
     }
 }
 
-/// How many of so many set operators are left over by the query: nothing, where it has more.
+/// How many of `room` set operators the query leaves unused: nothing, where it has more.
 fn operators_left(query: &QueryTree<SelectDistinct>, room: usize) -> Option<usize>
     ensures some { IfSome result (λ left. left + operator_count (plain_query query.now) ≡ room) }
     ensures none { IfNone result (room < operator_count (plain_query query.now)) }

@@ -103,21 +103,21 @@ pub fn sort_count(create: &CreateTable, sort: ColumnSort) -> usize
     count
 }
 
-/// Whether one of the names matches so many of the statement's columns.
+/// Whether one of the names matches the wanted number of the statement's columns.
 pub fn some_own_match(create: &CreateTable, wanted: MatchCount, names: &[Name]) -> bool
     ensures { result ≡ some_own_match create.now wanted names.now }
 {
     some_match_among(create.columns.as_slice(), wanted, names)
 }
 
-/// Whether one of the names matches so many of a table's columns.
+/// Whether one of the names matches the wanted number of a table's columns.
 pub fn some_def_match(table: &TableDef, wanted: MatchCount, names: &[Name]) -> bool
     ensures { result ≡ some_def_match table.now wanted names.now }
 {
     some_match_among(table.columns.as_slice(), wanted, names)
 }
 
-/// Whether one of two names matches so many of the statement's columns.
+/// Whether one of two names matches the wanted number of the statement's columns.
 #[tactic(auto, unfolding(crate::specs::table::Naming::some_match_among))]
 pub fn either_matches(create: &CreateTable, wanted: MatchCount, start: &Name, end: &Name) -> bool
     ensures { result ≡ some_own_match create.now wanted (start.now ∷ end.now ∷ []) }

@@ -60,7 +60,7 @@ pub fn matches_among<T: Named>(elements: &[T], name: &Name) -> usize
     count
 }
 
-/// Whether one of the names matches so many.
+/// Whether one of the names matches the wanted number of elements.
 #[tactic(auto, unfolding(crate::specs::table::Naming::some_match_among))]
 pub fn some_match_among<T: Named>(elements: &[T], wanted: MatchCount, names: &[Name]) -> bool
     ensures { result ≡ some_match_among T.named elements.now wanted names.now }

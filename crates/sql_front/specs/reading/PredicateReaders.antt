@@ -87,7 +87,7 @@ relation_word =
     (or_test (keyword (codes "CONTAINS")) (or_test (keyword (codes "IMMEDIATELY"))
     (or_test (keyword (codes "PRECEDES")) (keyword (codes "SUCCEEDS"))))))
 
--- such a word behind the column that these tokens begin with
+-- such a word after the column that these tokens begin with
 unfoldable pub relation_behind_column : List Lexeme → Bool
 relation_behind_column [] = false
 relation_behind_column (first ∷ rest) =
