@@ -63,21 +63,21 @@ abbrev pub has_hyphen : Text → Bool
 has_hyphen [] = false
 has_hyphen (byte ∷ rest) = byte == 45
 
--- the words behind a subcommand name this file, or none: behind -- its name may begin with a hyphen
+-- the words after a subcommand name this file, or none: after -- its name may begin with a hyphen
 abbrev pub NamesFile : List Text → Option Text → Type 0
 NamesFile [] file = file ≡ None
 NamesFile (name ∷ []) file = (has_hyphen name ≡ false) × (file ≡ Some name)
 NamesFile (dashes ∷ name ∷ []) file = (dashes ≡ codes "--") × (file ≡ Some name)
 NamesFile (dashes ∷ name ∷ word ∷ more) file = ⊥
 
--- the same with --audit among them: it stands first, or behind the name of the file
+-- the same with --audit among them: it stands first, or after the name of the file
 abbrev pub AuditsFile : List Text → Option Text → Type 0
 AuditsFile [] file = ⊥
 AuditsFile (word ∷ rest) file =
     ((word ≡ codes "--audit") × NamesFile rest file)
     ⊎ ((rest ≡ codes "--audit" ∷ []) × NamesFile (word ∷ []) file)
 
--- a subcommand, and the words behind it
+-- a subcommand, and the words after it
 abbrev pub IsSubcommandFor : Text → List Text → Mode → Option Text → Type 0
 IsSubcommandFor subcommand rest Run file = (subcommand ≡ codes "run") × NamesFile rest file
 IsSubcommandFor subcommand rest RunAudited file = (subcommand ≡ codes "run") × AuditsFile rest file

@@ -21,7 +21,7 @@ abbrev pub offset_of : Refusal → Option ℕ
 offset_of (BadToken offset) = Some offset
 offset_of _ = None
 
--- that byte's offset behind a space
+-- that byte's offset after a space
 abbrev pub detail_of : Option ℕ → List ℕ
 detail_of None = []
 detail_of (Some offset) = codes " " ++ decimal offset
@@ -80,11 +80,11 @@ abbrev pub IsOfScript : RunFault → Type 0
 IsOfScript (Script refusal) = ⊤
 IsOfScript _ = ⊥
 
--- a fault is told by its own line, or that of a refused script as out of memory
+-- a fault is reported by its own line, or that of a refused script as out of memory
 abbrev pub MayBeReportedAs : RunFault → RunFault → Type 0
 MayBeReportedAs fault told = (told ≡ fault) ⊎ (IsOfScript fault × (told ≡ Memory))
 
--- how a fault is told without memory
+-- how a fault is reported without memory
 abbrev pub without_memory : RunFault → RunFault
 without_memory (Script refusal) = Memory
 without_memory fault = fault

@@ -52,8 +52,8 @@ pub enum RunFault {
 }
 
 impl RunFault {
-    /// Why the system did not give the words of the command line: out of memory, where no word is
-    /// said not to be UTF-8.
+    /// Why the system did not give the words of the command line: a word is not UTF-8, or else out
+    /// of memory.
     pub(crate) fn of_words(error: &io::Error) -> RunFault
         ensures { result ≡ words_fault (error_kind error.now) }
     {

@@ -23,7 +23,7 @@ pub struct Asked {
     pub files: Vec<String>,
     /// Each answer is audited.
     pub audits: bool,
-    /// Nothing is run behind a refused statement.
+    /// Nothing is run after a refused statement.
     pub stops: bool,
     /// The tables are listed, and nothing is run.
     pub lists: bool,

@@ -1,6 +1,6 @@
 //! The texts of the program's help, and its version.
 
-/// The version that `--version` prints behind the program's name.
+/// The version that `--version` prints after the program's name.
 pub const VERSION: &str = "0.1.0";
 
 /// What the program is, in its own help.

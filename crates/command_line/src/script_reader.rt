@@ -13,7 +13,7 @@ const CHUNK: usize = 4096;
 // How many interrupted reads of one script are tried again.
 const MOST_RETRIES: usize = 1000;
 
-/// Reads a script that may have at most so many bytes, and at most one byte more. A read that is
+/// Reads a script that may have at most `most` bytes, and at most one byte more. A read that is
 /// interrupted is tried again, up to 1,000 times in all; any other fault of the reader ends this.
 pub fn read_script<R: Read>(
     alloc: Global,

@@ -10,7 +10,7 @@ use Rattle.ended_versions.specs.declared.chains.Link.{Link}
 abbrev pub hashes : List Link → List ℕ
 hashes = map (λ (link : Link). link.hash)
 
--- the first place behind a place; where there is none, the first of all
+-- the first place after a place; where there is none, the first of all
 abbrev pub behind : Option ℕ → ℕ
 behind place = option_map_or (λ (p : ℕ). p + 1) place 0
 

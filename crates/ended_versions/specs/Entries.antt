@@ -28,7 +28,7 @@ pub record IsKept (bytes : List ℕ) (entry : VersionEntry) : Type 0 where
   pub within : entry.end ≤ length bytes
   pub spelled : IsEncoding (slice_range bytes entry.start entry.end)
 
--- the second ended no earlier, and its values come behind those of the first
+-- the second ended no earlier, and its values come after those of the first
 pub record Precedes (first second : VersionEntry) : Type 0 where
   pub ended : first.to ≤ℤ second.to
   pub apart : first.end ≤ second.start

@@ -83,7 +83,7 @@ impl Chains {
         }
     }
 
-    /// Takes back all but the first so many. It takes no memory.
+    /// Takes back all but the first `count`. It takes no memory.
     pub fn truncate(&mut self, count: usize)
         ensures { self.new ≡ take count self.old }
     {

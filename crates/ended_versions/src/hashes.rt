@@ -19,7 +19,7 @@ fn hash_byte(hash: u32, byte: u8) -> u32
     ((u64::from(hash) * 257 + u64::from(byte)) % PRIME) as u32
 }
 
-/// The hash with these bytes behind.
+/// The hash with these bytes appended.
 fn hash_bytes(start: u32, bytes: &[u8]) -> u32
     ensures { result ≡ hash_bytes start bytes.now }
 {
@@ -30,7 +30,7 @@ fn hash_bytes(start: u32, bytes: &[u8]) -> u32
     hash
 }
 
-/// The hash with the value at a position behind, if there is one.
+/// The hash with the value at a position appended, if there is one.
 fn hash_value_at(
     alloc: Global,
     start: u32,

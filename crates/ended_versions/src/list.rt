@@ -16,9 +16,9 @@ use period_core::{Items, Memory, Moment, Value, VersionRow, Window};
 use std::alloc::Global;
 use std::marker::Model;
 
-/// The ended versions of a table, in the order in which they ended, and beside each of the first so
-/// many the hash of its key: of these, the versions of one key are chained, the last to end first.
-/// Contracts see the list of all, with the values as bytes.
+/// The ended versions of a table, in the order in which they ended, and for a first part of them
+/// the hash of each one's key: of these, the versions of one key are chained, the last to end
+/// first. Contracts see the list of all, with the values as bytes.
 #[derive(Drop)]
 pub struct EndedVersions {
     positions: Items<usize>,
@@ -98,7 +98,7 @@ impl EndedVersions {
         Ok(())
     }
 
-    /// Takes back all but the first so many. It takes no memory.
+    /// Takes back all but the first `count`. It takes no memory.
     pub fn truncate(&mut self, count: usize)
         ensures { self.new ≡ take count self.old }
     {

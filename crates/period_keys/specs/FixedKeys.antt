@@ -67,7 +67,7 @@ FixesKey {Row} values passes condition positions key =
 
 -- ---- rows that are part of a combined row, whose values begin at a position of it
 
--- in each combined row that meets the conditions, the row, which has so many values, has this value
+-- in each combined row that meets the conditions, the row, which has `width` values, has this value
 -- at the position
 abbrev pub FixesWithin : List (Tree CompareValues) → ℕ → ℕ → ℕ → Value → Type 0
 FixesWithin conditions start width position value =

@@ -160,7 +160,7 @@ fn placed_at(rows: &[VersionRow], place: usize) -> PlacedPeriod
     }
 }
 
-// The placed periods of rows of which the one at a place came in, behind the others. Where there is
+// The placed periods of rows of which the one at a place came in, after the others. Where there is
 // no memory for it there are none.
 fn placed_with(
     alloc: Global,

@@ -141,7 +141,7 @@ fn run_piece<S: Alter, K: PieceResult<S>>(
 }
 
 /// Runs the pieces of a script, one after the other, from any history that the engine represents,
-/// and hands on what it keeps of each. Says whether it came to the last: it ends before where the
+/// and passes on what it keeps of each. Says whether it came to the last: it ends before where the
 /// listener asks for no more.
 fn run_pieces<S: Alter, K: PieceResult<S>, L: Listener<K>>(
     alloc: Global,

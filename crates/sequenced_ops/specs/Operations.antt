@@ -59,7 +59,7 @@ IsSelectedOn condition columns row day read =
     InPeriod row.period day × IsTrue (meets condition row.values)
     × ReadsColumns columns row.values read
 
--- behind the old rows there is, if the row is accepted and has a value at each position, one row of
+-- after the old rows there is, if the row is accepted and has a value at each position, one row of
 -- these values over its period, and else none
 pub record AddsProjection (accepts : List Value → Bool) (columns : List ℕ) (row : PeriodRow)
     (old new : List PeriodRow) : Type 0 where

@@ -16,7 +16,7 @@ use Rattle.sequenced_ops.specs.declared.equalities.Equality.{Equality}
 
 -- ---- rows of which some values are known: those from a position on
 
--- this is the truth of the condition, whatever comes before the values and behind them
+-- this is the truth of the condition, whatever comes before the values and after them
 abbrev pub IsTruth : ℕ → List Value → Cond → Bool → Type 0
 IsTruth start values condition truth =
     (first rest : List Value) → length first ≡ start
@@ -45,15 +45,15 @@ pub record IsPruned (conjuncts : List Cond) (start : ℕ) (InSet : ℤ → List 
 
 -- ---- how many values rows have
 
--- all values that the rows hold are so many
+-- each list of values that the rows hold has `width` values
 abbrev pub HasWidth : ℕ → List PeriodRow → Type 0
 HasWidth width rows =
     (day : ℤ) (values : List Value) → InSnapshot rows day values → length values ≡ width
 
 -- ---- joins
 
--- the positions are those of the equality, in a row of the left side, which has so many values, and
--- one of the right side
+-- the positions are those of the equality, in a row of the left side, which has `width` values,
+-- and one of the right side, which has `more`
 pub record IsColumnPair (width more left right : ℕ) (equality : Equality) : Type 0 where
   pub left_is : equality.left ≡ left
   pub left_within : left < width

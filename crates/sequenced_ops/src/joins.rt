@@ -153,7 +153,7 @@ fn pairs_of(
 
 /// What is given of the pairs of rows that have the same values at the columns of each equality,
 /// but of pairs that the conditions rule out; without equalities, of all other pairs. A pair has on
-/// each day the values of a left row and behind them those of a right row.
+/// each day the values of a left row, followed by those of a right row.
 pub fn join_equal(
     alloc: Global,
     left: &[PeriodRow],

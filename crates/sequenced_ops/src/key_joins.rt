@@ -170,7 +170,7 @@ pub fn join_next(
     join_equal(alloc, rows, others, &[], conjuncts, output)
 }
 
-/// On each day the values of a left row and behind them those of a right row, for all pairs of rows
+/// On each day the values of a left row, followed by those of a right row, for all pairs of rows
 /// that meet the condition. Where it asks that a column of the left side equals one of the right,
 /// as a whole or in its outermost AND, only pairs of rows with the same values there are looked at.
 pub fn join(

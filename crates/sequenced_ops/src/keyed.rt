@@ -15,7 +15,7 @@ use std::alloc::Global;
 pub enum Side {
     /// Its values come first.
     Left,
-    /// Its values come behind.
+    /// Its values come second.
     Right,
 }
 
@@ -25,7 +25,7 @@ pub enum Side {
 pub struct JoinKey {
     /// The first value, if it is an integer; the number of the day, if it is a date; or 0.
     pub lead: i64,
-    /// The values behind the first, if that is an integer, or else all of them.
+    /// The values after the first, if that is an integer, or else all of them.
     pub rest: Values,
 }
 

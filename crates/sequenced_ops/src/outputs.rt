@@ -23,13 +23,13 @@ pub enum JoinOutput<'a> {
     Columns(&'a [usize]),
 }
 
-/// So many pairs are found before they are selected.
+/// How many pairs are found before they are selected.
 const BATCH: usize = 4_096;
 
-/// So few selected rows are not coalesced.
+/// Up to this many selected rows are not coalesced.
 const FEW: usize = 49_152;
 
-/// The rows, coalesced where they are many and have no room for so many more. There is then room
+/// The rows, coalesced where they are many and have no room for `more` others. There is then room
 /// for as many again, so that coalescing takes no more time than the sort of the answer does.
 fn with_room(alloc: Global, rows: Vec<PeriodRow>, more: usize) -> Result<Vec<PeriodRow>, Memory>
     ensures { IfOk result (λ roomy. Equivalent rows.items roomy.items) }

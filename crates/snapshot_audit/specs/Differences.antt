@@ -47,7 +47,7 @@ AreRowsOf tables (both operator left right) lists =
     (first second : List (List PeriodRow)) × (lists ≡ first ++ second)
     × AreRowsOf tables left first × AreRowsOf tables right second
 
--- the new lists are the old ones and those of the query behind them
+-- the new lists are the old ones, followed by those of the query
 abbrev pub AddsRowsOf : List (List PeriodRow) → Query → List (List PeriodRow)
     → List (List PeriodRow) → Type 0
 AddsRowsOf tables query old new =

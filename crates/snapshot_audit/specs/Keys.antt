@@ -45,8 +45,8 @@ BeginsWithin entry other =
 
 -- ---- the columns of both sides
 
--- where these are the values of two rows of so many values each, with more behind them, and this
--- holds of all, what both sides read the same in the old columns they do in the new ones
+-- where a row of `width` values, one of `more` and the values that follow them are together as
+-- `IsSo` says, what both sides read the same in the old columns they do in the new ones
 abbrev pub ReadsMore : ℕ → ℕ → (List Value → Type 0) → SharedColumns → SharedColumns → Type 0
 ReadsMore width more IsSo old new =
     (first second rest key : List Value) → length first ≡ width → length second ≡ more
@@ -60,6 +60,6 @@ abbrev pub IsSameAt : ℕ → ℕ → List Value → Type 0
 IsSameAt left right values =
     (value : Value) × (slice_get values left ≡ Some value) × (slice_get values right ≡ Some value)
 
--- each row has so many values
+-- each row has `width` values
 abbrev pub HaveWidth : ℕ → List PeriodRow → Type 0
 HaveWidth width = All (λ row. length row.values ≡ width)

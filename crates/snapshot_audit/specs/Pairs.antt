@@ -36,7 +36,7 @@ InMeetingPair select output first second day row =
 
 -- ---- of entries
 
--- a set of a pair, where the entry's row comes first, or behind
+-- a set of a pair, where the entry's row comes first or second
 abbrev pub Sided : (PeriodRow → PeriodRow → ℤ → List Value → Type 0)
     → EntrySide → KeyedEntry → KeyedEntry → ℤ → List Value → Type 0
 Sided InBoth First entry other = InBoth entry.row.now other.row.now
@@ -70,8 +70,8 @@ AreShared select rows others first second =
     → CanMeet select (row.values ++ other.values)
     → (key : List Value) × Reads first row.values key × Reads second other.values key
 
--- these columns are read as the same key in each two lists of so many values that can meet the
--- conditions
+-- these columns are read as the same key in each two lists, of `width` and of `more` values, that
+-- can meet the conditions
 abbrev pub ReadSame : Select → ℕ → ℕ → SharedColumns → Type 0
 ReadSame select width more columns =
     (first second : List Value) → length first ≡ width → length second ≡ more

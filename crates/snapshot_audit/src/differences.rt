@@ -121,7 +121,7 @@ fn earliest_of_all(query: &Query, lists: &[Items<PeriodRow>], answer: &[PeriodRo
 }
 
 /// The least day on which the snapshot of the rows is not the query's set. It is one on which a row
-/// of the answer or of a select starts or ends, and the values of that row tell it.
+/// of the answer or of a select starts or ends, and the values of that row show it.
 pub(crate) fn first_difference(
     alloc: Global,
     query: &Query,

@@ -20,7 +20,7 @@ use std::alloc::Global;
 pub(crate) enum EntrySide {
     /// Its values come first.
     First,
-    /// Its values come behind.
+    /// Its values come second.
     Second,
 }
 
@@ -95,11 +95,11 @@ fn add_partners(
     Ok(())
 }
 
-// So few rows are kept as they come.
+// Up to this many rows are kept as they come.
 const FEW: usize = 65_536;
 
-// The rows, without those that lie within another where they are many and have no room for so many
-// more. There is then room for as many again, so that this takes no more time than the pairs do,
+// The rows, without those that lie within another where they are many and have no room for `more`
+// others. There is then room for as many again, so that this takes no more time than the pairs do,
 // and memory follows what the rows hold and not the pairs.
 fn with_room(alloc: Global, rows: Vec<PeriodRow>, more: usize) -> Result<Vec<PeriodRow>, Memory>
     ensures { IfOk result (λ roomy. Equivalent rows.items roomy.items) }

@@ -51,7 +51,7 @@ fn is_combined(operator: SetOperator, first: bool, second: bool) -> bool
 }
 
 /// Whether the query's set on the day has the values, where the first of these lists are those of
-/// its selects; and the lists behind them.
+/// its selects; and the remaining lists.
 pub(crate) fn in_query<'l>(
     query: &Query,
     lists: &'l [Items<PeriodRow>],

@@ -88,7 +88,7 @@ fn add_condition(
     }
 }
 
-// The columns of the equalities between two sides whose rows have so many values each.
+// The columns of the equalities between two sides, whose rows have `width` and `more` values.
 fn columns_between(
     alloc: Global,
     select: &Select,

@@ -55,7 +55,7 @@ is_letter b = is_ascii_alphabetic b || b ∈ "_"
 abbrev pub is_digit : ℕ → Bool
 is_digit b = is_ascii_digit b
 
--- what a word may have behind its first letter
+-- what a word may have after its first letter
 abbrev pub is_word_byte : ℕ → Bool
 is_word_byte b = is_letter b || is_digit b
 
@@ -74,7 +74,7 @@ abbrev pub longer : ℕ → Option ℕ → Option ℕ
 longer n None = None
 longer n (Some m) = Some (n + m)
 
--- behind an opening quote: characters other than quotes, pairs of quotes, and then the quote that
+-- after an opening quote: characters other than quotes, pairs of quotes, and then the quote that
 -- ends the text, which no quote follows; how many bytes these take, where the text ends
 unfoldable pub quoted_size : List ℕ → Option ℕ
 quoted_size [] = None

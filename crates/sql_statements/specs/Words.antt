@@ -1,9 +1,9 @@
--- Reserved words: words that are no names. Case tells nothing.
+-- Reserved words: words that are no names. Case does not matter.
 use Rattle.std.specs.Prelude.{ℕ, List, [], ◌∷◌, Bool, false, ◌||◌, codes, map}
 use Rattle.std.specs.Char.{to_ascii_lowercase}
 use Rattle.std.specs.Str.{bytes_eq}
 
--- a text in one case, so that its case tells nothing
+-- a text in one case, so that its case does not matter
 abbrev pub folded : List ℕ → List ℕ
 folded text = map to_ascii_lowercase text
 

@@ -6,7 +6,7 @@ ghost use Rattle.period_core.specs.Moments.{IsMomentNumber, first_moment, foreve
 use period_core::Moment;
 use std::marker::Model;
 
-/// A moment before the open end of system time: one that AT hands in, or that AS OF looks back to.
+/// A moment before the open end of system time: one that AT names, or that AS OF looks back to.
 #[derive(Clone, Copy)]
 pub struct ClockMoment {
     moment: Moment,

@@ -41,7 +41,7 @@ static OF_NINE_TO_ELEVEN: [&str; 9] = [
     "VERSIONING",
 ];
 
-/// Whether the two are one word: case tells nothing.
+/// Whether the two are one word: case does not matter.
 pub fn is_same_word(text: &str, want: &str) -> bool
     ensures { result ≡ bytes_eq (folded text.now) (folded want.now) }
 {

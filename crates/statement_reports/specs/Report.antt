@@ -80,7 +80,7 @@ word_text Delete = codes "delete"
 unfoldable pub printed_day : ℤ → List ℕ
 printed_day day = day_text day
 
--- a moment as YYYY-MM-DD HH:MM:SS, with a point and six digits behind it where it has a fraction
+-- a moment as YYYY-MM-DD HH:MM:SS, followed by a point and six digits where it has a fraction
 unfoldable pub printed_moment : ℤ → List ℕ
 printed_moment moment = moment_text moment
 

@@ -51,7 +51,7 @@ impl Record {
         self.push(kind.as_bytes())
     }
 
-    /// Leaves the first fields, so many at most.
+    /// Leaves at most the first `count` fields.
     pub(crate) fn truncate(&mut self, count: usize)
         ensures { self.new ≡ take count self.old }
     {
@@ -96,7 +96,7 @@ impl Record {
         self.push(&text)
     }
 
-    /// Adds a moment as YYYY-MM-DD HH:MM:SS, with a point and six digits behind it where it has a
+    /// Adds a moment as YYYY-MM-DD HH:MM:SS, followed by a point and six digits where it has a
     /// fraction.
     fn push_moment(&mut self, moment: Moment) -> Result<(), ReportFault>
         ensures ok { OnOk result (self.new ≡ self.old ++ printed_moment moment ∷ []) }

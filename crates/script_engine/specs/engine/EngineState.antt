@@ -34,7 +34,7 @@ engine_of store tables ended = record {
   ended = ended;
 }
 
--- its form for the model: the store, and behind it the versions
+-- its form for the model: the store, and after it the versions
 abbrev pub engine_state_code : {S : Type 0} → Coded S → Coded (EngineState S)
 engine_state_code {S} store =
     code_by (StoreState S × (List RowsByKey × List (List PackedVersion)))

@@ -19,7 +19,7 @@ abbrev pub keyed_rows_in : List RowsByKey → ℕ → List Value → List Versio
 keyed_rows_in tables number key =
     option_map_or (λ (t : RowsByKey). rows_of_key t key) (table_of tables number) []
 
--- all that the reference sees in the history has so many values
+-- all that the reference sees in the history has `width` values
 abbrev pub SeesWidth : History → QueryReference → ℕ → Type 0
 SeesWidth history reference width =
     (day : ℤ) (values : List Value) → VisibleInHistory history day reference values
@@ -52,7 +52,7 @@ IsNeededBy history (both operator left right) lists =
     (first : List (List PeriodRow)) × (second : List (List PeriodRow))
     × (lists ≡ first ++ second) × IsNeededBy history left first × IsNeededBy history right second
 
--- such lists came behind those that were there
+-- the new lists are the old ones, followed by such lists
 abbrev pub AddNeeded
     : (List (List PeriodRow) → Type 0) → List (List PeriodRow) → List (List PeriodRow) → Type 0
 AddNeeded AreNeeded old new =

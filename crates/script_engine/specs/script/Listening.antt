@@ -1,11 +1,11 @@
--- What a listener is handed, and the run of a script's first pieces.
+-- What a listener receives, and the run of a script's first pieces.
 use Rattle.std.specs.Prelude.{◌≡◌, ◌⊎◌, ◌+◌, ◌++◌, ◌∷◌, ℕ, Bool, List, [], false, true}
 use Rattle.sql_statements.specs.Lexemes.{Lexeme}
 use Rattle.history_model.specs.Histories.{History}
 use Rattle.script_engine.specs.script.Script.{IsCutInto, StepPieces}
 
--- the listener is handed the results one after the other, numbered from the first number on; after
--- each it asks for more, but where the run is stopped, not after the last
+-- the listener receives the results one after the other, numbered from `n` on; after each it asks
+-- for more, but where the run is stopped, not after the last
 abbrev pub HearsAll : {L K : Type 0} → (L → ℕ → K → Bool → L → Type 0)
     → ℕ → L → List K → Bool → L → Type 0
 HearsAll Hears n old [] goes_on new = (new ≡ old) × (goes_on ≡ true)

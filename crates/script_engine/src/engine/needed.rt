@@ -112,7 +112,7 @@ fn needed_of_all(
 }
 
 /// The rows of a table that are needed: where the conditions fix its key, those of that key alone
-/// are looked at. Its rows have so many values.
+/// are looked at. Its rows have `width` values.
 fn needed_of(
     alloc: Global,
     conjuncts: &[Cond],
@@ -192,7 +192,7 @@ fn needed_of_key(
 }
 
 /// What a table reference has to see through its window: all that it sees, or where the conditions
-/// fix its table's key those rows that may have it. Its rows have so many values.
+/// fix its table's key those rows that may have it. Its rows have `width` values.
 fn needed_through(
     alloc: Global,
     tables: &[TableIndex],

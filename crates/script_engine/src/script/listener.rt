@@ -3,10 +3,10 @@
 ghost use Rattle.std.specs.Prelude.{ℕ, Bool};
 ghost use Rattle.script_engine.specs.script.Keeping.{AddsWhereRoom};
 
-/// What is handed the results of a script's pieces, one after the other.
+/// What receives the results of a script's pieces, one after the other.
 pub trait Listener<K> {
-    /// What it may become when it is handed the result of the piece of a number, and whether it
-    /// then asks for more.
+    /// What it may become when it receives the result of the piece of a number, and whether it then
+    /// asks for more.
     ghost hears: { Self → ℕ → K → Bool → Self → Type 0 };
 
     /// Takes the result of the piece of a number, counted from 1. Says whether the run goes on: if

@@ -1,4 +1,4 @@
-//! Runs of scripts over an engine that is open, with each result handed on as it is done.
+//! Runs of scripts over an engine that is open, with each result passed on as it is done.
 
 ghost use Rattle.std.specs.Prelude.{◌≡◌, IfErr, IfOk, List, OnErr};
 ghost use Rattle.version_store.specs.StoreState.{IsUsable};
@@ -15,17 +15,17 @@ use period_core::Refusal;
 use sqlite_trees::store::Alter;
 use std::alloc::Global;
 
-/// Runs a script over an engine, and hands what it keeps of each piece to the listener as soon as
+/// Runs a script over an engine, and passes what it keeps of each piece to the listener as soon as
 /// the piece is done, its change in the database. Says whether the run came to the script's end: it
 /// ends before where the listener asks for no more. An `Err` is the refusal of the whole script, or
-/// out of memory: then nothing is run and nothing handed on.
+/// out of memory: then nothing is run and nothing passed on.
 pub fn run_over<S: Alter, K: PieceResult<S>, L: Listener<K>>(
     alloc: Global,
     engine: &mut Engine<S>,
     script: &[u8],
     listener: &mut L,
 ) -> Result<bool, Refusal>
-    // Whatever history the engine represents, what is handed on are the results of a run of the
+    // Whatever history the engine represents, what is passed on are the results of a run of the
     // script's first pieces from it on, and the engine then represents the history to which it led.
     ensures run { IfOk result (λ goes_on. (results : List K)
         × HearsAll L.hears 1 listener.old results goes_on listener.new
