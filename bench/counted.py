@@ -26,7 +26,7 @@ def day(number):
 
 
 def rows(table, these, each=800):
-    """INSERTs of so many rows each: a row is its key, its value, its first day and the day after its
+    """INSERTs of `each` rows each: a row is its key, its value, its first day and the day after its
     last."""
     text = ''
     for at in range(0, len(these), each):

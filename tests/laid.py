@@ -17,7 +17,7 @@ from builds.sums import lay_copy  # noqa: E402
 MAIN = ROOT / 'tests/laid_main.rs'
 USES = ['script_engine', 'sqlite']
 CRATE = 'crates/bitemporal_cli'
-AT_ONCE = 20  # so many scripts: `rt try` takes no more than 1 MiB of their reports
+AT_ONCE = 20  # scripts in a run: `rt try` takes no more than 1 MiB of their reports
 
 
 def lay(copy, edits):

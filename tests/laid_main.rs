@@ -1,7 +1,7 @@
 //! Runs many scripts: tests/laid.py lays this in the place of the src/main.rt of bitemporal_cli. It
 //! is Rattle's, and has another ending since no crate of the repository has it.
 //!
-//! Standard input has a name and a script for each, with a byte 255 behind each, which is in no
+//! Standard input has a name and a script for each, with a byte 255 after each, which is in no
 //! UTF-8. Without a name the script is run as by `bitemporal run --audit`, and else over a store in
 //! the file of that name, as by `run`. Each report is followed by a line `== STATUS`. The status is
 //! the program's, but over a file, where a script is not run at all, the refusal's number: 60 where
@@ -49,7 +49,7 @@ fn over_file(rt: &HostRuntime, name: &str, script: &[u8]) -> u8 {
     0
 }
 
-/// What stands before the first byte 255, and what stands behind it.
+/// What stands before the first byte 255, and what stands after it.
 fn cut(bytes: &[u8]) -> (&[u8], &[u8]) {
     let mut end = 0;
     while bytes[end] != 255 {

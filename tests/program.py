@@ -31,7 +31,7 @@ def scripts(folder=ROOT / 'tests/scripts'):
 
 
 def got(words, given=b'', **how):
-    """The status, the output and what standard error got, after so many words and this input."""
+    """The status, the output and what standard error got, after these words and this input."""
     if isinstance(given, bytes):
         how['input'] = given
     else:
@@ -48,7 +48,7 @@ def got(words, given=b'', **how):
 
 def commands(block):
     """The commands of a block of a page, each with what it prints: `$ COMMAND`, with a backslash at
-    the end of a line that goes on, and the lines behind it."""
+    the end of a line that goes on, and the lines after it."""
     found = []
     for line in block.splitlines(keepends=True):
         if line.startswith('$ '):

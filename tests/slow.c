@@ -1,4 +1,4 @@
-/* Reads of standard input and writes of standard output go by so many bytes at most, and fail:
+/* Reads of standard input and writes of standard output go by N bytes at most, and fail:
 
    READ_MOST N            a read gives at most N bytes
    READ_FAILS_AFTER N     each read fails once N bytes were given, by EIO;

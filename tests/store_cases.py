@@ -42,7 +42,7 @@ def define(place, values):
 
 
 def with_tables(count):
-    """SQL that adds tables up to so many."""
+    """SQL that adds tables until `count` are there."""
     return ''.join(define(place, [f'T{place}', *DEFINITIONS[0][1:]])
                    for place in range(4, count + 1))
 

@@ -21,7 +21,7 @@ def has_dask():
 
 @contextlib.contextmanager
 def cluster(folder, workers):
-    """So many workers of one thread, with their files in a folder; the address of their
+    """`workers` workers of one thread, with their files in a folder; the address of their
     scheduler."""
     folder = pathlib.Path(folder)
     file = folder / 'scheduler.json'
@@ -57,7 +57,7 @@ def told(file, folder):
 
 
 def wait_for(address, workers):
-    """Waits until so many workers are there."""
+    """Waits until this number of workers is there."""
     code = ('import sys, distributed\n'
             f'distributed.Client(sys.argv[1], timeout={SECONDS}).wait_for_workers({workers},'
             f' timeout={SECONDS})')

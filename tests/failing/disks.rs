@@ -27,7 +27,7 @@ pub fn options() -> Options {
     options
 }
 
-/// A file of these bytes, which passes so many calls on.
+/// A file of these bytes, which passes `calls` calls on.
 pub fn file_of(alloc: Global, bytes: &[u8], calls: u64) -> Result<Fused, Fail> {
     let mut memory = Memory::new(alloc);
     if !bytes.is_empty() {
@@ -177,7 +177,7 @@ fn stop_at(
         };
         let Stopped { mut files, went } = run(alloc, script, plain, files, goes_on)?;
         let is_whole = files.log.len().is_ok() && files.db.len().is_ok();
-        // where statements go on behind the stop, some may still go well
+        // where statements go on after the stop, some may still go well
         if goes_on {
             let _shown = shown_over(alloc, &files)?;
         } else if !is_before_or_after(alloc, plain, went, &files)? {

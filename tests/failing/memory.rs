@@ -431,7 +431,8 @@ fn asked(alloc: Global, catalog: &Catalog, statement: &Statement) -> Result<Quer
 
 const MOST_TRIES: u64 = 1000;
 
-// Answers a query with its N-th allocation refused, for each N until none is, in so many tries.
+// Answers a query with its N-th allocation refused, for each N until none is, in at most MOST_TRIES
+// tries.
 fn answered(alloc: Global, query: &Query, tables: &Tables) -> Result<(Vec<PeriodRow>, u64), Fail> {
     for first in 1..MOST_TRIES + 1 {
         refusals_begin(first, 1, 1);

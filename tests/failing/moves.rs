@@ -14,7 +14,7 @@ use version_tables::{meta_rows, number_at, version_rows};
 
 type InFiles = Connection<FileStore<Fused>>;
 
-// Files of the same bytes, whose log and database pass so many calls on.
+// Files of the same bytes, whose log and database pass `log_calls` and `db_calls` calls on.
 fn files_like(
     alloc: Global,
     files: &Files<Fused>,
@@ -94,7 +94,7 @@ fn open_refused(alloc: Global, old: &Files<Fused>, first: u64) -> Result<bool, F
             }
             (left, true, false)
         }
-        // The files are in memory too: where they get none, that is a fault of the disk, behind
+        // The files are in memory too: where they get none, that is a fault of the disk, after
         // which the log may have the commit.
         Err((Refusal::Store, connection)) => (connection.into_store().close(), true, true),
         Err((_refusal, _connection)) => return Err("an open is refused otherwise")?,
@@ -108,8 +108,8 @@ fn open_refused(alloc: Global, old: &Files<Fused>, first: u64) -> Result<bool, F
     Ok(refused > 0)
 }
 
-// Opens the store over files that pass so many calls on, and looks at what they leave, as they were
-// written and as a crash leaves them. Whether some call was not passed on.
+// Opens the store over files that pass these numbers of calls on, and looks at what they leave, as
+// they were written and as a crash leaves them. Whether some call was not passed on.
 fn stop_at(
     alloc: Global,
     old: &Files<Fused>,

@@ -22,7 +22,7 @@ enum Fails {
     TakesNone,
 }
 
-// A writer that takes so many bytes a write at most, and fails once it took so many writes.
+// A writer that takes at most `most` bytes a write, and fails once `writes_left` is 0.
 #[derive(Drop)]
 struct Sink {
     bytes: Vec<u8>,
@@ -89,7 +89,7 @@ fn write(
     }
 }
 
-// A writer that takes so many bytes at a time fails at its k-th write, for each k, and has the bytes
+// A writer that takes `most` bytes at a time fails at its k-th write, for each k, and has the bytes
 // before it. How many writes there are.
 fn each_part(
     alloc: Global,
@@ -129,7 +129,7 @@ fn tool(alloc: Global, mode: Mode, text: &str, out: &mut Sink) -> Result<(u8, Ve
     Ok((status, told))
 }
 
-// The program with a writer that takes so many bytes at a time: it gets the same, and where it
+// The program with a writer that takes `most` bytes at a time: it gets the same, and where it
 // fails at its k-th write, for each k, the program ends with 2 and says so. How many writes there
 // are.
 fn each_write(

@@ -86,7 +86,7 @@ pub fn day(date: &str) -> Result<Day, Fail> {
     Ok(Day::from_text(date.as_bytes()).ok_or("no such day")?)
 }
 
-/// The moment of a text, written YYYY-MM-DD HH:MM:SS, with digits behind a point or without.
+/// The moment of a text, written YYYY-MM-DD HH:MM:SS, with digits after a point or without.
 pub fn moment(text: &str) -> Result<Moment, Fail> {
     Ok(Moment::from_text(text.as_bytes()).ok_or("no such moment")?)
 }

@@ -149,7 +149,7 @@ fn parts_of_periods(rt: HostRuntime) -> Result<(), Fail> {
     let last = period("2024-01-08", "2024-01-09")?;
     assert!(rt; one.contains_day(first.start()) && one.contains_day(last.start()));
     assert!(rt; !one.contains_day(one.end()));
-    // what both have, and what the one has before the other and behind it
+    // what both have, and what the one has before the other and after it
     let middle = period("2024-01-06", "2024-01-08")?;
     assert_eq!(rt; one.intersect(middle), Some(middle));
     assert_eq!(rt; one.minus(middle), (Some(first), Some(last)));

@@ -47,7 +47,7 @@ fn order(rt: HostRuntime) -> Result<(), Fail> {
     for (one, next) in list.iter().zip(&list[1..]) {
         assert!(rt; one < next, "{one:?} before {next:?}");
     }
-    // lists by the first value that differs, and one before those that go on behind it
+    // lists by the first value that differs, and one before those that go on after it
     assert!(rt; integers(alloc, &[1, 9])? < integers(alloc, &[2])?);
     assert!(rt; integers(alloc, &[1])? < integers(alloc, &[1, 0])?);
     Ok(())

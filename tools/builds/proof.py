@@ -71,7 +71,7 @@ def processes_at_once():
 
 
 def jobs_of(name, is_first, are_few, most):
-    """How many processes a crate gets, of so many at most.
+    """How many processes a crate gets, at most `most`.
 
     Two prove a crate in two thirds of the time of one, four in half of it or a little less, with a
     seventh and half as much again of a processor's time. So while there are crates enough to keep the

@@ -1,5 +1,6 @@
-"""Mends of a statement without the right syntax. Each is tried: it is told only where the statement
-with it goes on past its place. Then what is wrong next is looked for, in the mended statement."""
+"""Mends of a statement without the right syntax. Each is tried: it is shown only where the
+statement with it goes on past its place. Then what is wrong next is looked for, in the mended
+statement."""
 import collections
 import difflib
 

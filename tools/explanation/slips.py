@@ -5,7 +5,7 @@ text; and `@ ` is before the first token that no statement can have there. The g
 nothing, at that place) is replaced by `put`, a template or a call of rewriting.py. In `put` and in
 what to do, {out} and the other groups are the statement's own tokens, {put} is what is put there,
 {period} the period that the statement declares or else EP. Where `put` is None nothing is put. A
-slip is told only where the statement with the mend goes on past it; `expects` is one of the tokens
+slip is shown only where the statement with the mend goes on past it; `expects` is one of the tokens
 that could be there.
 """
 import collections

@@ -30,7 +30,7 @@ def labels_of(answer, most):
 
 
 def draw(canvas, axis, answer, heading, most):
-    """Draws the answer, at most so many lines of it."""
+    """Draws the answer, at most `most` lines of it."""
     canvas.heading(heading, counted(len(answer.rows), 'row'))
     lanes = list(lanes_of(answer).items())
     top = canvas.y

@@ -58,7 +58,7 @@ class Canvas:
                           ' class="open"/>')
 
     def heading(self, words, count):
-        """Some words in bold, cut to the picture's width, and a count behind them."""
+        """Some words in bold, cut to the picture's width, and a count after them."""
         self.y += 18
         space = WIDTH - 2 * EDGE - room(f' ({count})', BOLD)
         self.text(EDGE, self.y, f'{cut(words, space, BOLD)} ({count})', 'head')
@@ -88,5 +88,5 @@ class Canvas:
 
 
 def left_of(labels, size=LABEL, least=60):
-    """Where the lines begin behind labels at the left."""
+    """Where the lines begin, after labels at the left."""
     return EDGE + 14 + min(MOST_LABEL, max([least, *(room(words, size) for words in labels)]))

@@ -23,7 +23,7 @@ def by_days(low, high, step):
 
 
 def by_months(low, high, step):
-    """The first days of every so many months between two days, both as numbers."""
+    """The first days of every `step` months between two days, both as numbers."""
     low, high = map(datetime.date.fromordinal, (low, high))
     first, last = (day.year * 12 + day.month - 1 for day in (low, high))
     months = range(first // step * step, last + 1, step)

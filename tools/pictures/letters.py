@@ -9,7 +9,7 @@ WIDTH, MOST_LABEL = 72, 24
 
 
 def label_of(values):
-    """The values in at most so many columns of a terminal."""
+    """The values in at most MOST_LABEL columns of a terminal."""
     text = for_terminal(', '.join(values))
     if width(text) <= MOST_LABEL:
         return text

@@ -24,7 +24,7 @@ def room(text, size):
 
 
 def cut(text, points, size):
-    """The text without control characters, cut to so many points."""
+    """The text without control characters, cut to this number of points."""
     text = for_terminal(text)
     if room(text, size) <= points:
         return text

@@ -50,8 +50,8 @@ def column_of(table, by):
 
 
 def draw(canvas, axis, outcome, heading, most, by=None, marks=()):
-    """Draws a plane for each value of a column, at most so many levels of moments in all. `marks`
-    are pairs of a word and a moment."""
+    """Draws a plane for each value of a column, at most `most` levels of moments in all.
+    `marks` are pairs of a word and a moment."""
     table, place = outcome.table, column_of(outcome.table, by)
     planes = {}
     for version in versions_of(outcome):
@@ -71,7 +71,7 @@ def draw(canvas, axis, outcome, heading, most, by=None, marks=()):
 
 
 class Plane:
-    """The versions of one value, over the last moments, at most so many."""
+    """The versions of one value, over the last moments, at most `most`."""
 
     def __init__(self, canvas, axis, versions, place, most):
         self.canvas, self.axis, self.versions, self.place = canvas, axis, versions, place
@@ -79,7 +79,7 @@ class Plane:
         self.left_out, self.moments = moments[:-most], moments[-most:]
         self.band = BAND if len(self.moments) <= MANY else LOW_BAND
         self.top, self.height = canvas.y, self.band * len(self.moments)
-        self.texts = []  # they are drawn behind all lines
+        self.texts = []  # they are drawn after all lines
 
     def level(self, moment):
         """The place of a moment; what was before the first that is shown is at the bottom."""

@@ -10,7 +10,7 @@ LONGEST_NAME = 60
 
 
 def file_name(words):
-    """The words as a part of a file's name: ASCII letters, digits, `_` and `-`, cut behind a
+    """The words as a part of a file's name: ASCII letters, digits, `_` and `-`, cut after a
     word."""
     name = re.sub('[^A-Za-z0-9_]+', '-', words).strip('-')
     if len(name) > LONGEST_NAME:

@@ -52,7 +52,7 @@ def date_pattern(form):
 
 
 def date_at(cell, pattern, form):
-    """The date at the start of a cell, and what is behind it."""
+    """The date at the start of a cell, and what follows it."""
     found = pattern.match(cell)
     try:
         date = datetime.date(*(int(found[part]) for part in ('year', 'month', 'day')))
@@ -62,7 +62,7 @@ def date_at(cell, pattern, form):
 
 
 def date(cell, pattern, form=ISO):
-    """The date of a cell. Midnight may be behind it."""
+    """The date of a cell. Midnight may follow it."""
     found, rest = date_at(cell.strip(), pattern, form)
     if rest and not MIDNIGHT.fullmatch(rest):
         raise ValueError(f'{shown(cell)} is no date {form}')

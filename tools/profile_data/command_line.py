@@ -58,7 +58,7 @@ def write_output(text):
 
 
 def run(name, main):
-    """Runs a tool's main, and ends with its status. A fault is told after the tool's name."""
+    """Runs a tool's main, and ends with its status. A fault is reported after the tool's name."""
     try:
         sys.exit(main())
     except Fault as fault:

@@ -159,7 +159,7 @@ class Guess:
     # The text.
 
     def free(self, name):
-        """The name, with `_` behind it until no column has it."""
+        """The name, with `_` after it until no column has it."""
         while any(column.name == name for column in self.columns):
             name += '_'
         return name

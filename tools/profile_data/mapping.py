@@ -19,7 +19,7 @@ FIRST_DAY, LAST_DAY = datetime.date.min, datetime.date.max
 
 def name_of(header):
     """A header as a name of the language: upper case, accents left off, `_` for what a name cannot
-    have, and `_` behind a reserved word."""
+    have, and `_` after a reserved word."""
     plain = unicodedata.normalize('NFKD', header.strip()).encode('ascii', 'ignore').decode('ascii')
     name = re.sub('[^A-Za-z0-9_]+', '_', plain).upper().strip('_') or 'COLUMN'
     if name[0].isdigit():

@@ -110,7 +110,7 @@ class Reader:
         self.fail(f'it has no outcome of statement {number}')
 
     def take(self, kind, number, count):
-        """The fields of the next record behind its kind and number, so many."""
+        """The fields of the next record after its kind and number, `count` of them."""
         fields = self.records[self.at] if self.at < len(self.records) else []
         if fields[:2] != [kind, str(number)] or len(fields) != 2 + count:
             self.fail_at(number)

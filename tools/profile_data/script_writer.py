@@ -37,7 +37,7 @@ class StatementWriter:
         return [cells[column.name] for column in self.table.given]
 
     def inserts(self, changes):
-        """INSERTs of so many rows each as a statement may have."""
+        """INSERTs of as many rows each as a statement may have."""
         head = f'INSERT INTO {self.table.name} VALUES\n '
         rows, tokens, size = [], 0, 0
         for change in changes:

@@ -1,6 +1,6 @@
 """Texts made harmless for a spreadsheet and for a terminal.
 
-A spreadsheet takes a text that begins with `=`, `+`, `-` or `@`, also behind a tab or a line end,
+A spreadsheet takes a text that begins with `=`, `+`, `-` or `@`, also after a tab or a line end,
 for a formula, and runs it. A terminal takes control characters for commands.
 """
 import re

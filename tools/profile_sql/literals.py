@@ -9,7 +9,7 @@ LEAST_NUMBER, GREATEST_NUMBER = -2 ** 63, 2 ** 63 - 1
 DATE = re.compile('([0-9]{4})-([0-9]{2})-([0-9]{2})')
 CLOCK = re.compile(r'( (?:[01][0-9]|2[0-3]):[0-5][0-9]:[0-5][0-9])(?:\.([0-9]{1,6}))?')
 # What is nearly a moment: without the seconds, with another sign between its parts, with more
-# digits or a time zone behind it.
+# digits or a time zone after it.
 NEARLY = re.compile('([0-9-]{10}).([0-9]{2}:[0-9]{2})(?:(:[0-9]{2})(?:[.,]([0-9]{1,6}))?)?')
 
 

@@ -6,7 +6,7 @@ PART = re.compile(r"(?:[^';-]|-(?!-)|--[^\n]*\n|'[^']*')*;")
 
 
 def parts_of(text):
-    """The parts that end in a text, and then what is behind them."""
+    """The parts that end in a text, and then what follows them."""
     at = 0
     while found := PART.match(text, at):
         yield found[0]

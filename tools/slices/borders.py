@@ -30,7 +30,7 @@ class Weights:
         them where a slice would have more than `most`."""
         share = self.total / count
         # Of the slice: the bytes of the rows that begin in it, of all its rows, and of those that
-        # go on behind the day.
+        # go on after the day.
         cuts, begun, inside, going = [], 0, 0, 0
         for day in sorted(self.begin.keys() | self.end.keys()):
             going -= self.end.get(day, 0)

@@ -6,7 +6,7 @@ import collections
 
 from profile_data.records import records
 
-# Its kind is done, answer or refused; `fields` are those of its record behind the number. Of an
+# Its kind is done, answer or refused; `fields` are those of its record after the number. Of an
 # answer `names` are the columns, `place` is where its rows begin in the file, and `audit` has the
 # fields of its audit, or is None.
 Outcome = collections.namedtuple('Outcome', 'kind fields names place audit')
@@ -84,7 +84,7 @@ class Reader:
 
 
 def rows(part, number):
-    """The fields of the rows of an answer, behind their numbers."""
+    """The fields of the rows of an answer, after their numbers."""
     outcome = part.outcomes[number]
     with open(part.report, 'rb') as file:
         file.seek(outcome.place)

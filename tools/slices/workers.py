@@ -17,7 +17,7 @@ def judged(part, status, errors):
 
 
 class Here:
-    """So many runs at once on this machine."""
+    """Several runs at once on this machine, `jobs` of them."""
 
     def __init__(self, program, words, jobs):
         self.program, self.words, self.jobs = program, words, jobs
@@ -39,7 +39,7 @@ class Here:
 
 class Cluster:
     """The workers of a Dask cluster. The program goes to each worker once, a slice with its task;
-    so many tasks are under way at once as keep each worker busy."""
+    as many tasks are under way at once as keep each worker busy."""
 
     def __init__(self, scheduler, program, words):
         try:

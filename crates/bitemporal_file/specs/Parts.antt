@@ -8,14 +8,14 @@ use Rattle.bitemporal_file.specs.declared.parts.Place.{Place}
 use Rattle.bitemporal_file.specs.declared.parts.Place.TheVariants.{Outside, BehindDash, InComment}
 use Rattle.bitemporal_file.specs.declared.parts.Place.TheVariants.{InText, Ended}
 
--- behind a byte that is outside of texts and comments, where a dash leads to this place
+-- the place after a byte that is outside of texts and comments, where a dash leads to this place
 abbrev pub outside_after : Place → ℕ → Place
 outside_after dash byte =
     if byte == quote then InText
     else (if byte ∈ ";" then Ended else (if byte ∈ "-" then dash else Outside))
 
--- behind a byte that is at a place: two dashes begin a comment, which ends with its line; a quote
--- begins a text and ends it
+-- the place after a byte that is at a place: two dashes begin a comment, which ends with its line;
+-- a quote begins a text and ends it
 abbrev pub place_after : Place → ℕ → Place
 place_after Outside byte = outside_after BehindDash byte
 place_after BehindDash byte = outside_after InComment byte
@@ -23,7 +23,7 @@ place_after InComment byte = if byte == line_feed then Outside else InComment
 place_after InText byte = if byte == quote then Outside else InText
 place_after Ended byte = Ended
 
--- behind bytes, the first of which is at this place
+-- the place after bytes, the first of which is at this place
 abbrev pub place_behind : Place → List ℕ → Place
 place_behind place [] = place
 place_behind place (byte ∷ bytes) = place_behind (place_after place byte) bytes

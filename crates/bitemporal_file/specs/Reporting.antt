@@ -1,4 +1,4 @@
--- What a statement tells, and what a reporter becomes with it and with several.
+-- What is reported of a statement, and what a reporter becomes with it and with several.
 use Rattle.std.specs.Prelude.{◌≡◌, ◌≢◌, ◌≤◌, ◌⊎◌, ◌+◌, ◌++◌, ◌∷◌, ℕ, Bool, List, [], Option, None}
 use Rattle.std.specs.Prelude.{Result, Ok, Err, All, IfSome, IsSome, false, true, if◌then◌else◌}
 use Rattle.std.specs.Prelude.{is_err, length, max}
@@ -19,7 +19,7 @@ result_status result = if is_err result then 1 else 0
 abbrev pub entry_status : Entry → ℕ
 entry_status entry = if fails_audit entry.audit then 3 else result_status entry.result
 
--- what is told of a statement with audits that is refused as it is read
+-- what is reported of a statement with audits that is refused as it is read
 abbrev pub refused_entry : Refusal → Entry
 refused_entry refusal = record { result = Err refusal; audit = None }
 
@@ -34,7 +34,7 @@ pub record IsUnused {W : Type 0} (reporter : Reporter W) : Type 0 where
 abbrev pub IsReportFault : RunFault → Type 0
 IsReportFault fault = (fault ≡ Memory) ⊎ (fault ≡ Write)
 
--- the reporter of a run that may stop at a refusal is handed a result, and says whether the run
+-- the reporter of a run that may stop at a refusal receives a result, and says whether the run
 -- goes on
 pub record Tells {W K : Type 0} (contents : W → Option (List ℕ)) (text : ℕ → K → List ℕ)
     (status : K → ℕ) (old : Reporter W) (kept : K) (goes_on : Bool) (new : Reporter W)
@@ -48,7 +48,7 @@ pub record Tells {W K : Type 0} (contents : W → Option (List ℕ)) (text : ℕ
   pub written : new.fault ≡ None
       → Appends (contents old.out) (contents new.out) (text old.next kept)
       × (new.next ≡ old.next + 1)
-  -- it goes on where there is no fault, and with --stop only behind a statement that has status 0
+  -- it goes on where there is no fault, and with --stop only after a statement that has status 0
   pub on : goes_on ≡ true
       → (new.fault ≡ old.fault) × (old.stops ≡ true → status kept ≡ 0)
   pub off : goes_on ≡ false → old.fault ≡ None
@@ -73,7 +73,7 @@ EndsAtRefusal status (result ∷ results) =
     ((status result ≢ 0) × (results ≡ []))
     ⊎ ((status result ≡ 0) × EndsAtRefusal status results)
 
--- the reporter is handed results, one after the other
+-- the reporter receives results, one after the other
 pub record TellsAll {W K : Type 0} (contents : W → Option (List ℕ)) (text : ℕ → K → List ℕ)
     (status : K → ℕ) (old : Reporter W) (results : List K) (goes_on : Bool) (new : Reporter W)
     : Type 0 where
@@ -91,7 +91,7 @@ pub record TellsAll {W K : Type 0} (contents : W → Option (List ℕ)) (text : 
       → IfSome new.fault IsReportFault
       × (IsSome new.fault ⊎ ((old.stops ≡ true) × EndsAtRefusal status results))
 
--- how a run ends whose reporter was handed these results, before a fault or not
+-- how a run ends whose reporter received these results, before a fault or not
 pub record EndsWith {W K : Type 0} (contents : W → Option (List ℕ)) (text : ℕ → K → List ℕ)
     (status : K → ℕ) (old : Reporter W) (results : List K) (ended : Result Bool RunFault)
     (new : Reporter W) : Type 0 where

@@ -50,7 +50,7 @@ abbrev pub reports : {K : Type 0} → (ℕ → K → List ℕ) → List (ScriptR
 reports text [] = []
 reports text (run ∷ runs) = texts_from text 1 run.results ++ reports text runs
 
--- the next script, behind those that were run, may be refused as a whole
+-- the next script, after those that were run, may be refused as a whole
 abbrev pub MayRefuseNext : {K : Type 0} → List (Option (List ℕ)) → List (ScriptRun K) → Refusal
     → Type 0
 MayRefuseNext [] runs refusal = ⊥
@@ -58,7 +58,7 @@ MayRefuseNext (known ∷ readers) [] refusal =
     IfSome known (λ all. MayRefuseScript (read_of most_bytes all) refusal)
 MayRefuseNext (known ∷ readers) (run ∷ runs) refusal = MayRefuseNext readers runs refusal
 
--- how scripts end that a reporter is handed the results of, before a fault or not
+-- how scripts end whose results a reporter receives, before a fault or not
 pub record Ends {W K : Type 0} (contents : W → Option (List ℕ)) (text : ℕ → K → List ℕ)
     (status : K → ℕ) (readers : List (Option (List ℕ))) (old : Reporter W)
     (runs : List (ScriptRun K)) (ended : Result Bool RunFault) (new : Reporter W) : Type 0 where

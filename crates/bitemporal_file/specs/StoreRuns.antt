@@ -52,8 +52,9 @@ pub record RefusesStore {S : Type 0} (g : Ghosts S) (opened : Held S) (refusal :
   pub bad : IsUsable g left → refusal ≡ BadStore → IsBadStore (state g opened).now
   pub none : IsUsable g left → IsAsBefore (state g opened) (state g left)
 
--- a run of results of this kind: the step of a history that each is, what is told of a statement
--- that is refused as it is read, the records of each, and its exit status; its steps lead so
+-- a run of results of this kind: the step of a history that each is, what is reported of a
+-- statement that is refused as it is read, the records of each, and its exit status; its steps lead
+-- so
 module _ {K W : Type 0} (IsStep : History → List Lexeme → K → History → Type 0)
     (refused : Refusal → K) (contents : W → Option (List ℕ)) (text : ℕ → K → List ℕ)
     (status : K → ℕ) (Leads : (History → History → Type 0) → Type 0) where

@@ -3,7 +3,7 @@
 //!
 //! - an option: what `lib.rt` of command_line names, and what it does in `program.rt`, `over.rt`
 //!   and `specs/StoreRuns`;
-//! - what is told of a statement: `Reported` in `reporter.rt`;
+//! - what is reported of a statement: `Reported` in `reporter.rt`;
 //! - where a part of a session ends: `Place` in `parts.rt` and `specs/Parts`;
 //! - a fault that ends the program: `RunFault` of command_line, and `stores.rt` where a file is at
 //!   fault.

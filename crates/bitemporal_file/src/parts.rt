@@ -17,23 +17,23 @@ use std::io::{ErrorKind, Read};
 // How many reads of one byte are tried, all but the last interrupted.
 const MOST_READS: usize = 1001;
 
-/// Where in a script one is, behind some of its bytes.
+/// Where in a script one is, after some of its bytes.
 #[derive(Clone, Copy, PartialEq)]
 pub(crate) enum Place {
     /// Outside of texts and comments.
     Outside,
-    /// The same, behind one dash: a second one begins a comment.
+    /// The same, after one dash: a second one begins a comment.
     BehindDash,
     /// In a comment, which ends with its line.
     InComment,
     /// In a text.
     InText,
-    /// Behind the first semicolon outside of texts and comments.
+    /// After the first semicolon outside of texts and comments.
     Ended,
 }
 
 impl Place {
-    // The place behind this byte.
+    // The place after this byte.
     fn after(self, byte: u8) -> Place
         ensures { result ≡ place_after self byte }
     {
@@ -47,7 +47,7 @@ impl Place {
     }
 }
 
-// The place behind a byte that is outside of texts and comments, where a dash leads to this one.
+// The place after a byte that is outside of texts and comments, where a dash leads to this one.
 fn after_outside(dash: Place, byte: u8) -> Place
     ensures { result ≡ outside_after dash byte }
 {
@@ -93,7 +93,7 @@ fn next_byte<R: Read>(input: &mut R) -> Result<Option<u8>, RunFault>
     Err(RunFault::Read)
 }
 
-/// Reads the next part of a session, and nothing behind its semicolon.
+/// Reads the next part of a session, and nothing after its semicolon.
 pub(crate) fn read_part<R: Read>(alloc: Global, input: &mut R) -> Result<Part, RunFault>
     ensures taken { IfOk result (λ part. Consumes
         (R.remaining input.old) (R.remaining input.new) part.bytes.items) }

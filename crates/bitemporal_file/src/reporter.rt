@@ -16,7 +16,7 @@ use script_engine::{
 use std::alloc::Global;
 use std::io::Write;
 
-/// What a report tells of a statement.
+/// What is reported of a statement.
 pub(crate) trait Reported {
     /// Its records as the statement of a number.
     ghost text: { ℕ → Self → List ℕ };
@@ -24,7 +24,7 @@ pub(crate) trait Reported {
     /// The exit status for its sake.
     ghost status_of: { Self → ℕ };
 
-    /// What a statement tells that is refused as it is read.
+    /// What is reported of a statement that is refused as it is read.
     ghost refused: { Refusal → Self };
 
     /// Writes its records, as those of the statement of this number.
@@ -112,7 +112,7 @@ impl Reported for Entry {
 pub struct Reporter<W> {
     pub(crate) alloc: Global,
     pub(crate) out: W,
-    /// The run ends behind a statement whose status is not 0.
+    /// The run ends after a statement whose status is not 0.
     pub(crate) stops: bool,
     /// The number of the statement that is reported next.
     pub(crate) next: u64,
@@ -120,7 +120,7 @@ pub struct Reporter<W> {
     pub(crate) worst: u8,
     /// Why records were not written.
     pub(crate) fault: Option<RunFault>,
-    /// It was handed no result yet.
+    /// It has received no result yet.
     pub(crate) is_unused: bool,
 }
 
@@ -144,7 +144,7 @@ impl<W> Reporter<W> {
 
 impl<W: Write> Reporter<W> {
     // Writes the records of the next statement, and has them flushed. A report has no number for
-    // a statement behind 2 to the power of 64.
+    // a statement beyond 2 to the power of 64.
     fn put<K: Reported>(&mut self, kept: &K) -> Result<(), RunFault>
         ensures written { OnOk result (Appends (W.contents self.old.out)
             (W.contents self.new.out) (K.text self.old.next kept.now)) }

@@ -34,8 +34,8 @@ fn placed(start: usize, refusal: Refusal) -> Option<Refusal>
     }
 }
 
-// Runs a part as a script of its own, and reports it. Where it is refused as a whole, that is told
-// as the refusal of one statement; only a part that is too large ends the session.
+// Runs a part as a script of its own, and reports it. Where it is refused as a whole, that is
+// reported as the refusal of one statement; only a part that is too large ends the session.
 fn run_part<S: Alter, K: PieceResult<S> + Reported + Drop, W: Write>(
     alloc: Global,
     engine: &mut Engine<S>,

@@ -9,7 +9,7 @@ pub record RowTree : Type 0 where
   pub rows : List Row
   pub height : ℕ
 
--- its form for the model: the rows, and the height behind them
+-- its form for the model: the rows, and the height after them
 abbrev pub row_tree_code : Coded RowTree
 row_tree_code =
     code_by (List Row × ℕ) (coded× (coded_list the_row.coded) coded_ℕ)

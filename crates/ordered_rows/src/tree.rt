@@ -86,7 +86,7 @@ impl BalancedTree {
         }
     }
 
-    /// Whether the tree is higher than the other by so much. They differ by two at most.
+    /// Whether the tree's height is the other's plus `by`. They differ by two at most.
     fn is_higher(&self, other: &BalancedTree, by: u8) -> bool
         requires near { DifferByAtMost 2 self.now.height other.now.height }
         requires within { by < 3 }

@@ -9,7 +9,7 @@ use Rattle.catalog_core.specs.declared.table.TableDef.{TableDef}
 use Rattle.version_store.specs.Contents.{Contents, TableVersion, added_in, same_version}
 use Rattle.version_store.specs.Contents.{version_in}
 
--- a table more, behind the others
+-- one more table, after the others
 abbrev pub with_table : TableDef → Contents → Contents
 with_table definition c = record c { tables = c.tables ++ definition ∷ [] }
 

@@ -50,14 +50,14 @@ abbrev pub AreLawful : List TableDef → List TableDef → Type 0
 AreLawful before [] = Unit {0}
 AreLawful before (d ∷ more) = IsLawful before d × AreLawful (before ++ d ∷ []) more
 
--- the points that are judged; what keys and references ask of the contents is handed in
+-- the points that are judged; what keys and references ask of the contents is a parameter
 pub record IsGoodStore (Constrained : Contents → Type 0) (db : Database) : Type 0 where
   -- what it stands for: the rows of the three tables are those of these contents, in the unit of
   -- this form
   pub form : Form
   pub contents : Contents
   pub says : HasRecords db (written_in form contents)
-  -- 1: the three tables are there, as the store makes them; those of others are behind them
+  -- 1: the three tables are there, as the store makes them; those of others follow them
   pub tables_there : HasStoreTables db.schema
   -- 2: the one row of bt_meta has form 1 or 2, as `written_in` says, and a clock
   pub clock : IsClock form contents.clock
@@ -94,7 +94,7 @@ pub record IsTableRow (before : List TableDef) (row : Row) (d : TableDef) : Type
   pub readable : IsReadable d
   pub lawful : IsLawful before d
 
--- the rows are those of the definitions, behind those before them
+-- the rows are those of the definitions, after those before them
 abbrev pub AreTableRows : List TableDef → List Row → List TableDef → Type 0
 AreTableRows before [] [] = Unit {0}
 AreTableRows before [] (d ∷ more) = ⊥

@@ -1,4 +1,4 @@
--- What a scan hands over: the versions of a table that a system-time window sees, one by one.
+-- What a scan passes on: the versions of a table that a system-time window sees, one by one.
 use Rattle.std.specs.Prelude.{◌≡◌, ◌⊎◌, ◌++◌, ℕ, ℤ, Bool, false, List, [], map, filter, fold}
 use Rattle.std.specs.Prelude.{Err, Ok, None, Option, Some, int_le, int_lt}
 use Rattle.std.specs.Prelude.{IsPermutation, IsSorted, OnOk, Result}
@@ -73,6 +73,6 @@ AnswersRefusal old new (Ok x) = old None → new None
 AnswersRefusal old new (Err refusal) =
     old None → new (Some refusal) ⊎ (new None × IsStoreRefusal refusal)
 
--- the visitor's own: it may answer that, and tells that it did
+-- the visitor's own: it may answer that, and says that it did
 abbrev pub IsOwnRefusal : (Refusal → Type 0) → (Option Refusal → Type 0) → Refusal → Type 0
 IsOwnRefusal may_refuse answered refusal = may_refuse refusal × answered (Some refusal)

@@ -31,7 +31,7 @@ pub record StoreState (S : Type 0) : Type 0 where
   pub catalog : Catalog
   pub clock : ℤ
 
--- its form for the model: the three, one behind the other
+-- its form for the model: the three, one after the other
 abbrev pub store_state_code : {S : Type 0} → Coded S → Coded (StoreState S)
 store_state_code {S} store =
     code_by (Held S × (Catalog × ℤ)) (coded× (held_code store) (coded× the_row.coded coded_ℤ))
@@ -68,7 +68,7 @@ pub record OpenedState (S : Type 0) : Type 0 where
   pub store : StoreState S
   pub form : Form
 
--- its form for the model: the two, one behind the other
+-- its form for the model: the two, one after the other
 abbrev pub opened_state_code : {S : Type 0} → Coded S → Coded (OpenedState S)
 opened_state_code {S} store =
     code_by (StoreState S × Form) (coded× (store_state_code store) a_form.coded)
@@ -110,7 +110,7 @@ pub record IsOnlyRead {S : Type 0} (g : Ghosts S) (old new : StoreState S) : Typ
 abbrev pub IsStoreRefusal : Refusal → Type 0
 IsStoreRefusal refusal = (refusal ≡ Memory) ⊎ (refusal ≡ Store)
 
--- a new store was made behind what others have, whose tables have the rows that they had; and that
+-- a new store was added after what others have, whose tables have the rows that they had; and that
 -- is committed
 abbrev pub IsMadeBehind : State → State → Type 0
 IsMadeBehind old new =
@@ -126,7 +126,7 @@ IsFailure g old new refusal = (refusal ≡ Memory) ⊎ HasFault (state g old) (s
 abbrev pub IsOpenRefusal : Refusal → Type 0
 IsOpenRefusal refusal = (refusal ≡ BadStore) ⊎ IsStoreRefusal refusal
 
--- the three tables, where all of them are there, are as the store makes them; those of others are
--- behind them
+-- the three tables, where all of them are there, are as the store makes them; those of others
+-- follow them
 abbrev pub IsOurs : Schema → Type 0
 IsOurs schema = HasEachStoreTable schema → HasStoreTables schema

@@ -21,7 +21,7 @@ use sqlite::Row;
 use std::alloc::Global;
 use version_tables::{Form, bytes_at, clock_of, is_definition, is_version, number_at};
 
-/// The definition that a row has behind those of the catalog.
+/// The definition that a row has, the next after those of the catalog.
 fn read_table(alloc: Global, catalog: &Catalog, row: &Row) -> Result<TableDef, OpenFault>
     requires { length catalog.now.tables ≤ most_tables }
     ensures good { IfOk result (IsTableRow catalog.now.tables row.now) }
@@ -100,7 +100,7 @@ fn check_version(
     Ok((number, version))
 }
 
-/// So many lists without rows.
+/// Makes `count` lists without rows.
 fn no_rows(alloc: Global, count: usize) -> Result<Vec<Items<VersionRow>>, Memory>
     ensures count { IfOk result (λ lists. length lists.items ≡ count) }
     ensures none { IfOk result (λ lists. (number : ℕ) → rows_of_table lists.items number ≡ []) }

@@ -1,4 +1,4 @@
-//! Version rows handed over to a visitor, one at a time, as they are read; and all of a table.
+//! Version rows passed to a visitor, one at a time, as they are read; and all of a table.
 
 ghost use Rattle.std.specs.Prelude.{◌≡◌, ◌⊎◌, ℤ, Bool, false, true, IfErr, IfOk, IsOk};
 ghost use Rattle.std.specs.Prelude.{MatchOption};
@@ -59,8 +59,8 @@ fn selection_of(window: Window) -> Option<Selection>
     }
 }
 
-/// Hands the version row that a row of the query shows, with its numbers in the form's unit, over
-/// to the visitor. The row of a version that can be read is refused for memory alone, or by the
+/// Passes the version row that a row of the query shows, with its numbers in the form's unit, to
+/// the visitor. The row of a version that can be read is refused for memory alone, or by the
 /// visitor.
 fn visit_row<V: RowVisitor>(
     alloc: Global,
@@ -84,7 +84,7 @@ fn visit_row<V: RowVisitor>(
     visitor.visit(version)
 }
 
-/// Hands the selected version rows of the table of a number over to the visitor, in order. The
+/// Passes the selected version rows of the table of a number to the visitor, in order. The
 /// database is of the form, and the selection is in its unit.
 fn scan_selected<S: Alter, V: RowVisitor>(
     alloc: Global,
@@ -133,7 +133,7 @@ fn scan_selected<S: Alter, V: RowVisitor>(
     Err(Refusal::Memory)
 }
 
-/// Hands the version rows of the table of a number that the window sees over to the visitor, in
+/// Passes the version rows of the table of a number that the window sees to the visitor, in
 /// order. Where the window is empty, the database is not called.
 pub(crate) fn scan_rows<S: Alter, V: RowVisitor>(
     alloc: Global,

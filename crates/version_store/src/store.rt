@@ -69,9 +69,9 @@ fn take_last(alloc: Global, catalog: &mut Catalog)
 
 impl<S: Alter> VersionStore<S> {
     /// Makes the store's tables in a database that has none of them, in one transaction: a store
-    /// without tables, whose clock is the first moment. They stand behind the tables of others,
-    /// which are left as they are. On `Err` nothing is changed, the connection is handed back, and
-    /// no transaction is open on it.
+    /// without tables, whose clock is the first moment. They follow the tables of others, which are
+    /// left as they are. On `Err` nothing is changed, the connection is returned, and no
+    /// transaction is open on it.
     pub fn create(
         alloc: Global,
         mut connection: Connection<S>,
@@ -225,11 +225,11 @@ impl<S: Alter> VersionStore<S> {
         table_rows(alloc, Form::Microseconds, &mut self.connection, table)
     }
 
-    /// Hands the version rows of the table of a number that the window sees over to the visitor,
-    /// one at a time: by values, then period start, then system start. A refusal of the visitor
-    /// ends the scan and is answered; every other is out of memory, or comes of a fault of the
-    /// database. On `Err` the visitor has been handed some of the first rows. Nothing is changed.
-    /// An empty window hands over nothing, and the database is not called.
+    /// Passes the version rows of the table of a number that the window sees to the visitor, one at
+    /// a time: by values, then period start, then system start. A refusal of the visitor ends the
+    /// scan and is answered; every other is out of memory, or comes of a fault of the database. On
+    /// `Err` the visitor has received some of the first rows. Nothing is changed. Where the window
+    /// is empty, no row is passed, and the database is not called.
     pub fn scan<V: RowVisitor>(
         &mut self,
         alloc: Global,

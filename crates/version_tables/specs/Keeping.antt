@@ -9,7 +9,7 @@ use Rattle.sqlite.specs.Store.{Ghosts}
 use Rattle.sqlite.specs.Table.{Table}
 use Rattle.version_tables.specs.Tables.{HasStoreTables}
 
--- the tables of others, which are behind the first three
+-- the tables of others, which follow the first three
 abbrev pub tables_behind : Schema → List Table
 tables_behind schema = drop 3 schema.tables
 

@@ -1,4 +1,4 @@
--- The three tables, made behind what a database has.
+-- The three tables, added after what a database has.
 use Rattle.std.specs.Prelude.{◌≡◌, ℕ, ℤ, List, [], ◌∷◌, false, map}
 use Rattle.std.specs.List.{AllByRecursion}
 use Rattle.sqlite.specs.Change.{KeepsRows, created, next_tree}
@@ -11,15 +11,15 @@ use Rattle.version_tables.specs.Tables.{definition_table, meta_table, version_ta
 
 -- ---- the schema
 
--- with bt_meta behind its tables
+-- with bt_meta after its tables
 abbrev pub with_meta : Schema → Schema
 with_meta s = created s (meta_table 0)
 
--- with bt_table behind that
+-- with bt_table after that
 abbrev pub with_definitions : Schema → Schema
 with_definitions s = created (with_meta s) (definition_table 0)
 
--- with bt_version, and its index, behind both
+-- with bt_version, and its index, after both
 abbrev pub with_store_tables : Schema → Schema
 with_store_tables s = created (with_definitions s) (version_table 0)
 
@@ -69,7 +69,7 @@ HasThree old =
     IsMadeOf old (with_store_tables old.schema)
     (meta_tree old.schema ∷ definition_tree old.schema ∷ version_tree old.schema ∷ [])
 
--- the three are there behind the tables of others, with the form and the clock and no other row;
+-- the three are there, after the tables of others, with the form and the clock and no other row;
 -- the tables of others have the rows that they had
 pub record IsBegunIn (form clock : ℤ) (old db : Database) : Type 0 where
   pub schema_is : db.schema ≡ with_store_tables old.schema

@@ -39,7 +39,7 @@ pub record Rise (first second : Row) : Type 0 where
   pub high_is : IsNumberAt second 0 high
   pub rises : low <ℤ high
 
--- each row and the row behind it rise
+-- each row and the row after it rise
 abbrev pub AreRising : List Row → Type 0
 AreRising rows =
     (k : ℕ) → k + 1 < length rows
@@ -62,7 +62,7 @@ pub record HaveOneKey (a b : Row) : Type 0 where
   pub start : ShareNumber a b 2
   pub from : ShareNumber a b 4
 
--- a row and the row behind it are of one key
+-- a row and the row after it are of one key
 abbrev pub RepeatKey : List Row → Type 0
 RepeatKey rows =
     (k : ℕ) × (k + 1 < length rows)

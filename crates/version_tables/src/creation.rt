@@ -71,7 +71,7 @@ fn insert_meta<S: Alter>(
     )
 }
 
-/// Makes the three tables behind those of others, and the row of the form and the clock.
+/// Adds the three tables after those of others, and the row of the form and the clock.
 fn make_tables<S: Alter>(
     transaction: &mut Transaction<'_, S>,
     form: i64,
@@ -90,7 +90,7 @@ fn make_tables<S: Alter>(
 }
 
 /// Makes the three tables, with this form and this clock (a moment's number), in one transaction.
-/// What others have in the database stays: the three are made behind their tables. On `Err` nothing
+/// What others have in the database stays: the three are added after their tables. On `Err` nothing
 /// is changed, and no transaction is open.
 pub fn create<S: Alter>(connection: &mut Connection<S>, form: i64, clock: i64) -> Result<(), Error>
     requires { connection.old.in_transaction ≡ false }

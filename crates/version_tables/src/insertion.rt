@@ -28,7 +28,7 @@ fn batch_len(rows: usize) -> usize
     }
 }
 
-/// The statement that adds so many rows.
+/// The statement that adds `rows` rows.
 fn text_for(rows: usize) -> &'static str
     ensures one { rows ≡ 1 → result.now ≡ one_text }
     ensures two { rows ≡ 2 → result.now ≡ two_text }

@@ -108,8 +108,9 @@ fn are_moments(form: Form, from: i64, to: i64, clock: i64) -> bool
 }
 
 /// Whether the row is one of bt_version with numbers that a version may have in a store of the
-/// form, where the clock is at this moment and there are so many tables: a table that is there, a
-/// period of days, a system time that begins up to the clock and ends up to it or at the open end.
+/// form, where the clock is at this moment and `tables` is the number of tables: a table that is
+/// there, a period of days, a system time that begins up to the clock and ends up to it or at the
+/// open end.
 pub fn is_version(row: &Row, form: Form, clock: i64, tables: u32) -> bool
     ensures { IsTrue result ↔ IsVersionRow form clock tables row.now }
 {
@@ -214,7 +215,7 @@ fn have_one_key(first: &Row, second: &Row) -> bool
         && share_bytes(first, second, 1)
 }
 
-/// Whether a row of bt_version and the row behind it are of one key. Where the rows are by key, as
+/// Whether a row of bt_version and the row after it are of one key. Where the rows are by key, as
 /// the query shows them, no two are of one key if this is false.
 pub fn repeat_key(rows: &[Row]) -> bool
     ensures { IsTrue result ↔ RepeatKey rows.now }

@@ -1,4 +1,4 @@
--- Statements for which several numbers hold at once: the least is told. The comment before a group has
+-- Statements for which several numbers hold at once: the least is reported. The comment before a group has
 -- the numbers of each.
 CREATE TABLE EMP (ENO INTEGER, NAME VARCHAR(5), SINCE DATE, S DATE, E DATE,
  SS TIMESTAMP GENERATED ALWAYS AS ROW START, SE TIMESTAMP GENERATED ALWAYS AS ROW END,
@@ -49,7 +49,7 @@ SELECT * FROM EMP WHERE EP OVERLAPS PERIOD (DATE '2024-02-01', DATE '2024-01-01'
 -- a column of no table has no type: 24 alone
 SELECT * FROM EMP WHERE NOWHERE.ENO = 'a';
 
--- 10 before literals: a period predicate in UPDATE, a parenthesis without its end, a portion behind SET
+-- 10 before literals: a period predicate in UPDATE, a parenthesis without its end, a portion after SET
 UPDATE EMP SET NAME = 'Adaman' WHERE EP CONTAINS DATE '2023-02-29';
 SELECT * FROM EMP WHERE ENO = 1 AND (EP CONTAINS DATE '2023-02-29';
 UPDATE EMP SET ENO = 9223372036854775808 FOR PORTION OF EP FROM DATE '' TO DATE '';

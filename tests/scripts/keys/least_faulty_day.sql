@@ -1,5 +1,5 @@
 -- Statements that break a key or a reference on several days, the later ones first in their rows: the
--- first such day is told. 42 hides 43. What is refused changes nothing.
+-- first such day is reported. 42 hides 43. What is refused changes nothing.
 CREATE TABLE PAR (K INTEGER, S DATE, E DATE,
  SS TIMESTAMP GENERATED ALWAYS AS ROW START, SE TIMESTAMP GENERATED ALWAYS AS ROW END,
  PERIOD FOR PP (S, E), PERIOD FOR SYSTEM_TIME (SS, SE),

@@ -1,4 +1,4 @@
--- A table with eight references, two of them to one table: the least day over all of them is told.
+-- A table with eight references, two of them to one table: the least day over all of them is reported.
 CREATE TABLE P1 (K INTEGER, S DATE, E DATE,
  SS TIMESTAMP GENERATED ALWAYS AS ROW START, SE TIMESTAMP GENERATED ALWAYS AS ROW END,
  PERIOD FOR Q1 (S, E), PERIOD FOR SYSTEM_TIME (SS, SE),

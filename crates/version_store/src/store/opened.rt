@@ -67,8 +67,7 @@ impl<S: Alter> OpenedStore<S> {
 
     /// The store, for use: its keys and references were found kept. A database of form 1 is moved
     /// to form 2, in one transaction; one of form 2 is not written. On `Err`, 61 or 62, the
-    /// database is as it was opened, the connection is handed back, and no transaction is open on
-    /// it.
+    /// database is as it was opened, the connection is returned, and no transaction is open on it.
     pub fn accept(self) -> Result<VersionStore<S>, (Refusal, Connection<S>)>
         ensures accepted { IfOk result (λ store. IsUsable S.Store store.connection
             → (c : Contents) → OpenedRepresents S.Store self c → StoreRepresents S.Store store c) }
@@ -97,7 +96,7 @@ impl<S: Alter> OpenedStore<S> {
         }
     }
 
-    /// The connection, handed back: no transaction is open on it, and the database is as it was
+    /// The connection, returned: no transaction is open on it, and the database is as it was
     /// opened.
     pub fn refuse(self) -> Connection<S>
         ensures same { result ≡ self.store.connection }
@@ -109,14 +108,14 @@ impl<S: Alter> OpenedStore<S> {
 
 impl<S: Alter> VersionStore<S> {
     /// Opens a store, which is then still to be accepted. In a database that has none of the three
-    /// tables they are made, as by `create`, behind what others have there. Where all three are
+    /// tables they are made, as by `create`, after what others have there. Where all three are
     /// there, the store is opened exactly if it is a good one but for its keys and references; what
     /// it holds is then as it was closed, of form 1 in microseconds. Tables, indexes and views that
-    /// others have behind the three do not count. Of three tables that are not as the store makes
-    /// them, or stand behind tables of others, no more is said than that a refusal changes nothing.
-    /// Beside it are the version rows of each table, each list in any order: they are read as the
-    /// store is judged, and so once. On `Err` nothing is changed, the connection is handed back,
-    /// and no transaction is open on it.
+    /// others have after the three do not count. Where the three are not as the store makes them,
+    /// or follow tables of others, the contract says only that a refusal changes nothing. Beside
+    /// the store are the version rows of each table, each list in any order: they are read as the
+    /// store is judged, and so once. On `Err` nothing is changed, the connection is returned, and
+    /// no transaction is open on it.
     pub fn open(
         alloc: Global,
         mut connection: Connection<S>,
