@@ -26,7 +26,7 @@ use period_core::{Memory, Refusal};
 use sql_statements::CreateTable;
 use std::alloc::Global;
 
-/// The first refusal whose condition holds. The only error is out of memory.
+/// The first refusal whose condition holds.
 #[tactic(auto, unfolding(crate::specs::create::Creation::lacks_name))]
 fn first_fault(
     alloc: Global,
@@ -70,7 +70,7 @@ fn first_fault(
     Ok(None)
 }
 
-/// The refusal of a CREATE, if it is refused. The only error is out of memory.
+/// The refusal of a CREATE, if it is refused.
 fn create_fault(
     alloc: Global,
     catalog: &Catalog,

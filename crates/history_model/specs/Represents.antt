@@ -1,4 +1,4 @@
--- When what is kept is what a history says, and what a change makes of it.
+-- When a database represents a history, and what a change makes of it.
 use Rattle.std.specs.Prelude.{◌≡◌, ◌==◌, ◌<ℤ◌, ℕ, ℤ, IsPermutation, length}
 use Rattle.std.specs.List.{All}
 use Rattle.period_core.specs.Moments.{forever}

@@ -19,13 +19,13 @@ use crate::memory::Memory;
 use crate::value::Value;
 use std::alloc::Global;
 
-/// What stands before an integer.
+/// The tag of an integer.
 pub(crate) const INTEGER: u8 = 1;
 
-/// What stands before a text.
+/// The tag of a text.
 pub(crate) const TEXT: u8 = 2;
 
-/// What stands before a date.
+/// The tag of a date.
 pub(crate) const DATE: u8 = 3;
 
 /// How many bytes an integer takes, with what stands before it.

@@ -23,7 +23,7 @@ fn is_semicolon(token: &Token<'_>) -> bool
 }
 
 /// The pieces of these tokens, in order: what is between semicolons, where that is not empty.
-/// The last piece needs no semicolon. The only fault is out of memory.
+/// The last piece needs no semicolon.
 pub fn cut(alloc: Global, tokens: &[Token<'_>]) -> Result<Vec<Span>, Memory>
     ensures pieces { IfOk result
         (λ spans. HasPieces (lexemes tokens.now) (map (spanned (lexemes tokens.now)) spans.items)) }

@@ -39,7 +39,7 @@ fn unquoted_text(alloc: Global, rest: &str) -> Result<Text, Memory>
     Ok(Text::new(value))
 }
 
-/// The value of a text token. The only fault is out of memory.
+/// The value of a text token.
 pub fn text_of(alloc: Global, token: &str) -> Result<Text, Memory>
     ensures { IfOk result (λ text. text ≡ text_value token.now) }
 {

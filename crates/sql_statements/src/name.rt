@@ -29,7 +29,7 @@ impl Model for Name {
 }
 
 impl Name {
-    /// The name that a word means, whatever its case. The only fault is out of memory.
+    /// The name that a word means, whatever its case.
     #[tactic(auto, using(crate::proofs::NameFacts::upper_is_name))]
     pub fn of_word(alloc: Global, word: &str) -> Result<Name, Memory>
         requires { is_plain_word word.now ≡ true }
@@ -64,7 +64,7 @@ impl Name {
         &self.text
     }
 
-    /// An equal name. The only fault is out of memory.
+    /// An equal name.
     pub fn copy(&self, alloc: Global) -> Result<Name, Memory>
         ensures { IfOk result (λ name. name ≡ self.now) }
     {

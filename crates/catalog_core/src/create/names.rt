@@ -1,6 +1,6 @@
-//! CREATE TABLE: what its limits and its names decide. No test takes memory. Its periods and keys
-//! may be thousands, so no test goes over the one for each of the other: the periods are counted by
-//! their names once, and what keys name is sought among the columns, which are few.
+//! CREATE TABLE: what its limits and its names decide. No test takes memory. There may be thousands
+//! of periods and keys, so no check is quadratic in them: the periods are counted by their names
+//! once, and what keys name is sought among the columns, which are few.
 
 ghost use Rattle.std.specs.Prelude.{◌≡◌, bytes_eq, false, option_copied};
 ghost use Rattle.std.specs.List.{list_any};

@@ -127,8 +127,7 @@ pub fn query_faults(
     Ok(selects.or(faults_of_operators(alloc, catalog, query)?))
 }
 
-/// The lowest-numbered refusal that applies to a query, if one does. The only error is out of
-/// memory.
+/// The lowest-numbered refusal that applies to a query, if one does.
 pub fn query_fault(
     alloc: Global,
     catalog: &Catalog,
