@@ -23,7 +23,8 @@ def either_build():
 
 
 def scripts(folder=ROOT / 'tests/scripts'):
-    """The scripts in a folder and in the folders below it, by folder and name. No two have one name."""
+    """The scripts in a folder and in the folders below it, by folder and name. No two have one
+    name."""
     found = sorted(folder.rglob('*.sql'))
     names = [script.stem for script in found]
     assert len(names) == len(set(names)), sorted(name for name in names if names.count(name) > 1)

@@ -103,6 +103,8 @@ def build(tell):
     before = sums.PROVED.source_sums()
     said = prove(crates, waiting, tell)
     if said is None and before != sums.PROVED.source_sums():
+        # (it is newer than the sources: without a stamp, it would be taken for theirs)
+        sums.PROVED.file.unlink()
         return 'a source was changed during the proof\n'
     if said is None:
         sums.PROVED.write_stamp(before)

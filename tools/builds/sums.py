@@ -80,8 +80,14 @@ class Build:
         parts = ['crates.txt', *self.more, *folders([*self.parts, 'proofs'])]
         return all(changed(at) < made for part in parts for at in within(ROOT / part))
 
-    def write_stamp(self, sources=None):
-        self.stamp.write_text('\n'.join(self.sums(sources)) + '\n', encoding='utf-8')
+    def write_stamp(self, sources):
+        """Writes the stamp of the build as it is now. `sources` are the sums of what it was made
+        from, read before. A source may have been changed since, and is older than a stamp written
+        now: so the stamp gets a time before all of them, and the sums decide the next time."""
+        made = self.stamp.with_name(f'{self.stamp.name}.made')
+        made.write_text('\n'.join(self.sums(sources)) + '\n', encoding='utf-8')
+        os.utime(made, ns=(0, 0))
+        made.replace(self.stamp)
 
 
 PROVED = Build(OUT / PROGRAM, ['src', 'specs'], [])

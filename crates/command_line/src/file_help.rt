@@ -12,7 +12,7 @@ pub const FILE_HELP: &str =
     "The scripts, run in this order; without one, a session of standard input";
 
 /// What `--stop` does.
-pub const STOP_HELP: &str = "Runs nothing behind the first statement that is refused";
+pub const STOP_HELP: &str = "Runs nothing after the first statement that is refused";
 
 /// What `--tables` does.
 pub const TABLES_HELP: &str =
