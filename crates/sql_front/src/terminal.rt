@@ -29,7 +29,10 @@ pub fn is_terminal(token: &Token<'_>, want: Terminal<'_>) -> bool
     ensures { result ≡ terminal want.entry (lexeme token.now) }
 {
     match want {
-        Terminal::Keyword(word) => token.kind == TokenKind::Word && is_same_word(token.text, word),
+        Terminal::Keyword(word) => {
+            // (most scripts have it as it stands here, which is seen without a look at each letter)
+            token.kind == TokenKind::Word && (token.text == word || is_same_word(token.text, word))
+        }
         Terminal::Symbol(symbol) => token.kind == TokenKind::Symbol && token.text == symbol,
     }
 }
