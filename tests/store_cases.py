@@ -92,7 +92,7 @@ BAD = [
     ('65 tables', with_tables(65)),
     ('two tables of one name', define(4, DEFINITIONS[0])),
     ('a definition that is cut', define(3, DEFINITIONS[2][:-1])),
-    ('a definition with more behind', define(3, [*DEFINITIONS[2], 0])),
+    ('a definition with more after it', define(3, [*DEFINITIONS[2], 0])),
     ('a definition without bytes', "UPDATE bt_table SET def = x'' WHERE id = 3"),
     ('VARCHAR(0)', define(3, [*DEFINITIONS[2][:4], 0, *DEFINITIONS[2][5:]])),
     ('a reference of WRK to itself', define(2, [*DEFINITIONS[1][:-4], WRK, *DEFINITIONS[1][-3:]])),

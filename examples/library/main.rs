@@ -25,7 +25,7 @@ struct Reporting<W> {
 }
 
 impl<W: Write> Listener<Result<Outcome, Refusal>> for Reporting<W> {
-    // The run goes on only behind a statement that was accepted.
+    // The run goes on only after a statement that was accepted.
     ghost hears = { λ _ _ kept goes_on _. goes_on ≡ true → IsOk kept };
 
     fn hear(&mut self, number: u64, kept: Result<Outcome, Refusal>) -> bool {

@@ -114,7 +114,7 @@ fn each_part(
     let mut sink = Sink::new(alloc, most, writes, fails);
     write(alloc, reported, which, &mut sink)?;
     if sink.bytes.as_slice() != whole {
-        return Err("other bytes from a writer that fails behind the last")?;
+        return Err("other bytes from a writer that fails after the last")?;
     }
     Ok(writes)
 }

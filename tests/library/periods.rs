@@ -13,7 +13,7 @@ fn days(rt: HostRuntime) -> Result<(), Fail> {
         ("2000-02-29", 11_016, "2000-02-28", "2000-03-01"),
         ("9999-12-31", 2_932_896, "9999-12-30", ""),
     ];
-    for (date, number, before, behind) in dates {
+    for (date, number, before, after) in dates {
         let one = day(date)?;
         assert_eq!(rt; one.number(), number, "of {date}");
         assert_eq!(rt; Day::new(number), Some(one), "of {date}");
@@ -24,8 +24,8 @@ fn days(rt: HostRuntime) -> Result<(), Fail> {
         );
         assert_eq!(rt;
             one.next(),
-            Day::from_text(behind.as_bytes()),
-            "behind {date}"
+            Day::from_text(after.as_bytes()),
+            "after {date}"
         );
     }
     assert_eq!(rt; Day::new(-719_163), None);

@@ -1,10 +1,11 @@
-"""What the kit's `rt` knows of a crate: how it calls `rattle` for it, and the stamp by which it knows that
-what was built is of the files as they are.
+"""What the kit's `rt` knows of a crate: how it calls `rattle` for it, and the stamp by which it
+knows that what was built is of the files as they are.
 
-`rt lib` proves a library over what earlier checks kept, and leaves its proofs in what it builds, up to
-200 MB that each process of a crate above loads. The gate builds it with what those crates need alone, its
-statements; but `rt` has no command that keeps that. So the proved build calls `rattle` itself, with the
-words that `rt` would use. They are in the module that `rt` is made of, which lies beside it.
+`rt lib` proves a library over what earlier checks kept, and leaves its proofs in what it builds, up
+to 200 MB that each process of a crate above loads. The gate builds it with what those crates need
+alone, its statements; but `rt` has no command that keeps that. So the proved build calls `rattle`
+itself, with the words that `rt` would use. They are in the module that `rt` is made of, which lies
+beside it.
 """
 import functools
 import pathlib
@@ -42,8 +43,8 @@ class Library:
         return self.crate.is_built()
 
     def build_words(self, jobs):
-        """The command that proves and builds it. Where a check has kept work in its out/, that is used,
-        and it is built with its proofs, as by `rt lib`."""
+        """The command that proves and builds it. Where a check has kept work in its out/, that is
+        used, and it is built with its proofs, as by `rt lib`."""
         how = module().KEPT if self.crate.has_kept() else ['--statements']
         return [module().RATTLE, 'build', *self.crate.words(['--jobs', str(jobs)]), *how,
                 '-o', self.crate.rlib]
@@ -57,4 +58,5 @@ class Library:
     def end(self):
         """Has `rt` know what is built, unless a file was changed meanwhile."""
         if Library(self.crate.name).stamp == self.stamp:
-            pathlib.Path(self.crate.rlib).with_name('stamp').write_text(self.stamp, encoding='utf-8')
+            stamp = pathlib.Path(self.crate.rlib).with_name('stamp')
+            stamp.write_text(self.stamp, encoding='utf-8')

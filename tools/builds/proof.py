@@ -60,8 +60,8 @@ class Proof:
 
 
 def processes_at_once():
-    """How many processes there may be: two more than processors, since one alone reads a crate before
-    several prove it, but no more than the free memory allows."""
+    """How many processes there may be: two more than processors, since one alone reads a crate
+    before several prove it, but no more than the free memory allows."""
     free = MEMORY_OF_A_PROCESS
     with open('/proc/meminfo', encoding='utf-8') as file:
         for line in file:
@@ -74,9 +74,9 @@ def jobs_of(name, is_first, are_few, most):
     """How many processes a crate gets, at most `most`.
 
     Two prove a crate in two thirds of the time of one, four in half of it or a little less, with a
-    seventh and half as much again of a processor's time. So while there are crates enough to keep the
-    processors busy, only the first, which has the longest chain of crates above it, gets two. Of a
-    program there is next to nothing to prove.
+    seventh and half as much again of a processor's time. So while there are crates enough to keep
+    the processors busy, only the first, which has the longest chain of crates above it, gets two.
+    Of a program there is next to nothing to prove.
     """
     if name == sums.PROGRAM or not is_first:
         return 1
@@ -96,8 +96,8 @@ def longest_chain_first(crates, names):
 
 
 def build(tell):
-    """Proves and builds the program. `tell` gets a line for each crate that is proved. Gives what was
-    said of a crate that was not proved, else None."""
+    """Proves and builds the program. `tell` gets a line for each crate that is proved. Gives what
+    was said of a crate that was not proved, else None."""
     crates = sums.repository_crates()
     waiting = longest_chain_first(crates, sums.program_crates())
     before = sums.PROVED.source_sums()

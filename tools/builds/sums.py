@@ -108,7 +108,8 @@ def within(path):
 
 
 def changed(path):
-    """When its bytes or its status were last changed: a copy may keep the first time, not the second."""
+    """When its bytes or its status were last changed: a copy may keep the first time, not the
+    second."""
     status = path.stat()
     return max(status.st_mtime_ns, status.st_ctime_ns)
 
