@@ -135,12 +135,13 @@ RunsAsked g contents Opens Keeps content_of known asked old =
     old
 
 -- the tables are listed: the report has no statement, and a store that was listed is closed with
--- all that is committed in it
+-- all that is committed in it, and with what others have in its database
 pub record Lists {S W : Type 0} (g : Ghosts S) (Opens Keeps : Held S → Type 0) (old : Reporter W)
     (ended : Result ℕ RunFault) (new : Reporter W) : Type 0 where
   pub unreported : new ≡ record old { out = new.out }
   pub closed : IfOk ended (λ status. (status ≡ 0)
-      × (opened : Held S) × (closed : Held S) × Opens opened × Keeps closed)
+      × (opened : Held S) × (closed : Held S) × Opens opened × Keeps closed
+      × SparesOthers g opened closed)
 
 -- how the program exits, and what standard error gets: nothing; or with status 2 the line of a
 -- fault, whole unless a write failed

@@ -1,7 +1,9 @@
 //! The list of a store's tables: its clock, and of each table how many versions it has, its
 //! columns, its periods, its key and its references.
 
-ghost use Rattle.std.specs.Prelude.{◌≡◌, false};
+ghost use Rattle.std.specs.Prelude.{◌≡◌, IfOk, false};
+ghost use Rattle.version_store.specs.StoreState.{SparesOthers};
+ghost use Rattle.script_engine.specs.engine.Stored.{WasUsable};
 
 use catalog_core::{Catalog, Column, ColumnKind, Reference, TableDef};
 use command_line::RunFault;
@@ -114,7 +116,10 @@ fn push_clock<S: Alter>(text: &mut String, engine: &Engine<S>) -> Result<(), All
     }
 }
 
-fn text_of<S: Alter>(alloc: Global, engine: &mut Engine<S>) -> Result<String, RunFault> {
+fn text_of<S: Alter>(alloc: Global, engine: &mut Engine<S>) -> Result<String, RunFault>
+    ensures usable { WasUsable S.Store engine.old.connection engine.new.connection }
+    ensures others { SparesOthers S.Store engine.old.connection engine.new.connection }
+{
     let mut text = String::new(alloc);
     if push_clock(&mut text, engine).is_err() {
         return Err(RunFault::Memory);
@@ -140,7 +145,10 @@ fn list_tables<S: Alter, W: Write>(
     alloc: Global,
     engine: &mut Engine<S>,
     out: &mut W,
-) -> Result<(), RunFault> {
+) -> Result<(), RunFault>
+    ensures usable { WasUsable S.Store engine.old.connection engine.new.connection }
+    ensures others { SparesOthers S.Store engine.old.connection engine.new.connection }
+{
     let text = text_of(alloc, engine)?;
     match out.write_all(text.as_bytes()) {
         Ok(()) => Ok(()),
@@ -156,6 +164,8 @@ pub fn list_store<S: Alter, W: Write>(
     out: &mut W,
 ) -> Result<(Result<(), RunFault>, Connection<S>), (Refusal, Connection<S>)>
     requires { connection.in_transaction ≡ false }
+    ensures others { IfOk result (λ ended. SparesOthers S.Store connection ended.1) }
+    ensures closed { IfOk result (λ ended. ended.1.in_transaction ≡ false) }
 {
     let mut engine = Engine::open(alloc, connection)?;
     let listed = list_tables(alloc, &mut engine, out);

@@ -15,5 +15,5 @@ returns-in_err-end_over-in-Ok-clause-lists g c =
 pub returns-in_ok-end_over-in-Ok-clause-lists : goal.returns-in_ok-end_over-in-Ok-clause-lists
 returns-in_ok-end_over-in-Ok-clause-lists g c = record {
   unreported = refl;
-  closed = (refl, c.in_ok-connection.connection, c.in-Ok.connection, c.in_ok-connection.ensures.opened, c.in_ok-end_over-in-Ok.ensures.kept);
+  closed = (refl, c.in_ok-connection.connection, c.in-Ok.connection, c.in_ok-connection.ensures.opened, c.in_ok-end_over-in-Ok.ensures.kept, c.in-Ok.ensures.others);
 }
