@@ -142,6 +142,12 @@ pub record Lists {S W : Type 0} (g : Ghosts S) (Opens Keeps : Held S → Type 0)
   pub closed : IfOk ended (λ status. (status ≡ 0)
       × (opened : Held S) × (closed : Held S) × Opens opened × Keeps closed
       × SparesOthers g opened closed)
+  -- there is no connection, its database is no store, or the list was not whole
+  pub failed : IfErr ended (λ fault. MayNotOpen fault
+      ⊎ ((opened : Held S) × Opens opened
+      × (((refusal : Refusal) × (left : Held S) × RefusesStore g opened refusal left
+      × (fault ≡ Script refusal))
+      ⊎ ((closed : Held S) × SparesOthers g opened closed))))
 
 -- how the program exits, and what standard error gets: nothing; or with status 2 the line of a
 -- fault, whole unless a write failed

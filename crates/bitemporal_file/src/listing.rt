@@ -1,9 +1,10 @@
 //! The list of a store's tables: its clock, and of each table how many versions it has, its
 //! columns, its periods, its key and its references.
 
-ghost use Rattle.std.specs.Prelude.{◌≡◌, IfOk, false};
+ghost use Rattle.std.specs.Prelude.{◌≡◌, IfErr, IfOk, false};
 ghost use Rattle.version_store.specs.StoreState.{SparesOthers};
 ghost use Rattle.script_engine.specs.engine.Stored.{WasUsable};
+ghost use Rattle.bitemporal_file.specs.StoreRuns.{RefusesStore};
 
 use catalog_core::{Catalog, Column, ColumnKind, Reference, TableDef};
 use command_line::RunFault;
@@ -157,7 +158,7 @@ fn list_tables<S: Alter, W: Write>(
 }
 
 /// Lists the tables of the store of a connection, and changes nothing. Gives the connection back.
-/// An `Err` says why the store is not opened.
+/// An `Err` says why the store is not opened: it changes nothing.
 pub fn list_store<S: Alter, W: Write>(
     alloc: Global,
     connection: Connection<S>,
@@ -166,6 +167,8 @@ pub fn list_store<S: Alter, W: Write>(
     requires { connection.in_transaction ≡ false }
     ensures others { IfOk result (λ ended. SparesOthers S.Store connection ended.1) }
     ensures closed { IfOk result (λ ended. ended.1.in_transaction ≡ false) }
+    ensures refused { IfErr result (λ failed.
+        RefusesStore S.Store connection failed.0 failed.1) }
 {
     let mut engine = Engine::open(alloc, connection)?;
     let listed = list_tables(alloc, &mut engine, out);
