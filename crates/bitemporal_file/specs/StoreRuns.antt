@@ -12,7 +12,7 @@ use Rattle.history_model.specs.Histories.{History}
 use Rattle.statement_reports.specs.AuditedReport.{entry_text}
 use Rattle.statement_reports.specs.Report.{text_of}
 use Rattle.version_tables.specs.Steps.{IsAsBefore}
-use Rattle.version_store.specs.StoreState.{IsOpenRefusal, IsUsable}
+use Rattle.version_store.specs.StoreState.{IsOpenRefusal, IsUsable, SparesOthers}
 use Rattle.script_engine.specs.engine.EngineState.{EngineState}
 use Rattle.script_engine.specs.engine.Stored.{DatabaseRepresents, EngineRepresents, IsBadStore}
 use Rattle.script_engine.specs.engine.Stored.{RepresentsSome}
@@ -102,7 +102,8 @@ MayNotOpen Write = ⊥
 MayNotOpen NoStore = ⊤
 MayNotOpen Locked = ⊤
 
--- how the store is opened and closed, and what is run in between
+-- how the store is opened and closed, and what is run in between; where it is used, others have in
+-- its database what they had
 abbrev pub Uses : {S W : Type 0} → Ghosts S → (Held S → Type 0) → (Held S → Type 0)
     → (Held S → Result Bool RunFault → Held S → Reporter W → Type 0)
     → Reporter W → Result ℕ RunFault → Reporter W → Type 0
@@ -110,6 +111,7 @@ abbrev pub Uses : {S W : Type 0} → Ghosts S → (Held S → Type 0) → (Held 
 -- with all that is committed in it
 Uses {S} g Opens Keeps Runs old (Ok status) new =
     (opened : Held S) × (closed : Held S) × Opens opened × Keeps closed
+    × SparesOthers g opened closed
     × ((goes_on : Bool) × Runs opened (Ok goes_on) closed new) × (status ≡ new.worst)
 -- nothing was run, since there is no connection, or since its database is no store; or the run
 -- ended in the fault, or the store was not closed
@@ -118,8 +120,8 @@ Uses {S} g Opens Keeps Runs old (Err fault) new =
     ⊎ ((opened : Held S) × Opens opened
     × (((refusal : Refusal) × (left : Held S) × RefusesStore g opened refusal left
     × (fault ≡ Script refusal) × (new.out ≡ old.out))
-    ⊎ ((ended : Result Bool RunFault) × (closed : Held S) × Runs opened ended closed new
-    × IfErr ended (λ cause. cause ≡ fault))))
+    ⊎ ((ended : Result Bool RunFault) × (closed : Held S) × SparesOthers g opened closed
+    × Runs opened ended closed new × IfErr ended (λ cause. cause ≡ fault))))
 
 -- what is asked for is run over a store: how it is opened and how it is closed, which bytes the
 -- names of scripts have, and what is known of the input
@@ -133,12 +135,19 @@ RunsAsked g contents Opens Keeps content_of known asked old =
     old
 
 -- the tables are listed: the report has no statement, and a store that was listed is closed with
--- all that is committed in it
+-- all that is committed in it, and with what others have in its database
 pub record Lists {S W : Type 0} (g : Ghosts S) (Opens Keeps : Held S → Type 0) (old : Reporter W)
     (ended : Result ℕ RunFault) (new : Reporter W) : Type 0 where
   pub unreported : new ≡ record old { out = new.out }
   pub closed : IfOk ended (λ status. (status ≡ 0)
-      × (opened : Held S) × (closed : Held S) × Opens opened × Keeps closed)
+      × (opened : Held S) × (closed : Held S) × Opens opened × Keeps closed
+      × SparesOthers g opened closed)
+  -- there is no connection, its database is no store, or the list was not whole
+  pub failed : IfErr ended (λ fault. MayNotOpen fault
+      ⊎ ((opened : Held S) × Opens opened
+      × (((refusal : Refusal) × (left : Held S) × RefusesStore g opened refusal left
+      × (fault ≡ Script refusal))
+      ⊎ ((closed : Held S) × SparesOthers g opened closed))))
 
 -- how the program exits, and what standard error gets: nothing; or with status 2 the line of a
 -- fault, whole unless a write failed

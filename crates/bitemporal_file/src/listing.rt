@@ -1,7 +1,10 @@
 //! The list of a store's tables: its clock, and of each table how many versions it has, its
 //! columns, its periods, its key and its references.
 
-ghost use Rattle.std.specs.Prelude.{◌≡◌, false};
+ghost use Rattle.std.specs.Prelude.{◌≡◌, IfErr, IfOk, false};
+ghost use Rattle.version_store.specs.StoreState.{SparesOthers};
+ghost use Rattle.script_engine.specs.engine.Stored.{WasUsable};
+ghost use Rattle.bitemporal_file.specs.StoreRuns.{RefusesStore};
 
 use catalog_core::{Catalog, Column, ColumnKind, Reference, TableDef};
 use command_line::RunFault;
@@ -114,7 +117,10 @@ fn push_clock<S: Alter>(text: &mut String, engine: &Engine<S>) -> Result<(), All
     }
 }
 
-fn text_of<S: Alter>(alloc: Global, engine: &mut Engine<S>) -> Result<String, RunFault> {
+fn text_of<S: Alter>(alloc: Global, engine: &mut Engine<S>) -> Result<String, RunFault>
+    ensures usable { WasUsable S.Store engine.old.connection engine.new.connection }
+    ensures others { SparesOthers S.Store engine.old.connection engine.new.connection }
+{
     let mut text = String::new(alloc);
     if push_clock(&mut text, engine).is_err() {
         return Err(RunFault::Memory);
@@ -140,7 +146,10 @@ fn list_tables<S: Alter, W: Write>(
     alloc: Global,
     engine: &mut Engine<S>,
     out: &mut W,
-) -> Result<(), RunFault> {
+) -> Result<(), RunFault>
+    ensures usable { WasUsable S.Store engine.old.connection engine.new.connection }
+    ensures others { SparesOthers S.Store engine.old.connection engine.new.connection }
+{
     let text = text_of(alloc, engine)?;
     match out.write_all(text.as_bytes()) {
         Ok(()) => Ok(()),
@@ -149,13 +158,17 @@ fn list_tables<S: Alter, W: Write>(
 }
 
 /// Lists the tables of the store of a connection, and changes nothing. Gives the connection back.
-/// An `Err` says why the store is not opened.
+/// An `Err` says why the store is not opened: it changes nothing.
 pub fn list_store<S: Alter, W: Write>(
     alloc: Global,
     connection: Connection<S>,
     out: &mut W,
 ) -> Result<(Result<(), RunFault>, Connection<S>), (Refusal, Connection<S>)>
     requires { connection.in_transaction ≡ false }
+    ensures others { IfOk result (λ ended. SparesOthers S.Store connection ended.1) }
+    ensures closed { IfOk result (λ ended. ended.1.in_transaction ≡ false) }
+    ensures refused { IfErr result (λ failed.
+        RefusesStore S.Store connection failed.0 failed.1) }
 {
     let mut engine = Engine::open(alloc, connection)?;
     let listed = list_tables(alloc, &mut engine, out);

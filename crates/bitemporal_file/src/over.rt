@@ -2,6 +2,7 @@
 
 ghost use Rattle.std.specs.Prelude.{◌≡◌, ◌≤◌, IfErr, IfOk, None, Ok, OnOk, false, map};
 ghost use Rattle.std.specs.String.{string_bytes};
+ghost use Rattle.version_store.specs.StoreState.{SparesOthers};
 ghost use Rattle.script_engine.specs.engine.Stored.{WasUsable};
 ghost use Rattle.sqlite_wal.specs.Files.{image_at};
 ghost use Rattle.bitemporal_file.specs.Reporting.{IsUnused};
@@ -37,6 +38,7 @@ fn run_files<S: Alter, K: PieceResult<S> + Reported + Drop, Q: Scripts, R: Read,
         reporter.old result reporter.new }
     ensures low { reporter.old.worst ≤ 3 → reporter.new.worst ≤ 3 }
     ensures usable { WasUsable S.Store engine.old.connection engine.new.connection }
+    ensures others { SparesOthers S.Store engine.old.connection engine.new.connection }
 {
     if files.is_empty() {
         return run_parts::<S, K, R, W>(alloc, engine, input, reporter);
@@ -61,6 +63,7 @@ fn run_store<S: Alter, K: PieceResult<S> + Reported + Drop, Q: Scripts, R: Read,
         (LeadsDatabase S.Store connection ended.1)
         (map (Q.content scripts.now) (map string_bytes files.now)) (R.remaining input.old)
         reporter.old ended.0 reporter.new) }
+    ensures others { IfOk result (λ ended. SparesOthers S.Store connection ended.1) }
     ensures closed { IfOk result (λ ended. ended.1.in_transaction ≡ false) }
     ensures low { reporter.old.worst ≤ 3 → reporter.new.worst ≤ 3 }
     ensures refused { IfErr result (λ failed.
@@ -86,6 +89,7 @@ fn run_opened<S: Alter, Q: Scripts, R: Read, W: Write>(
     ensures ran { IfOk result (λ ended. RunsAs S.Store W.contents asked.now.audits
         (map (Q.content scripts.now) (map string_bytes asked.now.files.items))
         (R.remaining input.old) reporter.old connection ended.0 ended.1 reporter.new) }
+    ensures others { IfOk result (λ ended. SparesOthers S.Store connection ended.1) }
     ensures low { reporter.old.worst ≤ 3 → reporter.new.worst ≤ 3 }
     ensures refused { IfErr result (λ failed.
         RefusesStore S.Store connection failed.0 failed.1

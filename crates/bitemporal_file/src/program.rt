@@ -107,8 +107,8 @@ pub fn run_file_program<S: Start, Q: Scripts, R: Read, W: Write, E: Write>(
     // It shows a text or is out of memory, and opens and reads nothing; or it does what the words
     // ask for. A run of scripts is from whatever history the store stood for: all results are of
     // that run, the report is theirs, and the store stands for the history to which they led: so
-    // it is for the next run. Where the tables are listed no statement is reported, and no input
-    // is read.
+    // it is for the next run. What others have in its database stays. Where the tables are listed
+    // no statement is reported, and no input is read.
     ensures runs { ((result ≤ 2) × (stores.new ≡ stores.old) × (input.new ≡ input.old)
         × (report.new ≡ record report.old { out = report.new.out }))
         ⊎ ((asked : Asked) × Asks (matches_of bitemporal_file (map string_bytes words.now)) asked

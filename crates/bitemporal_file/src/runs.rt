@@ -2,7 +2,7 @@
 
 ghost use Rattle.std.specs.Prelude.{◌≡◌, ◌∷◌, [], List, None, map};
 ghost use Rattle.std.specs.String.{string_bytes};
-ghost use Rattle.version_store.specs.StoreState.{IsUsable};
+ghost use Rattle.version_store.specs.StoreState.{IsUsable, SparesOthers};
 ghost use Rattle.history_model.specs.Histories.{History};
 ghost use Rattle.script_engine.specs.engine.Stored.{EngineRepresents, RepresentsSome, WasUsable};
 ghost use Rattle.bitemporal_file.specs.ScriptRuns.{AreOfReaders, Ends, LeadsTo, ScriptRun};
@@ -31,6 +31,7 @@ fn run_script<S: Alter, K: PieceResult<S> + Reported + Drop, R: Read, W: Write>(
         → (history : History) → EngineRepresents S.Store history engine.old
         → RepresentsSome S.Store (LeadsTo K.is_step history runs) engine.new) }
     ensures usable { WasUsable S.Store engine.old.connection engine.new.connection }
+    ensures others { SparesOthers S.Store engine.old.connection engine.new.connection }
 {
     reporter.next = 1;
     let script = read_script(alloc, input, MOST_BYTES)?;
@@ -60,6 +61,7 @@ fn run_named<S: Alter, K: PieceResult<S> + Reported + Drop, Q: Scripts, W: Write
         → (history : History) → EngineRepresents S.Store history engine.old
         → RepresentsSome S.Store (LeadsTo K.is_step history runs) engine.new) }
     ensures usable { WasUsable S.Store engine.old.connection engine.new.connection }
+    ensures others { SparesOthers S.Store engine.old.connection engine.new.connection }
 {
     match scripts.open_script(name) {
         Ok(script) => {
@@ -86,6 +88,7 @@ pub(crate) fn run_all<S: Alter, K: PieceResult<S> + Reported + Drop, Q: Scripts,
         → (history : History) → EngineRepresents S.Store history engine.old
         → RepresentsSome S.Store (LeadsTo K.is_step history runs) engine.new) }
     ensures usable { WasUsable S.Store engine.old.connection engine.new.connection }
+    ensures others { SparesOthers S.Store engine.old.connection engine.new.connection }
 {
     for name in names {
         let goes_on = run_named::<S, K, Q, W>(alloc, engine, scripts, name.as_str(), reporter)?;

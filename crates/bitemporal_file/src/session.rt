@@ -1,7 +1,7 @@
 //! A session: the parts of one input, each run as soon as it is read.
 
 ghost use Rattle.std.specs.Prelude.{◌≡◌, ◌<◌, List, None, IfErr, IfOk, IfSome, length};
-ghost use Rattle.version_store.specs.StoreState.{IsUsable};
+ghost use Rattle.version_store.specs.StoreState.{IsUsable, SparesOthers};
 ghost use Rattle.history_model.specs.Histories.{History};
 ghost use Rattle.command_line.specs.declared.fault.RunFault.TheVariants.{Script};
 ghost use Rattle.period_core.specs.declared.refusal.Refusal.TheVariants.{ScriptTooLarge};
@@ -55,6 +55,7 @@ fn run_part<S: Alter, K: PieceResult<S> + Reported + Drop, W: Write>(
         × ((refusal : Refusal) → fault ≡ Script refusal
         → (refusal ≡ ScriptTooLarge) × (most_bytes < length part.now))) }
     ensures usable { WasUsable S.Store engine.old.connection engine.new.connection }
+    ensures others { SparesOthers S.Store engine.old.connection engine.new.connection }
 {
     match run_over::<S, K, Reporter<W>>(alloc, engine, part, reporter) {
         Ok(goes_on) => Ok(goes_on),
@@ -82,6 +83,7 @@ pub(crate) fn run_parts<S: Alter, K: PieceResult<S> + Reported + Drop, R: Read, 
         → RepresentsSome S.Store
         (LeadsThrough K.is_step K.refused 0 history runs) engine.new) }
     ensures usable { WasUsable S.Store engine.old.connection engine.new.connection }
+    ensures others { SparesOthers S.Store engine.old.connection engine.new.connection }
 {
     let mut start: usize = 0;
     // The input ends the loop. Its bound shows that it ends in any case.

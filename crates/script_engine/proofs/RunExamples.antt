@@ -1,5 +1,5 @@
 -- Worked rows: which refusal a whole script has, a refused statement, moments, and an answer of one row.
-use Rattle.std.proofs.Common.{◌≡◌, ◌<◌, ◌≤◌, ◌+◌, ◌<ℤ◌, ◌≤ℤ◌, ◌-ℤ◌, ◌∙◌, ◌∷◌, [], ℤ, pos, List, Some, Err, true, codes, refl, ap, inl, inr, arith, ◌++◌, lit≤}
+use Rattle.std.proofs.Common.{◌≡◌, ◌<◌, ◌≤◌, ◌<ℤ◌, ◌≤ℤ◌, ◌-ℤ◌, ◌∙◌, ◌∷◌, [], ℤ, pos, List, Some, Err, true, codes, refl, ap, inl, inr, arith, ◌++◌, lit≤}
 use Rattle.std.proofs.lemmas.Int.{ints}
 use Rattle.period_core.specs.Codes.{code_of}
 use Rattle.period_core.proofs.Periods.{are_ends, period_over}
@@ -12,7 +12,6 @@ use Rattle.temporal_model.specs.Answer.{IsCertified}
 use Rattle.temporal_model.proofs.Certificate.{shortest}
 use Rattle.temporal_model.proofs.Members.{Contains-here, Contains-one}
 use Rattle.temporal_model.proofs.Snapshots.{held, in_snapshot}
-use Rattle.sql_statements.specs.Lexis as lexis
 use Rattle.sql_statements.specs.Trees.{Delete}
 use Rattle.sql_statements.specs.Trees as statement
 use Rattle.catalog_core.specs.change.PortionChanges.{lacks_named}
@@ -22,7 +21,6 @@ use Rattle.catalog_core.proofs.lemmas.judged.Least.{first_least}
 use Rattle.history_model.specs.Histories.{new_database, opened}
 use Rattle.script_engine.specs.Headline.{IsSequencedAnswer}
 use Rattle.script_engine.specs.engine.Runs.{MayRefuseMoment, Step}
-use Rattle.statement_reports.specs.declared.outcome.Word.TheVariants as word
 
 -- ---- a refused statement
 

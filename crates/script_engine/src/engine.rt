@@ -14,7 +14,7 @@ ghost use Rattle.version_store.specs.Contents.{AreRowsOf, Contents};
 ghost use Rattle.version_store.specs.DistinctKeys.{HaveDistinctKeys};
 ghost use Rattle.version_store.specs.GoodStore.{IsGoodStore};
 ghost use Rattle.version_store.specs.StoreState.{Changes, IsOpenRefusal, IsOurs, IsStoreRefusal};
-ghost use Rattle.version_store.specs.StoreState.{IsUsable, StoreRepresents};
+ghost use Rattle.version_store.specs.StoreState.{IsUsable, SparesOthers, StoreRepresents};
 ghost use Rattle.history_model.specs.Histories.{Advanced, History, state_at, with_event};
 ghost use Rattle.history_model.specs.Versions.{values_at};
 ghost use Rattle.ended_versions.specs.Packed.{closed_at};
@@ -123,6 +123,8 @@ impl<S: Alter> Engine<S> {
             → HasNoStoreTable (state S.Store connection).now.schema
             ⊎ (IsGoodStore AreConstrained (state S.Store connection).now
             × ((history : History) × EngineRepresents S.Store history engine))) }
+        ensures others { IfOk result (λ engine.
+            SparesOthers S.Store connection engine.connection) }
 
         ensures bad { IfErr result (λ failed. IsUsable S.Store failed.1 → failed.0 ≡ BadStore
             → IsBadStore (state S.Store connection).now) }
@@ -198,6 +200,8 @@ impl<S: Alter> Engine<S> {
         ensures same { IsUsable S.Store self.new.connection
             → (history : History) → EngineRepresents S.Store history self.old
             → EngineRepresents S.Store history self.new }
+        ensures usable { WasUsable S.Store self.old.connection self.new.connection }
+        ensures others { SparesOthers S.Store self.old.connection self.new.connection }
         ensures named { IfErr result IsStoreRefusal }
     {
         self.store.rows(alloc, table)
@@ -215,6 +219,7 @@ impl<S: Alter> Engine<S> {
         ensures refused { IfErr result (MayRefuseMoment self.old.clock moment) }
         ensures memory { OnErr result (IsSameInMemory self.old self.new) }
         ensures usable { WasUsable S.Store self.old.connection self.new.connection }
+        ensures others { SparesOthers S.Store self.old.connection self.new.connection }
     {
         match ClockMoment::new(moment) {
             Some(_) if moment < self.store.clock() => Err(Refusal::MomentBack),
@@ -233,6 +238,7 @@ impl<S: Alter> Engine<S> {
             (MayRefuseOver self.old.catalog.tables self.old.clock (statement.at moment)) }
         ensures memory { OnErr result (IsSameInMemory self.old self.new) }
         ensures usable { WasUsable S.Store self.old.connection self.new.connection }
+        ensures others { SparesOthers S.Store self.old.connection self.new.connection }
     {
         self.at(moment.moment())?;
         Ok(Outcome::Done(Word::At, 0))
@@ -248,6 +254,7 @@ impl<S: Alter> Engine<S> {
             (MayRefuseOver self.old.catalog.tables self.old.clock (statement.create create.now)) }
         ensures memory { OnErr result (IsSameInMemory self.old self.new) }
         ensures usable { WasUsable S.Store self.old.connection self.new.connection }
+        ensures others { SparesOthers S.Store self.old.connection self.new.connection }
     {
         let definition = define(alloc, self.store.catalog(), create)?;
         let catalog = self.store.catalog();
@@ -285,6 +292,7 @@ impl<S: Alter> Engine<S> {
         ensures catalog { self.new.catalog ≡ self.old.catalog }
         ensures clock { self.new.clock ≡ self.old.clock }
         ensures usable { WasUsable S.Store self.old.connection self.new.connection }
+        ensures others { SparesOthers S.Store self.old.connection self.new.connection }
         ensures named { IfErr result IsStoreRefusal }
     {
         if table == 0 {
@@ -320,6 +328,7 @@ impl<S: Alter> Engine<S> {
             → MayRefuseOver self.old.catalog.tables self.old.clock s refusal) }
         ensures memory { OnErr result (IsSameInMemory self.old self.new) }
         ensures usable { WasUsable S.Store self.old.connection self.new.connection }
+        ensures others { SparesOthers S.Store self.old.connection self.new.connection }
     {
         let change = resolved?;
         let table = change.table;
@@ -349,6 +358,7 @@ impl<S: Alter> Engine<S> {
             (statement.sequenced (plain_query query.now))) }
         ensures memory { OnErr result (IsSameInMemory self.old self.new) }
         ensures usable { WasUsable S.Store self.old.connection self.new.connection }
+        ensures others { SparesOthers S.Store self.old.connection self.new.connection }
     {
         let query = resolve_sequenced(alloc, self.store.catalog(), query)?;
         let catalog = self.store.catalog();
@@ -373,6 +383,7 @@ impl<S: Alter> Engine<S> {
             (statement.stored (plain_stored query.now))) }
         ensures memory { OnErr result (IsSameInMemory self.old self.new) }
         ensures usable { WasUsable S.Store self.old.connection self.new.connection }
+        ensures others { SparesOthers S.Store self.old.connection self.new.connection }
     {
         let query = resolve_stored_query(alloc, self.store.catalog(), query)?;
         let Some(table) = self.store.catalog().def(query.table) else {
@@ -408,6 +419,7 @@ impl<S: Alter> Engine<S> {
             (MayRefuseOver self.old.catalog.tables self.old.clock (plain statement.now)) }
         ensures memory { OnErr result (IsSameInMemory self.old self.new) }
         ensures usable { WasUsable S.Store self.old.connection self.new.connection }
+        ensures others { SparesOthers S.Store self.old.connection self.new.connection }
     {
         match statement.form() {
             StatementForm::At(moment) => self.advance(*moment),

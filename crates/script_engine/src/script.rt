@@ -11,7 +11,7 @@ ghost use Rattle.sql_statements.specs.Lexis.{TokensOf};
 ghost use Rattle.sql_front.specs.Pieces.{IsWithin, spanned};
 ghost use Rattle.sql_statements.specs.Plain.{plain};
 ghost use Rattle.sqlite.specs.Held.{state};
-ghost use Rattle.version_store.specs.StoreState.{IsUsable};
+ghost use Rattle.version_store.specs.StoreState.{IsUsable, SparesOthers};
 ghost use Rattle.version_tables.specs.Steps.{IsAsBefore};
 ghost use Rattle.history_model.specs.Histories.{History};
 ghost use Rattle.script_engine.specs.engine.Stored.{DatabaseRepresents, EngineRepresents};
@@ -129,6 +129,7 @@ fn run_piece<S: Alter, K: PieceResult<S>>(
         → (history : History) → EngineRepresents S.Store history engine.old
         → RepresentsSome S.Store (K.is_step history (lexemes piece.now) result) engine.new }
     ensures usable { WasUsable S.Store engine.old.connection engine.new.connection }
+    ensures others { SparesOthers S.Store engine.old.connection engine.new.connection }
 {
     let statement = match statement_of(alloc, script, piece) {
         Ok(statement) => statement,
@@ -160,6 +161,7 @@ fn run_pieces<S: Alter, K: PieceResult<S>, L: Listener<K>>(
         → RepresentsSome S.Store (StepFront K.is_step history
         (map (spanned (lexemes tokens.now)) pieces.now) results result) engine.new) }
     ensures usable { WasUsable S.Store engine.old.connection engine.new.connection }
+    ensures others { SparesOthers S.Store engine.old.connection engine.new.connection }
 {
     for (i, piece) in pieces.iter().enumerate() {
         let kept: K = run_piece(alloc, engine, script, &tokens[piece.start..piece.end]);
@@ -188,6 +190,7 @@ pub fn run<S: Alter, K: PieceResult<S> + Drop>(
         → (history : History) → DatabaseRepresents history (state S.Store connection).now
         → (made : IsRunBy K.is_step history script.now ran.0.items)
         × EngineRepresents S.Store made.last ran.1) }
+    ensures others { IfOk result (λ ran. SparesOthers S.Store connection ran.1.connection) }
 
     ensures refused { IfErr result (λ failed. MayRefuseRun script.now failed.0) }
     ensures bad { IfErr result (λ failed. IsUsable S.Store failed.1 → failed.0 ≡ BadStore

@@ -218,8 +218,7 @@ impl<S: Alter> VersionStore<S> {
         ensures same { IsUsable S.Store self.new.connection
             → (c : Contents) → StoreRepresents S.Store self.old c
             → StoreRepresents S.Store self.new c }
-        ensures catalog { self.new.catalog ≡ self.old.catalog }
-        ensures clock { self.new.clock ≡ self.old.clock }
+        ensures read { IsOnlyRead S.Store self.old self.new }
         ensures named { IfErr result IsStoreRefusal }
     {
         table_rows(alloc, Form::Microseconds, &mut self.connection, table)

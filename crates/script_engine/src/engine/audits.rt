@@ -5,7 +5,7 @@ ghost use Rattle.catalog_core.specs.query.Queries.{plain_query as plain_resolved
 ghost use Rattle.history_model.specs.Histories.{History};
 ghost use Rattle.sql_statements.specs.Plain.{plain, plain_query};
 ghost use Rattle.sql_statements.specs.Trees as statement;
-ghost use Rattle.version_store.specs.StoreState.{IsUsable};
+ghost use Rattle.version_store.specs.StoreState.{IsUsable, SparesOthers};
 ghost use Rattle.script_engine.specs.engine.Audits.{AuditedStepsTo, IsVerdictOver};
 ghost use Rattle.script_engine.specs.engine.InMemory.{IsSameInMemory};
 ghost use Rattle.script_engine.specs.engine.Runs.{IsQuery, MayRefuseOver, MayRefuseQuery};
@@ -53,6 +53,7 @@ impl<S: Alter> Engine<S> {
             (statement.sequenced (plain_query query.now))) }
         ensures memory { OnErr result.result (IsSameInMemory self.old self.new) }
         ensures usable { WasUsable S.Store self.old.connection self.new.connection }
+        ensures others { SparesOthers S.Store self.old.connection self.new.connection }
     {
         let query = match resolve_sequenced(alloc, self.store.catalog(), query) {
             Ok(query) => query,
@@ -93,6 +94,7 @@ impl<S: Alter> Engine<S> {
             (MayRefuseOver self.old.catalog.tables self.old.clock (plain statement.now)) }
         ensures memory { OnErr result.result (IsSameInMemory self.old self.new) }
         ensures usable { WasUsable S.Store self.old.connection self.new.connection }
+        ensures others { SparesOthers S.Store self.old.connection self.new.connection }
     {
         match statement.form() {
             StatementForm::Sequenced(query) => self.answer_audited(alloc, query),

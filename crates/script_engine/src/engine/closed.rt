@@ -17,7 +17,7 @@ ghost use Rattle.version_store.specs.Changed.{planned};
 ghost use Rattle.version_store.specs.Contents.{Contents};
 ghost use Rattle.version_store.specs.DistinctKeys.{HaveDistinctKeys};
 ghost use Rattle.version_store.specs.StoreState.{Changes, IsStoreRefusal, IsUsable};
-ghost use Rattle.version_store.specs.StoreState.{StoreRepresents};
+ghost use Rattle.version_store.specs.StoreState.{SparesOthers, StoreRepresents};
 ghost use Rattle.script_engine.specs.engine.Ended.{AreInOrderOfEnds};
 ghost use Rattle.script_engine.specs.engine.InMemory.{FollowCatalog};
 ghost use Rattle.script_engine.specs.engine.Stored.{WasUsable};
@@ -49,6 +49,7 @@ pub fn apply_closing<S: Alter>(
     ensures catalog { store.new.catalog ≡ store.old.catalog }
     ensures clock { store.new.clock ≡ store.old.clock }
     ensures usable { WasUsable S.Store store.old.connection store.new.connection }
+    ensures others { SparesOthers S.Store store.old.connection store.new.connection }
     ensures distinct { IsUsable S.Store store.new.connection
         → (c : Contents) → StoreRepresents S.Store store.old c
         → OnOk result (HaveDistinctKeys c.versions) }

@@ -18,7 +18,7 @@ ghost use Rattle.version_store.specs.Contents.{Contents};
 ghost use Rattle.version_store.specs.DistinctKeys.{HaveDistinctKeys};
 ghost use Rattle.version_store.specs.GoodStore.{AreLawful};
 ghost use Rattle.version_store.specs.StoreState.{Changes, IsOpenRefusal, IsStoreRefusal};
-ghost use Rattle.version_store.specs.StoreState.{IsUsable, StoreRepresents};
+ghost use Rattle.version_store.specs.StoreState.{IsUsable, SparesOthers, StoreRepresents};
 ghost use Rattle.script_engine.specs.engine.Ended.{AllEndedBy, HaveEnded};
 ghost use Rattle.script_engine.specs.engine.Faults.{AreConstrained};
 ghost use Rattle.script_engine.specs.engine.InMemory.{AreReadOf, FollowCatalog, HaveCurrentRows};
@@ -141,6 +141,7 @@ pub fn apply_plan<S: Alter>(
     ensures catalog { store.new.catalog ≡ store.old.catalog }
     ensures clock { store.new.clock ≡ store.old.clock }
     ensures usable { WasUsable S.Store store.old.connection store.new.connection }
+    ensures others { SparesOthers S.Store store.old.connection store.new.connection }
     ensures distinct { IsUsable S.Store store.new.connection
         → (c : Contents) → StoreRepresents S.Store store.old c
         → OnOk result (HaveDistinctKeys c.versions) }

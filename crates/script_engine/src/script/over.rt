@@ -1,7 +1,7 @@
 //! Runs of scripts over an engine that is open, with each result passed on as it is done.
 
 ghost use Rattle.std.specs.Prelude.{◌≡◌, IfErr, IfOk, List, OnErr};
-ghost use Rattle.version_store.specs.StoreState.{IsUsable};
+ghost use Rattle.version_store.specs.StoreState.{IsUsable, SparesOthers};
 ghost use Rattle.history_model.specs.Histories.{History};
 ghost use Rattle.script_engine.specs.engine.Stored.{EngineRepresents, RepresentsSome, WasUsable};
 ghost use Rattle.script_engine.specs.script.Listening.{HearsAll, IsFrontRunBy};
@@ -36,6 +36,7 @@ pub fn run_over<S: Alter, K: PieceResult<S>, L: Listener<K>>(
     ensures refused { IfErr result (MayRefuseScript script.now) }
     ensures none { OnErr result ((engine.new ≡ engine.old) × (listener.new ≡ listener.old)) }
     ensures usable { WasUsable S.Store engine.old.connection engine.new.connection }
+    ensures others { SparesOthers S.Store engine.old.connection engine.new.connection }
 {
     let pieces = script_pieces(alloc, script)?;
     let tokens = pieces.tokens.as_slice();

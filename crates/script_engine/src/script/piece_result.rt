@@ -6,7 +6,7 @@ ghost use Rattle.sql_front.specs.Grammar.{IsStatement};
 ghost use Rattle.sql_statements.specs.Lexemes.{Lexeme};
 ghost use Rattle.sql_statements.specs.Plain.{plain};
 ghost use Rattle.history_model.specs.Histories.{History};
-ghost use Rattle.version_store.specs.StoreState.{IsUsable};
+ghost use Rattle.version_store.specs.StoreState.{IsUsable, SparesOthers};
 ghost use Rattle.script_engine.specs.engine.Stored.{EngineRepresents, RepresentsSome, WasUsable};
 ghost use Rattle.script_engine.specs.script.AuditedRuns.{AuditedPieceStep};
 ghost use Rattle.script_engine.specs.script.Script.{PieceStep, TextApplies};
@@ -35,7 +35,8 @@ pub trait PieceResult<S: Alter> {
             → (piece : List Lexeme) → NoneApplies (TextApplies piece)
             → IsStatement piece (plain statement.now)
             → RepresentsSome S.Store (is_step history piece result) engine.new }
-        ensures usable { WasUsable S.Store engine.old.connection engine.new.connection };
+        ensures usable { WasUsable S.Store engine.old.connection engine.new.connection }
+        ensures others { SparesOthers S.Store engine.old.connection engine.new.connection };
 }
 
 impl<S: Alter> PieceResult<S> for Result<Outcome, Refusal> {

@@ -1,5 +1,6 @@
-use Rattle.std.proofs.Common.{subst}
-use Rattle.version_store.specs.StoreState.{IsUsable}
+use Rattle.std.proofs.Common.{subst, sym}
+use Rattle.version_store.specs.StoreState.{IsUsable, SparesOthers}
+use Rattle.version_store.proofs.Beside.{spares_then}
 use Rattle.history_model.specs.Histories.{History}
 use Rattle.bitemporal_file.specs.StoreRuns.{LeadsDatabase, LeadsEngine}
 use Rattle.bitemporal_file.proofs.RunFacts.{stands_for}
@@ -15,3 +16,10 @@ returns-clause-ran g c =
     let (last, leads, represents) = led engine_usable history opened in
     (last, leads, stands_for g.S.Store last c.run_files-ended.new.engine c.close.result c.close.ensures.same represents))
     _ _ c.args.reporter.now c.run_files-ended.result c.run_files-ended.new.reporter c.run_files-ended.ensures.ran
+
+pub returns-clause-others : goal.returns-clause-others
+returns-clause-others g c =
+    let engine = c.in_ok-engine.engine.connection in
+    let ended = c.run_files-ended.new.engine.connection in
+    subst (SparesOthers g.S.Store c.args.connection) (sym c.close.ensures.same)
+    (spares_then g.S.Store c.args.connection engine ended c.in_ok-engine.ensures.others c.run_files-ended.ensures.usable c.run_files-ended.ensures.others)

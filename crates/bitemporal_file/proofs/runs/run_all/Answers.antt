@@ -1,5 +1,6 @@
 use Rattle.std.proofs.Common.{◌≡◌, ◌<◌, ◌+◌, ◌++◌, ◌∷◌, ◌∙◌, ℕ, List, [], Option, Result, Ok, Err, Bool, ap, arith, drop, get_or, length, map, refl, string_bytes, subst, sym, take, take_all, true, false}
 use Rattle.std.proofs.lemmas.Result.{err_from_is_err_and}
+use Rattle.version_store.proofs.Beside.{spares_same, spares_then}
 use Rattle.command_line.specs.declared.fault.RunFault.{RunFault}
 use Rattle.bitemporal_file.specs.ScriptRuns.{AreOfReaders, Ends}
 use Rattle.bitemporal_file.proofs.RunFacts.{ends_more, ends_within, known-all, known-next, leads-more, none_yet, quiet_of, readers-more, readers-within}
@@ -9,6 +10,7 @@ pub loop-name-init : goal.loop-name-init
 loop-name-init g c = record {
   quiet = c.requires;
   usable = λ usable. usable;
+  others = spares_same g.S.Store c.args.engine.now.connection c.args.engine.now.connection (λ usable. refl);
   ran = ([], tt, none_yet g.W.Write.contents g.K.Reported.text g.K.Reported.status_of c.args.reporter.now c.requires, λ usable history stands. (history, refl, stands));
 }
 
@@ -39,6 +41,7 @@ loop-name-preserved g c =
     record {
       quiet = quiet;
       usable = λ usable. c.loop-name.invariant.usable (c.run_named.ensures.usable usable);
+      others = spares_then g.S.Store c.args.engine.now.connection c.loop-name.engine.connection c.run_named.new.engine.connection c.loop-name.invariant.others c.run_named.ensures.usable c.run_named.ensures.others;
       ran = (
         runs ++ more,
         subst (λ (rs : List (Option (List ℕ))). AreOfReaders rs (runs ++ more)) (sym next) (readers-more contents text status readers known runs more count are its_known),
@@ -137,3 +140,13 @@ returns-clause-ran g c =
       subst (λ (rs : List (Option (List ℕ))). Ends contents text status rs c.args.reporter.now runs (Ok true) c.loop-name.reporter) known ends,
       did,
     )
+
+-- ---- what others have
+
+pub returns-in_err-goes_on-clause-others : goal.returns-in_err-goes_on-clause-others
+returns-in_err-goes_on-clause-others g c =
+    spares_then g.S.Store c.args.engine.now.connection c.loop-name.engine.connection c.run_named.new.engine.connection c.loop-name.invariant.others c.run_named.ensures.usable c.run_named.ensures.others
+
+pub returns-then-not-goes_on-clause-others : goal.returns-then-not-goes_on-clause-others
+returns-then-not-goes_on-clause-others g c =
+    spares_then g.S.Store c.args.engine.now.connection c.loop-name.engine.connection c.run_named.new.engine.connection c.loop-name.invariant.others c.run_named.ensures.usable c.run_named.ensures.others

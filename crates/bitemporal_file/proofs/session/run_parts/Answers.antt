@@ -7,6 +7,7 @@ use Rattle.period_core.specs.declared.refusal.Refusal.{Refusal}
 use Rattle.period_core.specs.declared.refusal.Refusal.TheVariants.{ScriptTooLarge}
 use Rattle.command_line.specs.declared.fault.RunFault.TheVariants.{Read, Script}
 use Rattle.version_store.specs.StoreState.{IsUsable}
+use Rattle.version_store.proofs.Beside.{spares_same, spares_then}
 use Rattle.script_engine.specs.engine.EngineState.{EngineState}
 use Rattle.script_engine.specs.engine.Stored.{EngineRepresents}
 use Rattle.bitemporal_file.specs.Parts.{BeginsTooLarge, EndsAtSemicolon, IsPart}
@@ -20,6 +21,7 @@ pub parts-init : goal.parts-init
 parts-init g c = record {
   quiet = c.requires;
   usable = λ usable. usable;
+  others = spares_same g.S.Store c.args.engine.now.connection c.args.engine.now.connection (λ usable. refl);
   ran = ([], All-nil _, Consumes-nil _, refl, nothing_told g.W.Write.contents g.K.Reported.text g.K.Reported.status_of c.args.reporter.now c.requires, λ usable history stands. (history, refl, stands));
 }
 
@@ -151,6 +153,7 @@ parts-preserved g c =
     record {
       quiet = c.in_default.is;
       usable = λ usable. c.parts.invariant.usable (c.run_part.ensures.usable usable);
+      others = spares_then g.S.Store c.args.engine.now.connection c.parts.engine.connection c.run_part.new.engine.connection c.parts.invariant.others c.run_part.ensures.usable c.run_part.ensures.others;
       ran = (
         runs ++ run ∷ [],
         all_more runs run ended (subst EndsAtSemicolon (sym same) (c.in_ok-part.ensures.ended more)),
@@ -160,3 +163,21 @@ parts-preserved g c =
         ran_further g.S.Store g.K.PieceResult.is_step g.K.Reported.refused c.args.engine.now c.parts.engine c.run_part.new.engine c.parts.start runs run start c.run_part.ensures.usable did went,
       );
     }
+
+-- ---- what others have
+
+pub returns-in_err-goes_on-clause-others : goal.returns-in_err-goes_on-clause-others
+returns-in_err-goes_on-clause-others g c =
+    spares_then g.S.Store c.args.engine.now.connection c.parts.engine.connection c.run_part.new.engine.connection c.parts.invariant.others c.run_part.ensures.usable c.run_part.ensures.others
+
+pub returns-in-Some-clause-others : goal.returns-in-Some-clause-others
+returns-in-Some-clause-others g c =
+    spares_then g.S.Store c.args.engine.now.connection c.parts.engine.connection c.run_part.new.engine.connection c.parts.invariant.others c.run_part.ensures.usable c.run_part.ensures.others
+
+pub returns-then-part-clause-others : goal.returns-then-part-clause-others
+returns-then-part-clause-others g c =
+    spares_then g.S.Store c.args.engine.now.connection c.parts.engine.connection c.run_part.new.engine.connection c.parts.invariant.others c.run_part.ensures.usable c.run_part.ensures.others
+
+pub returns-in-None-clause-others : goal.returns-in-None-clause-others
+returns-in-None-clause-others g c =
+    spares_then g.S.Store c.args.engine.now.connection c.parts.engine.connection c.run_part.new.engine.connection c.parts.invariant.others c.run_part.ensures.usable c.run_part.ensures.others

@@ -1,7 +1,7 @@
 use Rattle.std.proofs.Common.{◌≡◌, List, None, length, true}
 use Rattle.std.specs.Io.KnownBytes.{Consumes}
 use Rattle.history_model.specs.Histories.{History}
-use Rattle.version_store.specs.StoreState.{IsUsable}
+use Rattle.version_store.specs.StoreState.{IsUsable, SparesOthers}
 use Rattle.script_engine.specs.engine.Stored.{EngineRepresents, RepresentsSome, WasUsable}
 use Rattle.bitemporal_file.specs.Reporting.{TellsAll}
 use Rattle.bitemporal_file.specs.ScriptRuns.{ScriptRun, results_of}
@@ -13,6 +13,7 @@ abbrev pub invariant-parts : goal.invariant-parts
 invariant-parts g l = record {
   quiet : l.reporter.fault ≡ None;
   usable : WasUsable g.S.Store l.fn.engine.connection l.engine.connection;
+  others : SparesOthers g.S.Store l.fn.engine.connection l.engine.connection;
   ran : (runs : List (ScriptRun g.row.K.Denot))
       × AllEnd runs
       × Consumes (g.R.Read.remaining l.fn.input) (g.R.Read.remaining l.input) (bytes_of runs)

@@ -3,6 +3,7 @@ use Rattle.sql_front.specs.Pieces.{spanned}
 use Rattle.sql_front.specs.declared.pieces.Span.{Span}
 use Rattle.sql_statements.specs.Lexemes.{lexemes}
 use Rattle.sql_statements.specs.declared.token.Token.{Token}
+use Rattle.version_store.proofs.Beside.{spares_then}
 use Rattle.script_engine.specs.script.Script.{IsCutInto, StepPieces}
 use Rattle.script_engine.proofs.ListeningFacts.{all_kept, front_is_whole}
 use Rattle.script_engine.proofs.ScriptFacts.{not_bad}
@@ -27,3 +28,7 @@ returns-in-Err-clause-bad g c = λ usable bad. absurd (not_bad c.args.script.now
 
 pub returns-in-Err-open-clause-refused : goal.returns-in-Err-open-clause-refused
 returns-in-Err-open-clause-refused g c = inr (c.in-Err-open.ensures.named, c.in-Ok.ensures.cut.sound)
+
+pub returns-clause-others : goal.returns-clause-others
+returns-clause-others g c =
+    spares_then g.S.Store c.args.connection c.in-Ok-open.engine.connection c.run_pieces.new.engine.connection c.in-Ok-open.ensures.others c.run_pieces.ensures.usable c.run_pieces.ensures.others

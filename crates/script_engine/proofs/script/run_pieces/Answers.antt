@@ -3,6 +3,7 @@ use Rattle.std.proofs.lemmas.List.{length_push}
 use Rattle.sql_statements.specs.Lexemes.{lexemes}
 use Rattle.sql_front.specs.Pieces.{spanned}
 use Rattle.sql_front.specs.declared.pieces.Span.{Span}
+use Rattle.version_store.proofs.Beside.{spares_same, spares_then}
 use Rattle.script_engine.specs.script.Script.{StepPieces}
 use Rattle.script_engine.proofs.ListeningFacts.{front_of, hears_more, whole_front}
 use Rattle.script_engine.proofs.PieceSteps.{run_next}
@@ -11,6 +12,7 @@ use Rattle.script_engine.proofs.script.run_pieces.Goals as goal
 pub loop-i-init : goal.loop-i-init
 loop-i-init g c = record {
   usable = λ usable. usable;
+  others = spares_same g.S.Store c.args.engine.now.connection c.args.engine.now.connection (λ usable. refl);
   run = ([], (refl, refl), refl, λ usable history kept. (history, refl, kept));
 }
 
@@ -22,6 +24,7 @@ loop-i-preserved g c =
     let kept = c.run_piece-kept.result in
     record {
       usable = λ usable. c.loop-i.invariant.usable (c.run_piece-kept.ensures.usable usable);
+      others = spares_then g.S.Store c.args.engine.now.connection c.loop-i.engine.connection c.run_piece-kept.new.engine.connection c.loop-i.invariant.others c.run_piece-kept.ensures.usable c.run_piece-kept.ensures.others;
       run = (
         results ++ kept ∷ [],
         hears_more g.L.Listener.hears 1 (c.loop-i.i + 1) c.args.listener.now results c.loop-i.listener kept true c.hear.new.self at heard (rw c.if-not-hear.false at c.hear.ensures),
@@ -73,3 +76,10 @@ returns-then-not-hear-clause-usable g c usable = c.loop-i.invariant.usable (c.ru
 
 pub returns-clause-usable : goal.returns-clause-usable
 returns-clause-usable g c usable = c.loop-i.invariant.usable usable
+
+pub returns-then-not-hear-clause-others : goal.returns-then-not-hear-clause-others
+returns-then-not-hear-clause-others g c =
+    spares_then g.S.Store c.args.engine.now.connection c.loop-i.engine.connection c.run_piece-kept.new.engine.connection c.loop-i.invariant.others c.run_piece-kept.ensures.usable c.run_piece-kept.ensures.others
+
+pub returns-clause-others : goal.returns-clause-others
+returns-clause-others g c = c.loop-i.invariant.others

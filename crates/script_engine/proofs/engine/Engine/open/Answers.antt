@@ -14,6 +14,7 @@ use Rattle.version_store.specs.GoodStore.{HaveTables}
 use Rattle.version_store.specs.StoreState.{IsUsable, OpenedRepresents, OpenedState}
 use Rattle.version_store.specs.Units.{in_microseconds}
 use Rattle.version_store.specs.Written.{HasIn}
+use Rattle.version_store.proofs.Beside.{spares_then}
 use Rattle.version_store.proofs.Opens.{has_contents}
 use Rattle.version_store.proofs.ReadRows.{none_of_nothing}
 use Rattle.script_engine.specs.engine.EngineState.{EngineState, engine_of}
@@ -136,3 +137,7 @@ returns-in-Err-accept-clause-named g c = inr c.in-Err-accept.ensures.named
 
 pub returns-in-Err-accept-clause-bad : goal.returns-in-Err-accept-clause-bad
 returns-in-Err-accept-clause-bad g c = λ usable bad. absurd (elim c.in-Err-accept.ensures.named [ inl memory ↦ cc | inr failed ↦ cc ])
+
+pub returns-in-Ok-accept-clause-others : goal.returns-in-Ok-accept-clause-others
+returns-in-Ok-accept-clause-others g c =
+    spares_then g.S.Store c.args.connection c.in-Ok.found.0.store.connection c.in-Ok-accept.store.connection c.in-Ok.ensures.others c.in-Ok-accept.ensures.usable c.in-Ok-accept.ensures.others

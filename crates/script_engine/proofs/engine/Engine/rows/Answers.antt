@@ -1,6 +1,8 @@
 use Rattle.std.proofs.Common.{map, subst, sym}
 use Rattle.std.proofs.lemmas.Result.{IfOk-weaker}
 use Rattle.period_keys.specs.Current.{rows_by_key}
+use Rattle.version_store.specs.StoreState.{IsUsable, SparesOthers}
+use Rattle.version_store.proofs.Beside.{spares_same}
 use Rattle.script_engine.specs.engine.EngineState.{engine_of}
 use Rattle.script_engine.specs.engine.Stored.{EngineRepresents}
 use Rattle.script_engine.proofs.Answered.{rows_hold}
@@ -15,3 +17,11 @@ pub returns-clause-same : goal.returns-clause-same
 returns-clause-same g c usable history kept =
     let was : EngineRepresents g.S.Store history (engine_of c.self.inside.store (map rows_by_key c.self.inside.tables.items) c.self.inside.ended.items) = subst (λ s. EngineRepresents g.S.Store history s) (sym c.self.view_is) kept in
     record { contents = was.contents; stored = c.rows.ensures.same usable was.contents was.stored; said = was.said; current = was.current; ended = was.ended }
+
+pub returns-clause-usable : goal.returns-clause-usable
+returns-clause-usable g c usable = subst (λ s. IsUsable g.S.Store s.connection) c.self.view_is (c.rows.ensures.read.usable usable)
+
+pub returns-clause-others : goal.returns-clause-others
+returns-clause-others g c =
+    subst (λ s. SparesOthers g.S.Store s.connection c.rows.new.self.connection) c.self.view_is
+    (spares_same g.S.Store c.self.inside.store.connection c.rows.new.self.connection (λ usable. (c.rows.ensures.read.same usable).0))
