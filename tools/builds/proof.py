@@ -19,7 +19,7 @@ MEMORY_OF_A_PROCESS = 2_500_000_000
 class Proof:
     """A crate that is being proved."""
 
-    def __init__(self, name, jobs):
+    def __init__(self, name, jobs, has_priority):
         self.name, self.jobs, self.begun = name, jobs, time.monotonic()
         self.library = None if name == sums.PROGRAM else kit.Library(name)
         if self.library is None:
@@ -32,8 +32,8 @@ class Proof:
         # (a group of its own, so that a proof that is interrupted ends whole; but no session of its
         # own, since a system may give each session the same share of the processors)
         self.process = subprocess.Popen(
-            words, cwd=sums.ROOT / 'crates' / name, stdin=subprocess.DEVNULL, stdout=self.output,
-            stderr=self.output, preexec_fn=os.setpgrp)
+            words if has_priority else ['nice', '-n', '5', *words], cwd=sums.ROOT / 'crates' / name,
+            stdin=subprocess.DEVNULL, stdout=self.output, stderr=self.output, preexec_fn=os.setpgrp)
 
     def has_ended(self):
         """Whether it has ended; then `status` and `seconds`, of a processor, are known."""
@@ -60,30 +60,27 @@ class Proof:
 
 
 def processes_at_once():
-    """How many processes there may be: one for each processor, as far as the free memory allows.
-
-    With two more, a process would wait for a processor less often where others only read their
-    crates; but all then take a seventh more of a processor's time.
-    """
+    """How many processes there may be: two more than processors, since one alone reads a crate
+    before several prove it, but no more than the free memory allows."""
     free = MEMORY_OF_A_PROCESS
     with open('/proc/meminfo', encoding='utf-8') as file:
         for line in file:
             if line.startswith('MemAvailable:'):
                 free = 1024 * int(line.split()[1])
-    return max(1, min(len(os.sched_getaffinity(0)), free // MEMORY_OF_A_PROCESS))
+    return max(1, min(len(os.sched_getaffinity(0)) + 2, free // MEMORY_OF_A_PROCESS))
 
 
 def jobs_of(name, is_first, are_few, most):
-    """How many processes a crate gets, of at most `most`.
+    """How many processes a crate gets, at most `most`.
 
-    Two prove a crate in two thirds of the time of one, three in less, with a tenth more of a
-    processor's time or two. So while there are crates enough to keep the processors busy, only the
-    first, which has the longest chain of crates above it, gets two, and three where hardly another
-    can be proved. Of a program there is next to nothing to prove.
+    Two prove a crate in two thirds of the time of one, four in half of it or a little less, with a
+    seventh and half as much again of a processor's time. So while there are crates enough to keep
+    the processors busy, only the first, which has the longest chain of crates above it, gets two.
+    Of a program there is next to nothing to prove.
     """
     if name == sums.PROGRAM or not is_first:
         return 1
-    return min(3, most) if are_few else min(2, max(1, most // 2))
+    return min(4 if are_few else 2, most)
 
 
 def longest_chain_first(crates, names):
@@ -128,7 +125,8 @@ def prove(crates, waiting, tell):
                 jobs = jobs_of(name, before == 0, are_few, most)
                 if sum(it.jobs for it in running) + jobs <= most:
                     waiting.remove(name)
-                    running.append(Proof(name, jobs))
+                    # (the second too: its chain may be nearly as long)
+                    running.append(Proof(name, jobs, before <= 1))
             time.sleep(0.2)
             for proof in [it for it in running if it.has_ended()]:
                 running.remove(proof)
