@@ -103,6 +103,8 @@ fn reopened_store(rt: HostRuntime) -> Result<(), Fail> {
     assert!(rt; has_versions(alloc, &mut engine, &MOVES)?);
     let wanted: [Held<'_>; 1] = [(&[22_217], "2010-01-01", "2011-11-12")];
     assert!(rt; answers(alloc, &mut engine, NUMBERS, &wanted)?);
+    let mut again = opened(alloc, engine.close_at_exit())?;
+    assert!(rt; has_versions(alloc, &mut again, &MOVES)?);
     Ok(())
 }
 

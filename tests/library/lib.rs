@@ -73,8 +73,8 @@
 //! - `scan`: `stores::windows`, `stores::a_visitor_that_refuses_the_third_row`
 //!
 //! script_engine
-//! - `open`, `close`, `clock`, `catalog`, `rows` of `Engine`: `engines::reopened_store`,
-//!   `engines::store_of_another_form`, `engines::insert_with_column_list`,
+//! - `open`, `close`, `clock`, `catalog`, `rows` of `Engine`: `engines::reopened_store`, which has
+//!   `close_at_exit` too, `engines::store_of_another_form`, `engines::insert_with_column_list`,
 //!   `moves::starts_that_meet`, `moves::refused_as_it_is`, `moves::clocks_at_both_ends`; `at`:
 //!   `engines::clocks`
 //! - `execute`: `engines::portions`, `engines::stored_versions`; `execute_audited`:

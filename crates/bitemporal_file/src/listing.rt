@@ -172,5 +172,5 @@ pub fn list_store<S: Alter, W: Write>(
 {
     let mut engine = Engine::open(alloc, connection)?;
     let listed = list_tables(alloc, &mut engine, out);
-    Ok((listed, engine.close()))
+    Ok((listed, engine.close_at_exit()))
 }

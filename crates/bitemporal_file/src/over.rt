@@ -72,7 +72,7 @@ fn run_store<S: Alter, K: PieceResult<S> + Reported + Drop, Q: Scripts, R: Read,
 {
     let mut engine = Engine::open(alloc, connection)?;
     let ended = run_files::<S, K, Q, R, W>(alloc, &mut engine, scripts, files, input, reporter);
-    Ok((ended, engine.close()))
+    Ok((ended, engine.close_at_exit()))
 }
 
 // The same with an audit of each answer, or without.

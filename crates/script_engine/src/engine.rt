@@ -12,7 +12,7 @@ ghost use Rattle.version_tables.specs.Steps.{IsAsBefore};
 ghost use Rattle.version_store.specs.Changed.{planned};
 ghost use Rattle.version_store.specs.Contents.{AreRowsOf, Contents};
 ghost use Rattle.version_store.specs.DistinctKeys.{HaveDistinctKeys};
-ghost use Rattle.version_store.specs.GoodStore.{IsGoodStore};
+ghost use Rattle.version_store.specs.GoodStore.{AreGood, IsGoodStore};
 ghost use Rattle.version_store.specs.StoreState.{Changes, IsOpenRefusal, IsOurs, IsStoreRefusal};
 ghost use Rattle.version_store.specs.StoreState.{IsUsable, SparesOthers, StoreRepresents};
 ghost use Rattle.history_model.specs.Histories.{Advanced, History, state_at, with_event};
@@ -65,6 +65,7 @@ use sqlite_trees::store::Alter;
 use statement_reports::{Outcome, VersionList, Word};
 use std::alloc::Global;
 use std::marker::Model;
+use std::mem::ManuallyDrop;
 use version_store::VersionStore;
 
 /// The engine: its store, and in memory all versions of each table, in the order of the catalog:
@@ -93,6 +94,20 @@ impl<S: Alter> Model for Engine<S> {
 
     ghost invariant = { λ e. FollowCatalog e.store.catalog.tables e.tables.items
         × AllEndedBy e.store.clock e.ended.items };
+}
+
+/// The connection of a store, which is a good one where its contents are.
+fn connection_of<S: Alter>(store: VersionStore<S>) -> Connection<S>
+    ensures same { result ≡ store.connection }
+    ensures settled { result.in_transaction ≡ false }
+    ensures good { IsUsable S.Store result
+        → (c : Contents) → StoreRepresents S.Store store c → AreGood AreConstrained c
+        → IsGoodStore AreConstrained (state S.Store result).now }
+{
+    let connection = store.close();
+    // For the proof alone: while a connection is open, no two rows share a key.
+    let _live = connection.schema();
+    connection
 }
 
 // What the clauses say of a store holds where its connection is usable as the call ends: its disk
@@ -166,10 +181,26 @@ impl<S: Alter> Engine<S> {
             tables: _,
             ended: _,
         } = self;
-        let connection = store.close();
-        // For the proof alone: while a connection is open, no two rows share a key.
-        let _live = connection.schema();
-        connection
+        connection_of(store)
+    }
+
+    /// The same for a program that ends soon. The memory of the rows is left to the end of the
+    /// process: to give many rows back, one by one, takes time.
+    pub fn close_at_exit(self) -> Connection<S>
+        ensures same { result ≡ self.connection }
+        ensures settled { result.in_transaction ≡ false }
+        ensures good { IsUsable S.Store result
+            → (history : History) → EngineRepresents S.Store history self
+            → IsGoodStore AreConstrained (state S.Store result).now }
+    {
+        let Engine {
+            store,
+            tables,
+            ended,
+        } = self;
+        let _tables = ManuallyDrop::new(tables);
+        let _ended = ManuallyDrop::new(ended);
+        connection_of(store)
     }
 
     /// The clock: the moment of the last AT, in a new store the first moment.

@@ -22,8 +22,9 @@ pub enum Terminal<'m> {
     Symbol(&'m str),
 }
 
+// What asks for a terminal is in line: at each call it is a literal, for which little is left.
+
 /// Is the token this terminal?
-// At each call the terminal is a literal, for which little of this is left.
 #[inline(always)]
 pub fn is_terminal(token: &Token<'_>, want: Terminal<'_>) -> bool
     ensures { result ≡ terminal want.entry (lexeme token.now) }
@@ -38,6 +39,7 @@ pub fn is_terminal(token: &Token<'_>, want: Terminal<'_>) -> bool
 }
 
 /// Do the tokens begin with this terminal?
+#[inline(always)]
 pub fn starts(tokens: &[Token<'_>], want: Terminal<'_>) -> bool
     ensures { result ≡ begins (terminal want.entry) (lexemes tokens.now) }
 {
@@ -58,6 +60,7 @@ pub fn third_is(tokens: &[Token<'_>], want: Terminal<'_>) -> bool
 }
 
 /// The tokens after this terminal.
+#[inline(always)]
 pub fn expect<'a, 'b>(
     tokens: &'b [Token<'a>],
     want: Terminal<'_>,
@@ -73,6 +76,7 @@ pub fn expect<'a, 'b>(
 }
 
 /// The tokens after this terminal, where they begin with it.
+#[inline(always)]
 pub fn accept<'a, 'b>(tokens: &'b [Token<'a>], want: Terminal<'_>) -> Option<&'b [Token<'a>]>
     ensures there { is_some result ≡ begins (terminal want.entry) (lexemes tokens.now) }
     ensures value { IfSome result
@@ -86,6 +90,7 @@ pub fn accept<'a, 'b>(tokens: &'b [Token<'a>], want: Terminal<'_>) -> Option<&'b
 }
 
 /// The tokens after this terminal, or all of them where they do not begin with it.
+#[inline(always)]
 pub fn skip_optional<'a, 'b>(tokens: &'b [Token<'a>], want: Terminal<'_>) -> &'b [Token<'a>]
     ensures value { lexemes result.now
         ≡ behind_optional (terminal want.entry) (lexemes tokens.now) }

@@ -7,5 +7,5 @@ pub returns-clause-others : goal.returns-clause-others
 returns-clause-others g c =
     let engine = c.in_ok-engine.engine.connection in
     let listed = c.list_tables-listed.new.engine.connection in
-    subst (SparesOthers g.S.Store c.args.connection) (sym c.close.ensures.same)
+    subst (SparesOthers g.S.Store c.args.connection) (sym c.close_at_exit.ensures.same)
     (spares_then g.S.Store c.args.connection engine listed c.in_ok-engine.ensures.others c.list_tables-listed.ensures.usable c.list_tables-listed.ensures.others)

@@ -9,17 +9,17 @@ use Rattle.bitemporal_file.proofs.over.run_store.Goals as goal
 
 pub returns-clause-ran : goal.returns-clause-ran
 returns-clause-ran g c =
-    given_so g.K.PieceResult.is_step g.K.Reported.refused g.W.Write.contents g.K.Reported.text g.K.Reported.status_of (LeadsEngine g.S.Store c.in_ok-engine.engine c.run_files-ended.new.engine) (LeadsDatabase g.S.Store c.args.connection c.close.result)
+    given_so g.K.PieceResult.is_step g.K.Reported.refused g.W.Write.contents g.K.Reported.text g.K.Reported.status_of (LeadsEngine g.S.Store c.in_ok-engine.engine c.run_files-ended.new.engine) (LeadsDatabase g.S.Store c.args.connection c.close_at_exit.result)
     (λ (Led : History → History → Type 0) led usable history stands.
-    let engine_usable = subst (IsUsable g.S.Store) c.close.ensures.same usable in
+    let engine_usable = subst (IsUsable g.S.Store) c.close_at_exit.ensures.same usable in
     let opened = c.in_ok-engine.ensures.opened (c.run_files-ended.ensures.usable engine_usable) history stands in
     let (last, leads, represents) = led engine_usable history opened in
-    (last, leads, stands_for g.S.Store last c.run_files-ended.new.engine c.close.result c.close.ensures.same represents))
+    (last, leads, stands_for g.S.Store last c.run_files-ended.new.engine c.close_at_exit.result c.close_at_exit.ensures.same represents))
     _ _ c.args.reporter.now c.run_files-ended.result c.run_files-ended.new.reporter c.run_files-ended.ensures.ran
 
 pub returns-clause-others : goal.returns-clause-others
 returns-clause-others g c =
     let engine = c.in_ok-engine.engine.connection in
     let ended = c.run_files-ended.new.engine.connection in
-    subst (SparesOthers g.S.Store c.args.connection) (sym c.close.ensures.same)
+    subst (SparesOthers g.S.Store c.args.connection) (sym c.close_at_exit.ensures.same)
     (spares_then g.S.Store c.args.connection engine ended c.in_ok-engine.ensures.others c.run_files-ended.ensures.usable c.run_files-ended.ensures.others)
