@@ -12,6 +12,7 @@ pub mod Blocks
 pub mod PlacedRows
 pub mod NearRows
 pub mod Grouped
+pub mod Entered
 pub mod Periods
 pub mod Locality
 pub mod Indexes
