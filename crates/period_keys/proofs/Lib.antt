@@ -2,6 +2,7 @@ pub mod Places
 pub mod Leasts
 pub mod GapSteps
 pub mod Members
+pub mod Answered
 pub mod Pairs
 pub mod SweepSteps
 pub mod InOrder

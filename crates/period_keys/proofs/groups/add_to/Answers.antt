@@ -11,17 +11,10 @@ use Rattle.temporal_model.proofs.Members.{Contains-one}
 use Rattle.period_keys.specs.declared.key_rows.KeyRows.{KeyRows}
 use Rattle.period_keys.specs.Rows.{AreGrouped, rows_of_groups}
 use Rattle.period_keys.specs.Versions.{version_key}
+use Rattle.period_keys.proofs.Answered.{on_err, on_ok}
 use Rattle.period_keys.proofs.Entered.{Enters, grouped_entered, none_entered, rows_entered}
 use Rattle.period_keys.proofs.Grouped.{Groups, rows_in}
 use Rattle.period_keys.proofs.groups.add_to.Goals as goal
-
-on_ok : {X E : Type 0} (r : Result X E) {P Q : Type 0} → (P → Q) → OnOk r P → OnOk r Q
-on_ok (Ok x) f p = f p
-on_ok (Err e) f p = tt
-
-on_err : {X E : Type 0} (r : Result X E) {P Q : Type 0} → (P → Q) → OnErr r P → OnErr r Q
-on_err (Ok x) f p = tt
-on_err (Err e) f p = f p
 
 -- a row that was added is one of the old ones, or the new one
 of_added : (positions : List ℕ) (key : List Value) (v w : KeyRows) (row : VersionRow) → key ≡ version_key positions row → IsPermutation (rows_in w) (rows_in v ++ row ∷ [])
