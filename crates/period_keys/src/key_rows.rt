@@ -149,7 +149,7 @@ impl KeyRows {
     }
 }
 
-// Puts a row behind the others, and the first one with no room for more: most keys have one.
+// Puts a row after the others, and the first one with no room for more: most keys have one.
 fn push_row(rows: &mut Vec<VersionRow>, row: VersionRow) -> Result<(), Memory>
     ensures ok { OnOk result (rows.new.items ≡ rows.old.items ++ row ∷ []) }
     ensures err { OnErr result (rows.new.items ≡ rows.old.items) }
