@@ -1,6 +1,5 @@
 -- Blocks of placed periods: one that changes, and one more.
 use Rattle.std.proofs.Common.{◌≡◌, ◌⊎◌, ◌<◌, Bool, true, false, ◌≤ℤ◌, ◌+◌, ◌++◌, ◌∷◌, [], ◌∙◌, ℕ, ℤ, List, length, get_or, set, take, drop, sym, ap, subst, inl, inr, arith}
-use Rattle.std.specs.Prelude.{Result, Ok, Err, OnOk}
 use Rattle.std.specs.Bool.{OnTrue}
 use Rattle.std.specs.List.{All, Any, Contains, insert, swap_remove}
 use Rattle.std.specs.List.Sorted.{IsPermutation}
@@ -133,10 +132,6 @@ cut_block blocks i j old new later inside is parts x there =
       | inl second ↦ in_new_block (set blocks i new) j later x second
       | inr has ↦ more_blocks (set blocks i new) j later x has
     ]
-
-pub on_ok : {X E : Type 0} (r : Result X E) {P Q : Type 0} → (P → Q) → OnOk r P → OnOk r Q
-on_ok (Ok x) f p = f p
-on_ok (Err e) f p = tt
 
 pub on_true : (b : Bool) {P Q : Type 0} → (P → Q) → OnTrue b P → OnTrue b Q
 on_true true f p = f p

@@ -49,7 +49,7 @@ changed_behind a b e s r moved =
     IsPermutation-trans (a ++ (e ++ s)) (e ++ (a ++ s)) (b ++ (e ++ r)) (to_front a e s)
     (IsPermutation-trans (e ++ (a ++ s)) (e ++ (b ++ r)) (b ++ (e ++ r)) (IsPermutation-append_right e (a ++ s) (b ++ r) moved) (to_front e b r))
 
-changed_before : {X : Type 0} (a b v w r : List X) → IsPermutation (a ++ w) (b ++ v) → IsPermutation (a ++ (w ++ r)) (b ++ (v ++ r))
+pub changed_before : {X : Type 0} (a b v w r : List X) → IsPermutation (a ++ w) (b ++ v) → IsPermutation (a ++ (w ++ r)) (b ++ (v ++ r))
 changed_before {X} a b v w r moved =
     subst (λ (xs : List X). IsPermutation xs (b ++ (v ++ r))) (append_assoc a w r)
     (subst (IsPermutation ((a ++ w) ++ r)) (append_assoc b v r) (IsPermutation-append_left r (a ++ w) (b ++ v) moved))
@@ -164,7 +164,7 @@ pub group_of_key : (positions : List ℕ) (key : List Value) (groups : BTreeMap 
 group_of_key positions key groups grouped =
     found_rows positions key groups.entries (IsDistinct-from_sorted values_cmp (keys_of groups.entries) grouped.ordered) grouped.keyed
 
--- ---- groups after a write through what `get_mut` lent
+-- ---- groups after a write at a key that is there
 
 abbrev pub Groups : Type 0
 Groups = BTreeMap (List Value) KeyRows
@@ -181,11 +181,11 @@ unmoved test (e ∷ es) v w found same = by_test (λ h. unmoved test es v w h sa
     by_test rest false found = ap (λ (xs : List VersionRow). rows_in e.1 ++ xs) (rest found)
 
 -- each row of the group that was written was there, or has its key
-pub grouped_after : (positions : List ℕ) (m n : Groups) (key : List Value) (v w : KeyRows) → Some v ≡ get values_cmp m key → Writes m n key w
+pub grouped_after : (positions : List ℕ) (m n : Groups) (key : List Value) (v w : KeyRows) → Some v ≡ get values_cmp m key → n.entries ≡ set_value (is_at (values_cmp key)) m.entries w → IsOrdered values_cmp n
     → ((x : VersionRow) → Contains (rows_in w) x → Contains (rows_in v) x ⊎ (key ≡ version_key positions x)) → AreGrouped positions m → AreGrouped positions n
-grouped_after positions m n key v w there writes from grouped = record {
-  ordered = writes.4;
-  keyed = subst (AllByRecursion (HaveKey positions)) (sym writes.0)
+grouped_after positions m n key v w there set ordered from grouped = record {
+  ordered = ordered;
+  keyed = subst (AllByRecursion (HaveKey positions)) (sym set)
       (keyed_written (HaveKey positions) (is_at (values_cmp key)) m.entries v w (sym there) step grouped.keyed);
 } where
   step : (k : List Value) → is_at (values_cmp key) k ≡ true → HaveKey positions (k, v) → HaveKey positions (k, w)
@@ -216,7 +216,7 @@ taken_from positions m n key v w x rest there writes taken moved =
 pub still_grouped : (positions : List ℕ) (m n : Groups) (key : List Value) (v w : KeyRows) (x : VersionRow) (r : Bool) → Some v ≡ get values_cmp m key → Writes m n key w
     → OnTrue r (IsPermutation (rows_in v) (x ∷ rows_in w)) → OnFalse r (rows_in w ≡ rows_in v) → AreGrouped positions m → AreGrouped positions n
 still_grouped positions m n key v w x r there writes taken kept grouped =
-    grouped_after positions m n key v w there writes (λ y c. inl (was r taken kept y c)) grouped
+    grouped_after positions m n key v w there writes.0 writes.4 (λ y c. inl (was r taken kept y c)) grouped
   where
     was : (r : Bool) → OnTrue r (IsPermutation (rows_in v) (x ∷ rows_in w)) → OnFalse r (rows_in w ≡ rows_in v) → (y : VersionRow) → Contains (rows_in w) y → Contains (rows_in v) y
     was true taken kept y c = Contains-permutation (x ∷ rows_in w) (rows_in v) y (IsPermutation-sym (rows_in v) (x ∷ rows_in w) taken) (Contains-there x (rows_in w) y c)

@@ -1,7 +1,7 @@
 -- The least of days: of those of either kind, and of the same days.
 use Rattle.std.proofs.Common.{◌≡◌, ◌↔◌, ◌⊎◌, ◌≤ℤ◌, ◌<ℤ◌, ◌<◌, ◌+◌, ◌++◌, ◌∷◌, [], ◌∙◌, ℕ, ℤ, List, length, take, get_or, Option, Some, None, sym, ap, subst, inl, inr, arith}
 use Rattle.std.proofs.lemmas.Int.{ints, by_lt_z}
-use Rattle.std.specs.Prelude.{int_lt, if◌then◌else◌}
+use Rattle.std.specs.Prelude.{IfOk, Result, Ok, Err, int_lt, if◌then◌else◌}
 use Rattle.std.specs.List.{Any}
 use Rattle.std.proofs.lemmas.List.{take_more}
 use Rattle.period_keys.proofs.Members.{Any-append, Any-one, Any-nil}
@@ -11,6 +11,11 @@ use Rattle.period_keys.specs.Index.{earlier}
 pub IsLeastOf-same : (P Q : ℤ → Type 0) → ((day : ℤ) → (P day ↔ Q day)) → (found : Option ℤ) → IsLeastOf P found → IsLeastOf Q found
 IsLeastOf-same P Q same None h = λ day q. h day ((same day).1 q)
 IsLeastOf-same P Q same (Some day) h = record { faulty = (same day).0 h.faulty; least = λ other q. h.least other ((same other).1 q) }
+
+-- the same of an answer that may fail
+pub least_if_same : {E : Type 0} (P Q : ℤ → Type 0) → ((day : ℤ) → (P day ↔ Q day)) → (result : Result (Option ℤ) E) → IfOk result (IsLeastOf P) → IfOk result (IsLeastOf Q)
+least_if_same P Q same (Ok found) h = IsLeastOf-same P Q same found h
+least_if_same P Q same (Err e) h = tt
 
 -- of two days the test takes the earlier one
 lesser : (day next : ℤ) → (((if int_lt next day then next else day) ≡ next) × (next <ℤ day)) ⊎ (((if int_lt next day then next else day) ≡ day) × (day ≤ℤ next))

@@ -2,6 +2,7 @@ pub mod Places
 pub mod Leasts
 pub mod GapSteps
 pub mod Members
+pub mod Answered
 pub mod Pairs
 pub mod SweepSteps
 pub mod InOrder
@@ -12,6 +13,7 @@ pub mod Blocks
 pub mod PlacedRows
 pub mod NearRows
 pub mod Grouped
+pub mod Entered
 pub mod Periods
 pub mod Locality
 pub mod Indexes

@@ -1,6 +1,6 @@
 -- An index read at a key after a change at one key.
 use Rattle.std.proofs.Common.{◌≡◌, ℕ, suc, Bool, true, false, not, cond, Some, None, List, [], ◌∷◌, ◌++◌, refl, sym, ◌∙◌, ap, subst, arith, length}
-use Rattle.std.specs.Prelude.{◌==◌, Option, is_some}
+use Rattle.std.specs.Prelude.{◌==◌, Option, is_some, unwrap_or}
 use Rattle.std.proofs.lemmas.Bool.{false≢true}
 use Rattle.std.proofs.lemmas.Bool.Decides.{nat_tests}
 use Rattle.std.specs.List.Sorted.{IsPermutation}
@@ -49,8 +49,13 @@ read_moved items m n key w more u moved other =
 pub read_there : {V : Type 0} (items : V → List Period) (m : BTreeMap (List Value) V) (key : List Value) (v : V) → Some v ≡ get values_cmp m key → read items m key ≡ items v
 read_there items m key v e = ap (λ o. option_map_or items o []) (sym e)
 
-pub read_absent : {V : Type 0} (items : V → List Period) (m : BTreeMap (List Value) V) (key : List Value) → get values_cmp m key ≡ None → read items m key ≡ []
-read_absent items m key e = ap (λ o. option_map_or items o []) e
+-- what it found, or none
+pub read_or : {V : Type 0} (items : V → List Period) (m : BTreeMap (List Value) V) (key : List Value) (v empty : V) → v ≡ unwrap_or (get values_cmp m key) empty → items empty ≡ [] → read items m key ≡ items v
+read_or {V} items m key v empty is none = by_found (get values_cmp m key) is
+  where
+    by_found : (found : Option V) → v ≡ unwrap_or found empty → option_map_or items found [] ≡ items v
+    by_found None given = sym none ∙ ap items (sym given)
+    by_found (Some x) given = ap items (sym given)
 
 pub cond_same : {X : Type 0} (b : Bool) (x : X) → cond b x x ≡ x
 cond_same true x = refl

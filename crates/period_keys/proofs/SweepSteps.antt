@@ -150,14 +150,19 @@ next_latest rows n latest result order below place last reach picked =
 HoldSame-sym : (day : ℤ) (a b : PeriodRow) → HoldSame day a b → HoldSame day b a
 HoldSame-sym day a b h = (sym h.0, (h.1.1, h.1.0))
 
+-- what rows repeat does not depend on their order
+pub repeats_moved : (rows others : List PeriodRow) → IsPermutation rows others → (day : ℤ) → (Repeats others day ↔ Repeats rows day)
+repeats_moved rows others moved day = (
+  SomePair-permutation (HoldSame day) (HoldSame-sym day) others rows (IsPermutation-sym rows others moved),
+  SomePair-permutation (HoldSame day) (HoldSame-sym day) rows others moved,
+)
+
 -- two entries share a key where two rows of keys hold the same values
-pub keys_repeat : (positions : List ℕ) (rows keyed : List PeriodRow) → IsPermutation (map (key_row positions) rows) keyed → (day : ℤ) → (Repeats keyed day ↔ IsKeyClash positions rows day)
-keys_repeat positions rows keyed moved day =
+pub keys_repeat : (positions : List ℕ) (rows : List PeriodRow) (day : ℤ) → (Repeats (map (key_row positions) rows) day ↔ IsKeyClash positions rows day)
+keys_repeat positions rows day =
     let f = key_row positions in
     let size : length (map f rows) ≡ length rows = length-map rows f in (
-      λ r. let (i, j, lt, below, both) = SomePair-permutation (HoldSame day) (HoldSame-sym day) keyed (map f rows) (IsPermutation-sym (map f rows) keyed moved) r in
-          (i, j, lt, omega arith, λ d. subst (λ x. HoldSame day x (f (get_or rows j d))) (get_or-map f rows i d d (omega arith)) (subst (HoldSame day (get_or (map f rows) i d)) (get_or-map f rows j d d (omega arith)) (both d))),
+      λ (i, j, lt, below, both). (i, j, lt, omega arith, λ d. subst (λ x. HoldSame day x (f (get_or rows j d))) (get_or-map f rows i d d (omega arith)) (subst (HoldSame day (get_or (map f rows) i d)) (get_or-map f rows j d d (omega arith)) (both d))),
       λ (i, j, lt, below, both).
-          SomePair-permutation (HoldSame day) (HoldSame-sym day) (map f rows) keyed moved
           (i, j, lt, omega arith, λ d. subst (λ x. HoldSame day x (get_or (map f rows) j d)) (sym (get_or-map f rows i d d (omega arith))) (subst (HoldSame day (f (get_or rows i d))) (sym (get_or-map f rows j d d below)) (both d))),
     )

@@ -12,7 +12,7 @@ use crate::current_rows::CurrentRows;
 use crate::keyed_periods::KeyedPeriods;
 use crate::keys::{key_of, values_of};
 use crate::shared_days::earlier;
-use crate::sweep::rows_clash;
+use crate::sweep::{keyed_row, least_repeat};
 use period_core::{Day, Memory, PeriodRow, VersionRow};
 use std::alloc::Global;
 
@@ -94,12 +94,15 @@ pub fn key_clash_after(
 {
     let positions = current.positions();
     let gone = index_of_versions(alloc, positions, ended)?;
+    // Each key is made once: it finds the rows that are kept, and then is compared with the others.
     let mut with_kept = None;
+    let mut keyed = Vec::with_capacity(alloc, added.len())?;
     for row in added {
         let key = key_of(alloc, positions, row)?;
         let kept = current.first_shared(&gone, &key, &row.period);
         with_kept = earlier(with_kept, kept);
+        keyed.push(keyed_row(key, row))?;
     }
-    let among = rows_clash(alloc, positions, added)?;
+    let among = least_repeat(keyed)?;
     Ok(earlier(with_kept, among))
 }

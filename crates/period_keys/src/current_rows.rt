@@ -1,7 +1,9 @@
 //! The current version rows of one table, by key.
 
 ghost use Rattle.std.specs.Prelude.{◌≡◌, ◌≤◌, ◌++◌, ◌∷◌, [], IsPermutation, List, OnErr, OnOk};
-ghost use Rattle.std.specs.Prelude.{MatchOption, length, map, take};
+ghost use Rattle.std.specs.Prelude.{MatchOption, length, map, option_copied, take};
+ghost use Rattle.std.specs.BTreeMap.{get_by};
+ghost use Rattle.period_core.specs.Order.{values_cmp};
 ghost use Rattle.period_core.specs.declared.version.VersionRow.{VersionRow as Version};
 ghost use Rattle.period_keys.specs.Keys.{key_values, values_at};
 ghost use Rattle.period_keys.specs.Index.{SharesDayOfKept, periods_at};
@@ -16,6 +18,7 @@ use crate::keyed_periods::KeyedPeriods;
 use crate::keys::values_of;
 use period_core::{Day, Items, Memory, Moment, Period, PeriodRow, Values, VersionRow};
 use std::alloc::Global;
+use std::cmp::Ordering;
 use std::collections::{BTreeMap, btree_map};
 use std::marker::Model;
 
@@ -61,7 +64,7 @@ impl CurrentRows {
     pub fn of_key(&self, key: &Key) -> &[VersionRow]
         ensures { result.now ≡ rows_of_key self.now key.now }
     {
-        match self.groups.get(key) {
+        match group_at(&self.groups, key) {
             Some(group) => group.as_slice(),
             None => &[],
         }
@@ -72,7 +75,7 @@ impl CurrentRows {
         ensures { MatchOption result (rows_of_key self.now key.now ≡ [])
             (λ group. group.now.rows.items ≡ rows_of_key self.now key.now) }
     {
-        match self.groups.get(key) {
+        match group_at(&self.groups, key) {
             Some(group) => Some(group),
             None => None,
         }
@@ -206,5 +209,16 @@ impl CurrentRows {
             let row = &rows[i];
             self.remove_version(&keys[i], &row.values, row.period, moment, Moment::forever());
         }
+    }
+}
+
+// The group of a key. The last key is looked at before the others, since many rows come in the
+// order of their keys, each with a key above all that are there.
+fn group_at<'a>(groups: &'a Groups, key: &Key) -> Option<&'a KeyRows>
+    ensures { option_copied result ≡ get_by (values_cmp key.now) groups.now }
+{
+    match groups.last_key_value() {
+        Some((last, _)) if last.cmp(key) == Ordering::Less => None,
+        _ => groups.get(key),
     }
 }

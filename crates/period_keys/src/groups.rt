@@ -24,13 +24,10 @@ pub fn add_to(alloc: Global, groups: &mut Groups, key: &Key, row: VersionRow) ->
     ensures grouped { (positions : List ℕ) → key.now ≡ version_key positions row
         → AreGrouped positions groups.old → AreGrouped positions groups.new }
 {
-    if let Some(group) = groups.get_mut(key) {
-        group.add(alloc, row)?;
-        return Ok(());
-    }
-    let group = KeyRows::one(alloc, row)?;
-    groups.insert(key.copy(alloc)?, group)?;
-    Ok(())
+    let group = groups
+        .entry(key.copy(alloc)?)?
+        .or_insert(KeyRows::none(alloc));
+    group.add(alloc, row)
 }
 
 /// Takes out a row of this key, with these values, this period and this system time. It takes no

@@ -39,13 +39,14 @@ pub struct KeyRows {
 }
 
 impl KeyRows {
-    /// One row, with no room for more: most keys have one.
-    pub fn one(alloc: Global, row: VersionRow) -> Result<KeyRows, Memory>
-        ensures { IfOk result (λ group. group.rows.items ≡ row ∷ []) }
+    /// No rows.
+    pub fn none(alloc: Global) -> KeyRows
+        ensures { result.rows.items ≡ [] }
     {
-        let mut rows = Vec::with_capacity(alloc, 1)?;
-        rows.push(row)?;
-        Ok(KeyRows { rows, placed: None })
+        KeyRows {
+            rows: Vec::new(alloc),
+            placed: None,
+        }
     }
 
     /// The rows.
@@ -69,7 +70,7 @@ impl KeyRows {
         ensures err { OnErr result (self.new.rows.items ≡ self.old.rows.items) }
     {
         let place = self.rows.len();
-        self.rows.push(row)?;
+        push_row(&mut self.rows, row)?;
         let placed = self.placed.take();
         self.placed = placed_with(alloc, placed, self.rows.as_slice(), place);
         Ok(())
@@ -146,6 +147,18 @@ impl KeyRows {
         let places = places_near(alloc, blocks, period)?;
         Ok(Some(places))
     }
+}
+
+// Puts a row after the others, and the first one with no room for more: most keys have one.
+fn push_row(rows: &mut Vec<VersionRow>, row: VersionRow) -> Result<(), Memory>
+    ensures ok { OnOk result (rows.new.items ≡ rows.old.items ++ row ∷ []) }
+    ensures err { OnErr result (rows.new.items ≡ rows.old.items) }
+{
+    if rows.is_empty() {
+        rows.reserve_exact(1)?;
+    }
+    rows.push(row)?;
+    Ok(())
 }
 
 // The period of the row at a place.

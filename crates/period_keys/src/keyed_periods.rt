@@ -89,14 +89,11 @@ impl KeyedPeriods {
         ensures err { OnErr result ((other : List ColumnValue)
             → periods_at self.new other ≡ periods_at self.old other) }
     {
-        if let Some(periods) = self.entries.get_mut(key) {
-            periods.add(period)?;
-            return Ok(());
-        }
-        let mut periods = OrderedPeriods::new(alloc);
-        periods.add(period)?;
-        self.entries.insert(key.copy(alloc)?, periods)?;
-        Ok(())
+        let periods = self
+            .entries
+            .entry(key.copy(alloc)?)?
+            .or_insert(OrderedPeriods::new(alloc));
+        periods.add(period)
     }
 
     /// Takes one such period out of those of a key, and says whether it was there.

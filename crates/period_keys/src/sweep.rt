@@ -9,6 +9,7 @@ ghost use Rattle.period_keys.specs.Keys.{IsKeyClash, IsLeastOf};
 ghost use Rattle.period_keys.specs.Repeats.{EndsByThen, EndsLater, IsReachedOn};
 ghost use Rattle.period_keys.specs.Repeats.{Reaches, Repeats, key_row};
 
+use crate::key::Key;
 use crate::keys::key_of;
 use crate::shared_days::earlier;
 use period_core::{Day, Memory, PeriodRow};
@@ -26,9 +27,15 @@ pub fn rows_clash(
     if rows.len() < 2 {
         return Ok(None);
     }
-    let mut keyed = key_rows(alloc, positions, rows)?;
-    keyed.sort()?;
-    Ok(first_repeat(keyed.as_slice()))
+    least_repeat(key_rows(alloc, positions, rows)?)
+}
+
+/// The least day on which two of the rows hold the same values.
+pub fn least_repeat(mut rows: Vec<PeriodRow>) -> Result<Option<Day>, Memory>
+    ensures { IfOk result (IsLeastOf (Repeats rows.items)) }
+{
+    rows.sort()?;
+    Ok(first_repeat(rows.as_slice()))
 }
 
 /// The rows with their values at these positions alone.
@@ -41,12 +48,20 @@ pub fn key_rows(
 {
     let mut keyed = Vec::new(alloc);
     for row in rows {
-        keyed.push(PeriodRow {
-            values: key_of(alloc, positions, row)?.into_values(),
-            period: row.period,
-        })?;
+        let key = key_of(alloc, positions, row)?;
+        keyed.push(keyed_row(key, row))?;
     }
     Ok(keyed)
+}
+
+/// The row with the values of its key alone.
+pub fn keyed_row(key: Key, row: &PeriodRow) -> PeriodRow
+    ensures { result ≡ record { values = key; period = row.now.period } }
+{
+    PeriodRow {
+        values: key.into_values(),
+        period: row.period,
+    }
 }
 
 // The least day on which two entries hold the same values, of rows in order.

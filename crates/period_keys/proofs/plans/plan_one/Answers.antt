@@ -1,7 +1,7 @@
 use Rattle.std.proofs.Common.{◌++◌, ◌∷◌, [], List, get_or, sym, subst}
 use Rattle.period_core.specs.declared.version.VersionRow.{VersionRow}
 use Rattle.portion_dml.specs.Plans.{Plans}
-use Rattle.period_keys.proofs.Blocks.{on_ok}
+use Rattle.period_keys.proofs.Answered.{on_ok}
 use Rattle.period_keys.proofs.PlacedRows.{one_row}
 use Rattle.period_keys.proofs.PlanParts.{plans_joined}
 use Rattle.period_keys.proofs.plans.plan_one.Goals as goal

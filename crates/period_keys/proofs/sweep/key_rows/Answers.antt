@@ -8,5 +8,5 @@ use Rattle.period_keys.proofs.sweep.key_rows.Goals as goal
 pub loop-row-preserved : goal.loop-row-preserved
 loop-row-preserved c =
     let keyed : List Value → PeriodRow = λ values. record { values = values; period = c.row-item.result.period } in
-    mapped_more (key_row c.args.positions.now) c.args.rows.now c.loop-row.row-index c.row-item.result (keyed c.into_values.result) c.loop-row.keyed.items c.push.new.self.items (omega arith)
-    c.row-item.is (ap keyed (c.into_values.ensures ∙ c.in_ok-key_of.ensures)) c.loop-row.invariant c.in_ok-push.ensures.items
+    mapped_more (key_row c.args.positions.now) c.args.rows.now c.loop-row.row-index c.row-item.result c.keyed_row.result c.loop-row.keyed.items c.push.new.self.items (omega arith)
+    c.row-item.is (c.keyed_row.ensures ∙ ap keyed c.in_ok-key.ensures) c.loop-row.invariant c.in_ok-push.ensures.items

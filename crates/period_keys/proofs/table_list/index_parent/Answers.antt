@@ -7,7 +7,7 @@ use Rattle.catalog_core.specs.table.TableWords.{table_of}
 use Rattle.period_keys.specs.Lawful.{parent_positions}
 use Rattle.period_keys.specs.Positions.{positions_of_places}
 use Rattle.period_keys.specs.TableRows.{TableRows}
-use Rattle.period_keys.proofs.Blocks.{on_ok}
+use Rattle.period_keys.proofs.Answered.{on_ok}
 use Rattle.period_keys.proofs.TableLists.{have_more_set, number_inside, value_is, written_to}
 use Rattle.period_keys.proofs.table_list.index_parent.Goals as goal
 

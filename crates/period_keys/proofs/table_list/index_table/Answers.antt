@@ -3,12 +3,9 @@ use Rattle.std.specs.Prelude.{Result, Ok, Err, OnOk}
 use Rattle.std.proofs.lemmas.Option.{slice_get-get_or}
 use Rattle.period_keys.specs.Lawful.{own_positions}
 use Rattle.period_keys.specs.TableRows.{TableRows}
+use Rattle.period_keys.proofs.Answered.{on_ok}
 use Rattle.period_keys.proofs.TableLists.{have_more_set, have_more_trans, written_at}
 use Rattle.period_keys.proofs.table_list.index_table.Goals as goal
-
-on_ok : {X E : Type 0} (r : Result X E) {P Q : Type 0} → (P → Q) → OnOk r P → OnOk r Q
-on_ok (Ok x) f p = f p
-on_ok (Err e) f p = tt
 
 pub returns-in_err-index_as_child-clause-kept : goal.returns-in_err-index_as_child-clause-kept
 returns-in_err-index_as_child-clause-kept c =

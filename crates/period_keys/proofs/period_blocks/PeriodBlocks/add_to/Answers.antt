@@ -1,5 +1,6 @@
 use Rattle.std.proofs.Common.{◌≡◌, ◌<◌, length, arith, rules}
-use Rattle.period_keys.proofs.Blocks.{grown, grown_by, on_ok}
+use Rattle.period_keys.proofs.Answered.{on_ok}
+use Rattle.period_keys.proofs.Blocks.{grown, grown_by}
 use Rattle.period_keys.proofs.period_blocks.PeriodBlocks.add_to.Goals as goal
 
 pub returns-clause-kept : goal.returns-clause-kept

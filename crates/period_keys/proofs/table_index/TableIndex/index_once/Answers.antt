@@ -2,12 +2,9 @@ use Rattle.std.proofs.Common.{◌≡◌, ◌++◌, ◌∷◌, [], ℕ, List, ref
 use Rattle.std.specs.Prelude.{Contains, Result, Ok, Err, OnErr, OnOk}
 use Rattle.std.proofs.lemmas.List.Elements.{Contains-append_left, Contains-push}
 use Rattle.period_keys.specs.TableRows.{HasMoreIndexes, TableRows}
+use Rattle.period_keys.proofs.Answered.{on_ok}
 use Rattle.period_keys.proofs.TableLists.{has_more_refl}
 use Rattle.period_keys.proofs.table_index.TableIndex.index_once.Goals as goal
-
-on_ok : {X E : Type 0} (r : Result X E) {P Q : Type 0} → (P → Q) → OnOk r P → OnOk r Q
-on_ok (Ok x) f p = f p
-on_ok (Err e) f p = tt
 
 either : {X E : Type 0} (r : Result X E) {P Q H : Type 0} → (P → H) → (Q → H) → OnOk r P → OnErr r Q → H
 either (Ok x) f g p q = f p
