@@ -25,10 +25,10 @@ use Rattle.version_tables.specs.declared.version_key.NewRow.{NewRow}
 use Rattle.version_tables.specs.Adding.{IsBatch, cells, given_rows}
 use Rattle.version_tables.specs.Represents.{Version, Records, Represents, all_added, defined, meta_shown, new_version, stored, table_shown, version_shown}
 use Rattle.version_tables.specs.Tables.{Others, schema_with, version_table}
-use Rattle.version_tables.specs.Texts.{eight_text, four_text, one_text, two_text}
+use Rattle.version_tables.specs.Texts.{eight_text, four_text, one_text, thirty_two_text, two_text}
 use Rattle.version_tables.proofs.Rows.{cast_int, cast_null, permuted, same_value, went}
 use Rattle.version_tables.proofs.Apart.{one_step_with}
-use Rattle.version_tables.proofs.Texts.{Adds, batch_terms, eight_is, four_is, one_is, two_is}
+use Rattle.version_tables.proofs.Texts.{Adds, batch_terms, eight_is, four_is, one_is, thirty_two_is, two_is}
 use Rattle.version_tables.proofs.Updates.{put_fresh, put_keyed, put_table}
 
 -- a row whose rowid is chosen
@@ -111,13 +111,15 @@ module _ (text : List ℕ) (table : ℕ) (from to : ℤ) (rows : List NewRow) (i
 
 -- ---- the texts
 
--- a text of one, two, four or eight rows
+-- a text of one, two, four, eight or thirty-two rows
 pub batches : (rows : List NewRow) (text : List ℕ) → IsBatch (length rows) → (length rows ≡ 1 → text ≡ one_text) → (length rows ≡ 2 → text ≡ two_text)
-    → (length rows ≡ 4 → text ≡ four_text) → (length rows ≡ 8 → text ≡ eight_text) → ((others : Others) → Adds others (length rows) text) × IsCut (length rows)
-batches rows text (inl e) one two four eight = (λ others. subst₂ (Adds others) (sym e) (sym (one e)) (one_is others), subst IsCut (sym e) refl)
-batches rows text (inr (inl e)) one two four eight = (λ others. subst₂ (Adds others) (sym e) (sym (two e)) (two_is others), subst IsCut (sym e) refl)
-batches rows text (inr (inr (inl e))) one two four eight = (λ others. subst₂ (Adds others) (sym e) (sym (four e)) (four_is others), subst IsCut (sym e) refl)
-batches rows text (inr (inr (inr e))) one two four eight = (λ others. subst₂ (Adds others) (sym e) (sym (eight e)) (eight_is others), subst IsCut (sym e) refl)
+    → (length rows ≡ 4 → text ≡ four_text) → (length rows ≡ 8 → text ≡ eight_text) → (length rows ≡ 32 → text ≡ thirty_two_text)
+    → ((others : Others) → Adds others (length rows) text) × IsCut (length rows)
+batches rows text (inl e) one two four eight thirty_two = (λ others. subst₂ (Adds others) (sym e) (sym (one e)) (one_is others), subst IsCut (sym e) refl)
+batches rows text (inr (inl e)) one two four eight thirty_two = (λ others. subst₂ (Adds others) (sym e) (sym (two e)) (two_is others), subst IsCut (sym e) refl)
+batches rows text (inr (inr (inl e))) one two four eight thirty_two = (λ others. subst₂ (Adds others) (sym e) (sym (four e)) (four_is others), subst IsCut (sym e) refl)
+batches rows text (inr (inr (inr (inl e)))) one two four eight thirty_two = (λ others. subst₂ (Adds others) (sym e) (sym (eight e)) (eight_is others), subst IsCut (sym e) refl)
+batches rows text (inr (inr (inr (inr e)))) one two four eight thirty_two = (λ others. subst₂ (Adds others) (sym e) (sym (thirty_two e)) (thirty_two_is others), subst IsCut (sym e) refl)
 
 -- ---- one row or one batch further
 

@@ -1,5 +1,5 @@
 -- A worked database in which others keep notes, and changes that keep what they have or do not.
-use Rattle.std.proofs.Common.{◌≡◌, ℕ, List, [], ◌∷◌, length, pos, ap, refl, arith}
+use Rattle.std.proofs.Common.{ℕ, List, [], ◌∷◌, length, pos, ap, refl, arith}
 use Rattle.std.specs.Prelude.{codes}
 use Rattle.sqlite.specs.Change.{with_index, with_view}
 use Rattle.sqlite.specs.Effect.{Database}

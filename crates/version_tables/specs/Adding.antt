@@ -5,9 +5,9 @@ use Rattle.sqlite.specs.declared.types.Value.TheVariants.{Int, Blob}
 use Rattle.sqlite.specs.Order.{Row}
 use Rattle.version_tables.specs.declared.version_key.NewRow.{NewRow}
 
--- a statement adds one, two, four or eight rows
+-- a statement adds one, two, four, eight or thirty-two rows
 abbrev pub IsBatch : ℕ → Type 0
-IsBatch rows = (rows ≡ 1) ⊎ ((rows ≡ 2) ⊎ ((rows ≡ 4) ⊎ (rows ≡ 8)))
+IsBatch rows = (rows ≡ 1) ⊎ ((rows ≡ 2) ⊎ ((rows ≡ 4) ⊎ ((rows ≡ 8) ⊎ (rows ≡ 32))))
 
 -- the parameters of one row
 abbrev pub cells : NewRow → Row

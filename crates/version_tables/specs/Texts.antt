@@ -1,5 +1,6 @@
 -- The texts that the store runs. The numbers ?1, ?2, .. are their parameters.
-use Rattle.std.specs.Prelude.{◌++◌, ℕ, List, codes}
+use Rattle.std.specs.Prelude.{◌++◌, ◌+◌, ℕ, zero, suc, List, [], codes}
+use Rattle.period_core.specs.Calendar.{two_digits}
 
 -- ---- the three tables, and the row of bt_meta
 
@@ -51,8 +52,8 @@ microseconds_text =
 abbrev pub form_text : List ℕ
 form_text = codes "UPDATE bt_meta SET form = ?1, clock = ?2"
 
--- Versions are added by one, two, four or eight in a statement. ?1 is their table, ?2 and ?3 are
--- the ends of their system time, and each of them has three more parameters.
+-- Versions are added by one, two, four, eight or thirty-two in a statement. ?1 is their table, ?2
+-- and ?3 are the ends of their system time, and each of them has three more parameters.
 
 abbrev pub one_text : List ℕ
 one_text =
@@ -61,14 +62,25 @@ one_text =
 abbrev pub two_text : List ℕ
 two_text = one_text ++ codes ", (?1, ?7, ?8, ?9, ?2, ?3)"
 
+-- one more row, whose own parameters are this one, of two digits, and the next two
+abbrev row_from : ℕ → List ℕ
+row_from first =
+    codes ", (?1, ?" ++ two_digits first ++ codes ", ?" ++ two_digits (first + 1)
+    ++ codes ", ?" ++ two_digits (first + 2) ++ codes ", ?2, ?3)"
+
+-- so many more rows
+abbrev rows_from : ℕ → ℕ → List ℕ
+rows_from first zero = []
+rows_from first (suc rows) = row_from first ++ rows_from (first + 3) rows
+
 abbrev pub four_text : List ℕ
-four_text = two_text
-    ++ codes ", (?1, ?10, ?11, ?12, ?2, ?3)" ++ codes ", (?1, ?13, ?14, ?15, ?2, ?3)"
+four_text = two_text ++ rows_from 10 2
 
 abbrev pub eight_text : List ℕ
-eight_text = four_text
-    ++ codes ", (?1, ?16, ?17, ?18, ?2, ?3)" ++ codes ", (?1, ?19, ?20, ?21, ?2, ?3)"
-    ++ codes ", (?1, ?22, ?23, ?24, ?2, ?3)" ++ codes ", (?1, ?25, ?26, ?27, ?2, ?3)"
+eight_text = two_text ++ rows_from 10 6
+
+abbrev pub thirty_two_text : List ℕ
+thirty_two_text = two_text ++ rows_from 10 30
 
 -- ---- the queries
 

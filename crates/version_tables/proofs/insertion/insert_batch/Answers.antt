@@ -12,7 +12,7 @@ pub returns-in-Ok-clause-made : goal.returns-in-Ok-clause-made
 returns-in-Ok-clause-made g c clean begun =
     let rows = c.args.rows.now in
     let texts = c.text_for.ensures in
-    let text = batches rows c.text_for.result.now c.requires texts.one texts.two texts.four texts.eight in
+    let text = batches rows c.text_for.result.now c.requires texts.one texts.two texts.four texts.eight texts.thirty_two in
     let given : bound c.as_slice.result.now ≡ given_rows c.args.table c.args.from c.args.to rows = ap bound c.as_slice.ensures.value ∙ rw (to_z-of_z w64 c.args.from c.ranges.from, to_z-of_z w64 c.args.to c.ranges.to) at c.in_ok-parameters.ensures in
     adds_inside c.text_for.result.now c.args.table c.args.from c.args.to rows text.0 text.1 (state g.S.Store c.args.transaction.now.conn.now) (state g.S.Store c.execute.new.self.conn.now) (Ok c.in-Ok.field-0) (rw given at (c.in-Ok.ensures.runs clean begun)) begun
 
@@ -22,5 +22,5 @@ returns-clause-inside g c = one_statement g.S.Store _ _ _ _ c.execute.result c.e
 pub returns-in-Ok-clause-others : goal.returns-in-Ok-clause-others
 returns-in-Ok-clause-others g c =
     let texts = c.text_for.ensures in
-    let is = (batches c.args.rows.now c.text_for.result.now c.requires texts.one texts.two texts.four texts.eight).0 in
+    let is = (batches c.args.rows.now c.text_for.result.now c.requires texts.one texts.two texts.four texts.eight texts.thirty_two).0 in
     statement_leaves version_own _ _ _ is refl g.S.Store _ _ (Ok c.in-Ok.field-0) c.in-Ok.ensures.ended c.in-Ok.ensures.runs
