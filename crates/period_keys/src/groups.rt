@@ -15,7 +15,7 @@ use std::collections::BTreeMap;
 /// Groups of rows, each by its key.
 pub type Groups = BTreeMap<Key, KeyRows>;
 
-/// Adds a row of this key. An error changes nothing.
+/// Adds a row of this key. An error changes no rows.
 pub fn add_to(alloc: Global, groups: &mut Groups, key: &Key, row: VersionRow) -> Result<(), Memory>
     ensures ok { OnOk result (IsPermutation (rows_of_groups groups.new.entries)
         (row ∷ rows_of_groups groups.old.entries)) }

@@ -1,7 +1,6 @@
 //! The values of a key.
 
 ghost use Rattle.std.specs.Prelude.{◌≡◌, ◌↔◌, IfOk, IsTrue};
-ghost use Rattle.period_core.specs.Order.{values_cmp};
 ghost use Rattle.period_keys.specs.Leading.{first_integer};
 
 use period_core::{Memory, Value, Values};
@@ -105,18 +104,9 @@ impl Ord for Key {
     fn cmp(&self, other: &Key) -> Ordering {
         match (self.leading, other.leading) {
             (Some(one), Some(other_one)) if one != other_one => one.cmp(&other_one),
-            _ => values_order(&self.values, &other.values),
+            _ => self.values.cmp(&other.values),
         }
     }
-}
-
-// The order of the values. It is a call of its own, so that a comparison that the first integers
-// decide saves no registers for it.
-#[inline(never)]
-fn values_order(values: &Values, others: &Values) -> Ordering
-    ensures { result ≡ values_cmp values.now others.now }
-{
-    values.cmp(others)
 }
 
 impl PartialOrd for Key {

@@ -79,7 +79,7 @@ impl KeyedPeriods {
         Ok(keys)
     }
 
-    /// Adds a period to those of a key. An error changes nothing.
+    /// Adds a period to those of a key. An error changes no periods.
     pub fn add(&mut self, alloc: Global, key: &Key, period: Period) -> Result<(), Memory>
         ensures ok { OnOk result ((other : List ColumnValue)
             → IsPermutation (periods_at self.new other)

@@ -1,5 +1,4 @@
 use Rattle.std.proofs.Common.{◌+◌, List, get_or, set}
-use Rattle.std.specs.Prelude.{Result, Ok, Err, OnOk}
 use Rattle.std.proofs.lemmas.Option.{slice_get-get_or}
 use Rattle.period_keys.specs.Lawful.{own_positions}
 use Rattle.period_keys.specs.TableRows.{TableRows}
