@@ -19,7 +19,7 @@ pub fn key_of(alloc: Global, positions: &[usize], row: &PeriodRow) -> Result<Key
 pub fn values_of(alloc: Global, positions: &[usize], values: &[Value]) -> Result<Key, Memory>
     ensures { IfOk result (λ key. key ≡ values_at positions.now values.now) }
 {
-    let mut key = Vec::new(alloc);
+    let mut key = Vec::with_capacity(alloc, positions.len())?;
     for position in positions {
         push_value_at(alloc, &mut key, values, *position)?;
     }
