@@ -49,6 +49,7 @@ pub mod StatementExamples
 pub mod StatementsRead
 pub mod TableElements
 pub mod TokenFacts
+pub mod TokenSpanFacts
 pub mod TokenLists
 pub mod ValueExamples
 pub mod Whole

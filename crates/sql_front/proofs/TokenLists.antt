@@ -55,10 +55,10 @@ never_both_of script ts bad = never_both (byte_order_mark_size script) (drop (by
 
 -- ---- each token of a script
 
-ends_of : (bytes : List ℕ) (f : Front) → IsUtf8 bytes → first_lexeme bytes ≡ f → EndsBetween f bytes
+pub ends_of : (bytes : List ℕ) (f : Front) → IsUtf8 bytes → first_lexeme bytes ≡ f → EndsBetween f bytes
 ends_of bytes f utf8 e = subst (λ (x : Front). EndsBetween x bytes) e (front_ends bytes utf8)
 
-behind : (script : List ℕ) (at n : ℕ) (bytes : List ℕ) → bytes ≡ drop at script → drop n bytes ≡ drop (at + n) script
+pub behind : (script : List ℕ) (at n : ℕ) (bytes : List ℕ) → bytes ≡ drop at script → drop n bytes ≡ drop (at + n) script
 behind script at n bytes e = ap (drop n) e ∙ drop-drop n at script
 
 tokens_from : (script : List ℕ) (at : ℕ) (bytes : List ℕ) (ts : List Lexeme) → IsUtf8 bytes → at ≤ length script → bytes ≡ drop at script

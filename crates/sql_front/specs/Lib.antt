@@ -10,6 +10,7 @@ pub mod PieceRefusals
 pub mod Laws
 pub mod reading
 pub mod Terminals
+pub mod TokenSpans
 pub mod Placeholders
 pub mod Quoting
 pub mod LiteralTests

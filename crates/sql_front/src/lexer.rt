@@ -1,8 +1,9 @@
 //! The tokens of a script.
 
-ghost use Rattle.std.specs.Prelude.{◌≡◌, ℕ, ◌+◌, ◌<◌, length, All, IfOk};
+ghost use Rattle.std.specs.Prelude.{◌≡◌, ℕ, ◌+◌, ◌<◌, ◌≤◌, ◌∷◌, [], List, length, All, IfOk};
+ghost use Rattle.std.specs.Prelude.{IfErr, IfNone, IfSome};
 ghost use Rattle.sql_front.specs.declared.lexer.LexFault.TheVariants.{BadToken, Memory};
-ghost use Rattle.sql_statements.specs.Lexemes.{lexemes};
+ghost use Rattle.sql_statements.specs.Lexemes.{Lexeme, lexeme, lexemes};
 ghost use Rattle.sql_statements.specs.Lexis.{TokensFrom, StopsFrom, TokensOf, StopsAt, IsTokenAt};
 ghost use Rattle.sql_statements.specs.Lexis.{text_limit};
 
@@ -39,13 +40,24 @@ impl<T: Drop> From<AllocFailed<T>> for LexFault {
     }
 }
 
-/// The tokens of a text that begins at this offset of a script.
-fn lex_from<'a>(alloc: Global, start: usize, text: &'a str) -> Result<Vec<Token<'a>>, LexFault>
+/// The first token of a text that begins at this offset of a script, and what is after it, if the
+/// text has a token.
+#[inline(always)]
+pub(crate) fn first_token<'a>(
+    start: usize,
+    text: &'a str,
+) -> Result<Option<(Token<'a>, &'a str)>, LexFault>
     requires { start + length text.now < text_limit }
-    ensures tokens { IfOk result (λ tokens. TokensFrom start text.now (lexemes tokens.items)) }
-    ensures bad { (offset : ℕ) → result ≡ Err (BadToken offset) → StopsFrom start text.now offset }
+    ensures token { IfOk result (λ next. IfSome next (λ x. (more : List Lexeme)
+        → TokensFrom x.0.end x.1.now more → TokensFrom start text.now (lexeme x.0 ∷ more))) }
+    ensures more { IfOk result (λ next. IfSome next (λ x. (offset : ℕ)
+        → StopsFrom x.0.end x.1.now offset → StopsFrom start text.now offset)) }
+    ensures size { IfOk result (λ next. IfSome next (λ x. (start ≤ x.0.start)
+        × (x.0.start < x.0.end) × (x.0.end + length x.1.now ≡ start + length text.now))) }
+    ensures none { IfOk result (λ next. IfNone next (TokensFrom start text.now [])) }
+    ensures bad { IfErr result
+        (λ fault. (offset : ℕ) → fault ≡ BadToken offset → StopsFrom start text.now offset) }
 {
-    let mut tokens = Vec::new(alloc);
     let mut rest = text;
     let mut at = start;
     'fronts: while !rest.is_empty() {
@@ -57,17 +69,33 @@ fn lex_from<'a>(alloc: Global, start: usize, text: &'a str) -> Result<Vec<Token<
             }
             Front::Lexeme(kind, size) => {
                 let (text, after) = rest.split_at(size);
-                tokens.push(Token {
+                let token = Token {
                     kind,
                     text,
                     start: at,
                     end: at + size,
-                })?;
-                rest = after;
-                at += size;
+                };
+                return Ok(Some((token, after)));
             }
             Front::Bad => return Err(LexFault::BadToken(at)),
         }
+    }
+    Ok(None)
+}
+
+/// The tokens of a text that begins at this offset of a script.
+fn lex_from<'a>(alloc: Global, start: usize, text: &'a str) -> Result<Vec<Token<'a>>, LexFault>
+    requires { start + length text.now < text_limit }
+    ensures tokens { IfOk result (λ tokens. TokensFrom start text.now (lexemes tokens.items)) }
+    ensures bad { (offset : ℕ) → result ≡ Err (BadToken offset) → StopsFrom start text.now offset }
+{
+    let mut tokens = Vec::new(alloc);
+    let mut rest = text;
+    let mut at = start;
+    'tokens: while let Some((token, after)) = first_token(at, rest)? {
+        at = token.end;
+        rest = after;
+        tokens.push(token)?;
     }
     Ok(tokens)
 }

@@ -35,8 +35,10 @@ mod table_elements;
 mod tables;
 mod terminal;
 mod texts;
+pub mod token_spans;
 mod windows;
 
 pub use lexer::{LexFault, lex};
 pub use parser::parse;
 pub use pieces::{Span, cut};
+pub use token_spans::{TokenSpan, cut_spans, lex_spans, tokens_at};
