@@ -1,6 +1,7 @@
 -- The value of digits.
-use Rattle.std.proofs.Common.{◌≡◌, ℕ, ◌+◌, ◌-◌, ◌*◌, ◌<◌, ◌≤◌, List, [], ◌∷◌, drop, get_or, length, arith}
-use Rattle.std.proofs.lemmas.List.{at_drop_more}
+use Rattle.std.proofs.Common.{◌≡◌, ℕ, ◌+◌, ◌-◌, ◌*◌, ◌<◌, ◌≤◌, ◌^◌, List, [], ◌∷◌, ◌++◌, take, drop, get_or, length, refl, sym, ap, ◌∙◌, arith}
+use Rattle.std.proofs.Math.Nat.{pow-le-pow_right}
+use Rattle.std.proofs.lemmas.List.{at_drop_more, take-append-drop}
 use Rattle.sql_front.specs.LiteralValues.{number_of_digits_after}
 
 digits_grow : (v : ℕ) (bytes : List ℕ) → v ≤ number_of_digits_after v bytes
@@ -12,3 +13,27 @@ pub stays_above : (limit value i d total : ℕ) (bytes : List ℕ) → i < lengt
 stays_above limit value i d total bytes h above e =
     let opened : number_of_digits_after value (drop i bytes) ≡ number_of_digits_after (value * 10 + (get_or bytes i d - 48)) (drop (i + 1) bytes) = at_drop_more (λ (s : List ℕ). number_of_digits_after value s) bytes i d h in
     omega (arith, digits_grow (value * 10 + (get_or bytes i d - 48)) (drop (i + 1) bytes), opened, e)
+
+-- few digits leave room for one more
+pub few_fit : (value i few : ℕ) → value + 23 ≤ 23 * 10 ^ i → i < few → few ≤ 17 → value * 10 + 256 < 2 ^ 64
+few_fit value i few below less most =
+    let step : i ≤ 16 = omega arith in
+    let power : 10 ^ i ≤ 10 ^ 16 = pow-le-pow_right (let some : 0 < 10 = omega arith in some) step in
+    omega (arith, below, power)
+
+digits_on : (v : ℕ) (front more : List ℕ) → number_of_digits_after v (front ++ more) ≡ number_of_digits_after (number_of_digits_after v front) more
+digits_on v [] more = refl
+digits_on v (b ∷ front) more = digits_on (v * 10 + (b - 48)) front more
+
+-- the digits after some of them
+pub digits_in_two : (k v value : ℕ) (bytes front more : List ℕ) → front ≡ take k bytes → more ≡ drop k bytes → value ≡ number_of_digits_after v front → number_of_digits_after v bytes ≡ number_of_digits_after value more
+digits_in_two k v value bytes front more first after is =
+    ap (number_of_digits_after v) (sym (take-append-drop k bytes))
+    ∙ digits_on v (take k bytes) (drop k bytes)
+    ∙ ap (λ (s : List ℕ). number_of_digits_after (number_of_digits_after v s) (drop k bytes)) (sym first)
+    ∙ ap (λ (n : ℕ). number_of_digits_after n (drop k bytes)) (sym is)
+    ∙ ap (number_of_digits_after value) (sym after)
+
+-- where some of them are above the limit, all are
+pub front_above : (limit value total : ℕ) (more : List ℕ) → limit < value → total ≡ number_of_digits_after value more → limit < total
+front_above limit value total more above e = omega (arith, digits_grow value more, e)
