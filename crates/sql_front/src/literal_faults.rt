@@ -7,7 +7,6 @@ ghost use Rattle.sql_statements.specs.Lexemes.{lexeme, lexemes};
 ghost use Rattle.sql_front.specs.LiteralFaults.{HasBadDate, HasBadMoment, HasNumberOutside};
 ghost use Rattle.sql_front.specs.LiteralRefusals.{LiteralApplies};
 ghost use Rattle.sql_front.specs.LiteralTests as tests;
-ghost use Rattle.sql_front.specs.LiteralTests.{number_above, somewhere};
 
 use crate::date_tokens::{clock_moment_of_token, day_of_token, moment_of_token};
 use crate::digits::number_up_to;
