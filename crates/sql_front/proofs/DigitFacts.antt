@@ -1,6 +1,7 @@
 -- The value of digits.
-use Rattle.std.proofs.Common.{◌≡◌, ℕ, ◌+◌, ◌-◌, ◌*◌, ◌<◌, ◌≤◌, ◌^◌, List, [], ◌∷◌, ◌++◌, take, drop, get_or, length, refl, sym, ap, ◌∙◌, arith}
+use Rattle.std.proofs.Common.{◌≡◌, ℕ, suc, ◌+◌, ◌-◌, ◌*◌, ◌<◌, ◌≤◌, ◌^◌, List, [], ◌∷◌, ◌++◌, take, drop, get_or, length, refl, sym, ap, subst, ◌∙◌, zero-add, arith}
 use Rattle.std.proofs.Math.Nat.{pow-le-pow_right}
+use Rattle.std.proofs.lemmas.Grind.{pow_more}
 use Rattle.std.proofs.lemmas.List.{at_drop_more, take-append-drop}
 use Rattle.sql_front.specs.LiteralValues.{number_of_digits_after}
 
@@ -37,3 +38,21 @@ digits_in_two k v value bytes front more first after is =
 -- where some of them are above the limit, all are
 pub front_above : (limit value total : ℕ) (more : List ℕ) → limit < value → total ≡ number_of_digits_after value more → limit < total
 front_above limit value total more above e = omega (arith, digits_grow value more, e)
+
+-- a few digits, whatever their bytes, are below the greatest number
+few_below : (value i : ℕ) (bytes : List ℕ) → ((j : ℕ) → get_or bytes j 0 < 256) → value + 23 ≤ 23 * 10 ^ i → number_of_digits_after value bytes + 23 ≤ 23 * 10 ^ (i + length bytes)
+few_below value i [] low below =
+    let same : i ≡ i + 0 = omega arith in
+    subst (λ (n : ℕ). value + 23 ≤ 23 * 10 ^ n) same below
+few_below value i (b ∷ bytes) low below =
+    let first : b < 256 = low 0 in
+    let step : value * 10 + (b - 48) + 23 ≤ 23 * 10 ^ (i + 1) = omega (arith, pow_more 10 i, first, below) in
+    let rest : number_of_digits_after (value * 10 + (b - 48)) bytes + 23 ≤ 23 * 10 ^ ((i + 1) + length bytes) = few_below (value * 10 + (b - 48)) (i + 1) bytes (λ j. low (suc j)) step in
+    let same : (i + 1) + length bytes ≡ i + length (b ∷ bytes) = omega arith in
+    subst (λ (n : ℕ). number_of_digits_after (value * 10 + (b - 48)) bytes + 23 ≤ 23 * 10 ^ n) same rest
+
+pub few_within : (bytes : List ℕ) → ((j : ℕ) → get_or bytes j 0 < 256) → length bytes ≤ 17 → number_of_digits_after 0 bytes < 9_223_372_036_854_775_807
+few_within bytes low short =
+    let power : 10 ^ length bytes ≤ 10 ^ 17 = pow-le-pow_right (let some : 0 < 10 = omega arith in some) short in
+    let below : number_of_digits_after 0 bytes + 23 ≤ 23 * 10 ^ length bytes = subst (λ (n : ℕ). number_of_digits_after 0 bytes + 23 ≤ 23 * 10 ^ n) (zero-add (length bytes)) (few_below 0 0 bytes low (omega arith)) in
+    omega (arith, power, below)

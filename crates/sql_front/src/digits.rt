@@ -51,6 +51,15 @@ pub fn number_up_to(digits: &str, limit: u64) -> Option<u64>
     Some(value)
 }
 
+/// Whether the number of digits is above the limit, which is at least the greatest number.
+// A few digits are below it, and are not read.
+pub fn is_number_above(digits: &str, limit: u64) -> bool
+    requires { greatest_number ≤ limit }
+    ensures { result ≡ nat_lt limit (number_of_digits digits.now) }
+{
+    digits.len() > FEW && number_up_to(digits, limit).is_none()
+}
+
 /// The value of a number without a minus: 0 where it is outside 64 bits signed.
 pub fn number_value(digits: &str) -> u64
     ensures value { result ≡ leaves.number_value digits.now }

@@ -9,7 +9,7 @@ ghost use Rattle.sql_front.specs.LiteralRefusals.{LiteralApplies};
 ghost use Rattle.sql_front.specs.LiteralTests as tests;
 
 use crate::date_tokens::{clock_moment_of_token, day_of_token, moment_of_token};
-use crate::digits::number_up_to;
+use crate::digits::is_number_above;
 use crate::terminal::{Terminal, is_terminal};
 use period_core::{GREATEST_NUMBER, Refusal};
 use sql_statements::token::{Token, TokenKind};
@@ -77,7 +77,7 @@ fn is_open_end(first: &Token<'_>, after: &[Token<'_>]) -> bool
 fn is_bad_moment(first: &Token<'_>, after: &[Token<'_>]) -> bool
     ensures { result ≡ tests.is_bad_moment (lexeme first.now) (lexemes after.now) }
 {
-    is_no_moment(first, after) || is_open_end(first, after)
+    first.kind == TokenKind::Word && (is_no_moment(first, after) || is_open_end(first, after))
 }
 
 fn is_above(minus: bool, token: &Token<'_>) -> bool
@@ -88,7 +88,7 @@ fn is_above(minus: bool, token: &Token<'_>) -> bool
     } else {
         GREATEST_NUMBER
     };
-    token.kind == TokenKind::Number && number_up_to(token.text, limit).is_none()
+    token.kind == TokenKind::Number && is_number_above(token.text, limit)
 }
 
 /// What is wrong with some literal of a piece.
