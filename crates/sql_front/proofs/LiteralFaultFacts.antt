@@ -1,9 +1,10 @@
 -- What is wrong with literals, as it is tested.
-use Rattle.std.proofs.Common.{◌≡◌, ℕ, ℤ, ◌<◌, Bool, true, false, cond, nat_lt, List, [], ◌∷◌, ◌++◌, Option, Some, None, refl, sym, ap, subst, ◌∙◌, ◌&&◌, ◌||◌, ◌↔◌, inl, inr, arith, rules, codes}
-use Rattle.std.specs.Prelude.{IsSome, is_none, ◌+◌}
+use Rattle.std.proofs.Common.{◌≡◌, ℕ, ℤ, ◌<◌, Bool, true, false, cond, nat_lt, List, [], ◌∷◌, ◌++◌, length, Option, Some, None, refl, sym, ap, subst, ◌∙◌, ◌&&◌, ◌||◌, ◌↔◌, inl, inr, arith, rules, codes}
+use Rattle.std.specs.Prelude.{IsSome, IsTrue, is_none, ◌+◌}
 use Rattle.std.proofs.lemmas.Bool.{and_parts, or_cases}
 use Rattle.std.proofs.lemmas.Bool.Decides.{nat_tests}
-use Rattle.sql_statements.specs.Lexemes.{Lexeme}
+use Rattle.sql_statements.specs.declared.token.Token.{Token}
+use Rattle.sql_statements.specs.Lexemes.{Lexeme, lexemes}
 use Rattle.sql_front.specs.Language.{keyword, symbol, number, text, or_test}
 use Rattle.sql_front.specs.LiteralValues.{IsClockToken, IsDateToken, IsMomentToken, number_of_digits}
 use Rattle.period_core.specs.Encoding.{greatest_number}
@@ -172,3 +173,18 @@ number_somewhere ts = (
       (both (number h.1) (nat_lt (cond (ends_with false h.0) (greatest_number + 1) greatest_number) (number_of_digits h.1.text)) h.4
       (is_lt _ _ (subst (λ (n : ℕ). n < number_of_digits h.1.text) (sym (limit_is h.0)) h.5))),
 )
+
+-- ---- the pass over the tokens
+
+pub none_left : (test : Lexeme → List Lexeme → Bool) (rest : List Token) → length rest < 1 → somewhere test (lexemes rest) ≡ false
+none_left test [] short = refl
+none_left test (t ∷ rest) short = absurd (omega arith)
+
+pub none_above : (minus : Bool) (rest : List Token) → length rest < 1 → number_above minus (lexemes rest) ≡ false
+none_above minus [] short = refl
+none_above minus (t ∷ rest) short = absurd (omega arith)
+
+-- a test of all tokens is what was seen of it, where none are left
+pub all_seen : {D : Type 0} (test seen left : Bool) → test ≡ true ↔ D → test ≡ (seen || left) → left ≡ false → IsTrue seen ↔ D
+all_seen test true left i e f = (λ s. i.0 e, λ d. refl)
+all_seen test false left i e f = (λ s. absurd cc, λ d. sym (sym (i.1 d) ∙ e ∙ f))

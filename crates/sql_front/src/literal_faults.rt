@@ -7,21 +7,23 @@ ghost use Rattle.sql_statements.specs.Lexemes.{lexeme, lexemes};
 ghost use Rattle.sql_front.specs.LiteralFaults.{HasBadDate, HasBadMoment, HasNumberOutside};
 ghost use Rattle.sql_front.specs.LiteralRefusals.{LiteralApplies};
 ghost use Rattle.sql_front.specs.LiteralTests as tests;
-ghost use Rattle.sql_front.specs.LiteralTests.{number_above, somewhere};
 
 use crate::date_tokens::{clock_moment_of_token, day_of_token, moment_of_token};
-use crate::digits::number_up_to;
+use crate::digits::is_number_above;
 use crate::terminal::{Terminal, is_terminal};
 use period_core::{GREATEST_NUMBER, Refusal};
 use sql_statements::token::{Token, TokenKind};
 
 /// The text after this keyword, if the next token is one.
-// Few tokens are texts, so that is asked first.
+// Few tokens are words, and few words have a text behind them, so that is asked first.
 #[inline(always)]
 fn text_behind<'a>(word: &str, first: &Token<'_>, after: &[Token<'a>]) -> Option<&'a str>
     ensures { option_copied result
         ≡ tests.text_behind word.now (lexeme first.now) (lexemes after.now) }
 {
+    if first.kind != TokenKind::Word {
+        return None;
+    }
     match after {
         [token, ..]
             if token.kind == TokenKind::Text && is_terminal(first, Terminal::Keyword(word)) => {
@@ -72,6 +74,12 @@ fn is_open_end(first: &Token<'_>, after: &[Token<'_>]) -> bool
     }
 }
 
+fn is_bad_moment(first: &Token<'_>, after: &[Token<'_>]) -> bool
+    ensures { result ≡ tests.is_bad_moment (lexeme first.now) (lexemes after.now) }
+{
+    first.kind == TokenKind::Word && (is_no_moment(first, after) || is_open_end(first, after))
+}
+
 fn is_above(minus: bool, token: &Token<'_>) -> bool
     ensures { result ≡ tests.is_above minus (lexeme token.now) }
 {
@@ -80,72 +88,41 @@ fn is_above(minus: bool, token: &Token<'_>) -> bool
     } else {
         GREATEST_NUMBER
     };
-    token.kind == TokenKind::Number && number_up_to(token.text, limit).is_none()
+    token.kind == TokenKind::Number && is_number_above(token.text, limit)
 }
 
-fn date_fails(tokens: &[Token<'_>]) -> bool
-    ensures { result ≡ somewhere tests.is_bad_date (lexemes tokens.now) }
-{
-    let mut rest = tokens;
-    'tokens: while let [first, after @ ..] = rest {
-        if is_bad_date(first, after) {
-            return true;
-        }
-        rest = after;
-    }
-    false
+/// What is wrong with some literal of a piece.
+#[derive(Clone, Copy)]
+struct Faults {
+    /// Some DATE names no day.
+    bad_date: bool,
+    /// Some TIMESTAMP names no moment, or one after AT or OF names none before the open end.
+    bad_moment: bool,
+    /// Some number, with its sign, is outside 64 bits signed.
+    number_outside: bool,
 }
 
-fn moment_fails(tokens: &[Token<'_>]) -> bool
-    ensures { result ≡ somewhere tests.is_bad_moment (lexemes tokens.now) }
+/// What is wrong with the literals of a piece: one pass over its tokens.
+fn faults_of(tokens: &[Token<'_>]) -> Faults
+    ensures dates { IsTrue result.bad_date ↔ HasBadDate (lexemes tokens.now) }
+    ensures moments { IsTrue result.bad_moment ↔ HasBadMoment (lexemes tokens.now) }
+    ensures numbers { IsTrue result.number_outside ↔ HasNumberOutside (lexemes tokens.now) }
 {
-    let mut rest = tokens;
-    'tokens: while let [first, after @ ..] = rest {
-        if is_no_moment(first, after) || is_open_end(first, after) {
-            return true;
-        }
-        rest = after;
-    }
-    false
-}
-
-fn number_fails(tokens: &[Token<'_>]) -> bool
-    ensures { result ≡ number_above false (lexemes tokens.now) }
-{
-    let mut rest = tokens;
+    let mut faults = Faults {
+        bad_date: false,
+        bad_moment: false,
+        number_outside: false,
+    };
     let mut minus = false;
+    let mut rest = tokens;
     'tokens: while let [first, after @ ..] = rest {
-        if is_above(minus, first) {
-            return true;
-        }
+        faults.bad_date |= is_bad_date(first, after);
+        faults.bad_moment |= is_bad_moment(first, after);
+        faults.number_outside |= is_above(minus, first);
         minus = is_terminal(first, Terminal::Symbol("-"));
         rest = after;
     }
-    false
-}
-
-/// Whether some DATE names no day.
-#[tactic(auto, using(crate::proofs::LiteralFaultFacts::bad_date_somewhere))]
-pub fn has_bad_date(tokens: &[Token<'_>]) -> bool
-    ensures { IsTrue result ↔ HasBadDate (lexemes tokens.now) }
-{
-    date_fails(tokens)
-}
-
-/// Whether some TIMESTAMP names no moment, or one after AT or OF names none before the open end.
-#[tactic(auto, using(crate::proofs::LiteralFaultFacts::bad_moment_somewhere))]
-pub fn has_bad_moment(tokens: &[Token<'_>]) -> bool
-    ensures { IsTrue result ↔ HasBadMoment (lexemes tokens.now) }
-{
-    moment_fails(tokens)
-}
-
-/// Whether some number, with its sign, is outside 64 bits signed.
-#[tactic(auto, using(crate::proofs::LiteralFaultFacts::number_somewhere))]
-pub fn has_number_outside(tokens: &[Token<'_>]) -> bool
-    ensures { IsTrue result ↔ HasNumberOutside (lexemes tokens.now) }
-{
-    number_fails(tokens)
+    faults
 }
 
 /// The lowest-numbered refusal that the literals of a piece call for, if they call for one.
@@ -156,13 +133,14 @@ pub fn literal_fault(tokens: &[Token<'_>]) -> Option<Refusal>
     // Nothing is returned only where no condition holds.
     ensures none { IfNone result (NoneApplies (LiteralApplies (lexemes tokens.now))) }
 {
-    if has_bad_date(tokens) {
+    let faults = faults_of(tokens);
+    if faults.bad_date {
         return Some(Refusal::BadDate);
     }
-    if has_bad_moment(tokens) {
+    if faults.bad_moment {
         return Some(Refusal::BadMoment);
     }
-    if has_number_outside(tokens) {
+    if faults.number_outside {
         return Some(Refusal::NumberRange);
     }
     None

@@ -1,6 +1,7 @@
 //! Single tokens, read from the front.
 
 ghost use Rattle.std.specs.Prelude.{◌≡◌, true, List, ◌≤◌, ◌<◌, length, is_some, Some, IfOk, IfSome};
+ghost use Rattle.std.specs.Str.{bytes_eq};
 ghost use Rattle.sql_statements.specs.Lexemes.{lexeme, lexemes};
 ghost use Rattle.sql_front.specs.Language.{number, text};
 ghost use Rattle.sql_front.specs.Grammar.{name};
@@ -24,6 +25,18 @@ pub enum Terminal<'m> {
 
 // What asks for a terminal is in line: at each call it is a literal, for which little is left.
 
+/// Whether the two are one symbol.
+// Most symbols have one byte, which is compared alone.
+#[inline(always)]
+fn is_same_symbol(text: &str, want: &str) -> bool
+    ensures { result ≡ bytes_eq text.now want.now }
+{
+    match (text.as_bytes(), want.as_bytes()) {
+        ([byte], [only]) => byte == only,
+        _ => text == want,
+    }
+}
+
 /// Is the token this terminal?
 #[inline(always)]
 pub fn is_terminal(token: &Token<'_>, want: Terminal<'_>) -> bool
@@ -34,7 +47,9 @@ pub fn is_terminal(token: &Token<'_>, want: Terminal<'_>) -> bool
             // (most scripts have it as it stands here, which is seen without a look at each letter)
             token.kind == TokenKind::Word && (token.text == word || is_same_word(token.text, word))
         }
-        Terminal::Symbol(symbol) => token.kind == TokenKind::Symbol && token.text == symbol,
+        Terminal::Symbol(symbol) => {
+            token.kind == TokenKind::Symbol && is_same_symbol(token.text, symbol)
+        }
     }
 }
 

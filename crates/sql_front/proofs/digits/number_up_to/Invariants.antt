@@ -4,6 +4,6 @@ use Rattle.sql_front.proofs.digits.number_up_to.Given as goal
 
 abbrev pub invariant-loop-byte : goal.invariant-loop-byte
 invariant-loop-byte l = record {
-  rest : number_of_digits_after 0 l.digits ≡ number_of_digits_after l.value (drop l.byte-index l.bytes);
+  rest : number_of_digits_after 0 l.digits ≡ number_of_digits_after l.value (drop l.byte-index l.more);
   below : l.value ≤ l.limit;
 }
