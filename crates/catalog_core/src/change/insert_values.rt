@@ -1,11 +1,11 @@
-//! INSERT: what its values decide, and the value of a row for a column, by the places of the
-//! columns that the values are given for. No test takes memory.
+//! INSERT: what its values decide, by the places of the columns that they are given for. No test
+//! takes memory.
 
-ghost use Rattle.std.specs.Prelude.{◌≡◌, option_copied, true};
+ghost use Rattle.std.specs.Prelude.{◌≡◌, true};
 ghost use Rattle.catalog_core.specs.change.Insertion.{has_faulty_value, is_longer};
 ghost use Rattle.catalog_core.specs.change.InsertPlaces.{ArePlaces, gives_faulty_value_at};
 ghost use Rattle.catalog_core.specs.change.InsertPlaces.{has_faulty_value_at};
-ghost use Rattle.catalog_core.specs.change.InsertPlaces.{is_faulty_at, is_faulty_for, value_at};
+ghost use Rattle.catalog_core.specs.change.InsertPlaces.{is_faulty_at, is_faulty_for};
 ghost use Rattle.catalog_core.specs.table.TableWords.{has_distinct_names};
 
 use crate::table::kinds::{kind_of_column, kind_of_value, same_kind};
@@ -109,17 +109,4 @@ pub fn has_faulty_value(
         places,
         insert.rows.as_slice(),
     )
-}
-
-/// The value that a row gives for the column at a place.
-pub fn value_at<'a>(places: &[usize], row: &'a [Value], place: usize) -> Option<&'a Value>
-    ensures { option_copied result ≡ value_at places.now row.now place }
-{
-    for i in 0..places.len().min(row.len()) {
-        let value = &row[i];
-        if places[i] == place {
-            return Some(value);
-        }
-    }
-    None
 }
