@@ -16,6 +16,7 @@ use Rattle.catalog_core.specs.declared.change.row_positions.RowPositions.{RowPos
 use Rattle.catalog_core.specs.declared.table.Column.{Column}
 use Rattle.catalog_core.specs.declared.table.ColumnKind.{ColumnKind}
 use Rattle.catalog_core.specs.declared.table.TableDef.{TableDef}
+use Rattle.catalog_core.specs.declared.table.ValueKind.TheVariants.{Text}
 
 -- the names that a row's values are given for stand for the columns at these places
 abbrev pub ArePlaces : TableDef → Option (List Name) → List ℕ → Type 0
@@ -40,6 +41,15 @@ gives_faulty_value_at way columns places row =
 unfoldable pub has_faulty_value_at : ValueFault → List Column → List ℕ → List (List Value) → Bool
 has_faulty_value_at way columns places rows =
     list_any (λ (row : List Value). gives_faulty_value_at way columns places row) rows
+
+-- the column at a place takes texts
+unfoldable pub takes_text : List Column → ℕ → Bool
+takes_text columns place =
+    passes (λ (x : Column). same_kind (kind_of_column x.kind) Text) (slice_get columns place)
+
+-- values are given for such a column
+unfoldable pub gives_text : List Column → List ℕ → Bool
+gives_text columns places = list_any (λ (place : ℕ). takes_text columns place) places
 
 -- ==== a row by places ====
 

@@ -1,5 +1,5 @@
-//! INSERT: where the parts of a row are among the values that it gives. The positions are found once
-//! for a statement, so that no row is searched for them.
+//! INSERT: where the parts of a row are among the values that it gives. The positions are found
+//! once for a statement, so that no row is searched for them.
 
 ghost use Rattle.std.specs.Prelude.{◌≡◌, ℕ, IfOk, Some, map, true};
 ghost use Rattle.catalog_core.specs.change.InsertPlaces.{ArePositions, HasPositions, position_for};
@@ -11,8 +11,8 @@ use crate::table::columns::is_value_column;
 use period_core::Memory;
 use std::alloc::Global;
 
-/// Positions among the values that each row gives: of those for the value columns, in declared order,
-/// and of its period's start and end.
+/// Positions among the values that each row gives: of those for the value columns, in declared
+/// order, and of its period's start and end.
 #[derive(Drop)]
 pub struct RowPositions {
     pub values: Vec<usize>,
@@ -48,8 +48,8 @@ fn value_positions(alloc: Global, table: &TableDef, places: &[usize]) -> Result<
     Ok(positions)
 }
 
-/// The positions of the parts of a table's rows, from the places of the columns that their values are
-/// given for: all but the system ones are among these.
+/// The positions of the parts of a table's rows, from the places of the columns that their values
+/// are given for: all but the system ones are among these.
 pub fn row_positions(
     alloc: Global,
     table: &TableDef,
