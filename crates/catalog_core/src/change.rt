@@ -7,6 +7,7 @@ pub mod inserted_rows;
 pub mod insertion;
 pub mod portion_changes;
 pub mod resolution;
+pub mod row_positions;
 
 use crate::condition::Cond;
 use period_core::{Day, Items, Period, PeriodRow, Value, Values, VersionRow};

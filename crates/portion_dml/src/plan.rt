@@ -1,6 +1,6 @@
 //! The plans of changes.
 
-ghost use Rattle.std.specs.Prelude.{◌≡◌, ◌++◌, ◌∷◌, ◌⊎◌, [], IfErr, IfOk, IsTrue, List, OnOk, map};
+ghost use Rattle.std.specs.Prelude.{◌≡◌, ◌⊎◌, [], IfErr, IfOk, IsTrue, List};
 ghost use Rattle.catalog_core.specs.change.Resolution.{has_empty_row, is_empty_row};
 ghost use Rattle.catalog_core.specs.declared.change.Action.TheVariants.{Insert};
 ghost use Rattle.history_model.specs.Effects.{inserted_by};
@@ -52,22 +52,17 @@ pub fn plan_delete(alloc: Global, current: &[VersionRow], change: &Change) -> Re
     Ok(plan)
 }
 
-/// Adds a row that INSERT gives, with its values. Its refusals are a period without a day, and out
-/// of memory.
-fn push_given(rows: &mut Vec<PeriodRow>, given: InsertedRow) -> Result<(), Refusal>
-    ensures ok { OnOk result
-        (map plain_row rows.new.items
-        ≡ map plain_row rows.old.items ++ plain_given given ∷ []) }
+/// The row that INSERT gives, with its values. Its refusal is a period without a day.
+fn added_row(given: InsertedRow) -> Result<PeriodRow, Refusal>
+    ensures ok { IfOk result (λ row. plain_row row ≡ plain_given given) }
     ensures refused { IfErr result (λ refusal.
-        ((refusal ≡ Refusal.EmptyPeriod) × IsTrue (is_empty_row given))
-        ⊎ (refusal ≡ Refusal.Memory)) }
+        (refusal ≡ Refusal.EmptyPeriod) × IsTrue (is_empty_row given)) }
 {
     let InsertedRow { values, start, end } = given;
     let Some(period) = Period::new(start, end) else {
         return Err(Refusal::EmptyPeriod);
     };
-    rows.push(PeriodRow { values, period })?;
-    Ok(())
+    Ok(PeriodRow { values, period })
 }
 
 /// The plan of an INSERT that gives these rows, whose values it takes. It ends no version. It is
@@ -79,10 +74,10 @@ pub fn plan_given(alloc: Global, given: Items<InsertedRow>) -> Result<Plan, Refu
         ((refusal ≡ Refusal.EmptyPeriod) × IsTrue (has_empty_row (Insert given)))
         ⊎ (refusal ≡ Refusal.Memory)) }
 {
-    let mut added = Vec::new(alloc);
     let rows = given.into_vec();
+    let mut added = Vec::with_capacity(alloc, rows.len())?;
     for row in rows {
-        push_given(&mut added, row)?;
+        added.push_reserved(added_row(row)?);
     }
     Ok(Plan {
         ended: Items::empty(alloc),

@@ -1,5 +1,6 @@
 pub mod GivenValues
 pub mod GivenPlaces
+pub mod GivenPositions
 pub mod InsertFaults
 pub mod RowFacts
 pub mod PortionFaults

@@ -1,15 +1,17 @@
-//! INSERT: what its values decide, and the value of a row for a column, by the places of the
-//! columns that the values are given for. No test takes memory.
+//! INSERT: what its values decide, by the places of the columns that they are given for. No test
+//! takes memory.
 
-ghost use Rattle.std.specs.Prelude.{◌≡◌, option_copied, true};
+ghost use Rattle.std.specs.Prelude.{◌≡◌, true};
 ghost use Rattle.catalog_core.specs.change.Insertion.{has_faulty_value, is_longer};
 ghost use Rattle.catalog_core.specs.change.InsertPlaces.{ArePlaces, gives_faulty_value_at};
+ghost use Rattle.catalog_core.specs.change.InsertPlaces.{gives_text, takes_text};
 ghost use Rattle.catalog_core.specs.change.InsertPlaces.{has_faulty_value_at};
-ghost use Rattle.catalog_core.specs.change.InsertPlaces.{is_faulty_at, is_faulty_for, value_at};
+ghost use Rattle.catalog_core.specs.change.InsertPlaces.{is_faulty_at, is_faulty_for};
 ghost use Rattle.catalog_core.specs.table.TableWords.{has_distinct_names};
+ghost use Rattle.catalog_core.specs.declared.change.insert_values.ValueFault.TheVariants as fault;
 
 use crate::table::kinds::{kind_of_column, kind_of_value, same_kind};
-use crate::table::{Column, ColumnKind, TableDef};
+use crate::table::{Column, ColumnKind, TableDef, ValueKind};
 use period_core::Value;
 use sql_statements::{InsertRows, NonEmpty};
 
@@ -111,15 +113,32 @@ pub fn has_faulty_value(
     )
 }
 
-/// The value that a row gives for the column at a place.
-pub fn value_at<'a>(places: &[usize], row: &'a [Value], place: usize) -> Option<&'a Value>
-    ensures { option_copied result ≡ value_at places.now row.now place }
+/// Whether the column at a place takes texts.
+#[tactic(auto, unfolding(crate::specs::change::InsertPlaces::takes_text))]
+fn takes_text(columns: &[Column], place: usize) -> bool
+    ensures { result ≡ takes_text columns.now place }
 {
-    for i in 0..places.len().min(row.len()) {
-        let value = &row[i];
-        if places[i] == place {
-            return Some(value);
-        }
+    match columns.get(place) {
+        Some(column) => same_kind(kind_of_column(column.kind), ValueKind::Text),
+        None => false,
     }
-    None
+}
+
+/// Whether values are given for a column that takes texts.
+#[tactic(auto, unfolding(crate::specs::change::InsertPlaces::gives_text))]
+fn gives_text(columns: &[Column], places: &[usize]) -> bool
+    ensures { result ≡ gives_text columns.now places.now }
+{
+    places.iter().any(|place| takes_text(columns, *place))
+}
+
+/// Whether a row of INSERT gives a text that is too long for its column. The rows are read only if
+/// they give values for columns that take texts.
+pub fn has_long_text(table: &TableDef, insert: &InsertRows, places: &[usize]) -> bool
+    requires placed { ArePlaces table.now insert.now.columns places.now }
+    requires distinct { has_distinct_names table.now ≡ true }
+    ensures { result ≡ has_faulty_value fault.Length table.now insert.now }
+{
+    gives_text(table.columns.as_slice(), places)
+        && has_faulty_value(ValueFault::Length, table, insert, places)
 }

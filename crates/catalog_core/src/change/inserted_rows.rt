@@ -1,77 +1,58 @@
 //! The rows of a sound INSERT, by the value columns and the period of their table. An `Err` says
 //! that memory was refused: a sound INSERT gives each column a value, and a period's columns dates.
 
-ghost use Rattle.std.specs.Prelude.{◌≡◌, IfOk, Some, false, map, true};
+ghost use Rattle.std.specs.Prelude.{◌≡◌, ◌<◌, ℕ, All, IfOk, Some, false, length, map, slice_get};
+ghost use Rattle.std.specs.Prelude.{true};
 ghost use Rattle.period_core.specs.declared.value.Value.TheVariants.{Date};
 ghost use Rattle.catalog_core.specs.change.Insertion.{has_other_count, has_faulty_value};
-ghost use Rattle.catalog_core.specs.change.InsertPlaces.{ArePlaces, HasDate, HasValues, row_at};
-ghost use Rattle.catalog_core.specs.change.InsertPlaces.{value_at};
+ghost use Rattle.catalog_core.specs.change.InsertPlaces.{ArePlaces, HasDate, parts_at};
 ghost use Rattle.catalog_core.specs.change.Resolution.{row_parts, written_row};
 ghost use Rattle.catalog_core.specs.table.TableWords.{has_date_period, has_distinct_names};
-ghost use Rattle.catalog_core.specs.table.TableWords.{value_columns};
 ghost use Rattle.catalog_core.specs.declared.change.insert_values.ValueFault.TheVariants as fault;
 
 use crate::change::InsertedRow;
-use crate::change::insert_values::value_at;
+use crate::change::row_positions::{RowPositions, row_positions};
 use crate::table::TableDef;
-use crate::table::columns::is_value_column;
 use period_core::{Day, Memory, Value, Values};
 use sql_statements::InsertRows;
 use std::alloc::Global;
 
-/// The date that a row gives for the column at a place.
-fn date_at(places: &[usize], row: &[Value], place: usize) -> Day
-    requires { HasDate places.now row.now place }
-    ensures { value_at places.now row.now place ≡ Some (Date result) }
+/// The date that a row gives at a position.
+fn date_at(row: &[Value], position: usize) -> Day
+    requires { HasDate row.now position }
+    ensures { slice_get row.now position ≡ Some (Date result) }
 {
-    let Some(value) = value_at(places, row, place) else {
-        unreachable!()
-    };
+    let value = &row[position];
     let Value::Date(day) = value else {
         unreachable!()
     };
     *day
 }
 
-/// The values that a row gives for the value columns.
-fn row_values(
-    alloc: Global,
-    table: &TableDef,
-    places: &[usize],
-    row: &[Value],
-) -> Result<Vec<Value>, Memory>
-    requires { HasValues table.now places.now row.now }
-    ensures { IfOk result (λ v. map (λ c. value_at places.now row.now c.0) (value_columns table.now)
+/// The values that a row gives at the positions.
+fn row_values(alloc: Global, positions: &[usize], row: &[Value]) -> Result<Vec<Value>, Memory>
+    requires { All (λ k. k < length row.now) positions.now }
+    ensures { IfOk result (λ v. map (λ (k : ℕ). slice_get row.now k) positions.now
         ≡ map (λ x. Some x) v.items) }
 {
-    let mut values = Vec::new(alloc);
-    let columns = table.columns.as_slice();
-    for i in 0..columns.len() {
-        if is_value_column(table, i, &columns[i]) {
-            let Some(value) = value_at(places, row, i) else {
-                unreachable!()
-            };
-            values.push(value.copy(alloc)?)?;
-        }
+    let mut values = Vec::with_capacity(alloc, positions.len())?;
+    for position in positions {
+        let value = row[*position].copy(alloc)?;
+        values.push_reserved(value);
     }
     Ok(values)
 }
 
 /// A row of INSERT by its parts.
-fn inserted_row(
-    alloc: Global,
-    table: &TableDef,
-    places: &[usize],
-    row: &[Value],
-) -> Result<InsertedRow, Memory>
-    requires values { HasValues table.now places.now row.now }
-    requires start { HasDate places.now row.now table.now.period.start }
-    requires end { HasDate places.now row.now table.now.period.end }
-    ensures { IfOk result (λ given. row_at table.now places.now row.now ≡ row_parts given) }
+fn inserted_row(alloc: Global, at: &RowPositions, row: &[Value]) -> Result<InsertedRow, Memory>
+    requires values { All (λ k. k < length row.now) at.now.values.items }
+    requires start { HasDate row.now at.now.start }
+    requires end { HasDate row.now at.now.end }
+    ensures { IfOk result (λ given. parts_at at.now row.now ≡ row_parts given) }
 {
-    let start = date_at(places, row, table.period.start);
-    let end = date_at(places, row, table.period.end);
-    let values = Values::from_vec(row_values(alloc, table, places, row)?);
+    let start = date_at(row, at.start);
+    let end = date_at(row, at.end);
+    let values = Values::from_vec(row_values(alloc, at.values.as_slice(), row)?);
     Ok(InsertedRow { values, start, end })
 }
 
@@ -91,9 +72,12 @@ pub fn inserted_rows(
     ensures { IfOk result (λ v. map (written_row table.now insert.now.columns) insert.now.rows
         ≡ map row_parts v.items) }
 {
-    let mut given = Vec::new(alloc);
-    for row in insert.rows.as_slice() {
-        given.push(inserted_row(alloc, table, places, row.as_slice())?)?;
+    let at = row_positions(alloc, table, places)?;
+    let rows = insert.rows.as_slice();
+    let mut given = Vec::with_capacity(alloc, rows.len())?;
+    for row in rows {
+        let parts = inserted_row(alloc, &at, row.as_slice())?;
+        given.push_reserved(parts);
     }
     Ok(given)
 }

@@ -9,7 +9,7 @@ ghost use Rattle.catalog_core.specs.table.TableWords.{has_distinct_names};
 use crate::change::insert_names::{
     has_other_count, lists_ambiguous, lists_system, lists_unknown, repeats_column,
 };
-use crate::change::insert_values::{ValueFault, has_faulty_value};
+use crate::change::insert_values::{ValueFault, has_faulty_value, has_long_text};
 use crate::table::TableDef;
 use period_core::Refusal;
 use sql_statements::InsertRows;
@@ -47,7 +47,7 @@ pub fn value_fault(table: &TableDef, insert: &InsertRows, places: &[usize]) -> O
     if has_faulty_value(ValueFault::Kind, table, insert, places) {
         return Some(Refusal::TypeMismatch);
     }
-    if has_faulty_value(ValueFault::Length, table, insert, places) {
+    if has_long_text(table, insert, places) {
         return Some(Refusal::TextTooLong);
     }
     None

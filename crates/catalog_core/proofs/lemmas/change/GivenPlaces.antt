@@ -1,29 +1,33 @@
 -- A row by names and by places is one row, where no two columns share a name.
-use Rattle.std.proofs.Common.{◌≡◌, ◌<◌, ◌+◌, ◌∷◌, ◌&&◌, ◌∙◌, ℕ, zero, suc, Bool, true, false, List, [], Option, None, Some, cond, bytes_eq, get_or, length, filter, map, refl, sym, ap, arith}
+use Rattle.std.proofs.Common.{◌≡◌, ◌<◌, ◌+◌, ◌∷◌, ◌&&◌, ◌∙◌, ℕ, ℤ, zero, suc, Bool, true, false, List, [], Option, None, Some, cond, bytes_eq, get_or, length, filter, map, refl, sym, ap, arith}
 use Rattle.std.specs.Prelude.{◌==◌, slice_get}
 use Rattle.std.specs.List.{enumerate_from, find, list_any, zip}
 use Rattle.std.specs.Option.{option_and_then, option_map}
-use Rattle.std.proofs.lemmas.Bool.{false≢true}
+use Rattle.std.proofs.lemmas.Bool.{false≢true, or_parts}
 use Rattle.std.proofs.lemmas.Bool.Decides.{nat_tests}
 use Rattle.std.proofs.lemmas.List.Quantifiers.{position-Some}
 use Rattle.std.proofs.lemmas.Option.{none-some, same_Some, slice_get_within, get_or_from_slice_get, slice_get-get_or}
 use Rattle.std.proofs.lemmas.Slice.Eq.{bytes_eq-Decides}
 use Rattle.period_core.specs.declared.value.Value.{Value}
+use Rattle.period_core.specs.declared.value.Value.TheVariants.{Date}
 use Rattle.sql_statements.specs.declared.statement.InsertRows.{InsertRows}
 use Rattle.catalog_core.proofs.lemmas.lists.AnyTests.{any_same}
 use Rattle.catalog_core.proofs.lemmas.create.Built.{place_within}
 use Rattle.catalog_core.proofs.lemmas.table.Distinct.{few_named, its_place, only_one, own_name}
-use Rattle.catalog_core.proofs.lemmas.change.GivenValues.{date_column, date_given, date_parts, found_first, given_there, value_plain}
+use Rattle.catalog_core.proofs.lemmas.change.GivenValues.{date_column, date_given, date_parts, found_first}
 use Rattle.catalog_core.specs.change.Insertion.{given_names, given_value, gives_faulty_value, has_faulty_value, is_longer, is_of_other_kind, is_too_long, is_faulty, omits_column, value_for}
-use Rattle.catalog_core.specs.change.InsertPlaces.{ArePlaces, HasDate, HasValue, HasValues, gives_faulty_value_at, has_faulty_value_at, is_faulty_at, is_faulty_for, row_at, value_at}
-use Rattle.catalog_core.specs.table.Kinds.{differ, kind_of_column, kind_of_value}
+use Rattle.catalog_core.specs.change.InsertPlaces.{ArePlaces, gives_faulty_value_at, gives_text, has_faulty_value_at, is_faulty_at, is_faulty_for, row_at, takes_text, value_at}
+use Rattle.catalog_core.specs.table.Kinds.{differ, kind_of_column, kind_of_value, same_kind}
 use Rattle.catalog_core.specs.table.Naming.{Name, passes}
 use Rattle.catalog_core.specs.change.Resolution.{written_row}
 use Rattle.catalog_core.specs.table.TableWords.{def_kind, def_place, has_date_period, has_distinct_names, is_date_column, is_value_column, value_columns, value_names}
 use Rattle.catalog_core.specs.declared.change.insert_values.ValueFault.{ValueFault}
 use Rattle.catalog_core.specs.declared.change.insert_values.ValueFault.TheVariants as fault
 use Rattle.catalog_core.specs.declared.table.Column.{Column}
+use Rattle.catalog_core.specs.declared.table.ColumnKind.{ColumnKind}
+use Rattle.catalog_core.specs.declared.table.ColumnKind.TheVariants as column
 use Rattle.catalog_core.specs.declared.table.ValueKind.{ValueKind}
+use Rattle.catalog_core.specs.declared.table.ValueKind.TheVariants.{Text}
 use Rattle.catalog_core.specs.declared.table.TableDef.{TableDef}
 use Rattle.catalog_core.specs.table.Naming.{place_among}
 use Rattle.catalog_core.specs.table.Naming.{find_among}
@@ -222,21 +226,48 @@ period_there t dated =
     let end = date_column t t.period.end parts.end in
     record { start = start.found; end = end.found; start_there = start.there; end_there = end.there }
 
--- ==== a row that no condition refuses gives each column a value ====
-
-pub has_values : (t : TableDef) (list : Option (List Name)) (places : List ℕ) (row : List Value) → has_distinct_names t ≡ true → ArePlaces t list places
-    → passes (omits_column t) list ≡ false → length row ≡ length (given_names t list) → HasValues t places row
-has_values t list places row distinct placed names long i x there value =
-    let here : i < length t.columns = slice_get_within t.columns i x there in
-    let item : x ≡ get_or t.columns i x = sym (get_or_from_slice_get t.columns i x x there) in
-    (elim (value_at places row i) as (λ o. value_at places row i ≡ o → HasValue places row i) [
-      | None ↦ (λ none. absurd (given_there t list row i x here item (value_plain t i x value) names long (same_value t list places row i x distinct placed here item ∙ none)))
-      | Some v ↦ (λ some. (v, some))
-    ]) refl
+-- ==== a row that no condition refuses gives a date for a DATE column ====
 
 pub has_date : (t : TableDef) (list : Option (List Name)) (places : List ℕ) (row : List Value) (place : ℕ) → has_distinct_names t ≡ true → ArePlaces t list places
-    → passes (omits_column t) list ≡ false → length row ≡ length (given_names t list) → gives_faulty_value fault.Kind t list row ≡ false → is_date_column t place ≡ true → HasDate places row place
+    → passes (omits_column t) list ≡ false → length row ≡ length (given_names t list) → gives_faulty_value fault.Kind t list row ≡ false → is_date_column t place ≡ true
+    → (day : ℤ) × (value_at places row place ≡ Some (Date day))
 has_date t list places row place distinct placed names long right dated =
     let given = date_given t list row place names long right dated in
     let at = date_column t place dated in
     (given.0, sym (same_value_for t list places row place at.found distinct placed at.there) ∙ given.1)
+
+-- ==== no text is too long where no column takes texts ====
+
+longer_text : (kind : ColumnKind) (v : Value) → same_kind (kind_of_column kind) Text ≡ false → is_longer kind v ≡ false
+unfolding is_longer same_kind kind_of_column
+longer_text column.Integer v other = refl
+longer_text (column.Varchar n) v other = absurd (false≢true (sym other))
+longer_text column.Date v other = refl
+longer_text (column.RowStart p) v other = refl
+longer_text (column.RowEnd p) v other = refl
+
+short_at : (columns : List Column) (place : ℕ) (v : Value) → takes_text columns place ≡ false → is_faulty_at fault.Length columns (place, v) ≡ false
+unfolding takes_text is_faulty_at is_faulty_for
+short_at columns place v other =
+    (elim (slice_get columns place) as (λ o. passes (λ (x : Column). same_kind (kind_of_column x.kind) Text) o ≡ false → passes (λ (x : Column). is_faulty_for fault.Length x.kind v) o ≡ false) [
+      | None ↦ (λ e. refl)
+      | Some x ↦ (λ e. longer_text x.kind v e)
+    ]) other
+
+short_pairs : (columns : List Column) (places : List ℕ) (row : List Value) → list_any (λ (place : ℕ). takes_text columns place) places ≡ false
+    → list_any (λ (given : ℕ × Value). is_faulty_at fault.Length columns given) (zip places row) ≡ false
+short_pairs columns [] row none = refl
+short_pairs columns (place ∷ places) [] none = refl
+short_pairs columns (place ∷ places) (v ∷ row) none =
+    let parts = or_parts (takes_text columns place) (list_any (λ (p : ℕ). takes_text columns p) places) none in
+    rw (short_at columns place v parts.0, short_pairs columns places row parts.1) refl
+
+short_rows : (columns : List Column) (places : List ℕ) (rows : List (List Value)) → gives_text columns places ≡ false → has_faulty_value_at fault.Length columns places rows ≡ false
+unfolding gives_text has_faulty_value_at gives_faulty_value_at
+short_rows columns places [] none = refl
+short_rows columns places (row ∷ rows) none = rw (short_pairs columns places row none, short_rows columns places rows none) refl
+
+pub no_long_text : (t : TableDef) (insert : InsertRows) (places : List ℕ) → has_distinct_names t ≡ true → ArePlaces t insert.columns places → gives_text t.columns places ≡ false
+    → has_faulty_value fault.Length t insert ≡ false
+no_long_text t insert places distinct placed none =
+    sym (wrong_rows fault.Length t insert places distinct placed) ∙ short_rows t.columns places insert.rows none
