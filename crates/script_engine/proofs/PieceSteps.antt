@@ -3,10 +3,11 @@ use Rattle.std.proofs.Common.{◌≡◌, ◌<◌, ◌+◌, ◌-◌, ◌++◌, �
 use Rattle.period_core.specs.Leasts.{NoneApplies}
 use Rattle.period_core.specs.declared.refusal.Refusal.{Refusal}
 use Rattle.sql_front.specs.Grammar.{IsStatement}
-use Rattle.sql_statements.specs.Lexemes.{Lexeme, lexemes}
+use Rattle.sql_statements.specs.Lexemes.{Lexeme}
 use Rattle.sql_front.specs.Pieces.{spanned}
+use Rattle.sql_front.specs.TokenSpans.{lexemes_at}
 use Rattle.sql_front.specs.declared.pieces.Span.{Span}
-use Rattle.sql_statements.specs.declared.token.Token.{Token}
+use Rattle.sql_front.specs.declared.token_spans.TokenSpan.{TokenSpan}
 use Rattle.sql_statements.specs.Trees.{Statement}
 use Rattle.history_model.specs.Histories.{History}
 use Rattle.sqlite.specs.Store.{Ghosts}
@@ -40,13 +41,13 @@ module _ {R : Type 0} (IsStep : History → List Lexeme → R → History → Ty
   run_more history (first ∷ pieces) (its ∷ results) middle piece result new (next, here, rest) step = (next, here, run_more next pieces results middle piece result new rest step)
 
   -- the same, for the next of the spans of a list of tokens
-  pub run_next : (history : History) (tokens : List Token) (spans : List Span) (i : ℕ) (d : Span) (results more : List R) (middle : History) (result : R) (new : History) →
-      i < length spans → more ≡ results ++ result ∷ [] → StepPieces IsStep history (map (spanned (lexemes tokens)) (take i spans)) results middle →
-      IsStep middle (lexemes (take ((get_or spans i d).end - (get_or spans i d).start) (drop (get_or spans i d).start tokens))) result new →
-      StepPieces IsStep history (map (spanned (lexemes tokens)) (take (i + 1) spans)) more new
-  run_next history tokens spans i d results more middle result new inside added run step =
-      rw (pieces_next tokens spans i d inside, added)
-      (run_more history (map (spanned (lexemes tokens)) (take i spans)) results middle (lexemes (take ((get_or spans i d).end - (get_or spans i d).start) (drop (get_or spans i d).start tokens))) result new run step)
+  pub run_next : (history : History) (script : List ℕ) (tokens : List TokenSpan) (spans : List Span) (i : ℕ) (d : Span) (results more : List R) (middle : History) (result : R) (new : History) →
+      i < length spans → more ≡ results ++ result ∷ [] → StepPieces IsStep history (map (spanned (lexemes_at script tokens)) (take i spans)) results middle →
+      IsStep middle (lexemes_at script (take ((get_or spans i d).end - (get_or spans i d).start) (drop (get_or spans i d).start tokens))) result new →
+      StepPieces IsStep history (map (spanned (lexemes_at script tokens)) (take (i + 1) spans)) more new
+  run_next history script tokens spans i d results more middle result new inside added run step =
+      rw (pieces_next script tokens spans i d inside, added)
+      (run_more history (map (spanned (lexemes_at script tokens)) (take i spans)) results middle (lexemes_at script (take ((get_or spans i d).end - (get_or spans i d).start) (drop (get_or spans i d).start tokens))) result new run step)
 
 -- the results of an audited run are those of a run
 unaudited_piece : (history : History) (piece : List Lexeme) (entry : Entry) (new : History) → AuditedPieceStep history piece entry new → PieceStep history piece entry.result new

@@ -4,10 +4,11 @@ use Rattle.std.specs.Str.{IsUtf8}
 use Rattle.period_core.specs.Leasts.{NoneApplies}
 use Rattle.period_core.specs.declared.refusal.Refusal.{Refusal}
 use Rattle.period_core.specs.declared.refusal.Refusal.TheVariants.{BadStore, BadToken, NotUtf8, ScriptTooLarge}
-use Rattle.sql_statements.specs.Lexemes.{Lexeme, lexemes}
+use Rattle.sql_statements.specs.Lexemes.{Lexeme}
 use Rattle.sql_front.specs.Pieces.{HasPieces, spanned}
+use Rattle.sql_front.specs.TokenSpans.{lexemes_at}
 use Rattle.sql_front.specs.declared.pieces.Span.{Span}
-use Rattle.sql_statements.specs.declared.token.Token.{Token}
+use Rattle.sql_front.specs.declared.token_spans.TokenSpan.{TokenSpan}
 use Rattle.sql_statements.specs.Lexis.{TokensOf}
 use Rattle.sql_front.proofs.TokenLists.{never_both_of}
 use Rattle.script_engine.specs.script.Script.{IsCutInto, MayRefuseScript, ScriptApplies, most_bytes}
@@ -24,14 +25,14 @@ not_bad script refusal (inl least) bad = subst (ScriptApplies script) bad least.
 not_bad script refusal (inr memory) bad = cc
 
 -- the pieces of a script are what the spans of its tokens span
-pub cut_of : (script text : List ℕ) (tokens seen : List Token) (spans : List Span) → text ≡ script → seen ≡ tokens →
-    length script ≤ most_bytes → IsUtf8 script → TokensOf text (lexemes tokens) → HasPieces (lexemes seen) (map (spanned (lexemes seen)) spans) →
-    IsCutInto script (map (spanned (lexemes tokens)) spans)
+pub cut_of : (script text : List ℕ) (tokens seen : List TokenSpan) (spans : List Span) → text ≡ script → seen ≡ tokens →
+    length script ≤ most_bytes → IsUtf8 script → TokensOf text (lexemes_at text tokens) → HasPieces (lexemes_at text seen) (map (spanned (lexemes_at text seen)) spans) →
+    IsCutInto script (map (spanned (lexemes_at text tokens)) spans)
 cut_of script text tokens seen spans same slice small utf8 lexed pieces =
-    let its : TokensOf script (lexemes tokens) = subst (λ (s : List ℕ). TokensOf s (lexemes tokens)) same lexed in
+    let its : TokensOf script (lexemes_at text tokens) = subst (λ (s : List ℕ). TokensOf s (lexemes_at text tokens)) same lexed in
     record {
-      sound = none_of_script script (lexemes tokens) small utf8 its;
-      tokens = lexemes tokens;
+      sound = none_of_script script (lexemes_at text tokens) small utf8 its;
+      tokens = lexemes_at text tokens;
       lexed = its;
-      parted = subst (λ (ts : List Token). HasPieces (lexemes ts) (map (spanned (lexemes ts)) spans)) slice pieces;
+      parted = subst (λ (ts : List TokenSpan). HasPieces (lexemes_at text ts) (map (spanned (lexemes_at text ts)) spans)) slice pieces;
     }

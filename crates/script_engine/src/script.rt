@@ -6,9 +6,9 @@ ghost use Rattle.period_core.specs.Leasts.{MayAnswer, NoneApplies};
 ghost use Rattle.period_core.specs.declared.refusal.Refusal.TheVariants.{BadStore, NotUtf8};
 ghost use Rattle.period_core.specs.declared.refusal.Refusal.TheVariants.{ScriptTooLarge};
 ghost use Rattle.sql_front.specs.Grammar.{IsStatement};
-ghost use Rattle.sql_statements.specs.Lexemes.{lexemes};
 ghost use Rattle.sql_statements.specs.Lexis.{TokensOf};
 ghost use Rattle.sql_front.specs.Pieces.{IsWithin, spanned};
+ghost use Rattle.sql_front.specs.TokenSpans.{IsInScript, lexemes_at};
 ghost use Rattle.sql_statements.specs.Plain.{plain};
 ghost use Rattle.sqlite.specs.Held.{state};
 ghost use Rattle.version_store.specs.StoreState.{IsUsable, SparesOthers};
@@ -32,8 +32,8 @@ use crate::engine::Engine;
 use crate::script::listener::{AllKept, Listener};
 use crate::script::piece_result::PieceResult;
 use period_core::Refusal;
-use sql_front::{LexFault, Span, cut, lex, parse};
-use sql_statements::{Statement, Token};
+use sql_front::{LexFault, Span, TokenSpan, cut_spans, lex_spans, parse, tokens_at};
+use sql_statements::Statement;
 use sqlite::Connection;
 use sqlite_trees::store::Alter;
 use statement_reports::{Entry, Outcome};
@@ -62,13 +62,15 @@ pub(crate) fn script_text(script: &[u8]) -> Result<&str, Refusal>
     }
 }
 
-/// The tokens of a script that is not too large.
-pub(crate) fn script_tokens<'a>(alloc: Global, script: &'a str) -> Result<Vec<Token<'a>>, Refusal>
+/// The tokens of a script that is not too large, by their places in it.
+pub(crate) fn script_tokens(alloc: Global, script: &str) -> Result<Vec<TokenSpan>, Refusal>
     requires { length script.now ≤ most_bytes }
-    ensures tokens { IfOk result (λ tokens. TokensOf script.now (lexemes tokens.items)) }
+    ensures tokens { IfOk result
+        (λ tokens. TokensOf script.now (lexemes_at script.now tokens.items)) }
+    ensures inside { IfOk result (λ tokens. All (IsInScript script.now) tokens.items) }
     ensures refused { IfErr result (MayRefuseScript script.now) }
 {
-    match lex(alloc, script) {
+    match lex_spans(alloc, script) {
         Ok(tokens) => Ok(tokens),
         Err(LexFault::BadToken(offset)) => Err(Refusal::BadToken(offset)),
         Err(LexFault::Memory) => Err(Refusal::Memory),
@@ -76,41 +78,47 @@ pub(crate) fn script_tokens<'a>(alloc: Global, script: &'a str) -> Result<Vec<To
 }
 
 /// The statement that a piece of a script spells. Of a piece that is too long nothing else is
-/// judged.
+/// judged. The tokens of the piece are made here, and dropped when it is read.
 pub(crate) fn statement_of(
     alloc: Global,
     script: &str,
-    piece: &[Token<'_>],
+    piece: &[TokenSpan],
 ) -> Result<Statement, Refusal>
-    ensures found { IfOk result (λ statement. IsStatement (lexemes piece.now) (plain statement)) }
-    ensures sound { OnOk result (NoneApplies (TextApplies (lexemes piece.now))) }
-    ensures refused { IfErr result (MayAnswer (TextApplies (lexemes piece.now))) }
+    requires { All (IsInScript script.now) piece.now }
+    ensures found { IfOk result
+        (λ statement. IsStatement (lexemes_at script.now piece.now) (plain statement)) }
+    ensures sound { OnOk result (NoneApplies (TextApplies (lexemes_at script.now piece.now))) }
+    ensures refused { IfErr result (MayAnswer (TextApplies (lexemes_at script.now piece.now))) }
 {
     if piece.len() > MOST_TOKENS {
         return Err(Refusal::LimitReached);
     }
-    parse(alloc, script, piece)
+    let tokens = tokens_at(alloc, script, piece)?;
+    parse(alloc, script, tokens.as_slice())
 }
 
-/// The pieces of a script: its tokens, and of each piece which of them it has.
+/// The pieces of a script: its text, the places of its tokens in it, and of each piece which of
+/// these tokens it has.
 #[derive(Drop)]
 pub(crate) struct Pieces<'a> {
     pub(crate) text: &'a str,
-    pub(crate) tokens: Vec<Token<'a>>,
+    pub(crate) tokens: Vec<TokenSpan>,
     pub(crate) spans: Vec<Span>,
 }
 
 /// The pieces of a script. An `Err` is the refusal of the whole script, or out of memory.
 pub(crate) fn script_pieces<'a>(alloc: Global, script: &'a [u8]) -> Result<Pieces<'a>, Refusal>
     ensures cut { IfOk result (λ pieces. IsCutInto script.now
-        (map (spanned (lexemes pieces.tokens.items)) pieces.spans.items)) }
+        (map (spanned (lexemes_at pieces.text.now pieces.tokens.items)) pieces.spans.items)) }
+    ensures inside { IfOk result
+        (λ pieces. All (IsInScript pieces.text.now) pieces.tokens.items) }
     ensures within { IfOk result
         (λ pieces. All (IsWithin (length pieces.tokens.items)) pieces.spans.items) }
     ensures refused { IfErr result (MayRefuseScript script.now) }
 {
     let text = script_text(script)?;
     let tokens = script_tokens(alloc, text)?;
-    let spans = cut(alloc, tokens.as_slice())?;
+    let spans = cut_spans(alloc, text, tokens.as_slice())?;
     Ok(Pieces {
         text,
         tokens,
@@ -123,11 +131,13 @@ fn run_piece<S: Alter, K: PieceResult<S>>(
     alloc: Global,
     engine: &mut Engine<S>,
     script: &str,
-    piece: &[Token<'_>],
+    piece: &[TokenSpan],
 ) -> K
+    requires { All (IsInScript script.now) piece.now }
     ensures step { IsUsable S.Store engine.new.connection
         → (history : History) → EngineRepresents S.Store history engine.old
-        → RepresentsSome S.Store (K.is_step history (lexemes piece.now) result) engine.new }
+        → RepresentsSome S.Store
+        (K.is_step history (lexemes_at script.now piece.now) result) engine.new }
     ensures usable { WasUsable S.Store engine.old.connection engine.new.connection }
     ensures others { SparesOthers S.Store engine.old.connection engine.new.connection }
 {
@@ -148,18 +158,19 @@ fn run_pieces<S: Alter, K: PieceResult<S>, L: Listener<K>>(
     alloc: Global,
     engine: &mut Engine<S>,
     script: &str,
-    tokens: &[Token<'_>],
+    tokens: &[TokenSpan],
     pieces: &[Span],
     listener: &mut L,
 ) -> bool
-    requires { All (IsWithin (length tokens.now)) pieces.now }
+    requires inside { All (IsInScript script.now) tokens.now }
+    requires within { All (IsWithin (length tokens.now)) pieces.now }
     ensures run { (results : List K)
         × HearsAll L.hears 1 listener.old results result listener.new
         × (length results ≤ length pieces.now)
         × (IsUsable S.Store engine.new.connection
         → (history : History) → EngineRepresents S.Store history engine.old
         → RepresentsSome S.Store (StepFront K.is_step history
-        (map (spanned (lexemes tokens.now)) pieces.now) results result) engine.new) }
+        (map (spanned (lexemes_at script.now tokens.now)) pieces.now) results result) engine.new) }
     ensures usable { WasUsable S.Store engine.old.connection engine.new.connection }
     ensures others { SparesOthers S.Store engine.old.connection engine.new.connection }
 {

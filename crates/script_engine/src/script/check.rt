@@ -2,20 +2,20 @@
 
 ghost use Rattle.std.specs.Prelude.{◌≡◌, All, IfErr, IfOk, length, map};
 ghost use Rattle.std.specs.List.{AllZip};
-ghost use Rattle.sql_statements.specs.Lexemes.{lexemes};
 ghost use Rattle.sql_front.specs.Pieces.{IsWithin, spanned};
+ghost use Rattle.sql_front.specs.TokenSpans.{IsInScript, lexemes_at};
 ghost use Rattle.script_engine.specs.script.Check.{IsCheckOf, IsPieceCheck};
 ghost use Rattle.script_engine.specs.script.Script.{MayRefuseScript};
 
 use crate::script::{script_pieces, statement_of};
 use period_core::Refusal;
-use sql_front::Span;
-use sql_statements::Token;
+use sql_front::{Span, TokenSpan};
 use std::alloc::Global;
 
 // Whether a piece of a script spells a sound statement, or its refusal.
-fn check_piece(alloc: Global, script: &str, piece: &[Token<'_>]) -> Result<(), Refusal>
-    ensures { IsPieceCheck (lexemes piece.now) result }
+fn check_piece(alloc: Global, script: &str, piece: &[TokenSpan]) -> Result<(), Refusal>
+    requires { All (IsInScript script.now) piece.now }
+    ensures { IsPieceCheck (lexemes_at script.now piece.now) result }
 {
     match statement_of(alloc, script, piece) {
         Ok(statement) => {
@@ -31,13 +31,14 @@ fn check_piece(alloc: Global, script: &str, piece: &[Token<'_>]) -> Result<(), R
 fn check_pieces(
     alloc: Global,
     script: &str,
-    tokens: &[Token<'_>],
+    tokens: &[TokenSpan],
     pieces: &[Span],
 ) -> Result<Vec<Result<(), Refusal>>, Refusal>
-    requires { All (IsWithin (length tokens.now)) pieces.now }
+    requires inside { All (IsInScript script.now) tokens.now }
+    requires within { All (IsWithin (length tokens.now)) pieces.now }
     ensures checked { IfOk result
         (λ results. AllZip IsPieceCheck
-        (map (spanned (lexemes tokens.now)) pieces.now) results.items) }
+        (map (spanned (lexemes_at script.now tokens.now)) pieces.now) results.items) }
     ensures memory { IfErr result (λ refusal. refusal ≡ Refusal.Memory) }
 {
     let mut results = Vec::with_capacity(alloc, pieces.len())?;

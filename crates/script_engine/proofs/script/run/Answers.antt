@@ -1,8 +1,8 @@
 use Rattle.std.proofs.Common.{◌≡◌, ◌≤◌, ◌+◌, ◌++◌, ◌∙◌, List, ap, inr, length, map, rules, subst, subst₂, sym, vec_capacity, vec_len}
 use Rattle.sql_front.specs.Pieces.{spanned}
 use Rattle.sql_front.specs.declared.pieces.Span.{Span}
-use Rattle.sql_statements.specs.Lexemes.{lexemes}
-use Rattle.sql_statements.specs.declared.token.Token.{Token}
+use Rattle.sql_front.specs.TokenSpans.{lexemes_at}
+use Rattle.sql_front.specs.declared.token_spans.TokenSpan.{TokenSpan}
 use Rattle.version_store.proofs.Beside.{spares_then}
 use Rattle.script_engine.specs.script.Script.{IsCutInto, StepPieces}
 use Rattle.script_engine.proofs.ListeningFacts.{all_kept, front_is_whole}
@@ -18,8 +18,8 @@ returns-clause-run g c = λ usable history stands.
     let space : vec_len room + length results ≤ vec_capacity room = search rules in
     let (items, whole) = all_kept 1 (record { kept = room }) results c.run_pieces.result c.run_pieces.new.listener heard space in
     let same : c.run_pieces.new.listener.kept.items ≡ results = items ∙ ap (λ xs. xs ++ results) c.in-Ok-with_capacity.ensures.items in
-    let cut = subst₂ (λ (tokens : List Token) (spans : List Span). IsCutInto c.args.script.now (map (spanned (lexemes tokens)) spans)) (sym c.as_slice-tokens.ensures.value) (sym c.as_slice-spans.ensures.value) c.in-Ok.ensures.cut in
-    let pieces = map (spanned (lexemes c.as_slice-tokens.result.now)) c.as_slice-spans.result.now in
+    let cut = subst₂ (λ (tokens : List TokenSpan) (spans : List Span). IsCutInto c.args.script.now (map (spanned (lexemes_at c.in-Ok.pieces.text.now tokens)) spans)) (sym c.as_slice-tokens.ensures.value) (sym c.as_slice-spans.ensures.value) c.in-Ok.ensures.cut in
+    let pieces = map (spanned (lexemes_at c.in-Ok.pieces.text.now c.as_slice-tokens.result.now)) c.as_slice-spans.result.now in
     let all = front_is_whole g.K.PieceResult.is_step history pieces results c.run_pieces.result last run whole in
     (record { pieces = pieces; cut = cut; last = last; run = subst (λ rs. StepPieces g.K.PieceResult.is_step history pieces rs last) (sym same) all }, represents)
 

@@ -1,6 +1,6 @@
 use Rattle.std.proofs.Common.{◌≡◌, ◌<◌, ◌+◌, ◌++◌, ◌∷◌, List, [], length, map, take, take_all, arith, false, refl, subst, true}
 use Rattle.std.proofs.lemmas.List.{length_push}
-use Rattle.sql_statements.specs.Lexemes.{lexemes}
+use Rattle.sql_front.specs.TokenSpans.{lexemes_at}
 use Rattle.sql_front.specs.Pieces.{spanned}
 use Rattle.sql_front.specs.declared.pieces.Span.{Span}
 use Rattle.version_store.proofs.Beside.{spares_same, spares_then}
@@ -32,7 +32,7 @@ loop-i-preserved g c =
         λ usable history represents.
             let (last, run, stands) = ran (c.run_piece-kept.ensures.usable usable) history represents in
             let (new, step, after) = c.run_piece-kept.ensures.step usable last stands in
-            (new, run_next g.K.PieceResult.is_step history c.args.tokens.now c.args.pieces.now c.loop-i.i (record { start = 0; end = 0 }) results (results ++ kept ∷ []) last kept new inside refl run step, after),
+            (new, run_next g.K.PieceResult.is_step history c.args.script.now c.args.tokens.now c.args.pieces.now c.loop-i.i (record { start = 0; end = 0 }) results (results ++ kept ∷ []) last kept new inside refl run step, after),
       );
     }
 
@@ -49,8 +49,8 @@ returns-then-not-hear-clause-run g c =
           let (last, run, stands) = ran (c.run_piece-kept.ensures.usable usable) history represents in
           let (new, step, after) = c.run_piece-kept.ensures.step usable last stands in (
             new,
-            front_of g.K.PieceResult.is_step history (lexemes c.args.tokens.now) c.args.pieces.now (c.loop-i.i + 1) (results ++ kept ∷ []) new
-                (run_next g.K.PieceResult.is_step history c.args.tokens.now c.args.pieces.now c.loop-i.i (record { start = 0; end = 0 }) results (results ++ kept ∷ []) last kept new inside refl run step),
+            front_of g.K.PieceResult.is_step history (lexemes_at c.args.script.now c.args.tokens.now) c.args.pieces.now (c.loop-i.i + 1) (results ++ kept ∷ []) new
+                (run_next g.K.PieceResult.is_step history c.args.script.now c.args.tokens.now c.args.pieces.now c.loop-i.i (record { start = 0; end = 0 }) results (results ++ kept ∷ []) last kept new inside refl run step),
             after,
           ),
     )
@@ -65,8 +65,8 @@ returns-clause-run g c =
       λ usable history represents.
           let (last, run, stands) = ran usable history represents in (
             last,
-            whole_front g.K.PieceResult.is_step history (map (spanned (lexemes c.args.tokens.now)) c.args.pieces.now) results last
-                (subst (λ (pieces : List Span). StepPieces g.K.PieceResult.is_step history (map (spanned (lexemes c.args.tokens.now)) pieces) results last) whole run),
+            whole_front g.K.PieceResult.is_step history (map (spanned (lexemes_at c.args.script.now c.args.tokens.now)) c.args.pieces.now) results last
+                (subst (λ (pieces : List Span). StepPieces g.K.PieceResult.is_step history (map (spanned (lexemes_at c.args.script.now c.args.tokens.now)) pieces) results last) whole run),
             stands,
           ),
     )

@@ -1,5 +1,5 @@
 use Rattle.std.proofs.Common.{◌≡◌, List, length, map, take, true}
-use Rattle.sql_statements.specs.Lexemes.{lexemes}
+use Rattle.sql_front.specs.TokenSpans.{lexemes_at}
 use Rattle.sql_front.specs.Pieces.{spanned}
 use Rattle.history_model.specs.Histories.{History}
 use Rattle.version_store.specs.StoreState.{IsUsable, SparesOthers}
@@ -15,5 +15,5 @@ invariant-loop-i g l = record {
   run : (results : List g.row.K.Denot) × HearsAll g.L.Listener.hears 1 l.fn.listener results true l.listener
       × (length results ≡ l.i)
       × (IsUsable g.S.Store l.engine.connection → (history : History) → EngineRepresents g.S.Store history l.fn.engine →
-      RepresentsSome g.S.Store (StepPieces g.K.PieceResult.is_step history (map (spanned (lexemes l.tokens)) (take l.i l.pieces)) results) l.engine);
+      RepresentsSome g.S.Store (StepPieces g.K.PieceResult.is_step history (map (spanned (lexemes_at l.script l.tokens)) (take l.i l.pieces)) results) l.engine);
 }

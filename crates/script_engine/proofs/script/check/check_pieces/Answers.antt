@@ -8,5 +8,5 @@ loop-piece-preserved c =
     record {
       room = omega arith;
       count = omega arith;
-      checked = check_next c.args.tokens.now c.args.pieces.now c.loop-piece.piece-index (record { start = 0; end = 0 }) c.loop-piece.results.items c.push_reserved.new.self.items c.check_piece-result.result inside c.push_reserved.ensures.items c.loop-piece.invariant.checked c.check_piece-result.ensures;
+      checked = check_next c.args.script.now c.args.tokens.now c.args.pieces.now c.loop-piece.piece-index (record { start = 0; end = 0 }) c.loop-piece.results.items c.push_reserved.new.self.items c.check_piece-result.result inside c.push_reserved.ensures.items c.loop-piece.invariant.checked c.check_piece-result.ensures;
     }
