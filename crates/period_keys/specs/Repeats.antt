@@ -1,8 +1,15 @@
 -- Rows of keys in order: which days two of them share, and what one step over them finds.
 use Rattle.std.specs.Prelude.{◌≡◌, ◌<ℤ◌, ◌≤ℤ◌, ◌<◌, ℕ, ℤ, List, Option, MatchOption}
 use Rattle.std.specs.Prelude.{slice_index_or}
+use Rattle.std.specs.Cmp.{IsTotalOrder}
+use Rattle.period_core.specs.Order.{row_cmp}
 use Rattle.period_core.specs.declared.row.PeriodRow.{PeriodRow}
+use Rattle.coalesce_core.proofs.Order as order
 use Rattle.period_keys.specs.Keys.{BothHold, SomePair, key_values}
+
+-- the order of rows is total
+abbrev pub row_cmp_total : IsTotalOrder row_cmp
+row_cmp_total = order.row_cmp_total
 
 -- the row with the values of its key alone
 abbrev pub key_row : List ℕ → PeriodRow → PeriodRow

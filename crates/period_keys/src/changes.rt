@@ -16,7 +16,7 @@ use std::alloc::Global;
 pub fn keys_of(alloc: Global, positions: &[usize], rows: &[PeriodRow]) -> Result<Vec<Key>, Memory>
     ensures { IfOk result (λ keys. keys.items ≡ map (key_values positions.now) rows.now) }
 {
-    let mut keys = Vec::new(alloc);
+    let mut keys = Vec::with_capacity(alloc, rows.len())?;
     for row in rows {
         keys.push(key_of(alloc, positions, row)?)?;
     }

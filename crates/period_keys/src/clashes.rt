@@ -1,18 +1,19 @@
 //! The least day on which two rows share a key after a change, judged by the rows of the keys that
 //! it adds.
 
-ghost use Rattle.std.specs.Prelude.{◌++◌, IfOk, IsPermutation, List, OnOk, map};
+ghost use Rattle.std.specs.Prelude.{◌≡◌, ◌++◌, IfOk, IsPermutation, List, OnOk, map};
 ghost use Rattle.period_core.specs.declared.row.PeriodRow.{PeriodRow as Row};
 ghost use Rattle.period_core.specs.declared.version.VersionRow.{VersionRow as Version};
 ghost use Rattle.history_model.specs.Versions.{row_of};
-ghost use Rattle.period_keys.specs.Keys.{HasNoClash, IsKeyClash, IsLeastOf};
+ghost use Rattle.period_keys.specs.Keys.{HasNoClash, IsKeyClash, IsLeastOf, key_values};
 ghost use Rattle.period_keys.specs.Index.{IsIndexOf};
 
 use crate::current_rows::CurrentRows;
+use crate::key::Key;
 use crate::keyed_periods::KeyedPeriods;
 use crate::keys::{key_of, values_of};
 use crate::shared_days::earlier;
-use crate::sweep::{keyed_row, least_repeat};
+use crate::sweep::{least_repeat, row_keys};
 use period_core::{Day, Memory, PeriodRow, VersionRow};
 use std::alloc::Global;
 
@@ -79,30 +80,27 @@ pub fn index_of_current(
 }
 
 /// The least day on which two rows of a table share its key once the ended rows are gone and the
-/// added ones are there: what a look at all rows would find, where no two shared it before. The
-/// ended ones are among the current rows.
+/// added ones, whose keys these are, are there: what a look at all rows would find, where no two
+/// shared it before. The ended ones are among the current rows.
 pub fn key_clash_after(
     alloc: Global,
     current: &CurrentRows,
     ended: &[VersionRow],
+    keys: &[Key],
     added: &[PeriodRow],
 ) -> Result<Option<Day>, Memory>
+    requires { keys.now ≡ map (key_values current.now.positions) added.now }
     ensures { IfOk result (λ found. (stay : List Version)
         → HasNoClash current.now.positions (map row_of current.now.rows)
         → IsPermutation current.now.rows (ended.now ++ stay)
         → IsLeastOf (IsKeyClash current.now.positions (map row_of stay ++ added.now)) found) }
 {
-    let positions = current.positions();
-    let gone = index_of_versions(alloc, positions, ended)?;
-    // Each key is made once: it finds the rows that are kept, and then is compared with the others.
+    let gone = index_of_versions(alloc, current.positions(), ended)?;
     let mut with_kept = None;
-    let mut keyed = Vec::with_capacity(alloc, added.len())?;
-    for row in added {
-        let key = key_of(alloc, positions, row)?;
-        let kept = current.first_shared(&gone, &key, &row.period);
+    for i in 0..added.len() {
+        let kept = current.first_shared(&gone, &keys[i], &added[i].period);
         with_kept = earlier(with_kept, kept);
-        keyed.push(keyed_row(key, row))?;
     }
-    let among = least_repeat(keyed)?;
+    let among = least_repeat(row_keys(alloc, keys, added)?)?;
     Ok(earlier(with_kept, among))
 }

@@ -9,20 +9,28 @@ ghost use Rattle.catalog_core.specs.declared.table.TableDef.{TableDef};
 ghost use Rattle.history_model.specs.Histories.{State};
 ghost use Rattle.history_model.specs.Versions.{row_of};
 ghost use Rattle.period_keys.specs.Faults.{IsPlanned, IsReferredTo, RefersToOther};
-ghost use Rattle.period_keys.specs.Keys.{IsLeastOf};
+ghost use Rattle.period_keys.specs.Keys.{IsLeastOf, key_values};
 ghost use Rattle.period_keys.specs.Lawful.{IsKeyFault, IsKeyOf, LacksParentBy, own_positions};
 ghost use Rattle.period_keys.specs.Lawful.{parent_positions, state_after};
 
 use crate::clashes::key_clash_after;
 use crate::current_rows::CurrentRows;
+use crate::key::Key;
 use crate::keyed_periods::KeyedPeriods;
 use crate::references::{uncovered_by_children, uncovered_by_parents};
 use catalog_core::Plan;
 use period_core::{Day, Memory, PeriodRow, VersionRow};
 use std::alloc::Global;
 
-/// The least day on which a change of this plan would let two rows of its table share the key.
-pub fn key_fault(alloc: Global, current: &CurrentRows, plan: &Plan) -> Result<Option<Day>, Memory>
+/// The least day on which a change of this plan, the keys of whose added rows these are, would let
+/// two rows of its table share the key.
+pub fn key_fault(
+    alloc: Global,
+    current: &CurrentRows,
+    keys: &[Key],
+    plan: &Plan,
+) -> Result<Option<Day>, Memory>
+    requires { keys.now ≡ map (key_values current.now.positions) plan.now.added }
     ensures { IfOk result (λ found. (catalog : List TableDef) (before : State)
         (change : ChangeModel)
         → IsKeyOf catalog change.table current.now.positions
@@ -30,7 +38,7 @@ pub fn key_fault(alloc: Global, current: &CurrentRows, plan: &Plan) -> Result<Op
         → IsLeastOf (IsKeyFault catalog before change) found) }
 {
     let ended = plan.ended.as_slice();
-    let found = key_clash_after(alloc, current, ended, plan.added.as_slice())?;
+    let found = key_clash_after(alloc, current, ended, keys, plan.added.as_slice())?;
     Ok(found)
 }
 

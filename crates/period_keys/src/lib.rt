@@ -1,7 +1,7 @@
 //! Temporal keys and references: the least day on which two rows of a table share its key, or on
 //! which a child row has no parent row.
 //!
-//! - Whole lists are judged by a table's definition (`tables`, `sweep`).
+//! - Whole lists are judged by a table's definition (`tables`, `sweep`, over each `row_key`).
 //! - A table's current rows are kept by `key` in memory (`current_rows`, of `groups` of
 //!   `key_rows`). Those of one key are found by days, where they are many: their periods are kept
 //!   beside them with their places (`placed_period`) in blocks (`block`, `period_blocks`), and
@@ -42,12 +42,14 @@ mod plans;
 mod positions;
 mod reference_faults;
 mod references;
+mod row_key;
 mod shared_days;
 mod sweep;
 mod table_index;
 mod table_list;
 mod tables;
 
+pub use changes::keys_of;
 pub use current_rows::CurrentRows;
 pub use faults::{key_fault, rows_of};
 pub use fixed_keys::{Equation, fixed_key, fixed_key_within};

@@ -1,16 +1,17 @@
-//! The least day on which two rows of a whole list share a key: rows of keys alone are sorted, and
-//! each is compared with the one that ends latest among those of its key before it.
+//! The least day on which two rows of a whole list share a key: the keys with the rows' periods are
+//! sorted, and each is compared with the one that ends latest among those of its key before it.
 
-ghost use Rattle.std.specs.Prelude.{◌≡◌, ◌↔◌, ◌<◌, ◌≤ℤ◌, ◌⊎◌, AllPairs, IfOk, IsTrue, length};
-ghost use Rattle.std.specs.Prelude.{map};
+ghost use Rattle.std.specs.Prelude.{◌≡◌, ◌↔◌, ◌<◌, ◌≤ℤ◌, ◌⊎◌, ℕ, AllPairs, IfOk, IsTrue, List};
+ghost use Rattle.std.specs.Prelude.{length, map};
 ghost use Rattle.period_core.specs.declared.row.PeriodRow.{PeriodRow as Row};
 ghost use Rattle.coalesce_core.specs.Coalesced.{NotAfter};
-ghost use Rattle.period_keys.specs.Keys.{IsKeyClash, IsLeastOf};
+ghost use Rattle.period_keys.specs.Keys.{IsKeyClash, IsLeastOf, key_values};
 ghost use Rattle.period_keys.specs.Repeats.{EndsByThen, EndsLater, IsReachedOn};
 ghost use Rattle.period_keys.specs.Repeats.{Reaches, Repeats, key_row};
 
+use crate::changes::keys_of;
 use crate::key::Key;
-use crate::keys::key_of;
+use crate::row_key::RowKey;
 use crate::shared_days::earlier;
 use period_core::{Day, Memory, PeriodRow};
 use std::alloc::Global;
@@ -27,45 +28,38 @@ pub fn rows_clash(
     if rows.len() < 2 {
         return Ok(None);
     }
-    least_repeat(key_rows(alloc, positions, rows)?)
+    let keys = keys_of(alloc, positions, rows)?;
+    least_repeat(row_keys(alloc, keys.as_slice(), rows)?)
 }
 
-/// The least day on which two of the rows hold the same values.
-pub fn least_repeat(mut rows: Vec<PeriodRow>) -> Result<Option<Day>, Memory>
-    ensures { IfOk result (IsLeastOf (Repeats rows.items)) }
+/// The least day on which two of the rows share their keys.
+pub fn least_repeat(mut rows: Vec<RowKey>) -> Result<Option<Day>, Memory>
+    ensures { IfOk result (IsLeastOf (Repeats rows.entry.items)) }
 {
     rows.sort()?;
     Ok(first_repeat(rows.as_slice()))
 }
 
-/// The rows with their values at these positions alone.
-pub fn key_rows(
+/// The keys, which are those of the rows, with the rows' periods.
+pub fn row_keys<'a>(
     alloc: Global,
-    positions: &[usize],
+    keys: &'a [Key],
     rows: &[PeriodRow],
-) -> Result<Vec<PeriodRow>, Memory>
-    ensures { IfOk result (λ keyed. keyed.items ≡ map (key_row positions.now) rows.now) }
+) -> Result<Vec<RowKey<'a>>, Memory>
+    requires { length keys.now ≡ length rows.now }
+    ensures { IfOk result (λ keyed. (positions : List ℕ)
+        → keys.now ≡ map (key_values positions) rows.now
+        → keyed.items ≡ map (key_row positions) rows.now) }
 {
-    let mut keyed = Vec::new(alloc);
-    for row in rows {
-        let key = key_of(alloc, positions, row)?;
-        keyed.push(keyed_row(key, row))?;
+    let mut keyed = Vec::with_capacity(alloc, rows.len())?;
+    for i in 0..rows.len() {
+        keyed.push(RowKey::new(&keys[i], &rows[i]))?;
     }
     Ok(keyed)
 }
 
-/// The row with the values of its key alone.
-pub fn keyed_row(key: Key, row: &PeriodRow) -> PeriodRow
-    ensures { result ≡ record { values = key; period = row.now.period } }
-{
-    PeriodRow {
-        values: key.into_values(),
-        period: row.period,
-    }
-}
-
 // The least day on which two entries hold the same values, of rows in order.
-fn first_repeat(rows: &[PeriodRow]) -> Option<Day>
+fn first_repeat(rows: &[RowKey]) -> Option<Day>
     requires { AllPairs NotAfter rows.now }
     ensures { IsLeastOf (Repeats rows.now) result }
 {
@@ -79,25 +73,25 @@ fn first_repeat(rows: &[PeriodRow]) -> Option<Day>
 }
 
 // The day on which the row begins, where the one that ends latest still holds then.
-fn day_reached(latest: &PeriodRow, row: &PeriodRow) -> Option<Day>
+fn day_reached(latest: &RowKey, row: &RowKey) -> Option<Day>
     ensures { IsReachedOn latest.now row.now result }
 {
     if reaches(latest, row) {
-        Some(row.period.start)
+        Some(row.start())
     } else {
         None
     }
 }
 
 // Whether the row begins while one of the same values still holds.
-fn reaches(latest: &PeriodRow, row: &PeriodRow) -> bool
+fn reaches(latest: &RowKey, row: &RowKey) -> bool
     ensures { IsTrue result ↔ Reaches latest.now row.now }
 {
-    latest.values == row.values && row.period.start < latest.period.end
+    latest.has_key_of(row) && row.start() < latest.end()
 }
 
 // The place of the row that ends latest among those with the next row's values, up to that row.
-fn latest_with(rows: &[PeriodRow], latest: usize, next: usize) -> usize
+fn latest_with(rows: &[RowKey], latest: usize, next: usize) -> usize
     requires latest { latest < length rows.now }
     requires next { next < length rows.now }
     ensures { ((result ≡ latest) × EndsLater rows.now next latest)
@@ -111,9 +105,9 @@ fn latest_with(rows: &[PeriodRow], latest: usize, next: usize) -> usize
 }
 
 // Whether a row of the same values ends no earlier than this one.
-fn outlasts(latest: &PeriodRow, row: &PeriodRow) -> bool
+fn outlasts(latest: &RowKey, row: &RowKey) -> bool
     ensures { IsTrue result ↔ ((row.now.values ≡ latest.now.values)
         × (row.now.period.end ≤ℤ latest.now.period.end)) }
 {
-    row.values == latest.values && row.period.end <= latest.period.end
+    row.has_key_of(latest) && row.end() <= latest.end()
 }

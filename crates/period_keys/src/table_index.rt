@@ -5,6 +5,7 @@ ghost use Rattle.std.specs.Prelude.{IsPermutation, List, OnErr, OnOk, map};
 ghost use Rattle.period_core.specs.declared.version.VersionRow.{VersionRow as Version};
 ghost use Rattle.history_model.specs.Versions.{row_of};
 ghost use Rattle.period_keys.specs.Index.{IsIndexOf};
+ghost use Rattle.period_keys.specs.Keys.{key_values};
 ghost use Rattle.period_keys.specs.TableRows.{AreTouchedKeys, HasMoreIndexes, HasTableRows};
 ghost use Rattle.period_keys.specs.Versions.{begun};
 
@@ -114,10 +115,22 @@ impl TableIndex {
     pub fn keys_of(&self, alloc: Global, rows: &[PeriodRow]) -> Result<TouchedKeys, Memory>
         ensures { IfOk result (λ keys. AreTouchedKeys self.now rows.now keys) }
     {
-        Ok(TouchedKeys {
-            by_key: keys_of(alloc, self.rows.positions(), rows)?,
-            by_each: keys_by_each(alloc, self.indexes.as_slice(), rows)?,
-        })
+        let by_key = keys_of(alloc, self.rows.positions(), rows)?;
+        self.keys_with(alloc, by_key, rows)
+    }
+
+    /// The same, where those by the table's key are given.
+    pub fn keys_with(
+        &self,
+        alloc: Global,
+        by_key: Vec<Key>,
+        rows: &[PeriodRow],
+    ) -> Result<TouchedKeys, Memory>
+        requires { by_key.items ≡ map (key_values self.now.positions) rows.now }
+        ensures { IfOk result (λ keys. AreTouchedKeys self.now rows.now keys) }
+    {
+        let by_each = keys_by_each(alloc, self.indexes.as_slice(), rows)?;
+        Ok(TouchedKeys { by_key, by_each })
     }
 
     /// Adds rows that begin at a moment, whose keys these are, or none of them.

@@ -21,7 +21,7 @@ ghost use Rattle.ended_versions.specs.Packed.{closed_at};
 ghost use Rattle.script_engine.specs.engine.Ended.{HaveClosed};
 ghost use Rattle.script_engine.specs.engine.EngineState.{store_of};
 ghost use Rattle.script_engine.specs.engine.Faults.{AreConstrained};
-ghost use Rattle.script_engine.specs.engine.InMemory.{HaveRows, IsSameInMemory, rows_in};
+ghost use Rattle.script_engine.specs.engine.InMemory.{AreKeysIn, HaveRows, IsSameInMemory, rows_in};
 ghost use Rattle.script_engine.specs.engine.Planned.{IsResolved};
 ghost use Rattle.script_engine.specs.engine.Runs.{IsQuery, MayRefuseMoment, MayRefuseOver};
 ghost use Rattle.script_engine.specs.engine.Runs.{MayRefuseQuery, StepsTo};
@@ -45,7 +45,7 @@ mod version_lists;
 
 use crate::engine::closed::{add_versions, apply_closing, remove_versions};
 use crate::engine::indexed::load_lawful;
-use crate::engine::lawfulness::lawful_plan;
+use crate::engine::lawfulness::{LawfulPlan, lawful_plan};
 use crate::engine::needed::answer_of;
 use crate::engine::outcome::done;
 use crate::engine::stored::shown_by;
@@ -56,7 +56,7 @@ use catalog_core::{
 };
 use ended_versions::EndedVersions;
 use period_core::{Items, Moment, Refusal, VersionRow};
-use period_keys::TableIndex;
+use period_keys::{Key, TableIndex};
 use sql_statements::{
     ClockMoment, CreateTable, QueryTree, SelectDistinct, Statement, StatementForm, StoredQuery,
 };
@@ -300,11 +300,19 @@ impl<S: Alter> Engine<S> {
         }
     }
 
-    /// Makes what a plan says of the table of a number at the clock, in the database and in memory,
-    /// where the plan ends some of its current rows. On `Err` nothing is changed.
-    fn apply(&mut self, alloc: Global, table: u8, plan: &Plan) -> Result<(), Refusal>
-        requires { (stay : List Version)
+    /// Makes what a plan, the keys of whose added rows these are, says of the table of a number at
+    /// the clock, in the database and in memory, where the plan ends some of its current rows. On
+    /// `Err` nothing is changed.
+    fn apply(
+        &mut self,
+        alloc: Global,
+        table: u8,
+        plan: &Plan,
+        keys: Vec<Key>,
+    ) -> Result<(), Refusal>
+        requires split { (stay : List Version)
             × IsPermutation (rows_in self.old.tables table) (plan.now.ended ++ stay) }
+        requires keys { AreKeysIn self.old.tables table plan.now.added keys.items }
         ensures changes { Changes S.Store (store_of self.old) (store_of self.new) result
             (planned table self.old.clock plan.now.ended plan.now.added) }
         ensures distinct { IsUsable S.Store self.new.connection
@@ -336,7 +344,7 @@ impl<S: Alter> Engine<S> {
         let Some(ended) = self.ended.get_mut(place) else {
             return Err(Refusal::Store);
         };
-        apply_closing(alloc, &mut self.store, index, ended, table, plan)
+        apply_closing(alloc, &mut self.store, index, ended, table, plan, keys)
     }
 
     /// Makes the change of this word that a statement is resolved to, or is refused as it was:
@@ -364,8 +372,9 @@ impl<S: Alter> Engine<S> {
         let change = resolved?;
         let table = change.table;
         let catalog = self.store.catalog();
-        let plan = lawful_plan(alloc, catalog, self.tables.as_slice(), change)?;
-        self.apply(alloc, table, &plan)?;
+        let made = lawful_plan(alloc, catalog, self.tables.as_slice(), change)?;
+        let LawfulPlan { plan, keys } = made;
+        self.apply(alloc, table, &plan, keys)?;
         Ok(done(word, &plan))
     }
 

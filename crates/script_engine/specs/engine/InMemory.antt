@@ -1,11 +1,14 @@
 -- What an engine has in memory: the current rows of each table, and what a refusal leaves of them.
-use Rattle.std.specs.Prelude.{◌≡◌, ℕ, List, [], IsPermutation, length, map}
+use Rattle.std.specs.Prelude.{◌≡◌, ℕ, List, [], IsPermutation, Some, length, map}
 use Rattle.std.specs.Option.{option_map_or}
+use Rattle.period_core.specs.declared.row.PeriodRow.{PeriodRow}
+use Rattle.period_core.specs.declared.value.Value.{Value}
 use Rattle.period_core.specs.declared.version.VersionRow.{VersionRow}
 use Rattle.period_core.specs.declared.window.Window.TheVariants.{Now}
 use Rattle.catalog_core.specs.table.TableWords.{table_of}
 use Rattle.catalog_core.specs.declared.table.TableDef.{TableDef}
 use Rattle.period_keys.specs.Current.{HaveIndexes}
+use Rattle.period_keys.specs.Keys.{key_values}
 use Rattle.period_keys.specs.Lawful.{key_positions}
 use Rattle.period_keys.specs.Rows.{RowsByKey}
 use Rattle.period_keys.specs.TableRows.{TableRows}
@@ -30,6 +33,12 @@ pub record AreReadOf (c : Contents) (tables : List TableDef) (lists : List (List
 -- the rows in memory of the table of a number; of a number without a table none
 abbrev pub rows_in : List RowsByKey → ℕ → List VersionRow
 rows_in tables number = option_map_or (λ (t : RowsByKey). t.rows) (table_of tables number) []
+
+-- these are the rows' keys by the positions of the table of a number
+abbrev pub AreKeysIn : List RowsByKey → ℕ → List PeriodRow → List (List Value) → Type 0
+AreKeysIn tables number rows keys =
+    (table : RowsByKey) → table_of tables number ≡ Some table
+    → keys ≡ map (key_values table.positions) rows
 
 -- the positions of the tables' keys among a row's values
 abbrev pub keys_in : List RowsByKey → List (List ℕ)

@@ -9,6 +9,7 @@ ghost use Rattle.period_core.specs.declared.version.VersionRow.{VersionRow as Ve
 ghost use Rattle.catalog_core.specs.create.Lawful.{IsLawful};
 ghost use Rattle.catalog_core.specs.declared.table.TableDef.{TableDef as Definition};
 ghost use Rattle.period_keys.specs.Current.{rows_by_key};
+ghost use Rattle.period_keys.specs.Keys.{key_values};
 ghost use Rattle.period_keys.specs.Lawful.{key_positions};
 ghost use Rattle.period_keys.specs.Rows.{RowsByKey};
 ghost use Rattle.period_keys.specs.TableRows.{HasTableRows};
@@ -26,7 +27,7 @@ use crate::engine::indexed::{add_index, apply_plan, remove_last};
 use catalog_core::{Catalog, Plan, TableDef};
 use ended_versions::EndedVersions;
 use period_core::{Items, Memory, Moment, Refusal, VersionRow};
-use period_keys::{TableIndex, positions_of};
+use period_keys::{Key, TableIndex, positions_of};
 use sqlite_trees::store::Alter;
 use std::alloc::Global;
 use version_store::VersionStore;
@@ -40,9 +41,11 @@ pub fn apply_closing<S: Alter>(
     ended: &mut EndedVersions,
     number: u8,
     plan: &Plan,
+    keys: Vec<Key>,
 ) -> Result<(), Refusal>
     requires split { (stay : List Version)
         × IsPermutation table.old.rows (plan.now.ended ++ stay) }
+    requires keys { keys.items ≡ map (key_values table.old.positions) plan.now.added }
     requires before { AreEndedBy store.old.clock ended.old }
     ensures changes { Changes S.Store store.old store.new result
         (planned number store.old.clock plan.now.ended plan.now.added) }
@@ -70,7 +73,7 @@ pub fn apply_closing<S: Alter>(
 {
     let count = ended.len();
     ended.close_all(alloc, plan.ended.as_slice(), store.clock())?;
-    match apply_plan(alloc, store, table, number, plan) {
+    match apply_plan(alloc, store, table, number, plan, keys) {
         Ok(()) => Ok(()),
         Err(refusal) => {
             ended.truncate(count);

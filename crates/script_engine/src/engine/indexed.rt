@@ -9,6 +9,7 @@ ghost use Rattle.catalog_core.specs.table.TableWords.{table_of};
 ghost use Rattle.period_core.specs.declared.refusal.Refusal.TheVariants.{BadStore};
 ghost use Rattle.period_core.specs.declared.version.VersionRow.{VersionRow as Version};
 ghost use Rattle.period_keys.specs.Current.{rows_by_key};
+ghost use Rattle.period_keys.specs.Keys.{key_values};
 ghost use Rattle.period_keys.specs.Lawful.{key_positions};
 ghost use Rattle.period_keys.specs.Rows.{RowsByKey};
 ghost use Rattle.period_keys.specs.TableRows.{HasTableRows};
@@ -28,7 +29,7 @@ use crate::engine::in_memory::load;
 use catalog_core::{Catalog, Plan, TableDef, of_number};
 use ended_versions::EndedVersions;
 use period_core::{Items, Memory, Moment, Refusal, VersionRow};
-use period_keys::{CurrentRows, TableIndex, add_table, is_lawful, rows_of, tables_of};
+use period_keys::{CurrentRows, Key, TableIndex, add_table, is_lawful, rows_of, tables_of};
 use sqlite_trees::store::Alter;
 use std::alloc::Global;
 use version_store::VersionStore;
@@ -125,17 +126,20 @@ pub fn load_lawful(
     Ok((tables, ended))
 }
 
-/// Makes what a plan says of the table of a number at the clock, in the store and in the table's
-/// current rows, of which the plan ends some. On `Err` nothing is changed.
+/// Makes what a plan, the keys of whose added rows these are, says of the table of a number at the
+/// clock, in the store and in the table's current rows, of which the plan ends some. On `Err`
+/// nothing is changed.
 pub fn apply_plan<S: Alter>(
     alloc: Global,
     store: &mut VersionStore<S>,
     table: &mut TableIndex,
     number: u8,
     plan: &Plan,
+    keys: Vec<Key>,
 ) -> Result<(), Refusal>
-    requires { (stay : List Version)
+    requires split { (stay : List Version)
         × IsPermutation table.old.rows (plan.now.ended ++ stay) }
+    requires keys { keys.items ≡ map (key_values table.old.positions) plan.now.added }
     ensures changes { Changes S.Store store.old store.new result
         (planned number store.old.clock plan.now.ended plan.now.added) }
     ensures catalog { store.new.catalog ≡ store.old.catalog }
@@ -160,7 +164,7 @@ pub fn apply_plan<S: Alter>(
     let added = plan.added.as_slice();
     let rows = rows_of(alloc, ended)?;
     let going = table.keys_of(alloc, rows.as_slice())?;
-    let coming = table.keys_of(alloc, added)?;
+    let coming = table.keys_with(alloc, keys, added)?;
     table.add_all(alloc, moment, &coming, added)?;
     match store.apply(alloc, number, moment, plan) {
         Ok(()) => {

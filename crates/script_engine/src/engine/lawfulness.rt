@@ -9,19 +9,30 @@ ghost use Rattle.catalog_core.specs.table.TableWords.{table_of};
 ghost use Rattle.history_model.specs.Histories.{State};
 ghost use Rattle.period_core.specs.declared.refusal.Refusal.TheVariants as refused;
 ghost use Rattle.period_keys.specs.Current.{HoldCurrent, rows_by_key};
+ghost use Rattle.period_keys.specs.Keys.{key_values};
 ghost use Rattle.period_keys.specs.Lawful.{IsLawfulChange, IsLawfulState};
 ghost use Rattle.period_keys.specs.Planned.{IsPlanOf};
 ghost use Rattle.script_engine.specs.engine.Faults.{IsFault};
-ghost use Rattle.script_engine.specs.engine.InMemory.{FollowCatalog, rows_in};
+ghost use Rattle.script_engine.specs.engine.InMemory.{AreKeysIn, FollowCatalog, rows_in};
 ghost use Rattle.script_engine.specs.engine.Runs.{IsConstraintRefusal};
 
 use catalog_core::{Catalog, Change, Plan, of_number};
 use period_core::Refusal;
-use period_keys::{TableIndex, key_fault, plan_change, reference_fault};
+use period_keys::{Key, TableIndex, key_fault, keys_of, plan_change, reference_fault};
 use std::alloc::Global;
 
-/// Judges a change of the table of a number by its plan: by the key of the table, and then by the
-/// references from it and to it. It is refused with the least day of a fault, or out of memory.
+/// The plan of a lawful change, and the keys of the rows that it adds.
+#[derive(Drop)]
+pub struct LawfulPlan {
+    /// What the change ends and adds.
+    pub plan: Plan,
+    /// The keys of the added rows, row by row.
+    pub keys: Vec<Key>,
+}
+
+/// Judges a change of the table of a number by its plan, the keys of whose added rows these are: by
+/// the key of the table, and then by the references from it and to it. It is refused with the least
+/// day of a fault, or out of memory.
 fn judge_plan(
     alloc: Global,
     catalog: &Catalog,
@@ -29,7 +40,9 @@ fn judge_plan(
     table: &TableIndex,
     number: u8,
     plan: &Plan,
+    keys: &[Key],
 ) -> Result<(), Refusal>
+    requires keys { keys.now ≡ map (key_values table.now.positions) plan.now.added }
     requires follow { FollowCatalog catalog.now.tables tables.now }
     requires defined { (d : Definition) × (table_of catalog.now.tables number ≡ Some d) }
     requires table { table_of tables.now number ≡ Some table.now }
@@ -47,7 +60,7 @@ fn judge_plan(
         → HoldCurrent catalog.now.tables before (map rows_by_key tables.now)
         → IsFault catalog.now.tables before change refusal))) }
 {
-    let clash = key_fault(alloc, table.rows(), plan)?;
+    let clash = key_fault(alloc, table.rows(), keys, plan)?;
     if let Some(day) = clash {
         return Err(Refusal::KeyOverlap(day));
     }
@@ -59,20 +72,23 @@ fn judge_plan(
 }
 
 /// The plan of a change over its table's current rows, where the change is lawful. The values of
-/// the rows that an INSERT gives are those of the plan. It is refused where such a row has a period
-/// without a day; with the least day on which it breaks its table's key, or else a reference; and
-/// else only out of memory.
+/// the rows that an INSERT gives are those of the plan. The keys of the added rows are those by
+/// which they were judged. The change is refused where such a row has a period without a day; with
+/// the least day on which it breaks its table's key, or else a reference; and else only out of
+/// memory.
 pub fn lawful_plan(
     alloc: Global,
     catalog: &Catalog,
     tables: &[TableIndex],
     change: Change,
-) -> Result<Plan, Refusal>
+) -> Result<LawfulPlan, Refusal>
     requires follow { FollowCatalog catalog.now.tables tables.now }
     requires defined { (d : Definition)
         × (table_of catalog.now.tables change.table ≡ Some d) }
-    ensures plan { IfOk result (IsPlanOf change.action
-        (rows_in (map rows_by_key tables.now) change.table)) }
+    ensures plan { IfOk result (λ made. IsPlanOf change.action
+        (rows_in (map rows_by_key tables.now) change.table) made.plan) }
+    ensures keys { IfOk result (λ made. AreKeysIn (map rows_by_key tables.now) change.table
+        made.plan.added made.keys.items) }
     ensures lawful { OnOk result ((before : State)
         → IsLawfulState catalog.now.tables before
         → HoldCurrent catalog.now.tables before (map rows_by_key tables.now)
@@ -94,6 +110,16 @@ pub fn lawful_plan(
         unreachable!()
     };
     let plan = plan_change(alloc, table.rows(), action)?;
-    judge_plan(alloc, catalog, tables, table, number, &plan)?;
-    Ok(plan)
+    // Each key is made once: the rows are judged by it, and then added by it.
+    let keys = keys_of(alloc, table.rows().positions(), plan.added.as_slice())?;
+    judge_plan(
+        alloc,
+        catalog,
+        tables,
+        table,
+        number,
+        &plan,
+        keys.as_slice(),
+    )?;
+    Ok(LawfulPlan { plan, keys })
 }

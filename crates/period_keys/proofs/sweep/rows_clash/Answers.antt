@@ -1,4 +1,4 @@
-use Rattle.std.proofs.Common.{◌<◌, ℕ, List, arith, length, map, subst}
+use Rattle.std.proofs.Common.{◌<◌, ◌∙◌, ℕ, List, arith, length, map, subst}
 use Rattle.std.specs.Prelude.{IfOk}
 use Rattle.period_core.specs.declared.row.PeriodRow.{PeriodRow}
 use Rattle.period_keys.specs.Keys.{IsKeyClash, IsLeastOf}
@@ -16,6 +16,7 @@ returns-then-rows-lt2 c = λ day (i, j, before, inside, both). alone i j (length
 
 pub returns : goal.returns
 returns c =
-    least_if_same (Repeats (map (key_row c.args.positions.now) c.args.rows.now)) (IsKeyClash c.args.positions.now c.args.rows.now)
-    (keys_repeat c.args.positions.now c.args.rows.now) c.least_repeat.result
-    (subst (λ (xs : List PeriodRow). IfOk c.least_repeat.result (IsLeastOf (Repeats xs))) c.in_ok-key_rows.ensures c.least_repeat.ensures)
+    let rows : List PeriodRow = c.args.rows.now in
+    let positions : List ℕ = c.args.positions.now in
+    least_if_same (Repeats (map (key_row positions) rows)) (IsKeyClash positions rows) (keys_repeat positions rows) c.least_repeat.result
+    (subst (λ (xs : List PeriodRow). IfOk c.least_repeat.result (IsLeastOf (Repeats xs))) (c.in_ok-row_keys.ensures positions (c.as_slice.ensures.value ∙ c.in_ok-keys.ensures)) c.least_repeat.ensures)

@@ -6,15 +6,16 @@ use Rattle.std.proofs.lemmas.Option.{slice_get_read}
 use Rattle.std.proofs.lemmas.Result.{on_err_weaker, on_ok_weaker}
 use Rattle.period_core.specs.declared.version.VersionRow.{VersionRow}
 use Rattle.catalog_core.specs.declared.table.catalog.Catalog.{Catalog}
+use Rattle.catalog_core.specs.table.TableWords.{table_of}
 use Rattle.ended_versions.specs.Packed.{AreEndedBy, PackedVersion, closed_at}
 use Rattle.period_keys.specs.Current.{rows_by_key}
 use Rattle.period_keys.specs.TableRows.{HasTableRows, TableRows}
 use Rattle.period_keys.specs.Versions.{begun}
 use Rattle.script_engine.specs.engine.Ended.{AllEndedBy, HaveClosed}
 use Rattle.script_engine.specs.engine.EngineState.{EngineState}
-use Rattle.script_engine.specs.engine.InMemory.{FollowCatalog, HaveRows, rows_in}
+use Rattle.script_engine.specs.engine.InMemory.{AreKeysIn, FollowCatalog, HaveRows, rows_in}
 use Rattle.script_engine.proofs.EndedAfter.{have_closed}
-use Rattle.script_engine.proofs.Indexed.{follow_written, have_written, on_ok_both, rows_of_table}
+use Rattle.script_engine.proofs.Indexed.{follow_written, have_written, on_ok_both, rows_of_table, rows_there}
 use Rattle.script_engine.proofs.engine.Engine.apply.Goals as goal
 
 pub apply_closing-requires-clause-split : goal.apply_closing-requires-clause-split
@@ -29,8 +30,22 @@ apply_closing-requires-clause-split g c =
     let off = c.if-table-eq0.false in
     let number : suc place ≡ c.args.table = omega (arith, is, off) in
     let given : (stay : List VersionRow) × IsPermutation (rows_in (map rows_by_key ts) c.args.table) (ended ++ stay) =
-    subst (λ (e : EngineState g.row.S.Denot). (stay : List VersionRow) × IsPermutation (rows_in e.tables c.args.table) (ended ++ stay)) (sym c.self.view_is) c.requires in
+    subst (λ (e : EngineState g.row.S.Denot). (stay : List VersionRow) × IsPermutation (rows_in e.tables c.args.table) (ended ++ stay)) (sym c.self.view_is) c.requires.split in
     (given.0, subst (λ (l : List VersionRow). IsPermutation l (ended ++ given.0)) (ap (rows_in (map rows_by_key ts)) (sym number) ∙ rows_of_table ts (suc place) old there) given.1)
+
+pub apply_closing-requires-clause-keys : goal.apply_closing-requires-clause-keys
+apply_closing-requires-clause-keys g c =
+    let ts : List TableRows = c.self.inside.tables.items in
+    let place : ℕ = c.from-place.result - 1 in
+    let old : TableRows = c.in-Some.index.now in
+    let item = c.in-Some.ensures.item in
+    let there : slice_get ts place ≡ Some old = slice_get_read ts (length ts) place old refl item.3.0 item.1 in
+    let is = c.from-place.ensures in
+    let off = c.if-table-eq0.false in
+    let number : suc place ≡ c.args.table = omega (arith, is, off) in
+    let given : AreKeysIn (map rows_by_key ts) c.args.table c.args.plan.now.added c.args.keys.items =
+    subst (λ (e : EngineState g.row.S.Denot). AreKeysIn e.tables c.args.table c.args.plan.now.added c.args.keys.items) (sym c.self.view_is) c.requires.keys in
+    given (rows_by_key old) (subst (λ (n : ℕ). table_of (map rows_by_key ts) n ≡ Some (rows_by_key old)) number (rows_there ts (suc place) old there))
 
 pub invariant_of-self-2 : goal.invariant_of-self-2
 invariant_of-self-2 g c =

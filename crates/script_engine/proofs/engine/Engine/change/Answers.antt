@@ -15,7 +15,7 @@ use Rattle.period_keys.specs.Rows.{RowsByKey}
 use Rattle.script_engine.specs.engine.Ended.{HaveEnded}
 use Rattle.script_engine.specs.engine.EngineState.{EngineState}
 use Rattle.script_engine.specs.engine.Faults.{IsFault}
-use Rattle.script_engine.specs.engine.InMemory.{FollowCatalog, rows_in}
+use Rattle.script_engine.specs.engine.InMemory.{AreKeysIn, FollowCatalog, rows_in}
 use Rattle.script_engine.specs.engine.Planned.{IsResolved, planned_count, word_of}
 use Rattle.script_engine.specs.engine.Runs.{StepsTo}
 use Rattle.statement_reports.specs.declared.outcome.Outcome.{Outcome}
@@ -52,24 +52,30 @@ lawful_plan-requires g c =
     }
 
 -- the plan is over the rows in memory
-pub apply-requires : goal.apply-requires
-apply-requires g c =
+pub apply-requires-clause-split : goal.apply-requires-clause-split
+apply-requires-clause-split g c =
     let change = c.in_ok-change.change in
-    let plan = c.in_ok-plan.plan in
+    let plan = c.in_ok-made.made.plan in
     let tables : map rows_by_key c.as_slice.result.now ≡ c.args.self.now.tables = ap (map rows_by_key) c.as_slice.ensures.value ∙ ap (λ (e : EngineState g.row.S.Denot). e.tables) c.self.view_is in
     ended_there change.action (rows_in c.args.self.now.tables change.table) plan
-    (subst (λ (ts : List RowsByKey). IsPlanOf change.action (rows_in ts change.table) plan) tables c.in_ok-plan.ensures.plan)
+    (subst (λ (ts : List RowsByKey). IsPlanOf change.action (rows_in ts change.table) plan) tables c.in_ok-made.ensures.plan)
 
-pub returns-in_err-plan-clause-step : goal.returns-in_err-plan-clause-step
-returns-in_err-plan-clause-step g c usable history kept s is =
-    let p = err_from_is_err_and c.from_residual-in_err-plan.result c.from_residual-in_err-plan.ensures.1 in
+pub apply-requires-clause-keys : goal.apply-requires-clause-keys
+apply-requires-clause-keys g c =
+    let change = c.in_ok-change.change in
+    let tables : map rows_by_key c.as_slice.result.now ≡ c.args.self.now.tables = ap (map rows_by_key) c.as_slice.ensures.value ∙ ap (λ (e : EngineState g.row.S.Denot). e.tables) c.self.view_is in
+    subst (λ (ts : List RowsByKey). AreKeysIn ts change.table c.in_ok-made.made.plan.added c.in_ok-made.made.keys.items) tables c.in_ok-made.ensures.keys
+
+pub returns-in_err-made-clause-step : goal.returns-in_err-made-clause-step
+returns-in_err-made-clause-step g c usable history kept s is =
+    let p = err_from_is_err_and c.from_residual-in_err-made.result c.from_residual-in_err-made.ensures.1 in
     rw (p.1, p.2) (let change = c.in_ok-change.change in
-    let refusal = c.in_err-plan.field-0.0 in
+    let refusal = c.in_err-made.field-0.0 in
     let old : EngineState g.row.S.Denot = c.args.self.now in
     let known : IsResolved old.catalog.tables s c.args.word (Ok change) = subst (IsResolved old.catalog.tables s c.args.word) c.in_ok-change.was is in
     let judged : c.catalog-catalog.result.now ≡ old.catalog = c.catalog-catalog.ensures ∙ ap (λ (e : EngineState g.row.S.Denot). e.catalog) c.self.view_is in
     let tables : map rows_by_key c.as_slice.result.now ≡ old.tables = ap (map rows_by_key) c.as_slice.ensures.value ∙ ap (λ (e : EngineState g.row.S.Denot). e.tables) c.self.view_is in
-    elim c.in_err-plan.ensures.refused [
+    elim c.in_err-made.ensures.refused [
       | inl none ↦ unplanned_step g.S.Store history old s known.form kept change known.sound known.empty refusal (inl none)
       | inr other ↦ elim other [
         | inl memory ↦ unplanned_step g.S.Store history old s known.form kept change known.sound known.empty refusal (inr (inl memory))
@@ -85,19 +91,19 @@ returns-in_err-plan-clause-step g c usable history kept s is =
 pub returns-clause-step : goal.returns-clause-step
 returns-clause-step g c usable history kept s is =
     let change = c.in_ok-change.change in
-    let plan = c.in_ok-plan.plan in
+    let plan = c.in_ok-made.made.plan in
     let old : EngineState g.row.S.Denot = c.args.self.now in
     let new : EngineState g.row.S.Denot = c.apply.new.self in
     let known : IsResolved old.catalog.tables s c.args.word (Ok change) = subst (IsResolved old.catalog.tables s c.args.word) c.in_ok-change.was is in
     let judged : c.catalog-catalog.result.now ≡ old.catalog = c.catalog-catalog.ensures ∙ ap (λ (e : EngineState g.row.S.Denot). e.catalog) c.self.view_is in
     let tables : map rows_by_key c.as_slice.result.now ≡ old.tables = ap (map rows_by_key) c.as_slice.ensures.value ∙ ap (λ (e : EngineState g.row.S.Denot). e.tables) c.self.view_is in
     let of : IsPlanOf change.action (rows_in old.tables change.table) plan =
-    subst (λ (ts : List RowsByKey). IsPlanOf change.action (rows_in ts change.table) plan) tables c.in_ok-plan.ensures.plan in
+    subst (λ (ts : List RowsByKey). IsPlanOf change.action (rows_in ts change.table) plan) tables c.in_ok-made.ensures.plan in
     let told : Done c.args.word (planned_count change.action plan) ≡ Done (word_of change.action) (planned_count change.action plan) = ap (λ (w : Word). Done w (planned_count change.action plan)) known.told in
     subst (λ (o : Outcome). StepsTo g.S.Store history s (Ok o) new) (sym (c.done.ensures change.action known.told ∙ told))
     (changed_step g.S.Store history old s known.form kept change known.sound known.empty plan of new known.change
     (subst (λ (k : Catalog). IsLawfulChange k.tables (last_state history) change) judged
-    (c.in_ok-plan.ensures.lawful (last_state history)
+    (c.in_ok-made.ensures.lawful (last_state history)
     (subst (λ (k : Catalog). IsLawfulState k.tables (last_state history)) (sym judged) (lawful_before g.S.Store history old s known.form kept))
     (subst₂ (λ (k : Catalog) (ts : List RowsByKey). HoldCurrent k.tables (last_state history) ts) (sym judged) (sym tables) (hold_before g.S.Store history old s known.form kept))))
     (c.in_ok-apply.ensures.distinct usable kept.contents kept.stored)
@@ -108,13 +114,13 @@ pub returns-in_err-apply-clause-step : goal.returns-in_err-apply-clause-step
 returns-in_err-apply-clause-step g c usable history kept s is =
     let p = err_from_is_err_and c.from_residual-in_err-apply.result c.from_residual-in_err-apply.ensures.1 in
     rw (p.1, p.2) (let change = c.in_ok-change.change in
-    let plan = c.in_ok-plan.plan in
+    let plan = c.in_ok-made.made.plan in
     let old : EngineState g.row.S.Denot = c.args.self.now in
     let new : EngineState g.row.S.Denot = c.apply.new.self in
     let known : IsResolved old.catalog.tables s c.args.word (Ok change) = subst (IsResolved old.catalog.tables s c.args.word) c.in_ok-change.was is in
     let tables : map rows_by_key c.as_slice.result.now ≡ old.tables = ap (map rows_by_key) c.as_slice.ensures.value ∙ ap (λ (e : EngineState g.row.S.Denot). e.tables) c.self.view_is in
     let of : IsPlanOf change.action (rows_in old.tables change.table) plan =
-    subst (λ (ts : List RowsByKey). IsPlanOf change.action (rows_in ts change.table) plan) tables c.in_ok-plan.ensures.plan in
+    subst (λ (ts : List RowsByKey). IsPlanOf change.action (rows_in ts change.table) plan) tables c.in_ok-made.ensures.plan in
     unchanged_step g.S.Store history old s known.form kept change known.sound known.empty plan of new c.in_err-apply.field-0.0
     (record {
       stored = (c.in_err-apply.ensures.changes usable kept.contents kept.stored).1;
@@ -144,15 +150,15 @@ returns-in_err-change-clause-memory g c =
     let p = err_from_is_err_and c.from_residual.result c.from_residual.ensures.1 in
     rw p.1 (same_memory c.args.self.now)
 
-pub returns-in_err-plan-clause-refused : goal.returns-in_err-plan-clause-refused
-returns-in_err-plan-clause-refused g c =
-    let p = err_from_is_err_and c.from_residual-in_err-plan.result c.from_residual-in_err-plan.ensures.1 in
+pub returns-in_err-made-clause-refused : goal.returns-in_err-made-clause-refused
+returns-in_err-made-clause-refused g c =
+    let p = err_from_is_err_and c.from_residual-in_err-made.result c.from_residual-in_err-made.ensures.1 in
     rw (p.1, p.2) (λ s is.
     let change = c.in_ok-change.change in
-    let refusal = c.in_err-plan.field-0.0 in
+    let refusal = c.in_err-made.field-0.0 in
     let old : EngineState g.row.S.Denot = c.args.self.now in
     let known : IsResolved old.catalog.tables s c.args.word (Ok change) = subst (IsResolved old.catalog.tables s c.args.word) c.in_ok-change.was is in
-    elim c.in_err-plan.ensures.refused [
+    elim c.in_err-made.ensures.refused [
       | inl none ↦ inl (unplanned old.catalog.tables old.clock s known.form change.action known.sound known.empty refusal (inl none))
       | inr other ↦ elim other [
         | inl memory ↦ inl (unplanned old.catalog.tables old.clock s known.form change.action known.sound known.empty refusal (inr (inl memory)))
@@ -160,9 +166,9 @@ returns-in_err-plan-clause-refused g c =
       ]
     ])
 
-pub returns-in_err-plan-clause-memory : goal.returns-in_err-plan-clause-memory
-returns-in_err-plan-clause-memory g c =
-    let p = err_from_is_err_and c.from_residual-in_err-plan.result c.from_residual-in_err-plan.ensures.1 in
+pub returns-in_err-made-clause-memory : goal.returns-in_err-made-clause-memory
+returns-in_err-made-clause-memory g c =
+    let p = err_from_is_err_and c.from_residual-in_err-made.result c.from_residual-in_err-made.ensures.1 in
     rw p.1 (same_memory c.args.self.now)
 
 pub returns-in_err-apply-clause-refused : goal.returns-in_err-apply-clause-refused
@@ -170,10 +176,10 @@ returns-in_err-apply-clause-refused g c =
     let p = err_from_is_err_and c.from_residual-in_err-apply.result c.from_residual-in_err-apply.ensures.1 in
     rw (p.1, p.2) (λ s is.
     let change = c.in_ok-change.change in
-    let plan = c.in_ok-plan.plan in
+    let plan = c.in_ok-made.made.plan in
     let old : EngineState g.row.S.Denot = c.args.self.now in
     let known : IsResolved old.catalog.tables s c.args.word (Ok change) = subst (IsResolved old.catalog.tables s c.args.word) c.in_ok-change.was is in
-    let of = c.in_ok-plan.ensures.plan in
+    let of = c.in_ok-made.ensures.plan in
     failed_over old.catalog.tables old.clock s c.in_err-apply.field-0.0
     (none_without_empty old.catalog.tables old.clock s known.form change.action known.sound known.empty
     (λ found. let off : has_empty_row change.action ≡ false = days-planned change.action of.listed plan of.plans in absurd (false≢true (sym off ∙ found))))

@@ -10,7 +10,7 @@ use Rattle.script_engine.proofs.engine.indexed.apply_plan.Goals as goal
 pub take_all-requires-clause-there : goal.take_all-requires-clause-there
 take_all-requires-clause-there g c =
     let begins : List VersionRow = map (begun c.clock-moment.result) c.as_slice-added.result.now in
-    let (stay, split) = c.requires in (
+    let (stay, split) = c.requires.split in (
       begins ++ stay,
       subst (λ (ended : List VersionRow). IsPermutation c.add_all.new.self.rows (ended ++ (begins ++ stay))) (sym c.as_slice-ended.ensures)
           (parted_rows c.args.table.now c.add_all.new.self begins c.args.plan.now.ended stay c.in_ok-add_all.ensures.ok split),
@@ -31,7 +31,7 @@ returns-in-Ok-clause-made g c = λ stay split.
 pub returns-in-Ok-clause-indexed : goal.returns-in-Ok-clause-indexed
 returns-in-Ok-clause-indexed g c =
     let begins : List VersionRow = map (begun c.clock-moment.result) c.as_slice-added.result.now in
-    let (stay, split) = c.requires in
+    let (stay, split) = c.requires.split in
     (c.take_all.ensures (begins ++ stay)
     (subst (λ (ended : List VersionRow). IsPermutation c.add_all.new.self.rows (ended ++ (begins ++ stay))) (sym c.as_slice-ended.ensures)
     (parted_rows c.args.table.now c.add_all.new.self begins c.args.plan.now.ended stay c.in_ok-add_all.ensures.ok split))).indexed

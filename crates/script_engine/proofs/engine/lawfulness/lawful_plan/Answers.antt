@@ -1,11 +1,16 @@
-use Rattle.std.proofs.Common.{◌≡◌, ◌∙◌, false, inl, inr, List, refl, subst, sym}
+use Rattle.std.proofs.Common.{◌≡◌, ◌∙◌, ℕ, false, inl, inr, [], List, Option, ap, ap₂, map, refl, subst, sym}
+use Rattle.std.specs.Option.{option_map_or}
 use Rattle.std.proofs.lemmas.Bool.{false≢true}
 use Rattle.std.proofs.lemmas.Result.{err_from_is_err_and}
 use Rattle.catalog_core.specs.change.Resolution.{has_empty_row}
 use Rattle.catalog_core.specs.declared.change.Action.{Action}
 use Rattle.period_core.specs.declared.version.VersionRow.{VersionRow}
+use Rattle.period_core.specs.declared.row.PeriodRow.{PeriodRow}
+use Rattle.period_keys.specs.Keys.{key_values}
 use Rattle.period_keys.specs.Planned.{IsPlanOf}
-use Rattle.script_engine.proofs.Indexed.{rows_of_table}
+use Rattle.period_keys.specs.Rows.{RowsByKey}
+use Rattle.period_keys.specs.TableRows.{TableRows}
+use Rattle.script_engine.proofs.Indexed.{rows_of_table, rows_there}
 use Rattle.script_engine.proofs.Refused.{days-planned}
 use Rattle.script_engine.proofs.engine.lawfulness.lawful_plan.Goals as goal
 
@@ -38,3 +43,11 @@ returns-clause-lawful c = λ before.
     let action : Action = c.args.change.action in
     c.in_ok-judge_plan.ensures.lawful c.args.change before refl
     (subst (λ (rows : List VersionRow). IsPlanOf action rows c.in_ok-plan.plan) c.rows.ensures.rows c.in_ok-plan.ensures.plan)
+
+pub returns-clause-keys : goal.returns-clause-keys
+returns-clause-keys c = λ table is.
+    let tables : List TableRows = c.args.tables.now in
+    let there = rows_there tables c.args.change.table c.in-Some.table.now c.in-Some.ensures in
+    let same : c.in-Some.table.now.positions ≡ table.positions = ap (λ (found : Option RowsByKey). option_map_or (λ (t : RowsByKey). t.positions) found []) (sym there ∙ is) in
+    c.in_ok-keys.ensures
+    ∙ ap₂ (λ (positions : List ℕ) (rows : List PeriodRow). map (key_values positions) rows) (c.positions.ensures ∙ c.rows-2.ensures.positions ∙ same) c.as_slice.ensures
