@@ -17,7 +17,7 @@ pub none_of_text : (piece : List Lexeme) → (IsOverlong piece → ⊥) → None
 none_of_text piece short none refusal (inl h) = short h.0
 none_of_text piece short none refusal (inr h) = none refusal h.1
 
--- what may be answered of its parse may be answered of it
+-- of a piece that is not overlong, what may be answered of its parse may be answered of the piece
 least_of_text : (piece : List Lexeme) → (IsOverlong piece → ⊥) → (refusal : Refusal) → IsLeast (PieceApplies piece) refusal → (other : Refusal) → TextApplies piece other → code_of refusal ≤ code_of other
 least_of_text piece short refusal least other (inl h) = absurd (short h.0)
 least_of_text piece short refusal least other (inr h) = least.least other h.1

@@ -78,7 +78,7 @@ pub(crate) fn script_tokens(alloc: Global, script: &str) -> Result<Vec<TokenSpan
 }
 
 /// The statement that a piece of a script spells. Of a piece that is too long nothing else is
-/// judged. The tokens of the piece are made here, and dropped when it is read.
+/// judged. The tokens of the piece are made here, and dropped at the return.
 pub(crate) fn statement_of(
     alloc: Global,
     script: &str,
