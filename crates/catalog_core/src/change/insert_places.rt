@@ -23,8 +23,8 @@ fn wanted_places(alloc: Global, table: &TableDef) -> Result<Vec<usize>, Memory>
     ensures { IfOk result
         (λ v. map (def_place table.now) (wanted_names table.now) ≡ map (λ i. Some i) v.items) }
 {
-    let mut places = Vec::new(alloc);
     let columns = table.columns.as_slice();
+    let mut places = Vec::with_capacity(alloc, columns.len())?;
     for i in 0..columns.len() {
         if !is_system(columns[i].kind) {
             places.push(i)?;

@@ -35,7 +35,7 @@ fn value_positions(alloc: Global, table: &TableDef, places: &[usize]) -> Result<
         (λ v. map (λ (c : ℕ × Column). position_for places.now c.0) (value_columns table.now)
         ≡ map (λ k. Some k) v.items) }
 {
-    let mut positions = Vec::new(alloc);
+    let mut positions = Vec::with_capacity(alloc, places.len())?;
     let columns = table.columns.as_slice();
     for i in 0..columns.len() {
         if is_value_column(table, i, &columns[i]) {
