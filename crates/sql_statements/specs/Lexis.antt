@@ -63,6 +63,10 @@ is_word_byte b = is_letter b || is_digit b
 abbrev pub is_symbol_byte : ℕ → Bool
 is_symbol_byte b = b ∈ "(),;.*=<>+-"
 
+-- a symbol of one byte with which neither a longer one nor a comment begins
+abbrev pub is_lone_symbol : ℕ → Bool
+is_lone_symbol b = b ∈ "(),;.*=+"
+
 -- a symbol of two bytes comes first
 abbrev pub begins_pair : List ℕ → Bool
 begins_pair bytes = begins_with "<>" bytes || begins_with "<=" bytes || begins_with ">=" bytes

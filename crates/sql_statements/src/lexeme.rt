@@ -5,8 +5,8 @@ ghost use Rattle.sql_statements.specs.Lexis as lexis;
 ghost use Rattle.sql_statements.specs.Lexis.{EndsBetween, text_limit};
 
 use crate::scan::{
-    begins_pair, comment_size, is_blank, is_digit, is_letter, is_symbol_byte, number_size,
-    quoted_size, word_size,
+    begins_pair, comment_size, is_blank, is_digit, is_letter, is_lone_symbol, is_symbol_byte,
+    number_size, quoted_size, word_size,
 };
 use crate::token::TokenKind;
 
@@ -22,6 +22,7 @@ pub enum Front {
 }
 
 /// The first case that fits, over the bytes of a text.
+// What the first byte alone tells is asked first: there no other case fits.
 #[tactic(auto, unfolding(crate::specs::Lexis::first_lexeme))]
 fn first_of_bytes(bytes: &[u8]) -> Front
     requires { length bytes.now < text_limit }
@@ -30,10 +31,8 @@ fn first_of_bytes(bytes: &[u8]) -> Front
     match bytes {
         [] => Front::Bad,
         [first, rest @ ..] => {
-            if is_blank(*first) {
-                Front::Blank(1)
-            } else if bytes.starts_with(b"--") {
-                Front::Blank(1 + comment_size(rest))
+            if is_lone_symbol(*first) {
+                Front::Lexeme(TokenKind::Symbol, 1)
             } else if is_letter(*first) {
                 Front::Lexeme(TokenKind::Word, 1 + word_size(rest))
             } else if is_digit(*first) {
@@ -43,6 +42,10 @@ fn first_of_bytes(bytes: &[u8]) -> Front
                     Some(size) => Front::Lexeme(TokenKind::Text, 1 + size),
                     None => Front::Bad,
                 }
+            } else if is_blank(*first) {
+                Front::Blank(1)
+            } else if bytes.starts_with(b"--") {
+                Front::Blank(1 + comment_size(rest))
             } else if begins_pair(bytes) {
                 Front::Lexeme(TokenKind::Symbol, 2)
             } else if is_symbol_byte(*first) {

@@ -34,9 +34,9 @@ pub fn is_word_byte(byte: u8) -> bool
     is_letter(byte) || is_digit(byte)
 }
 
-/// Whether a byte is a symbol of one byte.
-pub fn is_symbol_byte(byte: u8) -> bool
-    ensures { result ≡ lexis.is_symbol_byte byte }
+/// Whether a byte is a symbol of one byte, and nothing longer begins with it.
+pub fn is_lone_symbol(byte: u8) -> bool
+    ensures { result ≡ lexis.is_lone_symbol byte }
 {
     byte == b'('
         || byte == b')'
@@ -45,10 +45,14 @@ pub fn is_symbol_byte(byte: u8) -> bool
         || byte == b'.'
         || byte == b'*'
         || byte == b'='
-        || byte == b'<'
-        || byte == b'>'
         || byte == b'+'
-        || byte == b'-'
+}
+
+/// Whether a byte is a symbol of one byte.
+pub fn is_symbol_byte(byte: u8) -> bool
+    ensures { result ≡ lexis.is_symbol_byte byte }
+{
+    is_lone_symbol(byte) || byte == b'<' || byte == b'>' || byte == b'-'
 }
 
 /// Whether a symbol of two bytes comes first.
