@@ -1,11 +1,9 @@
--- What is kept of a key beside its values.
-use Rattle.std.specs.Prelude.{ℤ, List, [], ◌∷◌, Option, Some, None}
+-- What is kept of a key before its other values.
+use Rattle.std.specs.Prelude.{ℤ, List, ◌∷◌, Option, Some, None}
 use Rattle.period_core.specs.declared.value.Value.{Value}
-use Rattle.period_core.specs.declared.value.Value.TheVariants.{Int, Text, Date}
+use Rattle.period_core.specs.declared.value.Value.TheVariants.{Int}
 
--- the first value, where it is an integer
-abbrev pub first_integer : List Value → Option ℤ
-first_integer [] = None
-first_integer (Int number ∷ values) = Some number
-first_integer (Text text ∷ values) = None
-first_integer (Date day ∷ values) = None
+-- the values of a key: an integer that is kept before the rest, if there is one, and the rest
+abbrev pub values_after : Option ℤ → List Value → List Value
+values_after None rest = rest
+values_after (Some number) rest = Int number ∷ rest

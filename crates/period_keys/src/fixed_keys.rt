@@ -13,7 +13,7 @@ ghost use Rattle.period_keys.specs.FixedKeys.{FixesWithin, IsEquation};
 
 use crate::key::Key;
 use catalog_core::{Comparand, CompareValues, Cond, VersionTest};
-use period_core::{Memory, Value, Values};
+use period_core::{Memory, Value};
 use sql_statements::{Comparison, Tree};
 use std::alloc::Global;
 
@@ -110,7 +110,7 @@ pub fn fixed_key<T: Equation>(
         };
         key.push(value.copy(alloc)?)?;
     }
-    Ok(Some(Key::new(Values::from_vec(key))))
+    Ok(Some(Key::from_vec(key)))
 }
 
 /// The key of a table's row that is part of a combined row: its values begin at `start`, and are
@@ -134,7 +134,7 @@ pub fn fixed_key_within(
         };
         key.push(value.copy(alloc)?)?;
     }
-    Ok(Some(Key::new(Values::from_vec(key))))
+    Ok(Some(Key::from_vec(key)))
 }
 
 // The value that the conditions fix at a position of such a row: at its place in the combined row,

@@ -1,68 +1,113 @@
 //! The values of a key.
 
-ghost use Rattle.std.specs.Prelude.{◌≡◌, ◌↔◌, IfOk, IsTrue};
-ghost use Rattle.period_keys.specs.Leading.{first_integer};
+ghost use Rattle.std.specs.Prelude.{◌≡◌, ◌∷◌, IfOk, IfSome, drop};
+ghost use Rattle.period_core.specs.Order.{values_cmp};
+ghost use Rattle.period_core.specs.declared.value.Value.TheVariants.{Int};
 
 use period_core::{Memory, Value, Values};
 use std::alloc::Global;
 use std::cmp::Ordering;
 use std::marker::Model;
 
-/// The values of a key, which contracts see as their list. The first is kept beside them where it
-/// is an integer, so that most comparisons of two keys read neither's values.
+/// The values of a key, which contracts see as their list. A first one that is an integer is kept
+/// before the others: so the key of one integer takes no memory, and most comparisons of two keys
+/// read no other values.
 #[derive(Drop)]
 pub struct Key {
     leading: Option<i64>,
-    values: Values,
+    rest: Values,
 }
 
 impl Model for Key {
-    ghost use Rattle.std.specs.Prelude.{◌≡◌, List};
+    ghost use Rattle.std.specs.Prelude.{List};
     ghost use Rattle.period_core.specs.declared.value.Value.{Value as ColumnValue};
-    ghost use Rattle.period_keys.specs.Leading.{first_integer};
+    ghost use Rattle.period_keys.specs.Leading.{values_after};
 
     ghost Value = { List ColumnValue };
 
-    ghost view = { λ k. k.values };
-
-    ghost invariant = { λ k. k.leading ≡ first_integer k.values };
+    ghost view = { λ k. values_after k.leading k.rest };
 }
 
 impl Key {
     /// The key of these values.
-    pub fn new(values: Values) -> Key
-        ensures { result ≡ values }
+    pub fn from_vec(mut values: Vec<Value>) -> Key
+        ensures { result ≡ values.items }
     {
         let leading = leading_of(values.as_slice());
-        Key { leading, values }
+        if leading.is_some() {
+            let _first = values.remove(0);
+        }
+        Key {
+            leading,
+            rest: Values::from_vec(values),
+        }
+    }
+
+    /// The key of an integer and the values after it.
+    pub fn with_leading(number: i64, rest: Values) -> Key
+        ensures { result ≡ Int number ∷ rest }
+    {
+        Key {
+            leading: Some(number),
+            rest,
+        }
     }
 
     /// An equal key.
     pub fn copy(&self, alloc: Global) -> Result<Key, Memory>
         ensures { IfOk result (λ key. key ≡ self.now) }
     {
-        let values = self.values.copy(alloc)?;
+        let rest = self.rest.copy(alloc)?;
         Ok(Key {
             leading: self.leading,
-            values,
+            rest,
         })
     }
 
-    /// Its values.
-    pub fn into_values(self) -> Values
-        ensures { result ≡ self }
+    /// Its values. A key that begins with an integer takes memory for the list.
+    pub fn into_values(self, alloc: Global) -> Result<Values, Memory>
+        ensures { IfOk result (λ values. values ≡ self) }
     {
-        self.values
+        let Key { leading, rest } = self;
+        match leading {
+            None => Ok(rest),
+            Some(number) => values_with(alloc, number, rest.as_slice()),
+        }
     }
 }
 
 // The first value, where it is an integer.
 fn leading_of(values: &[Value]) -> Option<i64>
-    ensures { result ≡ first_integer values.now }
+    ensures { IfSome result (λ number. values.now ≡ Int number ∷ drop 1 values.now) }
 {
-    match values.first() {
-        Some(Value::Int(number)) => Some(*number),
+    match values {
+        [Value::Int(number), ..] => Some(*number),
         _ => None,
+    }
+}
+
+// An integer and the values after it.
+fn values_with(alloc: Global, number: i64, rest: &[Value]) -> Result<Values, Memory>
+    ensures { IfOk result (λ values. values ≡ Int number ∷ rest.now) }
+{
+    let mut values = Vec::new(alloc);
+    values.push(Value::Int(number))?;
+    for value in rest {
+        values.push(value.copy(alloc)?)?;
+    }
+    Ok(Values::from_vec(values))
+}
+
+// An integer and the values after it, compared with other values.
+fn cmp_with(number: i64, rest: &[Value], values: &[Value]) -> Ordering
+    ensures { result ≡ values_cmp (Int number ∷ rest.now) values.now }
+{
+    let [first, others @ ..] = values else {
+        return Ordering::Greater;
+    };
+    match Value::Int(number).cmp(first) {
+        Ordering::Equal => rest.cmp(others),
+        order => order,
     }
 }
 
@@ -104,7 +149,11 @@ impl Ord for Key {
     fn cmp(&self, other: &Key) -> Ordering {
         match (self.leading, other.leading) {
             (Some(one), Some(other_one)) if one != other_one => one.cmp(&other_one),
-            _ => self.values.cmp(&other.values),
+            (Some(one), None) => cmp_with(one, self.rest.as_slice(), other.rest.as_slice()),
+            (None, Some(one)) => {
+                cmp_with(one, other.rest.as_slice(), self.rest.as_slice()).reverse()
+            }
+            _ => self.rest.cmp(&other.rest),
         }
     }
 }

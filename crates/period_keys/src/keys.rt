@@ -1,7 +1,8 @@
 //! The key of a row.
 
-ghost use Rattle.std.specs.Prelude.{◌≡◌, ◌++◌, ◌∷◌, [], IfOk, OnOk, slice_get};
+ghost use Rattle.std.specs.Prelude.{◌≡◌, ◌++◌, ◌∷◌, [], IfOk, IfSome, OnOk, slice_get};
 ghost use Rattle.std.specs.List.{filter_map};
+ghost use Rattle.period_core.specs.declared.value.Value.TheVariants.{Int};
 ghost use Rattle.period_keys.specs.Keys.{key_values, values_at};
 
 use crate::key::Key;
@@ -19,25 +20,55 @@ pub fn key_of(alloc: Global, positions: &[usize], row: &PeriodRow) -> Result<Key
 pub fn values_of(alloc: Global, positions: &[usize], values: &[Value]) -> Result<Key, Memory>
     ensures { IfOk result (λ key. key ≡ values_at positions.now values.now) }
 {
-    let mut key = Vec::with_capacity(alloc, positions.len())?;
-    for position in positions {
-        push_value_at(alloc, &mut key, values, *position)?;
+    match leading_at(positions, values) {
+        Some((number, others)) => {
+            let rest = values_in(alloc, others, values)?;
+            Ok(Key::with_leading(number, Values::from_vec(rest)))
+        }
+        None => {
+            let all = values_in(alloc, positions, values)?;
+            Ok(Key::from_vec(all))
+        }
     }
-    Ok(Key::new(Values::from_vec(key)))
+}
+
+// The value at the first position, where it is an integer, and the positions after that one.
+fn leading_at<'a>(positions: &'a [usize], values: &[Value]) -> Option<(i64, &'a [usize])>
+    ensures { IfSome result (λ found. values_at positions.now values.now
+        ≡ Int found.0 ∷ values_at found.1.now values.now) }
+{
+    let [first, others @ ..] = positions else {
+        return None;
+    };
+    match values.get(*first) {
+        Some(Value::Int(number)) => Some((*number, others)),
+        _ => None,
+    }
+}
+
+// The values at these positions, in a list of their own.
+fn values_in(alloc: Global, positions: &[usize], values: &[Value]) -> Result<Vec<Value>, Memory>
+    ensures { IfOk result (λ found. found.items ≡ values_at positions.now values.now) }
+{
+    let mut found = Vec::with_capacity(alloc, positions.len())?;
+    for position in positions {
+        push_value_at(alloc, &mut found, values, *position)?;
+    }
+    Ok(found)
 }
 
 // Adds the value at the position, if there is one.
 fn push_value_at(
     alloc: Global,
-    key: &mut Vec<Value>,
+    found: &mut Vec<Value>,
     values: &[Value],
     position: usize,
 ) -> Result<(), Memory>
-    ensures { OnOk result (key.new.items
-        ≡ key.old.items ++ filter_map (slice_get values.now) (position ∷ [])) }
+    ensures { OnOk result (found.new.items
+        ≡ found.old.items ++ filter_map (slice_get values.now) (position ∷ [])) }
 {
     if let Some(value) = values.get(position) {
-        key.push(value.copy(alloc)?)?;
+        found.push(value.copy(alloc)?)?;
     }
     Ok(())
 }

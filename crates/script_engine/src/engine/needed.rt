@@ -178,14 +178,14 @@ fn needed_of_key(
     let number = reference.table;
     let mut rows = Vec::new(alloc);
     push_current_of_key(alloc, window, tables, number, &key, &mut rows)?;
-    let key = key.into_values();
+    let values = key.into_values(alloc)?;
     push_ended_of_key(
         alloc,
         window,
         ended,
         number,
         positions,
-        key.as_slice(),
+        values.as_slice(),
         &mut rows,
     )?;
     Ok(Items::from_vec(rows))

@@ -83,8 +83,8 @@ fn ended_seen(
     }
     match key_of(alloc, query, positions)? {
         Some(key) => {
-            let key = key.into_values();
-            ended.seen_of_key(alloc, query.window, positions, key.as_slice())
+            let values = key.into_values(alloc)?;
+            ended.seen_of_key(alloc, query.window, positions, values.as_slice())
         }
         None => ended.seen(alloc, query.window),
     }

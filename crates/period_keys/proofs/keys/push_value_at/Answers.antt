@@ -12,6 +12,6 @@ past (x ∷ xs) (suc i) h = past xs i (omega arith)
 
 pub returns-in_default : goal.returns-in_default
 returns-in_default c =
-    let key : List Value = c.args.key.now.items in
+    let found : List Value = c.args.found.now.items in
     let none : None ≡ slice_get c.args.values.now c.args.position = past c.args.values.now c.args.position c.in_default.ensures.lookup.3 in
-    sym (append-nil key) ∙ ap (λ (o : Option Value). key ++ filter_map (λ (x : Option Value). x) (o ∷ [])) none
+    sym (append-nil found) ∙ ap (λ (o : Option Value). found ++ filter_map (λ (x : Option Value). x) (o ∷ [])) none

@@ -18,7 +18,7 @@ returns c = λ history kept at conjuncts start width wide fixes.
     let key : List Value = c.args.key in
     let ended = kept.ended reference.table in
     let first : List PeriodRow = map row_of (seen_through reference.window (keyed_rows_in tables reference.table key)) in
-    let same : c.as_slice.result.now ≡ key = c.as_slice.ensures ∙ c.into_values-key.ensures in
+    let same : c.as_slice.result.now ≡ key = c.as_slice.ensures ∙ c.in_ok-values.ensures in
     let second : List Value → List PeriodRow = λ k. map row_of (reverse (filter (shares_hash positions k) (seen_through reference.window ended.versions))) in
     let made : c.push_ended_of_key.new.rows.items ≡ first ++ second key =
     c.in_ok-push_ended_of_key.ensures ended.versions ended.held
