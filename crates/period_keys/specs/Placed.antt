@@ -1,5 +1,6 @@
 -- Rows whose places are found by their periods.
-use Rattle.std.specs.Prelude.{◌<◌, ℕ, List, Contains, length, slice_index_or}
+use Rattle.std.specs.Prelude.{◌<◌, ℕ, Box, List, Contains, length, slice_index_or}
+use Rattle.std.specs.Global.{Global}
 use Rattle.std.specs.List.{Any}
 use Rattle.period_core.specs.declared.version.VersionRow.{VersionRow}
 use Rattle.period_keys.specs.declared.block.Block.{Block}
@@ -17,3 +18,7 @@ ArePlaced rows placed =
     (place : ℕ) (d : VersionRow) → place < length rows
     → (HasPlaced placed
     (record { period = (slice_index_or rows place d).period; place = place }) → ⊥) → ⊥
+
+-- the same of blocks in a box
+abbrev pub ArePlacedIn : List VersionRow → Box PeriodBlocks Global → Type 0
+ArePlacedIn rows boxed = ArePlaced rows boxed.value

@@ -13,7 +13,7 @@ ghost use Rattle.period_keys.specs.Between.{Meets};
 ghost use Rattle.period_keys.specs.Index.{SharesDayOfKept, periods_at};
 ghost use Rattle.period_keys.specs.Keys.{IsLeastOf};
 ghost use Rattle.period_keys.specs.Near.{IsAt};
-ghost use Rattle.period_keys.specs.Placed.{ArePlaced};
+ghost use Rattle.period_keys.specs.Placed.{ArePlacedIn};
 ghost use Rattle.period_keys.specs.Versions.{period_of, recorded};
 
 use crate::block::Block;
@@ -31,11 +31,12 @@ const FEW: usize = 32;
 
 /// The rows of one key. Where they are many, their periods are kept beside them with their places,
 /// so that a look at a few days, or one row more or less, costs little however many they are.
+/// They are in a box, so that a key of few rows takes little memory.
 #[derive(Drop)]
 pub struct KeyRows {
     rows: Vec<VersionRow>,
-    placed: Option<PeriodBlocks>,
-    pub ghost complete: { IfSome placed (ArePlaced rows.items) } by { Prim.hlevel props },
+    placed: Option<Box<PeriodBlocks>>,
+    pub ghost complete: { IfSome placed (ArePlacedIn rows.items) } by { Prim.hlevel props },
 }
 
 impl KeyRows {
@@ -177,14 +178,14 @@ fn placed_at(rows: &[VersionRow], place: usize) -> PlacedPeriod
 // no memory for it there are none.
 fn placed_with(
     alloc: Global,
-    placed: Option<PeriodBlocks>,
+    placed: Option<Box<PeriodBlocks>>,
     rows: &[VersionRow],
     last: usize,
-) -> Option<PeriodBlocks>
+) -> Option<Box<PeriodBlocks>>
     requires { last < length rows.now }
     ensures { (before : List Version) (row : Version) → rows.now ≡ before ++ row ∷ []
         → last ≡ length before
-        → IfSome placed (ArePlaced before) → IfSome result (ArePlaced rows.now) }
+        → IfSome placed (ArePlacedIn before) → IfSome result (ArePlacedIn rows.now) }
 {
     let Some(blocks) = placed else {
         return placed_if_many(alloc, rows);
@@ -198,29 +199,38 @@ fn placed_with(
 }
 
 // The placed periods of the rows, where they are many.
-fn placed_if_many(alloc: Global, rows: &[VersionRow]) -> Option<PeriodBlocks>
-    ensures { IfSome result (ArePlaced rows.now) }
+fn placed_if_many(alloc: Global, rows: &[VersionRow]) -> Option<Box<PeriodBlocks>>
+    ensures { IfSome result (ArePlacedIn rows.now) }
 {
     if rows.len() <= FEW {
         return None;
     }
-    match PeriodBlocks::of(alloc, rows) {
+    match placed_all(alloc, rows) {
         Ok(blocks) => Some(blocks),
         Err(_) => None,
     }
 }
 
+// The placed periods of the rows.
+fn placed_all(alloc: Global, rows: &[VersionRow]) -> Result<Box<PeriodBlocks>, Memory>
+    ensures { IfOk result (ArePlacedIn rows.now) }
+{
+    let blocks = PeriodBlocks::of(alloc, rows)?;
+    let boxed = Box::new(alloc, blocks)?;
+    Ok(boxed)
+}
+
 // The placed periods without one whose row is gone, and with the last one in its place. It takes no
 // memory.
 fn placed_without(
-    placed: Option<PeriodBlocks>,
+    placed: Option<Box<PeriodBlocks>>,
     gone: &PlacedPeriod,
     last: &PlacedPeriod,
-) -> Option<PeriodBlocks>
+) -> Option<Box<PeriodBlocks>>
     ensures { (before : List Version) (x : Version) → IsAt before gone.now → IsAt before last.now
         → last.now.place + 1 ≡ length before
-        → IfSome placed (ArePlaced before)
-        → IfSome result (ArePlaced (swap_remove before gone.now.place x)) }
+        → IfSome placed (ArePlacedIn before)
+        → IfSome result (ArePlacedIn (swap_remove before gone.now.place x)) }
 {
     let Some(blocks) = placed else {
         return None;
