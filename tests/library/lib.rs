@@ -26,6 +26,7 @@
 //!
 //! sql_front
 //! - `lex`: `statements::tokens`; `cut`: `statements::pieces`
+//! - `lex_spans`, `cut_spans`, `tokens_at`: `statements::places`
 //! - `parse`: `statements::refusals`, `statements::names_in_upper_case`
 //!
 //! catalog_core

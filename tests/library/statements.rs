@@ -3,7 +3,7 @@
 use crate::fixtures::statement;
 use period_core::Refusal;
 use script_engine::{check_script, write_check};
-use sql_front::{LexFault, Span, cut, lex, parse};
+use sql_front::{LexFault, Span, cut, cut_spans, lex, lex_spans, parse, tokens_at};
 use sql_statements::{Statement, StatementForm, TokenKind};
 use std::alloc::Global;
 use std::test::Fail;
@@ -40,6 +40,31 @@ fn pieces(rt: HostRuntime) -> Result<(), Fail> {
         Span { start: 9, end: 10 },
     ];
     assert!(rt; cut(alloc, found.as_slice())?.as_slice() == wanted.as_slice());
+    Ok(())
+}
+
+#[test]
+fn places(rt: HostRuntime) -> Result<(), Fail> {
+    let alloc = rt.alloc();
+    let text = "\u{feff}SELECT 1; -- a comment; 'text'\nSELECT N FROM T WHERE N >= 'it''s;';; AT";
+    let tokens = lex(alloc, text)?;
+    let spans = lex_spans(alloc, text)?;
+    assert_eq!(rt; spans.len(), 14);
+    let found = tokens_at(alloc, text, spans.as_slice())?;
+    assert_eq!(rt; found.len(), tokens.len());
+    for (one, other) in found.iter().zip(tokens.iter()) {
+        assert_eq!(rt; one.kind, other.kind, "of {}", other.text);
+        assert_eq!(rt; one.text, other.text);
+        assert_eq!(rt; one.start, other.start, "of {}", other.text);
+        assert_eq!(rt; one.end, other.end, "of {}", other.text);
+    }
+    let wanted = [
+        Span { start: 0, end: 2 },
+        Span { start: 3, end: 11 },
+        Span { start: 13, end: 14 },
+    ];
+    assert!(rt; cut_spans(alloc, text, spans.as_slice())?.as_slice() == wanted.as_slice());
+    assert!(rt; matches!(lex_spans(alloc, "AT 'ab"), Err(LexFault::BadToken(3))));
     Ok(())
 }
 
