@@ -1,6 +1,6 @@
--- The texts that the store runs. The numbers ?1, ?2, .. are their parameters.
-use Rattle.std.specs.Prelude.{◌++◌, ◌+◌, ℕ, zero, suc, List, [], codes}
-use Rattle.period_core.specs.Calendar.{two_digits}
+-- The texts that the store runs. The numbers ?1, ?2, .. are their parameters, and ? alone is the one
+-- after the greatest before it.
+use Rattle.std.specs.Prelude.{◌++◌, ℕ, zero, suc, List, [], codes}
 
 -- ---- the three tables, and the row of bt_meta
 
@@ -59,28 +59,34 @@ abbrev pub one_text : List ℕ
 one_text =
     codes "INSERT INTO bt_version (tab, vals, s, e, ss, se) VALUES (?1, ?4, ?5, ?6, ?2, ?3)"
 
+-- one more row, whose own parameters are the next three
+abbrev next_row : List ℕ
+next_row = codes ", (?1, ?, ?, ?, ?2, ?3)"
+
+-- a text so many times
+abbrev repeated : ℕ → List ℕ → List ℕ
+repeated zero text = []
+repeated (suc times) text = text ++ repeated times text
+
 abbrev pub two_text : List ℕ
-two_text = one_text ++ codes ", (?1, ?7, ?8, ?9, ?2, ?3)"
-
--- one more row, whose own parameters are this one, of two digits, and the next two
-abbrev row_from : ℕ → List ℕ
-row_from first =
-    codes ", (?1, ?" ++ two_digits first ++ codes ", ?" ++ two_digits (first + 1)
-    ++ codes ", ?" ++ two_digits (first + 2) ++ codes ", ?2, ?3)"
-
--- so many more rows
-abbrev rows_from : ℕ → ℕ → List ℕ
-rows_from first zero = []
-rows_from first (suc rows) = row_from first ++ rows_from (first + 3) rows
+two_text = one_text ++ next_row
 
 abbrev pub four_text : List ℕ
-four_text = two_text ++ rows_from 10 2
+four_text = one_text ++ repeated 3 next_row
 
 abbrev pub eight_text : List ℕ
-eight_text = two_text ++ rows_from 10 6
+eight_text = one_text ++ repeated 7 next_row
 
 abbrev pub thirty_two_text : List ℕ
-thirty_two_text = two_text ++ rows_from 10 30
+thirty_two_text = one_text ++ repeated 31 next_row
+
+-- Thirty-two rows are also added with numbers that are given: each has its number before its three
+-- parameters.
+
+abbrev pub numbered_text : List ℕ
+numbered_text =
+    codes "INSERT INTO bt_version (rowid, tab, vals, s, e, ss, se) VALUES "
+    ++ codes "(?4, ?1, ?, ?, ?, ?2, ?3)" ++ repeated 31 (codes ", (?, ?1, ?, ?, ?, ?2, ?3)")
 
 -- ---- the queries
 

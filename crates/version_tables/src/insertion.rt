@@ -1,14 +1,17 @@
 //! Rows are added by several in one statement: a row of thirty-two costs the database about half of
-//! what a row with a statement of its own does in a file, and three quarters in memory.
+//! what a row with a statement of its own does in a file, and three quarters in memory. Behind the
+//! first of a call, thirty-two get numbers that follow the last one, for which the database has not
+//! to look.
 
-ghost use Rattle.std.specs.Prelude.{◌≡◌, ◌≤◌, length, map, IfOk, OnOk};
+ghost use Rattle.std.specs.Prelude.{◌≡◌, ◌≤◌, ◌<ℤ◌, ◌+ℤ◌, ◌-ℤ◌, [], pos, length};
+ghost use Rattle.std.specs.Prelude.{map, IfOk, IfSome, OnOk, Some};
 ghost use Rattle.sqlite.specs.Values.{bound};
-ghost use Rattle.version_tables.specs.Adding.{IsBatch, given_rows};
+ghost use Rattle.version_tables.specs.Adding.{IsBatch, cells, given_numbered, given_rows};
 ghost use Rattle.version_tables.specs.Keeping.{LeavesOthers};
 ghost use Rattle.version_tables.specs.Represents.{all_added, new_version};
 ghost use Rattle.version_tables.specs.Steps.{ChangesRecords, CommitsNothing};
 ghost use Rattle.version_tables.specs.Texts.{eight_text, four_text, one_text, two_text};
-ghost use Rattle.version_tables.specs.Texts.{thirty_two_text};
+ghost use Rattle.version_tables.specs.Texts.{numbered_text, thirty_two_text};
 
 use crate::version_key::NewRow;
 use sqlite::types::ValueRef;
@@ -33,21 +36,29 @@ fn batch_len(rows: usize) -> usize
 /// The statement that adds thirty-two rows.
 const THIRTY_TWO_ROWS: &str =
     "INSERT INTO bt_version (tab, vals, s, e, ss, se) VALUES (?1, ?4, ?5, ?6, ?2, ?3), \
-     (?1, ?7, ?8, ?9, ?2, ?3), (?1, ?10, ?11, ?12, ?2, ?3), (?1, ?13, ?14, ?15, ?2, ?3), \
-     (?1, ?16, ?17, ?18, ?2, ?3), (?1, ?19, ?20, ?21, ?2, ?3), \
-     (?1, ?22, ?23, ?24, ?2, ?3), (?1, ?25, ?26, ?27, ?2, ?3), \
-     (?1, ?28, ?29, ?30, ?2, ?3), (?1, ?31, ?32, ?33, ?2, ?3), \
-     (?1, ?34, ?35, ?36, ?2, ?3), (?1, ?37, ?38, ?39, ?2, ?3), \
-     (?1, ?40, ?41, ?42, ?2, ?3), (?1, ?43, ?44, ?45, ?2, ?3), \
-     (?1, ?46, ?47, ?48, ?2, ?3), (?1, ?49, ?50, ?51, ?2, ?3), \
-     (?1, ?52, ?53, ?54, ?2, ?3), (?1, ?55, ?56, ?57, ?2, ?3), \
-     (?1, ?58, ?59, ?60, ?2, ?3), (?1, ?61, ?62, ?63, ?2, ?3), \
-     (?1, ?64, ?65, ?66, ?2, ?3), (?1, ?67, ?68, ?69, ?2, ?3), \
-     (?1, ?70, ?71, ?72, ?2, ?3), (?1, ?73, ?74, ?75, ?2, ?3), \
-     (?1, ?76, ?77, ?78, ?2, ?3), (?1, ?79, ?80, ?81, ?2, ?3), \
-     (?1, ?82, ?83, ?84, ?2, ?3), (?1, ?85, ?86, ?87, ?2, ?3), \
-     (?1, ?88, ?89, ?90, ?2, ?3), (?1, ?91, ?92, ?93, ?2, ?3), \
-     (?1, ?94, ?95, ?96, ?2, ?3), (?1, ?97, ?98, ?99, ?2, ?3)";
+     (?1, ?, ?, ?, ?2, ?3), (?1, ?, ?, ?, ?2, ?3), (?1, ?, ?, ?, ?2, ?3), (?1, ?, ?, ?, ?2, ?3), \
+     (?1, ?, ?, ?, ?2, ?3), (?1, ?, ?, ?, ?2, ?3), (?1, ?, ?, ?, ?2, ?3), (?1, ?, ?, ?, ?2, ?3), \
+     (?1, ?, ?, ?, ?2, ?3), (?1, ?, ?, ?, ?2, ?3), (?1, ?, ?, ?, ?2, ?3), (?1, ?, ?, ?, ?2, ?3), \
+     (?1, ?, ?, ?, ?2, ?3), (?1, ?, ?, ?, ?2, ?3), (?1, ?, ?, ?, ?2, ?3), (?1, ?, ?, ?, ?2, ?3), \
+     (?1, ?, ?, ?, ?2, ?3), (?1, ?, ?, ?, ?2, ?3), (?1, ?, ?, ?, ?2, ?3), (?1, ?, ?, ?, ?2, ?3), \
+     (?1, ?, ?, ?, ?2, ?3), (?1, ?, ?, ?, ?2, ?3), (?1, ?, ?, ?, ?2, ?3), (?1, ?, ?, ?, ?2, ?3), \
+     (?1, ?, ?, ?, ?2, ?3), (?1, ?, ?, ?, ?2, ?3), (?1, ?, ?, ?, ?2, ?3), (?1, ?, ?, ?, ?2, ?3), \
+     (?1, ?, ?, ?, ?2, ?3), (?1, ?, ?, ?, ?2, ?3), (?1, ?, ?, ?, ?2, ?3)";
+
+/// The statement that adds thirty-two rows with the numbers that they are given.
+const NUMBERED_ROWS: &str =
+    "INSERT INTO bt_version (rowid, tab, vals, s, e, ss, se) VALUES (?4, ?1, ?, ?, ?, ?2, ?3), \
+     (?, ?1, ?, ?, ?, ?2, ?3), (?, ?1, ?, ?, ?, ?2, ?3), (?, ?1, ?, ?, ?, ?2, ?3), \
+     (?, ?1, ?, ?, ?, ?2, ?3), (?, ?1, ?, ?, ?, ?2, ?3), (?, ?1, ?, ?, ?, ?2, ?3), \
+     (?, ?1, ?, ?, ?, ?2, ?3), (?, ?1, ?, ?, ?, ?2, ?3), (?, ?1, ?, ?, ?, ?2, ?3), \
+     (?, ?1, ?, ?, ?, ?2, ?3), (?, ?1, ?, ?, ?, ?2, ?3), (?, ?1, ?, ?, ?, ?2, ?3), \
+     (?, ?1, ?, ?, ?, ?2, ?3), (?, ?1, ?, ?, ?, ?2, ?3), (?, ?1, ?, ?, ?, ?2, ?3), \
+     (?, ?1, ?, ?, ?, ?2, ?3), (?, ?1, ?, ?, ?, ?2, ?3), (?, ?1, ?, ?, ?, ?2, ?3), \
+     (?, ?1, ?, ?, ?, ?2, ?3), (?, ?1, ?, ?, ?, ?2, ?3), (?, ?1, ?, ?, ?, ?2, ?3), \
+     (?, ?1, ?, ?, ?, ?2, ?3), (?, ?1, ?, ?, ?, ?2, ?3), (?, ?1, ?, ?, ?, ?2, ?3), \
+     (?, ?1, ?, ?, ?, ?2, ?3), (?, ?1, ?, ?, ?, ?2, ?3), (?, ?1, ?, ?, ?, ?2, ?3), \
+     (?, ?1, ?, ?, ?, ?2, ?3), (?, ?1, ?, ?, ?, ?2, ?3), (?, ?1, ?, ?, ?, ?2, ?3), \
+     (?, ?1, ?, ?, ?, ?2, ?3)";
 
 /// The statement that adds `rows` rows.
 fn text_for(rows: usize) -> &'static str
@@ -61,20 +72,42 @@ fn text_for(rows: usize) -> &'static str
         1 => "INSERT INTO bt_version (tab, vals, s, e, ss, se) VALUES (?1, ?4, ?5, ?6, ?2, ?3)",
         2 => {
             "INSERT INTO bt_version (tab, vals, s, e, ss, se) VALUES (?1, ?4, ?5, ?6, ?2, ?3), \
-             (?1, ?7, ?8, ?9, ?2, ?3)"
+             (?1, ?, ?, ?, ?2, ?3)"
         }
         4 => {
             "INSERT INTO bt_version (tab, vals, s, e, ss, se) VALUES (?1, ?4, ?5, ?6, ?2, ?3), \
-             (?1, ?7, ?8, ?9, ?2, ?3), (?1, ?10, ?11, ?12, ?2, ?3), (?1, ?13, ?14, ?15, ?2, ?3)"
+             (?1, ?, ?, ?, ?2, ?3), (?1, ?, ?, ?, ?2, ?3), (?1, ?, ?, ?, ?2, ?3)"
         }
         8 => {
             "INSERT INTO bt_version (tab, vals, s, e, ss, se) VALUES (?1, ?4, ?5, ?6, ?2, ?3), \
-             (?1, ?7, ?8, ?9, ?2, ?3), (?1, ?10, ?11, ?12, ?2, ?3), (?1, ?13, ?14, ?15, ?2, ?3), \
-             (?1, ?16, ?17, ?18, ?2, ?3), (?1, ?19, ?20, ?21, ?2, ?3), \
-             (?1, ?22, ?23, ?24, ?2, ?3), (?1, ?25, ?26, ?27, ?2, ?3)"
+             (?1, ?, ?, ?, ?2, ?3), (?1, ?, ?, ?, ?2, ?3), (?1, ?, ?, ?, ?2, ?3), \
+             (?1, ?, ?, ?, ?2, ?3), (?1, ?, ?, ?, ?2, ?3), (?1, ?, ?, ?, ?2, ?3), \
+             (?1, ?, ?, ?, ?2, ?3)"
         }
         _ => THIRTY_TWO_ROWS,
     }
+}
+
+/// The parameters that rows share.
+fn shared_cells(table: u32, from: i64, to: i64) -> [ValueRef<'static>; 3]
+    ensures { bound result ≡ given_rows table from to [] }
+{
+    [
+        ValueRef::Int(i64::from(table)),
+        ValueRef::Int(from),
+        ValueRef::Int(to),
+    ]
+}
+
+/// The parameters of a row.
+fn cells(row: &NewRow) -> [ValueRef<'_>; 3]
+    ensures { bound result ≡ cells row.now }
+{
+    [
+        ValueRef::Blob(row.key.values.as_slice()),
+        ValueRef::Int(row.key.start),
+        ValueRef::Int(row.end),
+    ]
 }
 
 /// The parameters of that statement.
@@ -89,17 +122,33 @@ fn parameters<'a>(
     ensures { IfOk result (λ all. bound all.items ≡ given_rows table from to rows.now) }
 {
     let mut all = Vec::with_capacity(alloc, 3 + 3 * rows.len())?;
-    all.extend_from_slice(&[
-        ValueRef::Int(i64::from(table)),
-        ValueRef::Int(from),
-        ValueRef::Int(to),
-    ])?;
+    all.extend_from_slice(&shared_cells(table, from, to))?;
     for row in rows {
-        all.extend_from_slice(&[
-            ValueRef::Blob(row.key.values.as_slice()),
-            ValueRef::Int(row.key.start),
-            ValueRef::Int(row.end),
-        ])?;
+        all.extend_from_slice(&cells(row))?;
+    }
+    Ok(all)
+}
+
+/// The parameters of the statement that adds rows with the numbers from `first` on.
+fn numbered_parameters<'a>(
+    alloc: Global,
+    table: u32,
+    from: i64,
+    to: i64,
+    first: i64,
+    rows: &'a [NewRow],
+) -> Result<Vec<ValueRef<'a>>, AllocError>
+    requires few { length rows.now ≤ 32 }
+    requires room { (first +ℤ pos 32) <ℤ pos 9_223_372_036_854_775_808 }
+    ensures { IfOk result (λ all. bound all.items ≡ given_numbered table from to first rows.now) }
+{
+    let mut all = Vec::with_capacity(alloc, 3 + 4 * rows.len())?;
+    all.extend_from_slice(&shared_cells(table, from, to))?;
+    let mut number = first;
+    for row in rows {
+        all.push(ValueRef::Int(number))?;
+        all.extend_from_slice(&cells(row))?;
+        number += 1;
     }
     Ok(all)
 }
@@ -128,6 +177,72 @@ fn insert_batch<S: Alter>(
     }
 }
 
+/// Adds thirty-two rows, with the numbers from `first` on, in one statement.
+fn insert_numbered<S: Alter>(
+    alloc: Global,
+    transaction: &mut Transaction<'_, S>,
+    table: u32,
+    from: i64,
+    to: i64,
+    first: i64,
+    rows: &[NewRow],
+) -> Result<(), Error>
+    requires rows { length rows.now ≡ 32 }
+    requires room { (first +ℤ pos 32) <ℤ pos 9_223_372_036_854_775_808 }
+    ensures same_reference { transaction.new.conn.ghost_name ≡ transaction.old.conn.ghost_name }
+    ensures made { ChangesRecords S.Store transaction.old.conn.now transaction.new.conn.now result
+        (all_added (map (new_version table from to) rows.now)) }
+    ensures others { OnOk result
+        (LeavesOthers S.Store transaction.old.conn.now transaction.new.conn.now) }
+    ensures inside { CommitsNothing S.Store transaction.old.conn.now transaction.new.conn.now }
+{
+    let parameters = numbered_parameters(alloc, table, from, to, first, rows)?;
+    match transaction.execute(NUMBERED_ROWS, parameters.as_slice()) {
+        Ok(_) => Ok(()),
+        Err(error) => Err(error),
+    }
+}
+
+/// The first number of the next rows, where these are thirty-two and follow a row with the number
+/// `last`, and there are so many more.
+fn first_number(last: Option<i64>, rows: usize) -> Option<i64>
+    ensures next { IfSome result (λ first. last ≡ Some (first -ℤ pos 1)) }
+    ensures rows { IfSome result (λ first. rows ≡ 32) }
+    ensures room { IfSome result
+        (λ first. (first +ℤ pos 32) <ℤ pos 9_223_372_036_854_775_808) }
+{
+    let last = last?;
+    if rows != 32 || last.checked_add(33).is_none() {
+        return None;
+    }
+    Some(last + 1)
+}
+
+/// Adds the next rows in one statement: behind a row that the database has numbered, with numbers
+/// that it need not look for.
+fn insert_next<S: Alter>(
+    alloc: Global,
+    transaction: &mut Transaction<'_, S>,
+    table: u32,
+    from: i64,
+    to: i64,
+    last: Option<i64>,
+    rows: &[NewRow],
+) -> Result<(), Error>
+    requires { IsBatch (length rows.now) }
+    ensures same_reference { transaction.new.conn.ghost_name ≡ transaction.old.conn.ghost_name }
+    ensures made { ChangesRecords S.Store transaction.old.conn.now transaction.new.conn.now result
+        (all_added (map (new_version table from to) rows.now)) }
+    ensures others { OnOk result
+        (LeavesOthers S.Store transaction.old.conn.now transaction.new.conn.now) }
+    ensures inside { CommitsNothing S.Store transaction.old.conn.now transaction.new.conn.now }
+{
+    match first_number(last, rows.len()) {
+        Some(first) => insert_numbered(alloc, transaction, table, from, to, first, rows),
+        None => insert_batch(alloc, transaction, table, from, to, rows),
+    }
+}
+
 /// Adds rows to a table, with the system time from the moment `from` on and before the moment `to`.
 /// It is refused where a version has the key of one of them, or two of them have one key.
 pub fn insert_versions<S: Alter>(
@@ -146,9 +261,12 @@ pub fn insert_versions<S: Alter>(
     ensures inside { CommitsNothing S.Store transaction.old.conn.now transaction.new.conn.now }
 {
     let mut rest = rows;
+    // The database gives the number after the greatest, so those after its last one are free.
+    let mut last = None;
     'batches: while !rest.is_empty() {
         let (batch, more) = rest.split_at(batch_len(rest.len()));
-        insert_batch(alloc, transaction, table, from, to, batch)?;
+        insert_next(alloc, transaction, table, from, to, last, batch)?;
+        last = Some(transaction.last_insert_rowid());
         rest = more;
     }
     Ok(())

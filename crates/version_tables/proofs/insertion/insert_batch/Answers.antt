@@ -3,7 +3,7 @@ use Rattle.std.proofs.lemmas.Int.{to_z-of_z}
 use Rattle.sqlite.specs.Values.{bound}
 use Rattle.sqlite.specs.Held.{state}
 use Rattle.version_tables.specs.Adding.{given_rows}
-use Rattle.version_tables.proofs.Adds.{adds_inside, batches}
+use Rattle.version_tables.proofs.Adds.{adds_batch, batches}
 use Rattle.version_tables.proofs.Keeping.{statement_leaves, version_own}
 use Rattle.version_tables.proofs.Steps.{one_statement}
 use Rattle.version_tables.proofs.insertion.insert_batch.Goals as goal
@@ -14,7 +14,7 @@ returns-in-Ok-clause-made g c clean begun =
     let texts = c.text_for.ensures in
     let text = batches rows c.text_for.result.now c.requires texts.one texts.two texts.four texts.eight texts.thirty_two in
     let given : bound c.as_slice.result.now ≡ given_rows c.args.table c.args.from c.args.to rows = ap bound c.as_slice.ensures.value ∙ rw (to_z-of_z w64 c.args.from c.ranges.from, to_z-of_z w64 c.args.to c.ranges.to) at c.in_ok-parameters.ensures in
-    adds_inside c.text_for.result.now c.args.table c.args.from c.args.to rows text.0 text.1 (state g.S.Store c.args.transaction.now.conn.now) (state g.S.Store c.execute.new.self.conn.now) (Ok c.in-Ok.field-0) (rw given at (c.in-Ok.ensures.runs clean begun)) begun
+    adds_batch c.text_for.result.now c.args.table c.args.from c.args.to rows text.0 text.1 (state g.S.Store c.args.transaction.now.conn.now) (state g.S.Store c.execute.new.self.conn.now) (Ok c.in-Ok.field-0) (rw given at (c.in-Ok.ensures.runs clean begun)) begun
 
 pub returns-clause-inside : goal.returns-clause-inside
 returns-clause-inside g c = one_statement g.S.Store _ _ _ _ c.execute.result c.execute.ensures.ended c.execute.ensures.runs c.execute.ensures.survives

@@ -12,20 +12,20 @@ use Rattle.version_tables.proofs.insertion.insert_versions.Goals as goal
 pub batches-preserved : goal.batches-preserved
 batches-preserved g c =
     let was = c.batches.invariant in
-    let step = c.insert_batch.ensures in
+    let step = c.insert_next.ensures in
     let done = was.3 in
     let batch = c.split_at.result.0.now in
     let f = new_version c.args.table (to_z w64 (of_z w64 c.args.from)) (to_z w64 (of_z w64 c.args.to)) in
-    let now = (state g.S.Store c.insert_batch.new.transaction.conn.now).now in
+    let now = (state g.S.Store c.insert_next.new.transaction.conn.now).now in
     let parts : c.batches.rest.now ≡ batch ++ c.split_at.result.1.now = search rules in (
       step.same_reference ∙ was.0,
       nothing_then g.S.Store _ _ _ was.1 step.inside,
-      leaves_then g.S.Store c.args.transaction.now.conn.now _ _ was.2 step.inside c.in_ok-insert_batch.ensures.others,
+      leaves_then g.S.Store c.args.transaction.now.conn.now _ _ was.2 step.inside c.in_ok-insert_next.ensures.others,
       done ++ batch,
       was.4 ∙ ap (λ l. done ++ l) parts ∙ sym (append_assoc done batch c.split_at.result.1.now),
       λ clean begun.
           let mid = was.5 (omega (arith, step.inside.survives.clean)) begun in
-          let made = c.in_ok-insert_batch.ensures.made clean mid.0 in
+          let made = c.in_ok-insert_next.ensures.made clean mid.0 in
           (made.0, λ m has. more_added now f done batch m (made.1 _ (mid.1 m has))),
     )
 
