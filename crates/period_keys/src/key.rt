@@ -74,6 +74,22 @@ impl Key {
             Some(number) => values_with(alloc, number, rest.as_slice()),
         }
     }
+
+    // All values of both compared. `cmp` calls it where the integers before them do not decide; it
+    // is not inlined there, which would make a search over the keys of a map slow.
+    #[inline(never)]
+    fn cmp_whole(&self, other: &Key) -> Ordering
+        ensures { result ≡ values_cmp self.now other.now }
+    {
+        match (self.leading, other.leading) {
+            (Some(one), Some(other_one)) => one.cmp(&other_one).then(self.rest.cmp(&other.rest)),
+            (Some(one), None) => cmp_with(one, self.rest.as_slice(), other.rest.as_slice()),
+            (None, Some(one)) => {
+                cmp_with(one, other.rest.as_slice(), self.rest.as_slice()).reverse()
+            }
+            (None, None) => self.rest.cmp(&other.rest),
+        }
+    }
 }
 
 // The first value, where it is an integer.
@@ -146,14 +162,13 @@ impl Ord for Key {
 
     ghost matches_eq = { λ x y. refl };
 
+    // A search over the keys of a map makes many comparisons, and most end in the first line. So it
+    // is inlined there, and takes a few instructions a key.
+    #[inline(always)]
     fn cmp(&self, other: &Key) -> Ordering {
         match (self.leading, other.leading) {
             (Some(one), Some(other_one)) if one != other_one => one.cmp(&other_one),
-            (Some(one), None) => cmp_with(one, self.rest.as_slice(), other.rest.as_slice()),
-            (None, Some(one)) => {
-                cmp_with(one, other.rest.as_slice(), self.rest.as_slice()).reverse()
-            }
-            _ => self.rest.cmp(&other.rest),
+            _ => self.cmp_whole(other),
         }
     }
 }

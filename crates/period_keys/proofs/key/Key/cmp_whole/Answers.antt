@@ -5,7 +5,7 @@ use Rattle.period_core.specs.OrderLaws.{values_cmp_total}
 use Rattle.period_core.specs.declared.value.Value.{Value}
 use Rattle.period_core.specs.declared.value.Value.TheVariants.{Int}
 use Rattle.period_keys.specs.Leading.{values_after}
-use Rattle.period_keys.proofs.key.KeyOrd.cmp.Goals as goal
+use Rattle.period_keys.proofs.key.Key.cmp_whole.Goals as goal
 
 pub returns-in-None-Some : goal.returns-in-None-Some
 returns-in-None-Some c =
