@@ -3,7 +3,7 @@
 //! first of a call, thirty-two get numbers that follow the last one, for which the database has not
 //! to look.
 
-ghost use Rattle.std.specs.Prelude.{◌≡◌, ◌≤◌, ◌<ℤ◌, ◌+ℤ◌, ◌-ℤ◌, [], pos, length};
+ghost use Rattle.std.specs.Prelude.{◌≡◌, ◌≤◌, ◌<ℤ◌, ◌+ℤ◌, ◌-ℤ◌, ◌^◌, [], pos, length};
 ghost use Rattle.std.specs.Prelude.{map, IfOk, IfSome, OnOk, Some};
 ghost use Rattle.sqlite.specs.Values.{bound};
 ghost use Rattle.version_tables.specs.Adding.{IsBatch, cells, given_numbered, given_rows};
@@ -139,7 +139,7 @@ fn numbered_parameters<'a>(
     rows: &'a [NewRow],
 ) -> Result<Vec<ValueRef<'a>>, AllocError>
     requires few { length rows.now ≤ 32 }
-    requires room { (first +ℤ pos 32) <ℤ pos 9_223_372_036_854_775_808 }
+    requires room { (first +ℤ pos 32) <ℤ pos (2 ^ 63) }
     ensures { IfOk result (λ all. bound all.items ≡ given_numbered table from to first rows.now) }
 {
     let mut all = Vec::with_capacity(alloc, 3 + 4 * rows.len())?;
@@ -188,7 +188,7 @@ fn insert_numbered<S: Alter>(
     rows: &[NewRow],
 ) -> Result<(), Error>
     requires rows { length rows.now ≡ 32 }
-    requires room { (first +ℤ pos 32) <ℤ pos 9_223_372_036_854_775_808 }
+    requires room { (first +ℤ pos 32) <ℤ pos (2 ^ 63) }
     ensures same_reference { transaction.new.conn.ghost_name ≡ transaction.old.conn.ghost_name }
     ensures made { ChangesRecords S.Store transaction.old.conn.now transaction.new.conn.now result
         (all_added (map (new_version table from to) rows.now)) }
@@ -203,13 +203,12 @@ fn insert_numbered<S: Alter>(
     }
 }
 
-/// The first number of the next rows, where these are thirty-two and follow a row with the number
-/// `last`, and there are so many more.
+/// The first of the numbers for the next rows, where thirty-two follow a row with the number `last`
+/// and there are so many numbers after it.
 fn first_number(last: Option<i64>, rows: usize) -> Option<i64>
     ensures next { IfSome result (λ first. last ≡ Some (first -ℤ pos 1)) }
     ensures rows { IfSome result (λ first. rows ≡ 32) }
-    ensures room { IfSome result
-        (λ first. (first +ℤ pos 32) <ℤ pos 9_223_372_036_854_775_808) }
+    ensures room { IfSome result (λ first. (first +ℤ pos 32) <ℤ pos (2 ^ 63)) }
 {
     let last = last?;
     if rows != 32 || last.checked_add(33).is_none() {
