@@ -1,11 +1,11 @@
 -- Parentheses, counted token by token.
-use Rattle.std.proofs.Common.{◌≡◌, ℕ, zero, suc, ◌+◌, ◌≤◌, ◌<◌, Bool, true, false, List, [], ◌∷◌, ◌++◌, length, Option, Some, None, refl, sym, ap, ◌∙◌, arith, inl, inr, ◌↔◌, codes, drop, get_or, ◌-◌}
+use Rattle.std.proofs.Common.{◌≡◌, ℕ, zero, suc, ◌+◌, ◌≤◌, ◌<◌, Bool, true, false, List, [], ◌∷◌, ◌++◌, ◌||◌, length, Option, Some, None, refl, sym, ap, ◌∙◌, arith, inl, inr, ◌↔◌, codes, ◌-◌}
 use Rattle.std.proofs.lemmas.Bool.{cases_Bool}
-use Rattle.std.proofs.lemmas.List.{at_drop_more}
 use Rattle.std.specs.Prelude.{IsTrue, is_none}
 use Rattle.sql_statements.specs.declared.token.Token.{Token}
-use Rattle.sql_statements.specs.Lexemes.{Lexeme, lexeme, lexemes}
-use Rattle.sql_front.specs.Depth.{opens, closes, passing_count, most_open, room, IsDeeper}
+use Rattle.sql_statements.specs.Lexemes.{Lexeme, lexemes}
+use Rattle.sql_front.specs.declared.depth.Room.{Room}
+use Rattle.sql_front.specs.Depth.{opens, closes, passing_count, most_open, room, is_too_small, IsDeeper}
 use Rattle.period_core.proofs.OptionFacts.{none_some}
 use Rattle.sql_front.proofs.First.{Apart, symbols_apart}
 
@@ -130,9 +130,20 @@ unfolding room
 room_end zero = refl
 room_end (suc k) = refl
 
--- the tokens from a place on
-pub from_place : (k : ℕ) (ts : List Token) (i : ℕ) (d : Token) → i < length ts → room k (lexemes (drop i ts)) ≡ room k (lexeme (get_or ts i d) ∷ lexemes (drop (i + 1) ts))
-from_place k ts i d h = at_drop_more (λ (s : List Token). room k (lexemes s)) ts i d h
+-- it is too small where nothing is left of it, whether it was exceeded before or not
+pub too_small : (exceeded : Bool) (o : Option ℕ) → o ≡ None → true ≡ (exceeded || is_none o)
+too_small true o e = refl
+too_small false o e = ap is_none (sym e)
+
+-- where no tokens are left, it is only where it was exceeded before
+pub no_more : (exceeded : Bool) (k : ℕ) → exceeded ≡ (exceeded || is_none (room k []))
+no_more true k = refl
+no_more false k = ap is_none (sym (room_end k))
+
+-- no tokens are left
+pub none_left : (r : Room) (rest : List Token) → length rest < 1 → is_too_small r [] ≡ is_too_small r (lexemes rest)
+none_left r [] short = refl
+none_left r (t ∷ rest) short = absurd (omega arith)
 
 no_true : IsTrue false → ⊥
 no_true e = cc

@@ -31,6 +31,7 @@ pub mod Parsing
 pub mod PeriodsRead
 pub mod PieceFaults
 pub mod PiecesFacts
+pub mod PlainDays
 pub mod PlainExamples
 pub mod PredicateExamples
 pub mod PredicatesRead

@@ -1,8 +1,9 @@
 -- How deep parentheses nest.
 use Rattle.std.specs.Prelude.{◌≡◌, ℕ, zero, suc, ◌+◌, ◌<◌, Bool, cond, List, [], ◌∷◌, ◌++◌, Option}
-use Rattle.std.specs.Prelude.{Some, None, codes}
+use Rattle.std.specs.Prelude.{◌||◌, Some, None, is_none, codes}
 use Rattle.sql_statements.specs.Lexemes.{Lexeme}
 use Rattle.sql_front.specs.Language.{symbol}
+use Rattle.sql_front.specs.declared.depth.Room.{Room}
 
 -- an opening parenthesis
 abbrev pub opens : Lexeme → Bool
@@ -33,3 +34,7 @@ room k [] = Some k
 room zero (t ∷ ts) = cond (opens t) None (cond (closes t) (room 1 ts) (room zero ts))
 room (suc k) (t ∷ ts) =
     cond (opens t) (room k ts) (cond (closes t) (room (suc (suc k)) ts) (room (suc k) ts))
+
+-- the room is exceeded already, or is by these tokens
+abbrev pub is_too_small : Room → List Lexeme → Bool
+is_too_small r tokens = r.is_exceeded || is_none (room r.left tokens)

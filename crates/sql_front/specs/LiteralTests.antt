@@ -1,6 +1,6 @@
 -- The tests for what is wrong with literals, over the tokens from each place on.
-use Rattle.std.specs.Prelude.{◌||◌, ◌&&◌, ◌+◌, ℕ, ℤ, Bool, false, cond, nat_lt, is_none, List, []}
-use Rattle.std.specs.Prelude.{◌∷◌, Option, Some, None, codes}
+use Rattle.std.specs.Prelude.{◌||◌, ◌&&◌, ◌+◌, ◌-◌, ◌*◌, ◌≤◌, ℕ, ℤ, Bool, false, cond, nat_lt, List}
+use Rattle.std.specs.Prelude.{is_none, [], ◌∷◌, Option, Some, None, codes}
 use Rattle.sql_statements.specs.Lexemes.{Lexeme}
 use Rattle.sql_front.specs.Language.{keyword, symbol, number, text, or_test}
 use Rattle.sql_front.specs.LiteralValues.{number_of_digits}
@@ -55,3 +55,20 @@ is_above minus t =
 abbrev pub number_above : Bool → List Lexeme → Bool
 number_above minus [] = false
 number_above minus (t ∷ rest) = is_above minus t || number_above (symbol (codes "-") t) rest
+
+-- ---- dates that are days whatever the calendar
+
+-- the byte of an ASCII digit
+abbrev pub IsDigit : ℕ → Type 0
+IsDigit byte = (48 ≤ byte) × (byte ≤ 57)
+
+-- the digits of a year from 1000 on
+abbrev pub IsLateYear : ℕ → ℕ → ℕ → ℕ → Type 0
+IsLateYear first second third fourth =
+    (49 ≤ first) × (first ≤ 57) × IsDigit second × IsDigit third × IsDigit fourth
+
+-- the digits of a number from 1 to a greatest one
+abbrev pub AreDigitsWithin : ℕ → ℕ → ℕ → Type 0
+AreDigitsWithin greatest tens ones =
+    IsDigit tens × IsDigit ones
+    × (1 ≤ (tens - 48) * 10 + (ones - 48)) × ((tens - 48) * 10 + (ones - 48) ≤ greatest)

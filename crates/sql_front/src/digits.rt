@@ -11,10 +11,10 @@ use period_core::GREATEST_NUMBER;
 const FEW: usize = 17;
 
 /// The value of a digit.
-fn digit_value(byte: u8) -> u8
+fn digit_value(byte: u8) -> u64
     ensures { result ≡ byte - 48 }
 {
-    byte.saturating_sub(48)
+    (byte as u64).saturating_sub(48)
 }
 
 /// The number that a few digits write.
@@ -24,7 +24,7 @@ fn number_of_few(digits: &[u8]) -> u64
 {
     let mut value: u64 = 0;
     for byte in digits {
-        value = value * 10 + digit_value(*byte) as u64;
+        value = value * 10 + digit_value(*byte);
     }
     value
 }

@@ -11,14 +11,13 @@ ghost use Rattle.sql_statements.specs.Lexemes.{lexemes};
 ghost use Rattle.sql_front.specs.reading.Leaves.{clock_moment_read, date_read, literal_read};
 ghost use Rattle.sql_front.specs.reading.Leaves.{moment_read, name_read, names_read, number_read};
 ghost use Rattle.sql_front.specs.reading.Leaves.{tuple_read, unsigned_read};
+ghost use Rattle.sql_front.specs.reading.LeafValues.{day_value};
 
 use crate::date_tokens::{named_clock_moment, named_day, named_moment};
 use crate::digits::{negative_value, number_value};
 use crate::list::{Item, enclosed};
 use crate::read_error::ReadError;
-use crate::terminal::{
-    Terminal, accept, expect, name, number, skip_optional, starts, starts_text, text,
-};
+use crate::terminal::{Terminal, accept, expect, name, number, skip_optional, starts_text, text};
 use crate::texts::text_of;
 use period_core::{Day, Moment, Value};
 use sql_statements::clock_moment::ClockMoment;
@@ -77,14 +76,23 @@ pub fn read_clock_moment<'a, 'b>(
     Ok((named_clock_moment(token), rest))
 }
 
+/// The day of a text, and the tokens after it.
+fn read_day<'a, 'b>(tokens: &'b [Token<'a>]) -> Result<(Day, &'b [Token<'a>]), ReadError>
+    ensures value { Gives (λ x. (x.0, lexemes x.1.now)) result
+        (built_read day_value (one_read language.text) (lexemes tokens.now)) }
+    ensures rest { IfOk result (λ x. length x.1.now ≤ length tokens.now) }
+{
+    let (token, rest) = text(tokens)?;
+    Ok((named_day(token), rest))
+}
+
 /// A date, and the tokens after it.
 #[tactic(auto, unfolding(crate::specs::reading::Leaves::date_read))]
 pub fn read_date<'a, 'b>(tokens: &'b [Token<'a>]) -> Result<(Day, &'b [Token<'a>]), ReadError>
     ensures value { Gives (λ x. (x.0, lexemes x.1.now)) result (date_read (lexemes tokens.now)) }
     ensures rest { IfOk result (λ x. length x.1.now ≤ length tokens.now) }
 {
-    let (token, rest) = text(expect(tokens, Terminal::Keyword("DATE"))?)?;
-    Ok((named_day(token), rest))
+    read_day(expect(tokens, Terminal::Keyword("DATE"))?)
 }
 
 /// A number without a minus as a value, and the tokens after it.
@@ -115,7 +123,9 @@ fn read_text<'a, 'b>(
 }
 
 /// A literal, and the tokens after it.
-#[tactic(auto, unfolding(crate::specs::reading::Leaves::literal_read))]
+// In line: what it returns is too large for registers, and would be copied for each literal.
+#[inline(always)]
+#[tactic(auto, unfolding(crate::specs::reading::Leaves::date_read, crate::specs::reading::Leaves::literal_read))]
 pub fn read_literal<'a, 'b>(
     alloc: Global,
     tokens: &'b [Token<'a>],
@@ -130,8 +140,8 @@ pub fn read_literal<'a, 'b>(
     if starts_text(tokens) {
         return read_text(alloc, tokens);
     }
-    if starts(tokens, Terminal::Keyword("DATE")) {
-        return match read_date(tokens) {
+    if let Some(rest) = accept(tokens, Terminal::Keyword("DATE")) {
+        return match read_day(rest) {
             Ok((day, rest)) => Ok((Value::Date(day), rest)),
             Err(error) => Err(error),
         };
@@ -162,6 +172,7 @@ impl<'a> Item<'a> for Value {
 
     ghost reader = { λ depth. literal_read };
 
+    #[inline(always)]
     fn read<'b>(
         alloc: Global,
         _depth: usize,

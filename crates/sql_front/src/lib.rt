@@ -7,7 +7,7 @@
 //! To add a literal: the values that its text names in `specs/LiteralValues`, its field in
 //! `specs/Literals` and `specs/Placeholders`, its case in `IsLiteral` of `specs/Grammar`, its
 //! reader in `specs/reading/Leaves` and in `leaves`; and what may be wrong with it in
-//! `specs/LiteralFaults` and in `literal_faults`.
+//! `specs/LiteralFaults`, in `literal_faults` and in `piece_faults`.
 #![tactic(auto)]
 
 mod changes;
@@ -23,6 +23,7 @@ pub mod lexer;
 mod list;
 mod literal_faults;
 mod parser;
+mod piece_faults;
 pub mod pieces;
 mod predicates;
 mod queries;

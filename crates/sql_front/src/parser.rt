@@ -7,8 +7,7 @@ ghost use Rattle.sql_statements.specs.Lexemes.{lexemes};
 ghost use Rattle.sql_front.specs.PieceRefusals.{PieceApplies};
 ghost use Rattle.sql_statements.specs.Plain.{plain};
 
-use crate::depth::is_too_deep;
-use crate::literal_faults::literal_fault;
+use crate::piece_faults::piece_faults;
 use crate::read_error::ReadError;
 use crate::statements::spelled;
 use period_core::Refusal;
@@ -29,11 +28,13 @@ pub fn parse(alloc: Global, _script: &str, tokens: &[Token<'_>]) -> Result<State
     // A refusal is the lowest-numbered one that applies, or out of memory.
     ensures refused { IfErr result (MayAnswer (PieceApplies (lexemes tokens.now))) }
 {
-    if is_too_deep(tokens) {
+    let faults = piece_faults(tokens);
+    if faults.too_deep {
         return Err(Refusal::TooDeep);
     }
+    let literal = faults.literal;
     match spelled(alloc, tokens) {
-        Ok(statement) => match literal_fault(tokens) {
+        Ok(statement) => match literal {
             None => Ok(statement),
             Some(refusal) => {
                 // By a call: the proof of an implicit drop goes through each kind of statement.

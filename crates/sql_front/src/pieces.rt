@@ -6,6 +6,7 @@ ghost use Rattle.sql_statements.specs.Lexemes as tokens;
 ghost use Rattle.sql_front.specs.Pieces as pieces;
 ghost use Rattle.sql_front.specs.Pieces.{HasPieces, IsWithin, spanned};
 
+use crate::terminal::is_same_symbol;
 use period_core::Memory;
 use sql_statements::token::Token;
 use std::alloc::Global;
@@ -35,7 +36,7 @@ impl Lexed for Token<'_> {
     ghost lexeme = { λ script token. tokens.lexeme token };
 
     fn is_semicolon(&self, _script: &str) -> bool {
-        self.text == ";"
+        is_same_symbol(self.text, ";")
     }
 }
 

@@ -28,7 +28,7 @@ pub enum Terminal<'m> {
 /// Whether the two are one symbol.
 // Most symbols have one byte, which is compared alone.
 #[inline(always)]
-fn is_same_symbol(text: &str, want: &str) -> bool
+pub fn is_same_symbol(text: &str, want: &str) -> bool
     ensures { result ≡ bytes_eq text.now want.now }
 {
     match (text.as_bytes(), want.as_bytes()) {

@@ -11,6 +11,7 @@ ghost use Rattle.sql_statements.specs.Lexis.{StopsAt, StopsFrom, TokensFrom, Tok
 
 use crate::lexer::{LexFault, first_token};
 use crate::pieces::{Lexed, Span, cut_all};
+use crate::terminal::is_same_symbol;
 use period_core::Memory;
 use sql_statements::scan::byte_order_mark_size;
 use sql_statements::token::{Token, TokenKind};
@@ -65,7 +66,7 @@ impl Lexed for TokenSpan {
     ghost lexeme = { spans.lexeme_at };
 
     fn is_semicolon(&self, script: &str) -> bool {
-        self.text(script) == ";"
+        is_same_symbol(self.text(script), ";")
     }
 }
 

@@ -10,23 +10,23 @@ use Rattle.sql_front.proofs.parser.parse.Goals as goal
 pub returns-in-None-clause-found : goal.returns-in-None-clause-found
 returns-in-None-clause-found c =
     let ls = lexemes c.args.tokens.now in
-    spelled_exactly ls (plain c.in-Ok.statement) (no_fault ls c.in-None.ensures.none) c.in-Ok.ensures.found
+    spelled_exactly ls (plain c.in-Ok.statement) (no_fault ls (rw c.in-None.is at c.piece_faults-faults.ensures.none)) c.in-Ok.ensures.found
 
 pub returns-in-None-clause-sound : goal.returns-in-None-clause-sound
 returns-in-None-clause-sound c =
     piece_none (lexemes c.args.tokens.now)
-    (untold c.is_too_deep.result c.if-is_too_deep.false c.is_too_deep.ensures.1)
+    (untold c.piece_faults-faults.result.too_deep c.if-faults.false c.piece_faults-faults.ensures.depth.1)
     (spelled_some (lexemes c.args.tokens.now) (plain c.in-Ok.statement) c.in-Ok.ensures.found)
-    c.in-None.ensures.none
+    (rw c.in-None.is at c.piece_faults-faults.ensures.none)
 
 pub returns-in-Some-clause-refused : goal.returns-in-Some-clause-refused
 returns-in-Some-clause-refused c =
     inl (piece_least (lexemes c.args.tokens.now) c.in-Some.refusal
-    (untold c.is_too_deep.result c.if-is_too_deep.false c.is_too_deep.ensures.1)
+    (untold c.piece_faults-faults.result.too_deep c.if-faults.false c.piece_faults-faults.ensures.depth.1)
     (spelled_some (lexemes c.args.tokens.now) (plain c.in-Ok.statement) c.in-Ok.ensures.found)
-    c.in-Some.ensures.least)
+    (rw c.in-Some.is at c.piece_faults-faults.ensures.least))
 
 pub returns-in-Err-Syntax-clause-refused : goal.returns-in-Err-Syntax-clause-refused
 returns-in-Err-Syntax-clause-refused c =
-    let shallow = untold c.is_too_deep.result c.if-is_too_deep.false c.is_too_deep.ensures.1 in
+    let shallow = untold c.piece_faults-faults.result.too_deep c.if-faults.false c.piece_faults-faults.ensures.depth.1 in
     no_statement (lexemes c.args.tokens.now) shallow (c.in-Err-Syntax.ensures.none (ap (λ x. Err x) c.in-Err-Syntax.field-0-is) shallow)
