@@ -1,5 +1,5 @@
--- The texts that the store runs. The numbers ?1, ?2, .. are their parameters, and ? alone is the one
--- after the greatest before it.
+-- The texts that the store runs. The numbers ?1, ?2, .. are their parameters, and ? alone is the
+-- one after the greatest before it.
 use Rattle.std.specs.Prelude.{◌++◌, ℕ, zero, suc, List, [], codes}
 
 -- ---- the three tables, and the row of bt_meta
