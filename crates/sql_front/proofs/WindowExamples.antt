@@ -5,7 +5,7 @@ use Rattle.sql_statements.specs.declared.statement.SystemTime.TheVariants.{Betwe
 use Rattle.sql_statements.specs.Lexemes.{Lexeme}
 use Rattle.sql_statements.specs.Names.{is_plain_word}
 use Rattle.sql_statements.specs.Words.{is_reserved}
-use Rattle.sql_statements.specs.Trees.{Statement, stored}
+use Rattle.sql_statements.specs.Trees.{Statement}
 use Rattle.sql_front.specs.Grammar.{IsStatement}
 use Rattle.sql_front.specs.reading.LeafValues.{clock_of_token, moment_of_token, moment_value}
 use Rattle.sql_front.specs.reading.Leaves.{moment_read, name_read}
