@@ -1,6 +1,7 @@
 -- The texts that the store runs. The numbers ?1, ?2, .. are their parameters, and ? alone is the
 -- one after the greatest before it.
-use Rattle.std.specs.Prelude.{◌++◌, ℕ, zero, suc, List, [], codes}
+use Rattle.std.specs.Prelude.{◌++◌, ℕ, List, codes, replicate}
+use Rattle.std.specs.List.{concat}
 
 -- ---- the three tables, and the row of bt_meta
 
@@ -63,22 +64,17 @@ one_text =
 abbrev next_row : List ℕ
 next_row = codes ", (?1, ?, ?, ?, ?2, ?3)"
 
--- a text so many times
-abbrev repeated : ℕ → List ℕ → List ℕ
-repeated zero text = []
-repeated (suc times) text = text ++ repeated times text
-
 abbrev pub two_text : List ℕ
 two_text = one_text ++ next_row
 
 abbrev pub four_text : List ℕ
-four_text = one_text ++ repeated 3 next_row
+four_text = one_text ++ concat (replicate 3 next_row)
 
 abbrev pub eight_text : List ℕ
-eight_text = one_text ++ repeated 7 next_row
+eight_text = one_text ++ concat (replicate 7 next_row)
 
 abbrev pub thirty_two_text : List ℕ
-thirty_two_text = one_text ++ repeated 31 next_row
+thirty_two_text = one_text ++ concat (replicate 31 next_row)
 
 -- Thirty-two rows are also added with numbers that are given: each has its number before its three
 -- parameters.
@@ -86,7 +82,8 @@ thirty_two_text = one_text ++ repeated 31 next_row
 abbrev pub numbered_text : List ℕ
 numbered_text =
     codes "INSERT INTO bt_version (rowid, tab, vals, s, e, ss, se) VALUES "
-    ++ codes "(?4, ?1, ?, ?, ?, ?2, ?3)" ++ repeated 31 (codes ", (?, ?1, ?, ?, ?, ?2, ?3)")
+    ++ codes "(?4, ?1, ?, ?, ?, ?2, ?3)"
+    ++ concat (replicate 31 (codes ", (?, ?1, ?, ?, ?, ?2, ?3)"))
 
 -- ---- the queries
 
