@@ -6,7 +6,7 @@ use Rattle.sql_statements.specs.Lexemes.{Lexeme}
 use Rattle.sql_statements.specs.Lexis as lexis
 use Rattle.sql_statements.specs.Lexis.{first_lexeme, TokensOf, byte_order_mark_size}
 use Rattle.sql_front.specs.Pieces as pieces
-use Rattle.sql_front.specs.Pieces.{HasPieces}
+use Rattle.sql_front.specs.Pieces.{HasPieces, HasSpans}
 
 -- a number and a word
 number_and_word : TokensOf (codes "12a") (record { kind = Number; text = codes "12"; start = 0; end = 2 } ∷ record { kind = Word; text = codes "a"; start = 2; end = 3 } ∷ [])
@@ -25,5 +25,14 @@ unfolding semicolon word
 one_piece = (
   [] ∷ (word ∷ []) ∷ [] ∷ [],
   pieces.Joined.more [] semicolon refl refl (pieces.Joined.more (word ∷ []) semicolon refl refl (pieces.Joined.one [] refl)),
+  refl,
+)
+
+-- of `a;a` each piece has its own span
+two_spans : HasSpans 0 (word ∷ semicolon ∷ word ∷ []) (record { start = 0; end = 1 } ∷ record { start = 2; end = 3 } ∷ [])
+unfolding semicolon word
+two_spans = (
+  (word ∷ []) ∷ (word ∷ []) ∷ [],
+  pieces.Joined.more (word ∷ []) semicolon refl refl (pieces.Joined.one (word ∷ []) refl),
   refl,
 )

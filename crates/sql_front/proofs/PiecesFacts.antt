@@ -1,6 +1,7 @@
 -- Cutting tokens into pieces, as far as some place.
-use Rattle.std.proofs.Common.{◌≡◌, ℕ, suc, ◌+◌, ◌-◌, ◌≤◌, ◌<◌, Bool, true, false, ◌||◌, List, [], ◌∷◌, ◌++◌, length, get_or, drop, map, refl, sym, ap, subst, ◌∙◌, append_assoc, arith, drop-cons, length-append}
+use Rattle.std.proofs.Common.{◌≡◌, ℕ, suc, ◌+◌, ◌-◌, ◌≤◌, ◌<◌, Bool, true, false, ◌||◌, List, [], ◌∷◌, ◌++◌, length, get_or, drop, map, nat_lt, refl, sym, ap, subst, ◌∙◌, append_assoc, arith, drop-cons, length-append}
 use Rattle.std.specs.List.{list_any, slice_range, filter, All}
+use Rattle.std.proofs.lemmas.Bool.Decides.{nat_tests}
 use Rattle.std.proofs.lemmas.List.{drop-map, drop_all, append-nil, map_push, length-map}
 use Rattle.std.proofs.lemmas.List.Elements.{All-push, All-nil}
 use Rattle.std.proofs.lemmas.List.Folds.{list_any-append}
@@ -8,7 +9,7 @@ use Rattle.std.proofs.Math.Seq.{take-append_seam}
 use Rattle.sql_front.specs.declared.pieces.Span.{Span}
 use Rattle.sql_statements.specs.Lexemes.{Lexeme}
 use Rattle.sql_front.specs.Pieces as pieces
-use Rattle.sql_front.specs.Pieces.{is_semicolon, is_nonempty, HasNoSemicolon, HasPieces, spanned, IsWithin}
+use Rattle.sql_front.specs.Pieces.{is_semicolon, is_nonempty, is_filled, spans_from, HasNoSemicolon, HasPieces, HasSpans, spanned, IsWithin}
 
 -- the tokens are those of some things
 module _ {A : Type 0} (f : A → Lexeme) where
@@ -19,6 +20,7 @@ module _ {A : Type 0} (f : A → Lexeme) where
     pub plain : HasNoSemicolon part
     pub size : start + length part ≡ i
     pub completes : (more : List (List Lexeme)) → HasPieces (drop start (map f tokens)) more → HasPieces (map f tokens) (map (spanned (map f tokens)) spans ++ more)
+    pub places : (more : List Span) → HasSpans start (drop start (map f tokens)) more → HasSpans 0 (map f tokens) (spans ++ more)
     pub within : All (IsWithin (length tokens)) spans
 
   pub cut_start : (tokens : List A) → Cut tokens 0 0 []
@@ -28,6 +30,7 @@ module _ {A : Type 0} (f : A → Lexeme) where
     plain = refl;
     size = refl;
     completes = λ more h. h;
+    places = λ more h. h;
     within = All-nil (IsWithin (length tokens));
   }
 
@@ -52,6 +55,7 @@ module _ {A : Type 0} (f : A → Lexeme) where
         plain = list_any-append is_semicolon so_far.part (one ∷ []) ∙ or_false (list_any is_semicolon so_far.part) (is_semicolon one || false) so_far.plain (or_false (is_semicolon one) false plain refl);
         size = omega (arith, so_far.size, length-append so_far.part (one ∷ []));
         completes = so_far.completes;
+        places = so_far.places;
         within = so_far.within;
       }
 
@@ -68,6 +72,24 @@ module _ {A : Type 0} (f : A → Lexeme) where
   empty : (part : List Lexeme) (parts : List (List Lexeme)) → length part ≡ 0 → filter is_nonempty parts ≡ filter is_nonempty (part ∷ parts)
   empty [] parts h = refl
   empty (t ∷ part) parts h = absurd (omega arith)
+
+  -- the span of a part comes first, if it is not empty
+  filled_span : (start i : ℕ) (part : List Lexeme) (parts : List (List Lexeme)) (more : List Span) → start + length part ≡ i → start < i
+      → more ≡ filter is_filled (spans_from (i + 1) parts) → record { start = start; end = i } ∷ more ≡ filter is_filled (spans_from start (part ∷ parts))
+  filled_span start i part parts more size some rest =
+      let is : nat_lt start i ≡ true = grind (arith, nat_tests) in
+      rw (size, rest, is) refl
+
+  empty_span : (start i : ℕ) (part : List Lexeme) (parts : List (List Lexeme)) (more : List Span) → start + length part ≡ i → i ≤ start
+      → more ≡ filter is_filled (spans_from (i + 1) parts) → more ≡ filter is_filled (spans_from start (part ∷ parts))
+  empty_span start i part parts more size none rest =
+      let is : nat_lt start i ≡ false = grind (arith, nat_tests) in
+      rw (size, rest, is) refl
+
+  -- a span behind the others
+  span_behind : (ts : List Lexeme) (spans after : List Span) (span : Span) (more : List Span) → after ≡ spans ++ span ∷ [] → HasSpans 0 ts (spans ++ span ∷ more) → HasSpans 0 ts (after ++ more)
+  span_behind ts spans after span more pushed has =
+      subst (HasSpans 0 ts) (sym (ap (λ (x : List Span). x ++ more) pushed ∙ append_assoc spans (span ∷ []) more)) has
 
   -- one more span
   pushed_pieces : (ts : List Lexeme) (spans after : List Span) (span : Span) (part : List Lexeme) (more : List (List Lexeme)) → after ≡ spans ++ span ∷ []
@@ -105,6 +127,9 @@ module _ {A : Type 0} (f : A → Lexeme) where
             ap (λ (x : List (List Lexeme)). c.part ∷ x) rest.2 ∙ filled c.part rest.0 (omega (arith, c.size)) in
             subst (HasPieces (map f tokens)) (sym (pushed_pieces (map f tokens) spans after span c.part more pushed (part_is tokens start i spans c)))
             (c.completes (c.part ∷ more) (c.part ∷ rest.0, part_first tokens start i spans d c h semicolon rest.0 rest.1, first));
+        places = λ more rest.
+            span_behind (map f tokens) spans after span more pushed
+            (c.places (span ∷ more) (c.part ∷ rest.0, part_first tokens start i spans d c h semicolon rest.0 rest.1, filled_span start i c.part rest.0 more c.size some rest.2));
         within = pushed_within (length tokens) spans after span pushed c.within (some, omega arith);
       }
 
@@ -118,6 +143,8 @@ module _ {A : Type 0} (f : A → Lexeme) where
     size = omega arith;
     completes = λ more rest.
         c.completes more (c.part ∷ rest.0, part_first tokens start i spans d c h semicolon rest.0 rest.1, rest.2 ∙ empty c.part rest.0 (omega (arith, c.size)));
+    places = λ more rest.
+        c.places more (c.part ∷ rest.0, part_first tokens start i spans d c h semicolon rest.0 rest.1, empty_span start i c.part rest.0 more c.size none rest.2);
     within = c.within;
   }
 
@@ -131,21 +158,34 @@ module _ {A : Type 0} (f : A → Lexeme) where
   to_end : (tokens : List A) (start i : ℕ) (spans : List Span) → Cut tokens start i spans → length tokens ≤ i → i ≤ length tokens → Cut tokens start (length tokens) spans
   to_end tokens start i spans c le ge = let e : i ≡ length tokens = omega arith in subst (λ (k : ℕ). Cut tokens start k spans) e c
 
+  -- what the cut of all tokens gives
+  pub record AreCut (tokens : List A) (spans : List Span) : Type 0 where
+    pub whole : HasPieces (map f tokens) (map (spanned (map f tokens)) spans)
+    pub places : HasSpans 0 (map f tokens) spans
+    pub within : All (IsWithin (length tokens)) spans
+
   -- all is cut, with a last piece
   pub cut_last : (tokens : List A) (start i : ℕ) (spans after : List Span) → Cut tokens start i spans → length tokens ≤ i → i ≤ length tokens → start < length tokens
-      → after ≡ spans ++ record { start = start; end = length tokens } ∷ [] → HasPieces (map f tokens) (map (spanned (map f tokens)) after) × All (IsWithin (length tokens)) after
+      → after ≡ spans ++ record { start = start; end = length tokens } ∷ [] → AreCut tokens after
   cut_last tokens start i spans after so_far le ge some pushed =
       let c = to_end tokens start i spans so_far le ge in
       let span : Span = record { start = start; end = length tokens } in
       let same : map (spanned (map f tokens)) after ≡ map (spanned (map f tokens)) spans ++ c.part ∷ [] =
-      sym (append-nil (map (spanned (map f tokens)) after)) ∙ pushed_pieces (map f tokens) spans after span c.part [] pushed (part_is tokens start (length tokens) spans c) in (
-        subst (HasPieces (map f tokens)) (sym same) (c.completes (c.part ∷ []) (c.part ∷ [], last_part tokens start spans c, filled c.part [] (omega (arith, c.size)))),
-        pushed_within (length tokens) spans after span pushed c.within (some, omega arith),
-      )
+      sym (append-nil (map (spanned (map f tokens)) after)) ∙ pushed_pieces (map f tokens) spans after span c.part [] pushed (part_is tokens start (length tokens) spans c) in
+      record {
+        whole = subst (HasPieces (map f tokens)) (sym same) (c.completes (c.part ∷ []) (c.part ∷ [], last_part tokens start spans c, filled c.part [] (omega (arith, c.size))));
+        places = subst (HasSpans 0 (map f tokens)) (sym pushed)
+            (c.places (span ∷ []) (c.part ∷ [], last_part tokens start spans c, filled_span start (length tokens) c.part [] [] c.size some refl));
+        within = pushed_within (length tokens) spans after span pushed c.within (some, omega arith);
+      }
 
   -- all is cut, and the last token is a semicolon
   pub cut_all : (tokens : List A) (start i : ℕ) (spans : List Span) → Cut tokens start i spans → length tokens ≤ i → i ≤ length tokens → length tokens ≤ start
-      → HasPieces (map f tokens) (map (spanned (map f tokens)) spans) × All (IsWithin (length tokens)) spans
+      → AreCut tokens spans
   cut_all tokens start i spans so_far le ge none =
       let c = to_end tokens start i spans so_far le ge in
-      (subst (HasPieces (map f tokens)) (append-nil (map (spanned (map f tokens)) spans)) (c.completes [] (c.part ∷ [], last_part tokens start spans c, empty c.part [] (omega (arith, c.size)))), c.within)
+      record {
+        whole = subst (HasPieces (map f tokens)) (append-nil (map (spanned (map f tokens)) spans)) (c.completes [] (c.part ∷ [], last_part tokens start spans c, empty c.part [] (omega (arith, c.size))));
+        places = subst (HasSpans 0 (map f tokens)) (append-nil spans) (c.places [] (c.part ∷ [], last_part tokens start spans c, empty_span start (length tokens) c.part [] [] c.size none refl));
+        within = c.within;
+      }

@@ -1,6 +1,6 @@
 -- Pieces: what is between the semicolons of a script.
-use Rattle.std.specs.Prelude.{◌≡◌, ℕ, ◌<◌, ◌≤◌, Bool, true, false, List, [], ◌∷◌, ◌++◌, codes}
-use Rattle.std.specs.Prelude.{filter}
+use Rattle.std.specs.Prelude.{◌≡◌, ℕ, ◌+◌, ◌<◌, ◌≤◌, Bool, true, false, List, [], ◌∷◌, ◌++◌}
+use Rattle.std.specs.Prelude.{codes, filter, length, nat_lt}
 use Rattle.std.specs.List.{list_any, slice_range}
 use Rattle.std.specs.Str.{bytes_eq}
 use Rattle.sql_front.specs.declared.pieces.Span.{Span}
@@ -30,6 +30,26 @@ is_nonempty (token ∷ tokens) = true
 abbrev pub HasPieces : List Lexeme → List (List Lexeme) → Type 0
 HasPieces tokens pieces =
     (parts : List (List Lexeme)) × Joined parts tokens × (pieces ≡ filter is_nonempty parts)
+
+-- the spans of parts that are joined with one token between each two, where the first begins at a
+-- place
+abbrev pub spans_from : ℕ → List (List Lexeme) → List Span
+spans_from start [] = []
+spans_from start (part ∷ parts) =
+    record { start = start; end = start + length part }
+    ∷ spans_from (start + length part + 1) parts
+
+-- a span of one token or more
+abbrev pub is_filled : Span → Bool
+is_filled span = nat_lt span.start span.end
+
+-- the spans of the pieces of these tokens, in order, where the first of the tokens is at a place:
+-- of each two equal pieces each has its own
+abbrev pub HasSpans : ℕ → List Lexeme → List Span → Type 0
+HasSpans start tokens spans =
+    (parts : List (List Lexeme))
+    × Joined parts tokens
+    × (spans ≡ filter is_filled (spans_from start parts))
 
 -- the tokens of a span
 abbrev pub spanned : List Lexeme → Span → List Lexeme

@@ -4,7 +4,7 @@ ghost use Rattle.std.specs.Prelude.{◌≡◌, ℕ, All, IfOk, List, length, map
 ghost use Rattle.sql_statements.specs.Lexemes.{Lexeme, lexemes};
 ghost use Rattle.sql_statements.specs.Lexemes as tokens;
 ghost use Rattle.sql_front.specs.Pieces as pieces;
-ghost use Rattle.sql_front.specs.Pieces.{HasPieces, IsWithin, spanned};
+ghost use Rattle.sql_front.specs.Pieces.{HasPieces, HasSpans, IsWithin, spanned};
 
 use crate::terminal::is_same_symbol;
 use period_core::Memory;
@@ -50,6 +50,8 @@ pub(crate) fn cut_all<T: Lexed>(
     requires { All (T.fits script.now) tokens.now }
     ensures pieces { IfOk result (λ spans. HasPieces (map (T.lexeme script.now) tokens.now)
         (map (spanned (map (T.lexeme script.now) tokens.now)) spans.items)) }
+    ensures placed { IfOk result
+        (λ spans. HasSpans 0 (map (T.lexeme script.now) tokens.now) spans.items) }
     ensures within { IfOk result (λ spans. All (IsWithin (length tokens.now)) spans.items) }
 {
     let mut spans = Vec::new(alloc);
@@ -76,6 +78,7 @@ pub(crate) fn cut_all<T: Lexed>(
 pub fn cut(alloc: Global, tokens: &[Token<'_>]) -> Result<Vec<Span>, Memory>
     ensures pieces { IfOk result
         (λ spans. HasPieces (lexemes tokens.now) (map (spanned (lexemes tokens.now)) spans.items)) }
+    ensures placed { IfOk result (λ spans. HasSpans 0 (lexemes tokens.now) spans.items) }
     ensures within { IfOk result (λ spans. All (IsWithin (length tokens.now)) spans.items) }
 {
     // (a token has its own text, so nothing of the script is read)

@@ -3,7 +3,7 @@
 ghost use Rattle.std.specs.Prelude.{◌≡◌, ℕ, ◌+◌, ◌<◌, ◌≤◌, ◌^◌, All, IfOk, List, length, map};
 ghost use Rattle.sql_front.specs.declared.lexer.LexFault.TheVariants.{BadToken};
 ghost use Rattle.sql_front.specs.Pieces as pieces;
-ghost use Rattle.sql_front.specs.Pieces.{HasPieces, IsWithin, spanned};
+ghost use Rattle.sql_front.specs.Pieces.{HasPieces, HasSpans, IsWithin, spanned};
 ghost use Rattle.sql_front.specs.TokenSpans as spans;
 ghost use Rattle.sql_front.specs.TokenSpans.{IsInScript, lexemes_at, span_of};
 ghost use Rattle.sql_statements.specs.Lexemes.{Lexeme, lexeme, lexemes};
@@ -109,6 +109,8 @@ pub fn cut_spans(alloc: Global, script: &str, tokens: &[TokenSpan]) -> Result<Ve
     requires { All (IsInScript script.now) tokens.now }
     ensures pieces { IfOk result (λ spans. HasPieces (lexemes_at script.now tokens.now)
         (map (spanned (lexemes_at script.now tokens.now)) spans.items)) }
+    ensures placed { IfOk result
+        (λ spans. HasSpans 0 (lexemes_at script.now tokens.now) spans.items) }
     ensures within { IfOk result (λ spans. All (IsWithin (length tokens.now)) spans.items) }
 {
     cut_all(alloc, script, tokens)

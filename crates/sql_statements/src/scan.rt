@@ -7,35 +7,35 @@ ghost use Rattle.sql_statements.specs.Lexis as lexis;
 ghost use Rattle.sql_statements.specs.Lexis.{line_feed, quoted_size};
 
 /// Whether a byte is white space.
-pub fn is_blank(byte: u8) -> bool
+pub(crate) fn is_blank(byte: u8) -> bool
     ensures { result ≡ lexis.is_blank byte }
 {
     (9..=13).contains(&byte) || byte == b' '
 }
 
 /// Whether a byte is an ASCII digit.
-pub fn is_digit(byte: u8) -> bool
+pub(crate) fn is_digit(byte: u8) -> bool
     ensures { result ≡ lexis.is_digit byte }
 {
     byte.is_ascii_digit()
 }
 
 /// Whether a word may begin with this byte.
-pub fn is_letter(byte: u8) -> bool
+pub(crate) fn is_letter(byte: u8) -> bool
     ensures { result ≡ lexis.is_letter byte }
 {
     byte.is_ascii_alphabetic() || byte == b'_'
 }
 
 /// Whether a word may have this byte after its first.
-pub fn is_word_byte(byte: u8) -> bool
+pub(crate) fn is_word_byte(byte: u8) -> bool
     ensures { result ≡ lexis.is_word_byte byte }
 {
     is_letter(byte) || is_digit(byte)
 }
 
 /// Whether a byte is a symbol of one byte, and nothing longer begins with it.
-pub fn is_lone_symbol(byte: u8) -> bool
+pub(crate) fn is_lone_symbol(byte: u8) -> bool
     ensures { result ≡ lexis.is_lone_symbol byte }
 {
     byte == b'('
@@ -49,21 +49,21 @@ pub fn is_lone_symbol(byte: u8) -> bool
 }
 
 /// Whether a byte is a symbol of one byte.
-pub fn is_symbol_byte(byte: u8) -> bool
+pub(crate) fn is_symbol_byte(byte: u8) -> bool
     ensures { result ≡ lexis.is_symbol_byte byte }
 {
     is_lone_symbol(byte) || byte == b'<' || byte == b'>' || byte == b'-'
 }
 
 /// Whether a symbol of two bytes comes first.
-pub fn begins_pair(bytes: &[u8]) -> bool
+pub(crate) fn begins_pair(bytes: &[u8]) -> bool
     ensures { result ≡ lexis.begins_pair bytes.now }
 {
     bytes.starts_with(b"<>") || bytes.starts_with(b"<=") || bytes.starts_with(b">=")
 }
 
 /// How many bytes of a word come first.
-pub fn word_size(bytes: &[u8]) -> usize
+pub(crate) fn word_size(bytes: &[u8]) -> usize
     ensures size { result ≡ prefix_len lexis.is_word_byte bytes.now }
     ensures within { result ≤ length bytes.now }
 {
@@ -76,7 +76,7 @@ pub fn word_size(bytes: &[u8]) -> usize
 }
 
 /// How many digits come first.
-pub fn number_size(bytes: &[u8]) -> usize
+pub(crate) fn number_size(bytes: &[u8]) -> usize
     ensures size { result ≡ prefix_len lexis.is_digit bytes.now }
     ensures within { result ≤ length bytes.now }
 {
@@ -89,7 +89,7 @@ pub fn number_size(bytes: &[u8]) -> usize
 }
 
 /// How many bytes there are up to and with the next line feed, or to the end.
-pub fn comment_size(bytes: &[u8]) -> usize
+pub(crate) fn comment_size(bytes: &[u8]) -> usize
     ensures size { result ≡ length (take_through line_feed bytes.now) }
     ensures within { result ≤ length bytes.now }
 {
@@ -108,7 +108,7 @@ fn begins_quote(bytes: &[u8]) -> bool
 }
 
 /// How many bytes there are after an opening quote up to and with the quote that ends the text.
-pub fn quoted_size(bytes: &[u8]) -> Option<usize>
+pub(crate) fn quoted_size(bytes: &[u8]) -> Option<usize>
     ensures size { result ≡ quoted_size bytes.now }
     ensures within { IfSome result (λ n. n ≤ length bytes.now) }
 {

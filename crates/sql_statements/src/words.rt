@@ -58,7 +58,7 @@ fn is_among(text: &str, words: &[&str]) -> bool
 
 /// Whether this word, in any case, is reserved, so that it is no name. Only words of about its
 /// length are looked at.
-pub fn is_reserved(text: &str) -> bool
+pub(crate) fn is_reserved(text: &str) -> bool
     ensures { result ≡ words.is_reserved text.now }
 {
     match text.len() {

@@ -1,8 +1,9 @@
 //! Whether some CREATE gives a definition: what a store asks of each definition that it reads. The
 //! definition is judged by its names and places, and no test takes memory.
 
-ghost use Rattle.std.specs.Prelude.{◌≡◌, ◌↔◌, IsTrue};
+ghost use Rattle.std.specs.Prelude.{◌≡◌, ◌<◌, ◌↔◌, IsTrue, length, true};
 ghost use Rattle.std.specs.List.{list_all};
+ghost use Rattle.catalog_core.specs.Limits.{most_tables};
 ghost use Rattle.catalog_core.specs.create.Lawful.{IsLawful};
 ghost use Rattle.catalog_core.specs.create.PlacedTests.{are_key_places, are_value_places};
 ghost use Rattle.catalog_core.specs.create.PlacedTests.{has_place, has_system_columns};
@@ -10,6 +11,7 @@ ghost use Rattle.catalog_core.specs.create.PlacedTests.{have_two_kinds, is_first
 ghost use Rattle.catalog_core.specs.create.PlacedTests.{is_placed_reference, is_value_place};
 ghost use Rattle.catalog_core.specs.create.PlacedTests.{is_within_limits, kind_at, passes_all};
 ghost use Rattle.catalog_core.specs.create.PlacedTests.{place_count, refers_to, repeats_place};
+ghost use Rattle.catalog_core.specs.table.TableWords.{has_date_period, has_distinct_names};
 
 use crate::create::names::is_there;
 use crate::limits::{MOST_COLUMNS, MOST_REFERENCES, MOST_TABLES};
@@ -201,9 +203,14 @@ fn passes_all(catalog: &Catalog, definition: &TableDef) -> bool
         && are_placed_references(catalog, definition)
 }
 
-/// Whether some CREATE that is accepted over the tables of the catalog gives this definition.
+/// Whether some CREATE that is accepted over the tables of the catalog gives this definition. The
+/// catalog has then room for one table more, the definition's application period is over two
+/// different DATE columns, and no two of its columns share a name.
 pub fn lawful(catalog: &Catalog, definition: &TableDef) -> bool
-    ensures { IsTrue result ↔ IsLawful catalog.now.tables definition.now }
+    ensures given { IsTrue result ↔ IsLawful catalog.now.tables definition.now }
+    ensures room { IsTrue result → length catalog.now.tables < most_tables }
+    ensures dated { IsTrue result → has_date_period definition.now ≡ true }
+    ensures distinct { IsTrue result → has_distinct_names definition.now ≡ true }
 {
     passes_all(catalog, definition)
 }

@@ -57,7 +57,7 @@ impl TableDef {
     /// name, as that of each definition is that `define` gives. Of those that `decode_def` gives it
     /// may be over others.
     #[tactic(auto, unfolding(crate::specs::table::TableWords::has_date_period))]
-    pub fn has_date_period(&self) -> bool
+    pub(crate) fn has_date_period(&self) -> bool
         ensures { result ≡ has_date_period self.now }
     {
         self.period.start != self.period.end
@@ -68,7 +68,7 @@ impl TableDef {
     /// Whether no two of its columns share a name, as in each definition that `define` gives. In
     /// those that `decode_def` gives two may.
     #[tactic(auto, unfolding(crate::specs::table::TableWords::has_distinct_names))]
-    pub fn has_distinct_names(&self) -> bool
+    pub(crate) fn has_distinct_names(&self) -> bool
         ensures { result ≡ has_distinct_names self.now }
     {
         for x in self.columns.as_slice() {

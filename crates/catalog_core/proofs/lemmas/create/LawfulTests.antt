@@ -1,5 +1,5 @@
 -- A definition passes the tests of its names and places where some CREATE that is accepted gives it.
-use Rattle.std.proofs.Common.{◌≡◌, ◌+◌, ◌∷◌, ◌&&◌, ◌||◌, ◌∙◌, ℕ, Bool, true, false, not, List, [], Some, arith, ap, bytes_eq, cond, count_by, length, lit≤, map, nat_le, nat_lt, refl, sym}
+use Rattle.std.proofs.Common.{◌≡◌, ◌<◌, ◌+◌, ◌∷◌, ◌&&◌, ◌||◌, ◌∙◌, ℕ, Bool, true, false, not, List, [], Some, arith, ap, bytes_eq, cond, count_by, length, lit≤, map, nat_le, nat_lt, refl, sym}
 use Rattle.std.specs.Prelude.{◌==◌, is_none}
 use Rattle.std.specs.List.{list_all, list_any}
 use Rattle.std.proofs.lemmas.Bool.{and_from, and_parts, eqb-true, false_from_ne_true, false≢true, not-true, or_from, or_parts}
@@ -23,6 +23,7 @@ use Rattle.catalog_core.proofs.lemmas.create.SpelledReferences.{IsSoundReference
 use Rattle.catalog_core.proofs.lemmas.create.Spelling.{create_of, own_name, spelled_column, spelled_key, spelled_reference, spelled_side, spelled_type}
 use Rattle.catalog_core.proofs.lemmas.judged.Least.{none_first}
 use Rattle.catalog_core.proofs.lemmas.judged.Sound.{are_false}
+use Rattle.catalog_core.specs.Limits.{most_columns, most_references, most_tables}
 use Rattle.catalog_core.specs.create.Creation.{create_conditions, exceeds_limits, has_bad_column, has_bad_period, has_bad_system_period, has_other_period, has_unequal_lists, is_ambiguous, is_bad_definition, is_shared, is_there, is_used_otherwise, keys_period_column, lacks_name, lacks_one_of_each, lacks_parent, lacks_period, names_no_key, names_other_kind, names_other_period, parent_of, period_matches, references_no_key, references_other_kind, repeats_name, some_match, some_no_value, some_own_match, some_parent_match, sort_count}
 use Rattle.catalog_core.specs.create.Definition.{Defines, column_parts, declared_column, declared_kind, declared_reference, reference_parts}
 use Rattle.catalog_core.specs.create.Lawful.{IsLawful}
@@ -53,7 +54,7 @@ pub record Passed (tables : List TableDef) (d : TableDef) : Type 0 where
   pub key : are_value_places d d.key ≡ true
   pub references : list_all (is_placed_reference tables d) d.references ≡ true
 
-all_passed : (tables : List TableDef) (d : TableDef) → passes_all tables d ≡ true → Passed tables d
+pub all_passed : (tables : List TableDef) (d : TableDef) → passes_all tables d ≡ true → Passed tables d
 unfolding passes_all
 all_passed tables d all =
     let key : Bool = are_value_places d d.key && list_all (is_placed_reference tables d) d.references in
@@ -70,6 +71,16 @@ all_passed tables d all =
     let h = and_parts (has_system_columns d) key g.1 in
     let k = and_parts (are_value_places d d.key) (list_all (is_placed_reference tables d) d.references) h.1 in
     record { limits = a.0; free = b.0; distinct = e.0; period = f.0; dated = g.0; systems = h.0; key = k.0; references = k.1 }
+
+fewer_than_most : (n : ℕ) (others : Bool) → (nat_lt n 64 && others) ≡ true → n < 64
+fewer_than_most n others e =
+    let few = (and_parts (nat_lt n 64) others e).0 in
+    grind (arith, nat_tests)
+
+pub has_room : (tables : List TableDef) (d : TableDef) → passes_all tables d ≡ true → length tables < most_tables
+unfolding is_within_limits
+has_room tables d all =
+    fewer_than_most (length tables) (nat_le (length d.columns) most_columns && nat_le (length d.references) most_references) (all_passed tables d all).limits
 
 passed_all : (tables : List TableDef) (d : TableDef) → Passed tables d → passes_all tables d ≡ true
 unfolding passes_all

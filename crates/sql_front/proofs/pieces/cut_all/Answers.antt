@@ -1,7 +1,7 @@
 use Rattle.std.proofs.Common.{◌≡◌, get_or, length, map, sym, ap, ◌∙◌}
 use Rattle.std.specs.List.{All}
 use Rattle.sql_front.specs.Pieces.{HasPieces, IsWithin, is_semicolon, spanned}
-use Rattle.sql_front.proofs.PiecesFacts.{cut_start, cut_token, cut_piece, cut_empty, cut_last, cut_all}
+use Rattle.sql_front.proofs.PiecesFacts.{AreCut, cut_start, cut_token, cut_piece, cut_empty, cut_last, cut_all}
 use Rattle.sql_front.proofs.pieces.cut_all.Goals.{then-is_semicolon, then-start-i+in_ok-push, else-start-i, else-is_semicolon, then-start-tokens+in_ok-push-2, else-start-tokens}
 use Rattle.sql_front.proofs.pieces.cut_all.Given.{Over}
 use Rattle.sql_front.proofs.pieces.cut_all.Goals as goal
@@ -28,9 +28,8 @@ tokens-preserved g c =
           (answer ∙ w.if-is_semicolon.false))
     ]
 
--- what both clauses say
-done : (g : Over) (c : goal.Joined-start-tokens g) → HasPieces (map (g.T.Lexed.lexeme c.args.script.now) c.args.tokens.now) (map (spanned (map (g.T.Lexed.lexeme c.args.script.now) c.args.tokens.now)) c.if-start-tokens.spans.items)
-    × All (IsWithin (length c.args.tokens.now)) c.if-start-tokens.spans.items
+-- what the clauses say
+done : (g : Over) (c : goal.Joined-start-tokens g) → AreCut (g.T.Lexed.lexeme c.args.script.now) c.args.tokens.now c.if-start-tokens.spans.items
 done g c =
     let f = g.T.Lexed.lexeme c.args.script.now in
     elim c.if-start-tokens.branch [
@@ -41,7 +40,10 @@ done g c =
     ]
 
 pub returns-clause-pieces : goal.returns-clause-pieces
-returns-clause-pieces g c = (done g c).0
+returns-clause-pieces g c = (done g c).whole
 
 pub returns-clause-within : goal.returns-clause-within
-returns-clause-within g c = (done g c).1
+returns-clause-within g c = (done g c).within
+
+pub returns-clause-placed : goal.returns-clause-placed
+returns-clause-placed g c = (done g c).places
