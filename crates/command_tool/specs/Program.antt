@@ -21,6 +21,7 @@ use Rattle.command_line.specs.declared.command.Mode.TheVariants.{Run, RunAudited
 use Rattle.command_line.specs.declared.fault.RunFault.{RunFault}
 use Rattle.command_line.specs.declared.fault.RunFault.TheVariants.{Script, Memory, Words, Read}
 use Rattle.command_line.specs.declared.fault.RunFault.TheVariants.{Write, NoStore, Locked}
+use Rattle.command_line.specs.declared.fault.RunFault.TheVariants.{Unfinished}
 use Rattle.command_line.specs.declared.fault.ProgramName.TheVariants.{Bitemporal}
 
 -- the most bytes that are read: one more than a script may have
@@ -77,6 +78,7 @@ MayFailSilently MayRefuse input read_failed Read = read_failed ≡ true
 MayFailSilently MayRefuse input read_failed Write = ⊥
 MayFailSilently MayRefuse input read_failed NoStore = ⊥
 MayFailSilently MayRefuse input read_failed Locked = ⊥
+MayFailSilently MayRefuse input read_failed Unfinished = ⊥
 
 -- which refusals a whole script may get: only a run opens a store, and that is a new one
 abbrev pub MayRefuseIn : Mode → List ℕ → Refusal → Type 0
@@ -154,7 +156,8 @@ abbrev pub script_of :
 script_of content_of input None = input
 script_of content_of input (Some name) = content_of name
 
--- whether the script may not be read: a named file may not open, the reader has failed or not
-abbrev pub may_fail : Bool → Option (List ℕ) → Bool
-may_fail read_failed None = read_failed
-may_fail read_failed (Some name) = true
+-- whether its reader failed: the file that is named did not open or a read of it failed, or else a
+-- read of the input
+abbrev pub failed_of : Bool → Bool → Option (List ℕ) → Bool
+failed_of input_failed files_failed None = input_failed
+failed_of input_failed files_failed (Some name) = files_failed
