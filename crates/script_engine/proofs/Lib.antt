@@ -9,6 +9,7 @@ mod Changed
 mod CheckSteps
 mod PieceFacts
 mod PieceSteps
+mod OverFacts
 mod PlanFacts
 mod Recorded
 mod SameInMemory

@@ -58,7 +58,7 @@ module _ (tables : List TableDef) (clock : ℤ) where
   pub failed_over : (s : Statement) (refusal : Refusal) → NoneApplies (AppliesOver tables clock s) → IsStoreRefusal refusal → MayRefuseOver tables clock s refusal
   failed_over s refusal none failure = inl (may_refuse-store (AppliesOver tables clock s) refusal failure none)
 
-  not_earlier : (moment : ℤ) → clock ≤ℤ moment → NoneApplies (AppliesOver tables clock (statement.at moment))
+  pub not_earlier : (moment : ℤ) → clock ≤ℤ moment → NoneApplies (AppliesOver tables clock (statement.at moment))
   not_earlier moment late refusal (inl (same, before)) = let off : int_lt moment clock ≡ false = grind (arith, ints, late) in false≢true (sym off ∙ before)
   not_earlier moment late refusal (inr nothing) = nothing
 
