@@ -6,6 +6,7 @@ mod Answering
 mod ChangeRefusals
 mod ColumnValues
 mod Changed
+mod DistinctAfter
 mod CheckSteps
 mod PieceFacts
 mod PieceSteps
@@ -32,6 +33,7 @@ mod Loaded
 mod Ended
 mod EndedAfter
 mod EndedLoaded
+mod EndedInTime
 mod Indexed
 mod Judged
 mod KeyFacts

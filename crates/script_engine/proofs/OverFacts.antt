@@ -23,7 +23,7 @@ change_follows old new (statement.delete d) is same = same
 change_follows old new _ is same = absurd is
 
 module _ {S : Type 0} (g : Ghosts S) (old : EngineState S) (s : Statement) where
-  pub refused_over : (new : EngineState S) (refusal : Refusal) → MayRefuseOver old.catalog.tables old.clock s refusal → IsSameInMemory old new → StaysOnErr g old.connection new.connection (Err {Outcome} refusal) → WasUsable g old.connection new.connection →
+  pub refused_over : (new : EngineState S) (refusal : Refusal) → MayRefuseOver old.catalog.tables old.clock s refusal → IsSameInMemory old new → StaysOnErr {X = Outcome} g old.connection new.connection (Err refusal) → WasUsable g old.connection new.connection →
       StepOver g old s (Err refusal) new
   refused_over new refusal may memory stays usable = record { refused = may; memory = memory; none_stored = stays; accepted = tt; usable = usable }
 

@@ -112,11 +112,11 @@ fn connection_of<S: Alter>(store: VersionStore<S>) -> Connection<S>
     connection
 }
 
-// What the clauses say of a store holds where its connection is usable as the call ends: its disk
-// is clean, and no failure has shut it. A store in memory always is. Without that each call is safe
+// A clause of a store's contents holds where its connection is usable as the call ends: its disk is
+// clean, and no failure has shut it. A store in memory always is. Without that each call is safe
 // and returns; `open` gives only the refusals that it names; and `at` and `execute` are refused
 // only for a condition that holds of the catalog and the clock in memory, which a refusal leaves as
-// they were.
+// they were. A refusal leaves the database as it was whatever tables it has.
 impl<S: Alter> Engine<S> {
     /// Opens a store: a new one in a database that has none of its three tables, or else the one
     /// that is there, if it is a good one. One of form 1 is moved to form 2, in one transaction,

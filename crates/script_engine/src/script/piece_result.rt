@@ -50,6 +50,7 @@ pub trait PieceResult<S: Alter> {
 
 impl<S: Alter> PieceResult<S> for Result<Outcome, Refusal> {
     ghost is_step = { PieceStep };
+
     ghost result_of = { λ result. result };
 
     fn refused(refusal: Refusal) -> Result<Outcome, Refusal> {
@@ -67,6 +68,7 @@ impl<S: Alter> PieceResult<S> for Result<Outcome, Refusal> {
 
 impl<S: Alter> PieceResult<S> for Entry {
     ghost is_step = { AuditedPieceStep };
+
     ghost result_of = { λ (entry : EntryModel). entry.result };
 
     fn refused(refusal: Refusal) -> Entry {

@@ -1,4 +1,4 @@
-use Rattle.std.proofs.Common.{◌≤ℤ◌, ℤ, ap, subst}
+use Rattle.std.proofs.Common.{◌≡◌, ◌≤ℤ◌, ℤ, ap, subst}
 use Rattle.std.proofs.lemmas.Result.{err_from_is_err_and}
 use Rattle.sql_statements.specs.Trees as statement
 use Rattle.script_engine.specs.engine.Runs.{MayRefuseOver}

@@ -176,7 +176,7 @@ returns-in_err-apply-clause-over g c =
     let of = c.in_ok-made.ensures.plan in
     refused_over g.S.Store old s new c.in_err-apply.field-0.0
     (failed_over old.catalog.tables old.clock s c.in_err-apply.field-0.0 (planned_sound old.catalog.tables old.clock s known.form change.action known.sound known.empty of.listed plan of.plans) c.in_err-apply.ensures.named)
-    (rows_memory old new change.table c.apply.ensures.catalog c.apply.ensures.clock c.in_err-apply.ensures.none)
+    (rows_memory old new change.table c.apply.ensures.catalog c.apply.ensures.clock c.in_err-apply.ensures.none c.in_err-apply.ensures.open)
     c.in_err-apply.ensures.none_stored c.apply.ensures.usable)
 
 pub returns-clause-over : goal.returns-clause-over

@@ -151,6 +151,7 @@ returns-in-Err-clause-over g c =
     (subst (λ (k : Catalog). NoneApplies (Holds (create_conditions k.tables c.args.create.now))) c.catalog.ensures c.in_ok-definition.ensures.sound)
     c.in-Err.ensures.named)
     (list_memory old new c.in-Err.ensures.none c.in-Err.ensures.clock
-    (c.remove_versions.ensures.rows ts (without_rows c.in_ok-definition.definition) c.in_ok-add_versions.ensures.rows))
+    (c.remove_versions.ensures.rows ts (without_rows c.in_ok-definition.definition) c.in_ok-add_versions.ensures.rows)
+    (c.remove_versions.ensures.ended c.self.inside.ended.items [] c.in_ok-add_versions.ensures.closed))
     c.in-Err.ensures.none_stored
     c.add_table.ensures.usable)
