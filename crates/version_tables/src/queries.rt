@@ -10,11 +10,10 @@ ghost use Rattle.sqlite.specs.Held.{Held, state};
 ghost use Rattle.sqlite.specs.Order.{Row as Values};
 ghost use Rattle.sqlite.specs.State.{HasCleanDisk};
 ghost use Rattle.version_tables.specs.Giving.{GivesNext, HasGivenRows, IsAfterQuery, HasNotBegun};
-ghost use Rattle.version_tables.specs.Giving.{FailsWithReason};
 ghost use Rattle.version_tables.specs.Represents.{meta_shown, rowid_shown, table_shown};
 ghost use Rattle.version_tables.specs.Represents.{version_shown};
 ghost use Rattle.version_tables.specs.Rows.{InOrder, by_rowid};
-ghost use Rattle.version_tables.specs.Steps.{OnlyReads, ReturnsRows};
+ghost use Rattle.version_tables.specs.Steps.{FailsWithReason, OnlyReads, ReturnsRows};
 ghost use Rattle.version_tables.specs.declared.selection.Selection.{Selection as AnySelection};
 
 use crate::selection::Selection;

@@ -112,7 +112,7 @@ rows-preserved g c =
     record {
       same_reference = search rules;
       mode = search rules;
-      answered = λ none. c.in_default-visit_row.ensures.answered (c.rows.invariant.answered none);
+      answered = c.in_default-visit_row.ensures.answered;
       visited = one_visited g.S.Store c.args.form g.V.RowVisitor.next c.args.table selection c.args.connection.now c.rows.rows.conn.now now.conn.now _ _ _ c.rows.invariant.visited c.in-Some.row.now _ gives some c.in_default-visit_row.ensures.visited;
     }
 

@@ -5,6 +5,7 @@ use Rattle.version_tables.specs.Texts.{rowids_text}
 use Rattle.version_tables.specs.Represents.{rowid_shown}
 use Rattle.version_tables.proofs.Whole.{order_cmp, all_shown, in_order}
 use Rattle.version_tables.proofs.Asks.{rowid_project, meta_order, rowid_names, rowid_asks}
+use Rattle.version_tables.proofs.Reasons.{rowid_fails, keeps_faults}
 use Rattle.version_tables.proofs.Selects.{rowid_reads, query_unchanged, query_keeps}
 use Rattle.version_tables.proofs.queries.rowids.Goals as goal
 
@@ -21,4 +22,6 @@ returns-clause-reads g c =
       clean = search rules;
       unchanged = λ clean. query_unchanged rowids_text rowid_reads [] old new c.query_all.result (c.query_all.ensures.ok clean);
       keeps = λ clean. query_keeps rowids_text rowid_reads [] old new (search rules) c.query_all.result (c.query_all.ensures.ok clean) (c.query_all.ensures.err clean);
+      faults = keeps_faults old new c.query_all.ensures.survives;
+      why = λ clean has. rowid_fails old new has c.query_all.result (c.query_all.ensures.err clean);
     }
