@@ -51,6 +51,8 @@ pub(crate) fn inspect<S: Alter>(
         → ¬ IsGoodStore NothingMore (state S.Store connection.old).now) }
     ensures lawful { IfOk result (λ found. AreLawful [] found.0.tables) }
     ensures clock { IfOk result (λ found. IsClock found.1 found.2) }
+    ensures clean { HasCleanDisk (state S.Store connection.new)
+        → HasCleanDisk (state S.Store connection.old) }
     ensures same { HasCleanDisk (state S.Store connection.new)
         → Keeps (state S.Store connection.old) (state S.Store connection.new) }
     ensures mode { connection.new.in_transaction ≡ false }

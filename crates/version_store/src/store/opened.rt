@@ -1,6 +1,7 @@
 //! A store that has been opened, and is not in use yet.
 
 ghost use Rattle.std.specs.Prelude.{◌≡◌, ◌≢◌, ◌⊎◌, [], false, IfErr, IfOk, IsOk, IsTrue};
+ghost use Rattle.period_core.specs.Moments.{first_moment};
 ghost use Rattle.period_core.specs.declared.refusal.Refusal.TheVariants.{BadStore};
 ghost use Rattle.sqlite.specs.Held.{state};
 ghost use Rattle.version_tables.specs.Making.{HasCounters};
@@ -151,15 +152,18 @@ impl<S: Alter> VersionStore<S> {
         ensures others { IfOk result (λ found.
             SparesOthers S.Store connection found.0.store.connection) }
         ensures empty { IfOk result (λ found. HasNoStoreTable (state S.Store connection).now.schema
-            → (found.0.store.catalog.tables ≡ []) × (found.0.form ≡ Microseconds)) }
+            → (found.0.store.catalog.tables ≡ []) × (found.0.store.clock ≡ first_moment)
+            × (found.0.form ≡ Microseconds)) }
+        ensures usable { IfOk result (λ found. IsUsable S.Store found.0.store.connection
+            → IsUsable S.Store connection) }
         ensures lawful { IfOk result (λ found. AreLawful [] found.0.store.catalog.tables) }
         ensures bad { IfErr result (λ failed. IsUsable S.Store failed.1 → failed.0 ≡ BadStore
             → (¬ HasNoStoreTable (state S.Store connection).now.schema)
             × ¬ IsGoodStore NothingMore (state S.Store connection).now) }
         ensures none { IfErr result (λ failed. IsUsable S.Store failed.1
             → IsAsBefore (state S.Store connection) (state S.Store failed.1)) }
-        ensures was_open { IfErr result (λ failed. IsUsable S.Store failed.1
-            → IsTrue (state S.Store connection).is_open) }
+        ensures was_usable { IfErr result (λ failed. IsUsable S.Store failed.1
+            → IsUsable S.Store connection) }
         ensures settled { IfErr result (λ failed. failed.1.in_transaction ≡ false) }
         ensures named { IfErr result (λ failed. IsOpenRefusal failed.0) }
     {
