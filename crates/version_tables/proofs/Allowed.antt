@@ -1,6 +1,6 @@
 -- What the database allows of an edit of one of the three tables: the rules of its columns, its size, and the references.
 use Rattle.std.proofs.Common.{◌≡◌, ◌≢◌, ◌∙◌, inl, inr, ℕ, ℤ, pos, negsuc, zero, suc, ◌+◌, ◌*◌, ◌^◌, ◌≤◌, ◌<◌, ◌&&◌, ◌||◌, ◌≤ℤ◌, ◌+ℤ◌, List, [], ◌∷◌, length, map, get_or, Bool, true, false, not, Some, None, refl, sym, ap, subst, true≢false, arith, codes}
-use Rattle.std.specs.Prelude.{All, IfSome}
+use Rattle.std.specs.Prelude.{All, nat_lt}
 use Rattle.std.specs.Float.{NotNan}
 use Rattle.std.specs.Float.Ieee
 use Rattle.std.specs.Int.{bit_at}
@@ -209,3 +209,40 @@ pub numbers_own : (first : ℤ) (vs : List Version) → AllByRecursion (λ (v : 
 numbers_own first [] short low high = tt
 numbers_own first (v ∷ vs) short low high =
     ((first, v, refl, short.0, fits_64 first low (omega (arith, ints, high))), numbers_own (first +ℤ pos 1) vs short.1 (omega (arith, ints, low)) (omega (arith, ints, high)))
+
+-- ---- an edit of bt_meta, and one of bt_table
+
+abbrev pub meta_edit : List ℤ → Row → Edit
+meta_edit gone row = record { table = meta_table 0; gone = gone; news = row ∷ [] }
+
+abbrev pub definition_edit : Row → Edit
+definition_edit row = record { table = definition_table 1; gone = []; news = row ∷ [] }
+
+module _ (others : Others) (apart : AllByRecursion IsApart others.tables) (db : Trees) where
+  pub meta_allowed : (gone : List ℤ) (id form clock : ℤ) → let edit = meta_edit gone (Int id ∷ Null ∷ Int form ∷ Int clock ∷ []) in fits_i64 id ≡ true → are_fresh (left_by db edit) edit.news ≡ true
+      → Keeps Unique (schema_with others) (with_tree db 0 (edited db edit)) → (why : Refusal) → IsRefused (schema_with others) Enforced db edit why → ⊥
+  meta_allowed gone id form clock fits fresh unique (Violates Datatype) h = true≢false h
+  meta_allowed gone id form clock fits fresh unique (Violates NotNull) h = true≢false h
+  meta_allowed gone id form clock fits fresh unique (Violates Check) h = true≢false h
+  meta_allowed gone id form clock fits fresh unique (Violates PrimaryKey) h = true≢false (sym fresh ∙ h)
+  meta_allowed gone id form clock fits fresh unique (Violates Unique) h = h unique
+  meta_allowed gone id form clock fits fresh unique (Violates ForeignKey) h = h
+  meta_allowed gone id form clock fits fresh unique Mismatch h = true≢false h
+  meta_allowed gone id form clock fits fresh unique NoRowid h = true≢false (rw fits at h)
+  meta_allowed gone id form clock fits fresh unique BadReference h =
+      let none = none_to (codes "bt_meta") own_meta others (meta_table 0) refl others.tables apart in
+      true≢false (sym (rw none (both_hold true (nat_lt 0 (length gone)))) ∙ h)
+  meta_allowed gone id form clock fits fresh unique TooDeep h = h
+
+  pub definition_allowed : (id : ℤ) (d : List ℕ) → let edit = definition_edit (Int id ∷ Null ∷ Blob d ∷ []) in fits_i64 id ≡ true → are_fresh (left_by db edit) edit.news ≡ true
+      → Keeps Unique (schema_with others) (with_tree db 1 (edited db edit)) → (why : Refusal) → IsRefused (schema_with others) Enforced db edit why → ⊥
+  definition_allowed id d fits fresh unique (Violates Datatype) h = true≢false h
+  definition_allowed id d fits fresh unique (Violates NotNull) h = true≢false h
+  definition_allowed id d fits fresh unique (Violates Check) h = true≢false h
+  definition_allowed id d fits fresh unique (Violates PrimaryKey) h = true≢false (sym fresh ∙ h)
+  definition_allowed id d fits fresh unique (Violates Unique) h = h unique
+  definition_allowed id d fits fresh unique (Violates ForeignKey) h = h
+  definition_allowed id d fits fresh unique Mismatch h = true≢false h
+  definition_allowed id d fits fresh unique NoRowid h = true≢false (rw fits at h)
+  definition_allowed id d fits fresh unique BadReference h = true≢false h
+  definition_allowed id d fits fresh unique TooDeep h = h

@@ -1,5 +1,5 @@
 -- The numbers that the database gives to rows of bt_version that are added, where its rows stand in the order of theirs.
-use Rattle.std.proofs.Common.{◌≡◌, ◌∙◌, ℕ, ℤ, pos, zero, suc, ◌+◌, ◌-◌, ◌≤◌, ◌<◌, ◌+ℤ◌, ◌<ℤ◌, ◌≤ℤ◌, List, [], ◌∷◌, ◌++◌, map, fold, length, true, false, Some, refl, sym, ap, subst, arith, Less}
+use Rattle.std.proofs.Common.{◌≡◌, ◌∙◌, ℕ, ℤ, pos, zero, suc, ◌+◌, ◌-◌, ◌≤◌, ◌<◌, ◌+ℤ◌, ◌<ℤ◌, ◌≤ℤ◌, List, [], ◌∷◌, ◌++◌, map, filter, fold, length, Bool, true, false, Some, refl, sym, ap, subst, arith, Less}
 use Rattle.std.specs.Prelude.{slice_get, option_map}
 use Rattle.std.specs.List.{AllByRecursion}
 use Rattle.std.proofs.lemmas.Int.{ints}
@@ -15,7 +15,7 @@ use Rattle.sqlite.specs.View.{is_int}
 use Rattle.sqlite.specs.declared.types.Value.TheVariants.{Int, Null}
 use Rattle.sqlite_rules.proofs.TableLemmas.{int_is, next_after}
 use Rattle.sqlite_sql.specs.Ops.{fits_i64}
-use Rattle.sqlite_trees.proofs.ListLemmas.{all-append, all_weaker}
+use Rattle.sqlite_trees.proofs.ListLemmas.{all-filter, all_weaker, ascending-filter}
 use Rattle.sqlite_trees.proofs.TreeLemmas.{IsTable-put_row, all-put_row}
 use Rattle.sqlite_value.specs.Order.{value_cmp}
 use Rattle.sqlite_value.proofs.OrderLemmas.{value_cmp-Int}
@@ -213,3 +213,11 @@ less_room few many rows less room = record {
   where
     nearer : (n : ℤ) → (n +ℤ pos many) ≤ℤ greatest_integer → (n +ℤ pos few) ≤ℤ greatest_integer
     nearer n h = omega (arith, ints, h, less)
+
+pub filtered_room : (count : ℕ) (p : Row → Bool) (rows : List Row) → HaveRoomFor count rows → HaveRoomFor count (filter p rows)
+filtered_room count p rows room = record {
+  rise = ascending-filter (λ a b. value_cmp (rowid a) (rowid b) ≡ Less) p rows room.rise;
+  low = all-filter (λ r. least_integer ≤ℤ rid r) p rows room.low;
+  high = all-filter (λ r. (rid r +ℤ pos count) ≤ℤ greatest_integer) p rows room.high;
+  few = room.few;
+}

@@ -52,3 +52,6 @@ module _ {X : Type 0} (f : X → Version) (done batch more : List X) (m : Record
 
 pub healthy_less : (few many : ℕ) (db : Database) → few ≤ many → IsHealthy many db → IsHealthy few db
 healthy_less few many db less healthy = record { sound = healthy.sound; bare = healthy.bare; room = less_room few many (db.trees 2) less healthy.room }
+
+pub healthy_still : (left : ℕ) (db : Database) → IsHealthy (0 + left) db → IsHealthy left db
+healthy_still left db = healthy_less left (0 + left) db (omega arith)

@@ -76,7 +76,7 @@ select_typed table Whole others = refl
 select_typed table (EndingAt end) others = refl
 select_typed table (Overlapping start end) others = refl
 
-none_of : {A : Type 0} (xs : List A) → Any (λ (x : A). ⊥) xs → ⊥
+pub none_of : {A : Type 0} (xs : List A) → Any (λ (x : A). ⊥) xs → ⊥
 none_of xs any = any.4
 
 abbrev pub NeverOverflows : Row → Query → Type 0

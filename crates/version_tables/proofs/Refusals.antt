@@ -1,22 +1,25 @@
 -- Why a statement that writes rows fails inside a transaction: it is out of memory, or there was a fault, where the
 -- database allows what it writes.
-use Rattle.std.proofs.Common.{◌≡◌, ◌∙◌, inl, inr, ℕ, suc, zero, ◌<◌, ◌&&◌, List, [], ◌∷◌, ◌++◌, length, Bool, true, false, Option, Some, None, Ok, Err, Result, IsTrue, refl, sym, ap, subst, append-nil, length-append, arith, true≢false}
+use Rattle.std.proofs.Common.{◌≡◌, ◌∙◌, inl, inr, ℕ, suc, zero, ◌<◌, ◌&&◌, List, [], ◌∷◌, ◌++◌, length, Bool, true, false, Option, Some, None, Ok, Err, Result, IfErr, OnOk, refl, sym, ap, subst, append-nil, length-append, arith, true≢false}
 use Rattle.std.specs.Prelude.{IsSome, if◌then◌else◌}
 use Rattle.std.specs.List.{AllByRecursion}
 use Rattle.sqlite.specs.Command.{Command}
 use Rattle.sqlite.specs.Command.TheVariants.{Insert, Update, Delete}
 use Rattle.sqlite.specs.Does.{Concludes, Does, due}
 use Rattle.sqlite.specs.Edit.{edit_of}
-use Rattle.sqlite.specs.Effect.{Database, IsSource, RefusesSource, is_query}
+use Rattle.sqlite.specs.Effect.{Answers, Database, IsSource, RefusesQuery, RefusesSource, is_query}
 use Rattle.sqlite.specs.Listing.{understood}
 use Rattle.sqlite.specs.Order.{Row}
-use Rattle.sqlite.specs.Rowids.TheVariants.{Above, Chosen}
-use Rattle.sqlite.specs.Rows.{Edited, Inserts, Task, Written, count_of, rowids_for, stamped}
+use Rattle.sqlite.specs.Rowids.TheVariants.{Above, Chosen, Given}
+use Rattle.sqlite.specs.Rows.{Deletes, Edited, Inserts, Task, Updates, Written, count_of, rowids_for, stamped}
 use Rattle.sqlite.specs.Source.{Source}
 use Rattle.sqlite.specs.Source.TheVariants.{Values}
-use Rattle.sqlite.specs.State.{EndsScope, Escapes, ExecutesIn, ExecutesInside, Fails, IsMisplaced, IsNotRun, IsStatement, RunsAlone, State, is_pragma, mode_of, shows_rows, text_of}
+use Rattle.sqlite.specs.State.{EndsScope, Escapes, Executes, ExecutesIn, ExecutesInside, Fails, IsMisplaced, IsNotRun, IsStatement, RunsAlone, State, is_pragma, mode_of, shows_rows, text_of}
 use Rattle.sqlite.specs.Tree.{Trees}
 use Rattle.sqlite.specs.Clock.{timed}
+use Rattle.sqlite.specs.Query.{Query}
+use Rattle.sqlite_rules.specs.Calls.{ids_of}
+use Rattle.sqlite_schema.specs.declared.program.Program.{Program}
 use Rattle.sqlite.specs.declared.error.Error.{Error}
 use Rattle.sqlite.specs.declared.run.Mode.{Mode}
 use Rattle.sqlite.proofs.Callers.{IsPlain, command_of}
@@ -27,12 +30,12 @@ use Rattle.sqlite_rules.specs.Lists.{Has}
 use Rattle.sqlite_rules.specs.declared.error.Refusal.{Refusal}
 use Rattle.sqlite_schema.specs.Rules.{Refers}
 use Rattle.sqlite_sql.specs.Term.{Term}
-use Rattle.sqlite_typing.specs.Types.{accepts_terms}
+use Rattle.sqlite_typing.specs.Types.{accepts_program, accepts_terms}
 use Rattle.sqlite_schema.specs.declared.schema.Keys.{Keys}
 use Rattle.version_tables.specs.Steps.{HasReason}
 use Rattle.version_tables.specs.Tables.{HasStoreTables, IsApart, Others, schema_with}
 use Rattle.version_tables.proofs.Apart.{no_works}
-use Rattle.version_tables.proofs.Reasons.{IsOne, by_failure, known, not_refused}
+use Rattle.version_tables.proofs.Reasons.{IsOne, NeverOverflows, by_failure, known, not_refused}
 
 -- ---- a command on rows is run where it stands
 
@@ -146,3 +149,41 @@ module _ (task : Task) (uncounted : task.table.is_counted ≡ false) (from : Sou
 pub values_given : (db : Database) (params : Row) (terms : List Term) (width : ℕ) → accepts_terms terms params ≡ true → (e : Error) → RefusesSource None db params (Values terms width) e → ⊥
 values_given db params terms width typed e (inl (is, untyped)) = true≢false (sym typed ∙ untyped)
 values_given db params terms width typed e (inr (is, limited)) = absurd (let e = limited in cc)
+
+-- ---- the rows that a query gives
+
+pub query_given : (db : Database) (query : Query) (params : Row) → accepts_program db.schema [] query params ≡ true → NeverOverflows params query → (e : Error) → RefusesQuery None db (record { lets = []; body = query }) params e → ⊥
+query_given db query params typed never e (inl (is, untyped)) = true≢false (sym typed ∙ untyped)
+query_given db query params typed never e (inr (inl (is, over))) = never db.trees over
+query_given db query params typed never e (inr (inr (is, limited))) = absurd (let e = limited in cc)
+
+module _ (task : Task) (query : Program) (db : Trees) where
+  abbrev asked : Database
+  asked = record { schema = task.schema; trees = db }
+
+  pub not_updated : ((e : Error) → RefusesQuery task.limit asked query task.params e → ⊥)
+      → ((rows : List Row) → Answers asked query task.params rows → (stop : Option Error) → Edited task.schema task.keys db (edit_of db task.table (ids_of rows) Given 1 rows) (Err stop) → ⊥)
+      → (stop : Option Error) → Updates task query task.params db (Err stop) → ⊥
+  not_updated gives edits stop (inl (None, refused, _)) = refused
+  not_updated gives edits stop (inl (Some e, refused, _)) = gives e refused
+  not_updated gives edits stop (inr (rows, is, inl (s, edited, _))) = edits rows is s edited
+  not_updated gives edits stop (inr (rows, is, inr (next, _, given))) = absurd (let e = given in cc)
+
+  pub not_deleted : ((e : Error) → RefusesQuery task.limit asked query task.params e → ⊥)
+      → ((rows : List Row) → Answers asked query task.params rows → (stop : Option Error) → Edited task.schema task.keys db (edit_of db task.table (ids_of rows) Given 0 []) (Err stop) → ⊥)
+      → (stop : Option Error) → Deletes task query db (Err stop) → ⊥
+  not_deleted gives edits stop (inl (None, refused, _)) = refused
+  not_deleted gives edits stop (inl (Some e, refused, _)) = gives e refused
+  not_deleted gives edits stop (inr (rows, is, inl (s, edited, _))) = edits rows is s edited
+  not_deleted gives edits stop (inr (rows, is, inr (next, _, given))) = absurd (let e = given in cc)
+
+-- ---- however the statement ends
+
+module _ (text : List ℕ) (params : Row) (old new : State) where
+  pub why_inside : (r : Result ℕ Error) → ExecutesInside 0 text params old new r → ((e : Error) → ExecutesInside 0 text params old new (Err e) → HasReason old new e) → IfErr r (HasReason old new)
+  why_inside (Ok n) h why = tt
+  why_inside (Err e) h why = why e h
+
+  pub healthy_inside : {Healthy : Type 0} (r : Result ℕ Error) → ExecutesInside 0 text params old new r → ((n : ℕ) → Executes text params old new (Ok n) → Healthy) → OnOk r Healthy
+  healthy_inside (Ok n) h made = made n h.0
+  healthy_inside (Err e) h made = tt
