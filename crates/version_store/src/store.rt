@@ -6,7 +6,7 @@ ghost use Rattle.std.specs.Prelude.{true};
 ghost use Rattle.catalog_core.specs.Limits.{most_tables};
 ghost use Rattle.catalog_core.specs.table.TableWords.{has_date_period, has_distinct_names};
 ghost use Rattle.catalog_core.specs.declared.table.TableDef.{TableDef};
-ghost use Rattle.period_core.specs.Moments.{forever};
+ghost use Rattle.period_core.specs.Moments.{first_moment, forever};
 ghost use Rattle.sqlite.specs.Held.{state};
 ghost use Rattle.version_tables.specs.Making.{HasCounters};
 ghost use Rattle.version_tables.specs.Presence.{HasNoStoreTable};
@@ -85,11 +85,14 @@ impl<S: Alter> VersionStore<S> {
             → HasNoStoreTable (state S.Store connection).now.schema
             → HasCounters (state S.Store connection).now.schema
             → IsMadeBehind (state S.Store connection) (state S.Store store.connection)) }
-        ensures empty { IfOk result (λ store. store.catalog.tables ≡ []) }
+        ensures empty { IfOk result
+            (λ store. (store.catalog.tables ≡ []) × (store.clock ≡ first_moment)) }
+        ensures usable { IfOk result (λ store. IsUsable S.Store store.connection
+            → IsUsable S.Store connection) }
         ensures none { IfErr result (λ failed. IsUsable S.Store failed.1
             → IsAsBefore (state S.Store connection) (state S.Store failed.1)) }
-        ensures was_open { IfErr result (λ failed. IsUsable S.Store failed.1
-            → IsTrue (state S.Store connection).is_open) }
+        ensures was_usable { IfErr result (λ failed. IsUsable S.Store failed.1
+            → IsUsable S.Store connection) }
         ensures settled { IfErr result (λ failed. failed.1.in_transaction ≡ false) }
         ensures named { IfErr result (λ failed. IsStoreRefusal failed.0) }
     {

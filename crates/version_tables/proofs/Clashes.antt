@@ -15,6 +15,7 @@ use Rattle.sqlite_trees.proofs.ListLemmas.{all-permutation, all_both, all_weaker
 use Rattle.sqlite_value.proofs.OrderLemmas.{value_cmp-Blob, value_cmp-Int, value_cmp_total}
 use Rattle.sqlite_value.specs.Order.{column, value_cmp}
 use Rattle.sqlite_value.specs.Keys.{first_key}
+use Rattle.sqlite.specs.Effect.{Database, IsDatabase}
 use Rattle.sqlite.specs.Collation.TheVariants.{Binary}
 use Rattle.sqlite_schema.specs.declared.schema.Index.{Index}
 use Rattle.sqlite.specs.Ops.{binary, from_truth, is_true}
@@ -27,8 +28,9 @@ use Rattle.sqlite.specs.declared.types.Value.TheVariants.{Blob, Int, Null, Real,
 use Rattle.sqlite_schema.specs.declared.schema.Constraint.TheVariants.{Unique}
 use Rattle.sqlite_schema.specs.Rules.{Keeps, agree, clashes, differ, equal, guards, passes}
 use Rattle.version_tables.specs.Healthy.{HaveOwnKeys}
-use Rattle.version_tables.specs.Represents.{Version, same_key, stored, version_shown}
-use Rattle.version_tables.specs.Tables.{IsApart, Others, definition_table, meta_table, schema_with, version_index, version_table}
+use Rattle.version_tables.specs.Represents.{HaveDistinctRowids, Records, Represents, Version, same_key, same_rowid, stored, version_shown}
+use Rattle.version_tables.specs.Tables.{HasStoreTables, IsApart, Others, definition_table, meta_table, schema_with, version_index, version_table}
+use Rattle.version_tables.proofs.Goes.{tied_turned, untied_along}
 use Rattle.version_tables.proofs.Shows.{pos_eq}
 
 abbrev pub agrees : Row → Row → Bool
@@ -116,6 +118,54 @@ rows_apart rows vs keyed same own =
     all-permutation (λ r. AllByRecursion (λ s. rivals s r ≡ false) rows) back.0 rows home
     (all_weaker (λ r. AllByRecursion (λ s. rivals s r ≡ false) back.0) (λ r. AllByRecursion (λ s. rivals s r ≡ false) rows) (λ r all. all-permutation (λ s. rivals s r ≡ false) back.0 rows home all) back.0 apart)
 
+-- ---- and versions of different rows
+
+differ_by : (o : Ordering) → is_eq o ≡ false → is_true (from_truth (Some (is_ne o))) ≡ true
+differ_by Less h = refl
+differ_by Equal h = absurd cc
+differ_by Greater h = refl
+
+differ_ints : (a b : Value) → is_int a ≡ true → is_int b ≡ true → is_eq (value_cmp a b) ≡ false → differ a b ≡ true
+unfolding binary
+differ_ints (Int m) (Int n) p q h = differ_by (value_cmp (Int m) (Int n)) h
+differ_ints (Int m) Null p q h = absurd cc
+differ_ints (Int m) (Real x) p q h = absurd cc
+differ_ints (Int m) (Text x) p q h = absurd cc
+differ_ints (Int m) (Blob x) p q h = absurd cc
+differ_ints Null b p q h = absurd cc
+differ_ints (Real x) b p q h = absurd cc
+differ_ints (Text x) b p q h = absurd cc
+differ_ints (Blob x) b p q h = absurd cc
+
+no_agreement : (a b : Bool) → (a && b) ≡ false → b ≡ true → a ≡ false
+no_agreement true b h e = absurd cc
+no_agreement false b h e = refl
+
+heads_differ : (x : Row) (xs : List Row) → is_int (rowid x) ≡ true → AllByRecursion (λ y. same_rowid x y ≡ false) xs → AllByRecursion (λ y. is_int (rowid y) ≡ true) xs → AllByRecursion (λ s. rivals s x ≡ false) xs
+    → AllByRecursion (λ y. agrees y x ≡ false) xs
+heads_differ x [] int untied ints apart = tt
+heads_differ x (y ∷ xs) int untied ints apart =
+    (no_agreement (agrees y x) (differ (rowid y) (rowid x)) apart.0 (differ_ints (rowid y) (rowid x) ints.0 int (tied_turned x y untied.0)), heads_differ x xs int untied.1 ints.1 apart.1)
+
+rows_differ : (rows : List Row) → HaveDistinctRowids rows → AllByRecursion (λ r. is_int (rowid r) ≡ true) rows → Apart rows → IsAscending (λ a b. agrees b a ≡ false) rows
+rows_differ [] untied ints apart = tt
+rows_differ (x ∷ xs) untied ints apart = (
+  heads_differ x xs ints.0 untied.0 ints.1 apart.0.1,
+  rows_differ xs untied.1 ints.1 (all_weaker (λ r. AllByRecursion (λ s. rivals s r ≡ false) (x ∷ xs)) (λ r. AllByRecursion (λ s. rivals s r ≡ false) xs) (λ r all. all.1) xs apart.1),
+)
+
+shown_alike : (rows : List Row) → IsAscending (λ a b. agrees b a ≡ false) rows → IsAscending (λ a b. alike (version_shown b) (version_shown a) ≡ false) rows
+unfolding first_key
+shown_alike rows apart = apart
+
+pub shown_differ : (rows shown : List Row) → HaveDistinctRowids rows → AllByRecursion (λ r. is_int (rowid r) ≡ true) rows → Apart rows → IsPermutation shown (map version_shown rows) → IsAscending (λ a b. alike b a ≡ false) shown
+shown_differ rows shown untied ints apart same =
+    let back = pull_back version_shown (map version_shown rows) shown (IsPermutation-sym _ _ same) rows refl in
+    let each : Apart back.0 = all-permutation (λ r. AllByRecursion (λ s. rivals s r ≡ false) back.0) rows back.0 back.1
+    (all_weaker (λ r. AllByRecursion (λ s. rivals s r ≡ false) rows) (λ r. AllByRecursion (λ s. rivals s r ≡ false) back.0) (λ r all. all-permutation (λ s. rivals s r ≡ false) rows back.0 back.1 all) rows apart) in
+    let up = rows_differ back.0 (untied_along rows back.0 back.1 untied) (all-permutation (λ r. is_int (rowid r) ≡ true) rows back.0 back.1 ints) each in
+    subst (IsAscending (λ a b. alike b a ≡ false)) (sym back.2) (ascending-map (λ a b. alike b a ≡ false) version_shown back.0 (shown_alike back.0 up))
+
 -- ---- so the index of the key is unique, and no other is over the first trees
 
 any_none : {X : Type 0} (test : X → Bool) (xs : List X) → AllByRecursion (λ x. test x ≡ false) xs → list_any test xs ≡ false
@@ -171,3 +221,12 @@ with_same db tree low rows (t ∷ ts) apart =
     let far = apart.0.tree in
     let other : (t.tree == tree) ≡ false = grind (arith, nat_tests) in
     (rw other refl, with_same db tree low rows ts apart.1)
+
+-- a database whose index is unique has no two versions of one key
+pub database_apart : (db : Database) → HasStoreTables db.schema → IsDatabase db → Apart (db.trees 2)
+database_apart db has sound = unique_rows has.others db.trees (subst (λ s. Keeps Unique s db.trees) has.schema_is (sound.obeys.rules Unique))
+
+pub own_of : (db : Database) (m : Records) → Represents db m → IsDatabase db → HaveOwnKeys m.versions
+own_of db m was sound =
+    ascending_weaker (λ (v w : Version). alike (stored w) (stored v) ≡ false) (λ (v w : Version). same_key v w ≡ false) (λ v w other. sym (alike-stored v w) ∙ other) m.versions
+    (ascending_from_map (λ a b. alike b a ≡ false) stored m.versions (shown_differ (db.trees 2) (map stored m.versions) was.untied was.keyed (database_apart db was.schema sound) was.says.versions))

@@ -6,7 +6,7 @@ ghost use Rattle.std.specs.Prelude.{◌≡◌, ◌+◌, length, OnOk};
 ghost use Rattle.version_tables.specs.Keeping.{LeavesOthers};
 ghost use Rattle.version_tables.specs.Represents.{ended, key_of, removed};
 ghost use Rattle.version_tables.specs.Represents.{with_clock, with_definition, with_ends};
-ghost use Rattle.version_tables.specs.Healthy.{HaveOwnKeys, IsShort};
+ghost use Rattle.version_tables.specs.Healthy.{IsShort};
 ghost use Rattle.version_tables.specs.Steps.{ChangeFailsWithReason, ChangesKey, ChangesRecords};
 ghost use Rattle.version_tables.specs.Steps.{ChangesWhere, CommitsNothing, StaysHealthy};
 
@@ -28,7 +28,7 @@ pub fn remove_version<S: Alter>(
         (LeavesOthers S.Store transaction.old.conn.now transaction.new.conn.now) }
     ensures inside { CommitsNothing S.Store transaction.old.conn.now transaction.new.conn.now }
     ensures why { ChangeFailsWithReason S.Store transaction.old.conn.now transaction.new.conn.now
-        result 0 (λ _ records. HaveOwnKeys records.versions) }
+        result 0 (λ _ _. Unit {0}) }
     ensures healthy { StaysHealthy S.Store transaction.old.conn.now transaction.new.conn.now
         result 0 (λ _. Unit {0}) }
 {
@@ -54,7 +54,7 @@ pub fn end_version<S: Alter>(
         (LeavesOthers S.Store transaction.old.conn.now transaction.new.conn.now) }
     ensures inside { CommitsNothing S.Store transaction.old.conn.now transaction.new.conn.now }
     ensures why { ChangeFailsWithReason S.Store transaction.old.conn.now transaction.new.conn.now
-        result 0 (λ _ records. IsShort values.now × HaveOwnKeys records.versions) }
+        result 0 (λ _ _. IsShort values.now) }
     ensures healthy { StaysHealthy S.Store transaction.old.conn.now transaction.new.conn.now
         result 0 (λ _. Unit {0}) }
 {
@@ -82,7 +82,7 @@ pub fn move_ends<S: Alter>(
         (LeavesOthers S.Store transaction.old.conn.now transaction.new.conn.now) }
     ensures inside { CommitsNothing S.Store transaction.old.conn.now transaction.new.conn.now }
     ensures why { ChangeFailsWithReason S.Store transaction.old.conn.now transaction.new.conn.now
-        result 0 (λ _ records. IsShort values.now × HaveOwnKeys records.versions) }
+        result 0 (λ _ _. IsShort values.now) }
     ensures healthy { StaysHealthy S.Store transaction.old.conn.now transaction.new.conn.now
         result 0 (λ _. Unit {0}) }
 {

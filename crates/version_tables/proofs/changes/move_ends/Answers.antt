@@ -6,6 +6,7 @@ use Rattle.version_tables.specs.Represents.{version}
 use Rattle.version_tables.proofs.Steps.{one_statement}
 use Rattle.version_tables.proofs.Ends.{move_fails, move_healthy, moves_inside}
 use Rattle.version_tables.specs.Texts.{move_text}
+use Rattle.version_tables.proofs.Clashes.{own_of}
 use Rattle.version_tables.proofs.OwnKeys.{healthy_still}
 use Rattle.version_tables.proofs.Refusals.{healthy_inside, why_inside}
 use Rattle.version_tables.proofs.Updates.{key_and}
@@ -52,7 +53,7 @@ returns-clause-why g c clean begun healthy records was can =
       to_z-of_z w64 c.args.from c.ranges.from,
       to_z-of_z w64 c.args.end c.ranges.end,
       to_z-of_z w64 c.args.to c.ranges.to,
-    ) at (c.execute.ensures.runs clean begun)) (move_fails old records was 0 healthy k c.args.end c.args.to can.0 can.1 new)
+    ) at (c.execute.ensures.runs clean begun)) (move_fails old records was 0 healthy k c.args.end c.args.to can (own_of old.now records was healthy.sound) new)
 
 pub returns-clause-healthy : goal.returns-clause-healthy
 returns-clause-healthy g c clean begun left healthy _ records was =
