@@ -85,8 +85,8 @@ impl<S: Alter> VersionStore<S> {
             → HasNoStoreTable (state S.Store connection).now.schema
             → HasCounters (state S.Store connection).now.schema
             → IsMadeBehind (state S.Store connection) (state S.Store store.connection)) }
-        ensures empty { IfOk result (λ store. (store.catalog.tables ≡ [])
-            × (store.clock ≡ first_moment)) }
+        ensures empty { IfOk result
+            (λ store. (store.catalog.tables ≡ []) × (store.clock ≡ first_moment)) }
         ensures usable { IfOk result (λ store. IsUsable S.Store store.connection
             → IsUsable S.Store connection) }
         ensures none { IfErr result (λ failed. IsUsable S.Store failed.1

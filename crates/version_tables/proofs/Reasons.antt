@@ -76,7 +76,7 @@ select_typed table Whole others = refl
 select_typed table (EndingAt end) others = refl
 select_typed table (Overlapping start end) others = refl
 
-none_of : {A : Type 0} (xs : List A) → Any (λ (x : A). ⊥) xs → ⊥
+pub none_of : {A : Type 0} (xs : List A) → Any (λ (x : A). ⊥) xs → ⊥
 none_of xs any = any.4
 
 abbrev pub NeverOverflows : Row → Query → Type 0
@@ -89,16 +89,16 @@ select_never params selection db (inr some) = none_of _ some
 -- ---- why it fails
 
 module _ (old new : State) where
-  pub by_cause : (e : Error) (cause : StoreError) → e ≡ store_error cause → HasCause old new ⊥ cause → HasReason old new e
-  by_cause e OutOfMemory is h on = inl is
-  by_cause e Io is h on = inr (inl h)
-  by_cause e Corrupt is h on = inr (inl h)
-  by_cause e Full is h on = inr (inl h)
-  by_cause e Broken is h on = absurd (true≢false (sym on ∙ h))
-  by_cause e Unstorable is h on = absurd h
+  pub by_cause : (TooBig : Type 0) → ¬ TooBig → (e : Error) (cause : StoreError) → e ≡ store_error cause → HasCause old new TooBig cause → HasReason old new e
+  by_cause TooBig small e OutOfMemory is h on = inl is
+  by_cause TooBig small e Io is h on = inr (inl h)
+  by_cause TooBig small e Corrupt is h on = inr (inl h)
+  by_cause TooBig small e Full is h on = inr (inl h)
+  by_cause TooBig small e Broken is h on = absurd (true≢false (sym on ∙ h))
+  by_cause TooBig small e Unstorable is h on = absurd (small h)
 
-  pub by_failure : (e : Error) → Fails old new ⊥ e → HasReason old new e
-  by_failure e failed = by_cause e failed.0 failed.1 failed.2
+  pub by_failure : (TooBig : Type 0) → ¬ TooBig → (e : Error) → Fails old new TooBig e → HasReason old new e
+  by_failure TooBig small e failed = by_cause TooBig small e failed.0 failed.1 failed.2
 
   pub keeps_faults : {P : Trees → Type 0} → Survives old new P → KeepsFaults old new
   keeps_faults s = record { faults = s.counts; limit = s.limit }
@@ -129,7 +129,7 @@ module _ (text : List ℕ) (query : Query) (names : List (List ℕ)) (params : R
   pub fails_with_reason : (e : Error) → FailsToQuery text params old new e → HasReason old new e
   unfolding FailsToQuery IsNotRun
   fails_with_reason e (inl (inl refused)) = absurd (not_refused text params one (λ others. (asks others).2) old has e refused.0)
-  fails_with_reason e (inl (inr failed)) = by_failure old new e failed
+  fails_with_reason e (inl (inr failed)) = by_failure old new ⊥ (λ none. none) e failed
   fails_with_reason e (inr h) =
       let is = known text params one (λ others. (asks others).2) old has (Ok h.0) h.1.is in
       let it = asks has.others in

@@ -2,8 +2,10 @@ use Rattle.std.proofs.Common.{rules}
 use Rattle.sqlite.specs.Held.{state}
 use Rattle.std.specs.Prelude.{[]}
 use Rattle.version_tables.specs.Texts.{rowids_text}
+use Rattle.sqlite_value.proofs.OrderLemmas.{then-Equal}
 use Rattle.version_tables.specs.Represents.{rowid_shown}
-use Rattle.version_tables.proofs.Whole.{order_cmp, all_shown, in_order}
+use Rattle.version_tables.specs.Rows.{by_rowid}
+use Rattle.version_tables.proofs.Whole.{all_shown, in_order_by}
 use Rattle.version_tables.proofs.Asks.{rowid_project, meta_order, rowid_names, rowid_asks}
 use Rattle.version_tables.proofs.Reasons.{rowid_fails, keeps_faults}
 use Rattle.version_tables.proofs.Selects.{rowid_reads, query_unchanged, query_keeps}
@@ -11,7 +13,7 @@ use Rattle.version_tables.proofs.queries.rowids.Goals as goal
 
 pub returns-clause-shows : goal.returns-clause-shows
 returns-clause-shows g c clean has =
-    in_order rowid_shown (order_cmp 2 rowid_project meta_order) ((state g.S.Store c.args.connection.now).now.trees 2) c.query_all.result
+    in_order_by rowid_shown _ by_rowid ((state g.S.Store c.args.connection.now).now.trees 2) (λ x y. then-Equal (by_rowid x y)) c.query_all.result
     (all_shown rowids_text 2 rowid_project meta_order rowid_names rowid_asks (state g.S.Store c.args.connection.now) (state g.S.Store c.query_all.new.self) has c.query_all.result (c.query_all.ensures.ok clean))
 
 pub returns-clause-reads : goal.returns-clause-reads

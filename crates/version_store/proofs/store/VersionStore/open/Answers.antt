@@ -39,13 +39,13 @@ pub returns-in-Ok-clause-tabled : goal.returns-in-Ok-clause-tabled
 returns-in-Ok-clause-tabled g c = λ usable form d has. absurd (not_both_ways c.args.connection.schema (c.in-Missing.ensures.missing.0 refl) (store_is_whole c.args.connection.schema has.rows.schema))
 
 pub returns-in-Ok-clause-unchanged : goal.returns-in-Ok-clause-unchanged
-returns-in-Ok-clause-unchanged g c = λ usable. inl (c.in-Ok.ensures.empty.0, refl)
+returns-in-Ok-clause-unchanged g c = λ usable. inl (c.in-Ok.ensures.empty, refl)
 
 pub returns-in-Ok-clause-lawful : goal.returns-in-Ok-clause-lawful
-returns-in-Ok-clause-lawful g c = subst (AreLawful []) (sym c.in-Ok.ensures.empty.0) tt
+returns-in-Ok-clause-lawful g c = subst (AreLawful []) (sym c.in-Ok.ensures.empty) tt
 
 pub returns-in-Ok-clause-empty : goal.returns-in-Ok-clause-empty
-returns-in-Ok-clause-empty g c = λ none. (c.in-Ok.ensures.empty.0, c.in-Ok.ensures.empty.1, refl)
+returns-in-Ok-clause-empty g c = λ none. (c.in-Ok.ensures.empty, refl)
 
 pub returns-in-Partial-clause-bad : goal.returns-in-Partial-clause-bad
 returns-in-Partial-clause-bad g c = λ usable _. (
@@ -139,6 +139,3 @@ returns-in-Ok-clause-others g c = λ usable clean has. absurd (not_both_ways c.a
 
 pub returns-in-Some-clause-others : goal.returns-in-Some-clause-others
 returns-in-Some-clause-others g c = spares_same g.S.Store c.args.connection c.inspect.new.connection (λ usable. (c.in-Ok-inspect.ensures.same usable.0).now usable.1)
-
-pub returns-in-Some-clause-usable : goal.returns-in-Some-clause-usable
-returns-in-Some-clause-usable g c = λ usable. (c.in-Ok-inspect.ensures.clean usable.0, (c.in-Ok-inspect.ensures.same usable.0).was_open usable.1)

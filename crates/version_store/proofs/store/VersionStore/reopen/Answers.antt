@@ -19,8 +19,8 @@ pub returns-clause-kept : goal.returns-clause-kept
 returns-clause-kept g c =
     err_from _ _ _ c.open.result (λ failed bad was usable d stands good is_bad.
     let has = subst (λ (h : Held _). Has (state g.S.Store h).now d) (sym c.close-connection.ensures.same) stands.now in
-    let keys = keys_kept (state g.S.Store c.close-connection.result).now has.rows.schema (c.schema-live.ensures.live (was usable).1).0 has.rows.untied has.rows.keyed in
-    (bad usable is_bad).1 (good_store (state g.S.Store c.close-connection.result).now d has keys good)) c.open.ensures.bad c.open.ensures.was_usable
+    let keys = keys_kept (state g.S.Store c.close-connection.result).now has.rows.schema (c.schema-live.ensures.live (was usable)).0 has.rows.untied has.rows.keyed in
+    (bad usable is_bad).1 (good_store (state g.S.Store c.close-connection.result).now d has keys good)) c.open.ensures.bad c.open.ensures.was_open
 
 pub returns-clause-same : goal.returns-clause-same
 returns-clause-same g c =
