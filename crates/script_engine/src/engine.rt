@@ -7,7 +7,9 @@ ghost use Rattle.period_core.specs.declared.version.VersionRow.{VersionRow as Ve
 ghost use Rattle.period_keys.specs.Versions.{begun};
 ghost use Rattle.period_core.specs.declared.refusal.Refusal.TheVariants.{BadStore};
 ghost use Rattle.sqlite.specs.Held.{state};
+ghost use Rattle.version_tables.specs.Represents.{HaveOwnRowids};
 ghost use Rattle.version_tables.specs.Steps.{IsAsBefore};
+ghost use Rattle.version_tables.specs.declared.form.Form.TheVariants.{Microseconds};
 ghost use Rattle.version_store.specs.Changed.{planned};
 ghost use Rattle.version_store.specs.Contents.{AreRowsOf, Contents};
 ghost use Rattle.version_store.specs.DistinctKeys.{HaveDistinctKeys};
@@ -133,6 +135,13 @@ impl<S: Alter> Engine<S> {
 
         ensures bad { IfErr result (λ failed. IsUsable S.Store failed.1 → failed.0 ≡ BadStore
             → IsBadStore (state S.Store connection).now) }
+
+        // A good store of form 2 is refused only for memory, or where there was a fault of the
+        // database. Its rows have rowids of their own, as those of each table have.
+        ensures why { IfErr result (λ failed. IsUsable S.Store failed.1
+            → (good : IsGoodStore AreConstrained (state S.Store connection).now)
+            → good.form ≡ Microseconds → HaveOwnRowids ((state S.Store connection).now.trees 2)
+            → IsFailure S.Store connection failed.1 failed.0) }
         ensures none { IfErr result (λ failed. IsUsable S.Store failed.1
             → IsAsBefore (state S.Store connection) (state S.Store failed.1)) }
         ensures settled { IfErr result (λ failed. failed.1.in_transaction ≡ false) }

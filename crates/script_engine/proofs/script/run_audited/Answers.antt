@@ -11,5 +11,5 @@ returns-in-Ok-clause-run g c usable history stands =
 
 pub returns-in-Ok-clause-over : goal.returns-in-Ok-clause-over
 returns-in-Ok-clause-over g c =
-    let (opening, opened, made, last) = c.in-Ok.ensures.over in
+    let (opening, opened, (made, last)) = c.in-Ok.ensures.over in
     (opening, opened, kept_run g.S.Store (λ (entry : Entry). entry.result) opening c.args.script.now c.in-Ok.entries.items made)

@@ -5,5 +5,5 @@ returns-in-Ok-clause-run g c usable history stands = (c.in-Ok.ensures.run (usabl
 
 pub returns-in-Ok-clause-over : goal.returns-in-Ok-clause-over
 returns-in-Ok-clause-over g c =
-    let (opening, opened, made, last) = c.in-Ok.ensures.over in
+    let (opening, opened, (made, last)) = c.in-Ok.ensures.over in
     (opening, opened, made)

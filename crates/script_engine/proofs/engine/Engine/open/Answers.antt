@@ -16,14 +16,14 @@ use Rattle.version_store.specs.StoreState.{IsMadeBehind, IsUsable, OpenedReprese
 use Rattle.version_store.specs.Units.{in_microseconds}
 use Rattle.version_store.specs.Written.{HasIn}
 use Rattle.version_store.proofs.Beside.{spares_then}
-use Rattle.version_store.proofs.Opens.{has_contents}
+use Rattle.version_store.proofs.Opens.{has_contents, same_contents}
 use Rattle.version_store.proofs.ReadRows.{none_of_nothing}
 use Rattle.script_engine.specs.engine.EngineState.{EngineState, engine_of}
 use Rattle.script_engine.specs.engine.InMemory.{AreReadOf}
 use Rattle.script_engine.specs.engine.Stored.{EngineRepresents}
 use Rattle.script_engine.proofs.NewStore.{new_store}
 use Rattle.ended_versions.specs.Packed.{PackedVersion}
-use Rattle.script_engine.proofs.Openings.{all_points, good_history, good_tables, its_contents, other_points}
+use Rattle.script_engine.proofs.Openings.{all_points, good_and_lawful, good_history, good_tables, its_contents, other_points}
 use Rattle.script_engine.proofs.engine.Engine.open.Goals as goal
 
 -- what was read of an opened store is that of the contents that it represents
@@ -84,11 +84,11 @@ returns-in-Ok-accept-clause-opened g c =
                 )
           ];
       beside = λ usable none counted.
-          subst (λ (store : StoreState g.row.S.Denot). IsMadeBehind (state g.S.Store c.args.connection) (state g.S.Store store.connection)) (same (c.in-Ok.ensures.empty none).form)
+          subst (λ (store : StoreState g.row.S.Denot). IsMadeBehind (state g.S.Store c.args.connection) (state g.S.Store store.connection)) (same (c.in-Ok.ensures.empty none).2)
           (c.in-Ok.ensures.beside (accepted.usable usable) none counted);
       empty = λ none.
           let made = c.in-Ok.ensures.empty none in
-          (ap (λ (k : Catalog). k.tables) accepted.kept.0 ∙ made.tables, accepted.kept.1 ∙ made.clock);
+          (ap (λ (k : Catalog). k.tables) accepted.kept.0 ∙ made.0, accepted.kept.1 ∙ made.1);
       others = spares_then g.S.Store c.args.connection opened.store.connection c.in-Ok-accept.store.connection c.in-Ok.ensures.others accepted.usable accepted.others;
       usable = λ usable. c.in-Ok.ensures.usable (accepted.usable usable);
     }
@@ -149,3 +149,38 @@ returns-in-Err-accept-clause-named g c = inr c.in-Err-accept.ensures.named
 
 pub returns-in-Err-accept-clause-bad : goal.returns-in-Err-accept-clause-bad
 returns-in-Err-accept-clause-bad g c = λ usable bad. absurd (elim c.in-Err-accept.ensures.named [ inl memory ↦ cc | inr failed ↦ cc ])
+
+-- ---- a good store is refused for a reason
+
+pub returns-in-Err-clause-why : goal.returns-in-Err-clause-why
+returns-in-Err-clause-why g c = λ usable good form rowids. c.in-Err.ensures.why usable (other_points good) rowids
+
+-- what is read of it is good, and lawful
+pub returns-in-Err-load_lawful-clause-why : goal.returns-in-Err-load_lawful-clause-why
+returns-in-Err-load_lawful-clause-why g c = λ handed good form rowids.
+    let before = subst (IsUsable g.S.Store) c.refuse.ensures.same handed in
+    let old : Database = (state g.S.Store c.args.connection).now in
+    let five = other_points good in
+    let d = its_contents five in
+    let has : HasIn five.form old five.contents = has_contents old five rowids.0 rowids.1 in
+    let stored = c.in-Ok.ensures.same before five.form five.contents has in
+    let its = read_of g.S.Store c.in-Ok.found.0 c.catalog.result.now c.in-Ok.found.1.items d c.catalog.ensures stored (c.in-Ok.ensures.versions before five.form five.contents has) (good_tables five) in
+    inl (c.in-Err-load_lawful.ensures.why d its (good_and_lawful good) (sym (c.clock-clock.ensures ∙ stored.clock)))
+
+-- one of form 2 is accepted
+pub returns-in-Err-accept-clause-why : goal.returns-in-Err-accept-clause-why
+returns-in-Err-accept-clause-why g c = λ usable good form rowids.
+    let before = c.in-Err-accept.ensures.was_usable usable in
+    let old : Database = (state g.S.Store c.args.connection).now in
+    let five = other_points good in
+    let has : HasIn five.form old five.contents = has_contents old five rowids.0 rowids.1 in
+    let two : c.in-Ok.found.0.form ≡ Microseconds = elim (c.in-Ok.ensures.good before (λ all. five.tables_there)) [
+      | inl none ↦ (c.in-Ok.ensures.empty none).2
+      | inr it ↦ elim (c.in-Ok.ensures.unchanged before) [
+        | inl empty ↦ empty.1
+        | inr same ↦
+            let ours = subst (λ (e : Database). HasIn c.in-Ok.found.0.form e it.2.counted) same.0 it.2.now in
+            (same_contents old c.in-Ok.found.0.form five.form it.2.counted five.contents ours has).1 ∙ form
+      ]
+    ] in
+    absurd (never (c.in-Err-accept.ensures.unwritten two).0)
