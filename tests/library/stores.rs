@@ -202,6 +202,14 @@ fn windows(rt: HostRuntime) -> Result<(), Fail> {
 #[derive(Drop)]
 struct FirstTwo {
     rows: Vec<VersionRow>,
+    refusal: Option<Refusal>,
+}
+
+impl FirstTwo {
+    fn refuse(&mut self, refusal: Refusal) -> Result<(), Refusal> {
+        self.refusal = Some(refusal);
+        Err(refusal)
+    }
 }
 
 impl RowVisitor for FirstTwo {
@@ -213,15 +221,15 @@ impl RowVisitor for FirstTwo {
 
     ghost may_refuse = { λ _. Unit {0} };
 
-    ghost answered = { λ _ _. Unit {0} };
+    ghost answered = { λ kept answer. kept.refusal ≡ answer };
 
     fn visit(&mut self, row: VersionRow) -> Result<(), Refusal> {
         if self.rows.len() == 2 {
-            return Err(Refusal::LimitReached);
+            return self.refuse(Refusal::LimitReached);
         }
         match self.rows.push(row) {
             Ok(()) => Ok(()),
-            Err(_) => Err(Refusal::Memory),
+            Err(_) => self.refuse(Refusal::Memory),
         }
     }
 }
@@ -233,6 +241,7 @@ fn a_visitor_that_refuses_the_third_row(rt: HostRuntime) -> Result<(), Fail> {
     let always = Window::FromTo(Moment::first(), Moment::forever());
     let mut two = FirstTwo {
         rows: Vec::new(alloc),
+        refusal: None,
     };
     let result = store.scan(alloc, 1, always, &mut two);
     assert_eq!(rt; result, Err(Refusal::LimitReached));

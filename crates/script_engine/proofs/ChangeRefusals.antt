@@ -1,18 +1,22 @@
 -- What a change may be refused with over a catalog, as it is resolved and planned.
-use Rattle.std.proofs.Common.{◌≡◌, ◌∷◌, ◌++◌, ◌<◌, ◌⊎◌, ◌∙◌, ℤ, Bool, true, List, [], refl, sym, subst, inl, inr, arith}
+use Rattle.std.proofs.Common.{◌≡◌, ◌∷◌, ◌++◌, ◌<◌, ◌⊎◌, ◌∙◌, ℤ, Bool, false, true, List, [], refl, sym, subst, inl, inr, arith}
+use Rattle.std.proofs.lemmas.Bool.{false≢true}
 use Rattle.period_core.specs.Codes.{code_of}
 use Rattle.period_core.specs.Leasts.{MayAnswer, NoneApplies}
 use Rattle.period_core.specs.declared.refusal.Refusal.{Refusal}
 use Rattle.period_core.specs.declared.refusal.Refusal.TheVariants.{EmptyPeriod}
+use Rattle.period_core.specs.declared.version.VersionRow.{VersionRow}
 use Rattle.sql_statements.specs.Trees.{Statement}
 use Rattle.sql_statements.specs.Trees as statement
 use Rattle.catalog_core.specs.RefusalConditions.{Holds, RefusalCondition}
 use Rattle.catalog_core.specs.change.Resolution.{IsChange, change_conditions, empty_period, has_empty_row}
 use Rattle.catalog_core.specs.declared.change.Action.{Action}
+use Rattle.catalog_core.specs.declared.change.Plan.{Plan}
 use Rattle.catalog_core.specs.declared.table.TableDef.{TableDef}
+use Rattle.portion_dml.specs.Plans.{Plans}
 use Rattle.version_store.specs.StoreState.{IsStoreRefusal}
 use Rattle.script_engine.specs.engine.Runs.{AppliesOver, ChangeApplies, IsConstraintRefusal, MayRefuse, MayRefuseOver, NoneBeforeStore}
-use Rattle.script_engine.proofs.Refused.{are_at_most, holds_cases, may_answer-before, may_answer-empty}
+use Rattle.script_engine.proofs.Refused.{are_at_most, days-planned, holds_cases, may_answer-before, may_answer-empty}
 
 -- the numbers of a change's conditions are at most that of an empty period
 change_numbers : (tables : List TableDef) (s : Statement) → are_at_most 41 (change_conditions tables s) ≡ true
@@ -83,3 +87,7 @@ module _ (tables : List TableDef) (clock : ℤ) (s : Statement) (is : IsChange s
     -- so it may be refused with 42 or 43
     pub constrained : (refusal : Refusal) → (has_empty_row action ≡ true → ⊥) → IsConstraintRefusal refusal → MayRefuseOver tables clock s refusal
     constrained refusal days by = inr (is, by, none_without_empty days)
+
+    -- so it is of a change that has a plan
+    pub planned_sound : (listed : List VersionRow) (plan : Plan) → Plans action listed plan → NoneApplies (AppliesOver tables clock s)
+    planned_sound listed plan plans = none_without_empty (λ found. let off : has_empty_row action ≡ false = days-planned action listed plan plans in false≢true (sym off ∙ found))

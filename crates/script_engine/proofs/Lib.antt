@@ -6,9 +6,11 @@ mod Answering
 mod ChangeRefusals
 mod ColumnValues
 mod Changed
+mod DistinctAfter
 mod CheckSteps
 mod PieceFacts
 mod PieceSteps
+mod OverFacts
 mod PlanFacts
 mod Recorded
 mod SameInMemory
@@ -31,6 +33,7 @@ mod Loaded
 mod Ended
 mod EndedAfter
 mod EndedLoaded
+mod EndedInTime
 mod Indexed
 mod Judged
 mod KeyFacts

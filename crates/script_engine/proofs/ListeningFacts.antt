@@ -4,7 +4,6 @@ use Rattle.std.proofs.lemmas.List.{append-nil, map-append, take-append-drop}
 use Rattle.sql_front.specs.Pieces.{spanned}
 use Rattle.sql_front.specs.declared.pieces.Span.{Span}
 use Rattle.sql_statements.specs.Lexemes.{Lexeme}
-use Rattle.history_model.specs.Histories.{History}
 use Rattle.script_engine.specs.declared.script.listener.AllKept.{AllKept}
 use Rattle.script_engine.specs.script.Keeping.{AddsWhereRoom}
 use Rattle.script_engine.specs.script.Listening.{HearsAll, StepFront}
@@ -42,11 +41,11 @@ module _ {K : Type 0} where
       let (items, whole) = all_kept (n + 1) middle results goes_on new rest left in
       (items ∙ ap (λ xs. xs ++ results) added ∙ append_assoc old.kept.items (result ∷ []) results, whole)
 
-module _ {R : Type 0} (IsStep : History → List Lexeme → R → History → Type 0) where
+module _ {H R : Type 0} (IsStep : H → List Lexeme → R → H → Type 0) where
   -- the results of the first pieces are those of a front of all
-  pub front_of : (history : History) (tokens : List Lexeme) (spans : List Span) (i : ℕ) (results : List R) (last : History) → StepPieces IsStep history (map (spanned tokens) (take i spans)) results last →
-      StepFront IsStep history (map (spanned tokens) spans) results false last
-  front_of history tokens spans i results last run = record {
+  pub front_of : (opening : H) (tokens : List Lexeme) (spans : List Span) (i : ℕ) (results : List R) (last : H) → StepPieces IsStep opening (map (spanned tokens) (take i spans)) results last →
+      StepFront IsStep opening (map (spanned tokens) spans) results false last
+  front_of opening tokens spans i results last run = record {
     front = map (spanned tokens) (take i spans);
     back = map (spanned tokens) (drop i spans);
     parted = ap (map (spanned tokens)) (sym (take-append-drop i spans)) ∙ map-append (spanned tokens) (take i spans) (drop i spans);
@@ -54,11 +53,11 @@ module _ {R : Type 0} (IsStep : History → List Lexeme → R → History → Ty
     run = run;
   }
 
-  pub whole_front : (history : History) (pieces : List (List Lexeme)) (results : List R) (last : History) → StepPieces IsStep history pieces results last → StepFront IsStep history pieces results true last
-  whole_front history pieces results last run = record { front = pieces; back = []; parted = sym (append-nil pieces); all = λ on. refl; run = run }
+  pub whole_front : (opening : H) (pieces : List (List Lexeme)) (results : List R) (last : H) → StepPieces IsStep opening pieces results last → StepFront IsStep opening pieces results true last
+  whole_front opening pieces results last run = record { front = pieces; back = []; parted = sym (append-nil pieces); all = λ on. refl; run = run }
 
-  pub front_is_whole : (history : History) (pieces : List (List Lexeme)) (results : List R) (goes_on : Bool) (last : History) → StepFront IsStep history pieces results goes_on last → goes_on ≡ true → StepPieces IsStep history pieces results last
-  front_is_whole history pieces results goes_on last front on =
+  pub front_is_whole : (opening : H) (pieces : List (List Lexeme)) (results : List R) (goes_on : Bool) (last : H) → StepFront IsStep opening pieces results goes_on last → goes_on ≡ true → StepPieces IsStep opening pieces results last
+  front_is_whole opening pieces results goes_on last front on =
       let none = front.all on in
       let same : front.front ≡ pieces = sym (front.parted ∙ ap (λ back. front.front ++ back) none ∙ append-nil front.front) in
-      subst (λ ps. StepPieces IsStep history ps results last) same front.run
+      subst (λ ps. StepPieces IsStep opening ps results last) same front.run

@@ -25,14 +25,15 @@ use Rattle.script_engine.proofs.Steps.{may_refuse-store}
 -- ---- what is in memory
 
 pub same_memory : {S : Type 0} (engine : EngineState S) → IsSameInMemory engine engine
-same_memory engine = record { catalog = refl; clock = refl; rows = λ number. IsPermutation-refl (rows_in engine.tables number) }
+same_memory engine = record { catalog = refl; clock = refl; rows = λ number. IsPermutation-refl (rows_in engine.tables number); ended = refl }
 
 -- where the rows of a table are the same in another order
-pub rows_memory : {S : Type 0} (old new : EngineState S) (table : ℕ) → new.catalog ≡ old.catalog → new.clock ≡ old.clock → HaveRows table (rows_in old.tables table) old.tables new.tables → IsSameInMemory old new
-rows_memory old new table catalog clock same = record {
+pub rows_memory : {S : Type 0} (old new : EngineState S) (table : ℕ) → new.catalog ≡ old.catalog → new.clock ≡ old.clock → HaveRows table (rows_in old.tables table) old.tables new.tables → new.ended ≡ old.ended → IsSameInMemory old new
+rows_memory old new table catalog clock same closed = record {
   catalog = ap (λ (k : Catalog). k.tables) catalog;
   clock = clock;
   rows = λ number. at number (nat_eq number table) refl;
+  ended = closed;
 }
   where
     at : (number : ℕ) (b : Bool) → nat_eq number table ≡ b → IsPermutation (rows_in old.tables number) (rows_in new.tables number)
@@ -44,11 +45,12 @@ rows_memory old new table catalog clock same = record {
         subst (λ (l : List VersionRow). IsPermutation (rows_in old.tables number) l) (sym (same.others number away)) (IsPermutation-refl (rows_in old.tables number))
 
 -- where they are the same list
-pub list_memory : {S : Type 0} (old new : EngineState S) → new.catalog.tables ≡ old.catalog.tables → new.clock ≡ old.clock → new.tables ≡ old.tables → IsSameInMemory old new
-list_memory old new catalog clock tables = record {
+pub list_memory : {S : Type 0} (old new : EngineState S) → new.catalog.tables ≡ old.catalog.tables → new.clock ≡ old.clock → new.tables ≡ old.tables → new.ended ≡ old.ended → IsSameInMemory old new
+list_memory old new catalog clock tables closed = record {
   catalog = catalog;
   clock = clock;
   rows = λ number. subst (λ (l : List RowsByKey). IsPermutation (rows_in old.tables number) (rows_in l number)) (sym tables) (IsPermutation-refl (rows_in old.tables number));
+  ended = closed;
 }
 
 -- ---- what may be refused
@@ -58,7 +60,7 @@ module _ (tables : List TableDef) (clock : ℤ) where
   pub failed_over : (s : Statement) (refusal : Refusal) → NoneApplies (AppliesOver tables clock s) → IsStoreRefusal refusal → MayRefuseOver tables clock s refusal
   failed_over s refusal none failure = inl (may_refuse-store (AppliesOver tables clock s) refusal failure none)
 
-  not_earlier : (moment : ℤ) → clock ≤ℤ moment → NoneApplies (AppliesOver tables clock (statement.at moment))
+  pub not_earlier : (moment : ℤ) → clock ≤ℤ moment → NoneApplies (AppliesOver tables clock (statement.at moment))
   not_earlier moment late refusal (inl (same, before)) = let off : int_lt moment clock ≡ false = grind (arith, ints, late) in false≢true (sym off ∙ before)
   not_earlier moment late refusal (inr nothing) = nothing
 

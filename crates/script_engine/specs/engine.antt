@@ -9,4 +9,6 @@ pub mod VersionLists
 pub mod Answering
 pub mod Needed
 pub mod Runs
+pub mod Over
+pub mod Opens
 pub mod Audits

@@ -1,20 +1,22 @@
 //! The engine: the statements that it runs over a store.
 
-ghost use Rattle.std.specs.Prelude.{◌≡◌, ◌⊎◌, ◌++◌, ◌<ℤ◌, ◌≤ℤ◌, false, IsPermutation, List, map};
+ghost use Rattle.std.specs.Prelude.{◌≡◌, ◌++◌, ◌<ℤ◌, ◌≤ℤ◌, false, IsPermutation, List, map};
 ghost use Rattle.std.specs.Prelude.{IfErr, IfOk, OnErr, OnOk, ℤ};
 ghost use Rattle.period_core.specs.Moments.{forever};
 ghost use Rattle.period_core.specs.declared.version.VersionRow.{VersionRow as Version};
 ghost use Rattle.period_keys.specs.Versions.{begun};
 ghost use Rattle.period_core.specs.declared.refusal.Refusal.TheVariants.{BadStore};
 ghost use Rattle.sqlite.specs.Held.{state};
-ghost use Rattle.version_tables.specs.Presence.{HasNoStoreTable};
+ghost use Rattle.version_tables.specs.Represents.{HaveOwnRowids};
 ghost use Rattle.version_tables.specs.Steps.{IsAsBefore};
+ghost use Rattle.version_tables.specs.declared.form.Form.TheVariants.{Microseconds};
 ghost use Rattle.version_store.specs.Changed.{planned};
 ghost use Rattle.version_store.specs.Contents.{AreRowsOf, Contents};
 ghost use Rattle.version_store.specs.DistinctKeys.{HaveDistinctKeys};
 ghost use Rattle.version_store.specs.GoodStore.{AreGood, IsGoodStore};
-ghost use Rattle.version_store.specs.StoreState.{Changes, IsOpenRefusal, IsOurs, IsStoreRefusal};
-ghost use Rattle.version_store.specs.StoreState.{IsUsable, SparesOthers, StoreRepresents};
+ghost use Rattle.version_store.specs.StoreState.{Changes, IsFailure, IsOpenRefusal};
+ghost use Rattle.version_store.specs.StoreState.{IsStoreRefusal, IsUsable, SparesOthers};
+ghost use Rattle.version_store.specs.StoreState.{StaysOnErr, StoreRepresents};
 ghost use Rattle.history_model.specs.Histories.{Advanced, History, state_at, with_event};
 ghost use Rattle.history_model.specs.Versions.{values_at};
 ghost use Rattle.ended_versions.specs.Packed.{closed_at};
@@ -22,11 +24,13 @@ ghost use Rattle.script_engine.specs.engine.Ended.{HaveClosed};
 ghost use Rattle.script_engine.specs.engine.EngineState.{store_of};
 ghost use Rattle.script_engine.specs.engine.Faults.{AreConstrained};
 ghost use Rattle.script_engine.specs.engine.InMemory.{AreKeysIn, HaveRows, IsSameInMemory, rows_in};
+ghost use Rattle.script_engine.specs.engine.Opens.{Opens};
+ghost use Rattle.script_engine.specs.engine.Over.{StepOver};
 ghost use Rattle.script_engine.specs.engine.Planned.{IsResolved};
-ghost use Rattle.script_engine.specs.engine.Runs.{IsQuery, MayRefuseMoment, MayRefuseOver};
-ghost use Rattle.script_engine.specs.engine.Runs.{MayRefuseQuery, StepsTo};
-ghost use Rattle.script_engine.specs.engine.Stored.{DatabaseRepresents, EngineRepresents};
-ghost use Rattle.script_engine.specs.engine.Stored.{IsBadStore, KeepsOnErr, WasUsable};
+ghost use Rattle.script_engine.specs.engine.Runs.{IsQuery, MayRefuseMoment, MayRefuseQuery};
+ghost use Rattle.script_engine.specs.engine.Runs.{StepsTo};
+ghost use Rattle.script_engine.specs.engine.Stored.{EngineRepresents, IsBadStore, KeepsOnErr};
+ghost use Rattle.script_engine.specs.engine.Stored.{WasUsable};
 ghost use Rattle.sql_statements.specs.Plain.{plain, plain_query, plain_stored};
 ghost use Rattle.sql_statements.specs.Trees.{Statement as StatementModel};
 ghost use Rattle.sql_statements.specs.Trees as statement;
@@ -110,11 +114,11 @@ fn connection_of<S: Alter>(store: VersionStore<S>) -> Connection<S>
     connection
 }
 
-// What the clauses say of a store holds where its connection is usable as the call ends: its disk
-// is clean, and no failure has shut it. A store in memory always is. Without that each call is safe
+// A clause of a store's contents holds where its connection is usable as the call ends: its disk is
+// clean, and no failure has shut it. A store in memory always is. Without that each call is safe
 // and returns; `open` gives only the refusals that it names; and `at` and `execute` are refused
 // only for a condition that holds of the catalog and the clock in memory, which a refusal leaves as
-// they were.
+// they were. A refusal leaves the database as it was whatever tables it has.
 impl<S: Alter> Engine<S> {
     /// Opens a store: a new one in a database that has none of its three tables, or else the one
     /// that is there, if it is a good one. One of form 1 is moved to form 2, in one transaction,
@@ -127,22 +131,17 @@ impl<S: Alter> Engine<S> {
     ) -> Result<Engine<S>, (Refusal, Connection<S>)>
         requires { connection.in_transaction ≡ false }
 
-        // Whatever history the database stood for, the engine represents it; and each good store
-        // is one of some history.
-        ensures opened { IfOk result (λ engine. IsUsable S.Store engine.connection
-            → (history : History)
-            → DatabaseRepresents history (state S.Store connection).now
-            → EngineRepresents S.Store history engine) }
-        ensures good { IfOk result (λ engine. IsUsable S.Store engine.connection
-            → IsOurs (state S.Store connection).now.schema
-            → HasNoStoreTable (state S.Store connection).now.schema
-            ⊎ (IsGoodStore AreConstrained (state S.Store connection).now
-            × ((history : History) × EngineRepresents S.Store history engine))) }
-        ensures others { IfOk result (λ engine.
-            SparesOthers S.Store connection engine.connection) }
+        ensures opened { IfOk result (Opens S.Store connection) }
 
         ensures bad { IfErr result (λ failed. IsUsable S.Store failed.1 → failed.0 ≡ BadStore
             → IsBadStore (state S.Store connection).now) }
+
+        // A good store of form 2 is refused only for memory, or where there was a fault of the
+        // database. Its rows have rowids of their own, as those of each table have.
+        ensures why { IfErr result (λ failed. IsUsable S.Store failed.1
+            → (good : IsGoodStore AreConstrained (state S.Store connection).now)
+            → good.form ≡ Microseconds → HaveOwnRowids ((state S.Store connection).now.trees 2)
+            → IsFailure S.Store connection failed.1 failed.0) }
         ensures none { IfErr result (λ failed. IsUsable S.Store failed.1
             → IsAsBefore (state S.Store connection) (state S.Store failed.1)) }
         ensures settled { IfErr result (λ failed. failed.1.in_transaction ≡ false) }
@@ -224,6 +223,9 @@ impl<S: Alter> Engine<S> {
         ensures rows { IsUsable S.Store self.new.connection
             → (c : Contents) → StoreRepresents S.Store (store_of self.old) c
             → IfOk result (λ rows. AreRowsOf c table rows.items) }
+        ensures why { IsUsable S.Store self.new.connection
+            → (c : Contents) → StoreRepresents S.Store (store_of self.old) c
+            → IfErr result (IsFailure S.Store self.old.connection self.new.connection) }
         ensures states { IsUsable S.Store self.new.connection
             → (history : History) → EngineRepresents S.Store history self.old
             → IfOk result (λ rows. (moment day : ℤ) → moment <ℤ forever
@@ -246,7 +248,10 @@ impl<S: Alter> Engine<S> {
             → OnOk result
             (EngineRepresents S.Store (with_event history (Advanced moment)) self.new) }
         ensures later { OnOk result ((self.old.clock ≤ℤ moment) × (moment <ℤ forever)) }
+        ensures advanced { OnOk result (self.new.clock ≡ moment) }
+        ensures catalog { self.new.catalog ≡ self.old.catalog }
         ensures kept { KeepsOnErr S.Store self.old self.new result }
+        ensures none_stored { StaysOnErr S.Store self.old.connection self.new.connection result }
         ensures refused { IfErr result (MayRefuseMoment self.old.clock moment) }
         ensures memory { OnErr result (IsSameInMemory self.old self.new) }
         ensures usable { WasUsable S.Store self.old.connection self.new.connection }
@@ -265,10 +270,7 @@ impl<S: Alter> Engine<S> {
             → (history : History) → EngineRepresents S.Store history self.old
             → StepsTo S.Store history (statement.at moment) result self.new }
         ensures kept { KeepsOnErr S.Store self.old self.new result }
-        ensures refused { IfErr result
-            (MayRefuseOver self.old.catalog.tables self.old.clock (statement.at moment)) }
-        ensures memory { OnErr result (IsSameInMemory self.old self.new) }
-        ensures usable { WasUsable S.Store self.old.connection self.new.connection }
+        ensures over { StepOver S.Store self.old (statement.at moment) result self.new }
         ensures others { SparesOthers S.Store self.old.connection self.new.connection }
     {
         self.at(moment.moment())?;
@@ -281,10 +283,7 @@ impl<S: Alter> Engine<S> {
             → (history : History) → EngineRepresents S.Store history self.old
             → StepsTo S.Store history (statement.create create.now) result self.new }
         ensures kept { KeepsOnErr S.Store self.old self.new result }
-        ensures refused { IfErr result
-            (MayRefuseOver self.old.catalog.tables self.old.clock (statement.create create.now)) }
-        ensures memory { OnErr result (IsSameInMemory self.old self.new) }
-        ensures usable { WasUsable S.Store self.old.connection self.new.connection }
+        ensures over { StepOver S.Store self.old (statement.create create.now) result self.new }
         ensures others { SparesOthers S.Store self.old.connection self.new.connection }
     {
         let definition = define(alloc, self.store.catalog(), create)?;
@@ -330,6 +329,7 @@ impl<S: Alter> Engine<S> {
         ensures open { OnErr result (self.new.ended ≡ self.old.ended) }
         ensures catalog { self.new.catalog ≡ self.old.catalog }
         ensures clock { self.new.clock ≡ self.old.clock }
+        ensures none_stored { StaysOnErr S.Store self.old.connection self.new.connection result }
         ensures usable { WasUsable S.Store self.old.connection self.new.connection }
         ensures others { SparesOthers S.Store self.old.connection self.new.connection }
         ensures named { IfErr result IsStoreRefusal }
@@ -362,11 +362,8 @@ impl<S: Alter> Engine<S> {
             → (s : StatementModel) → IsResolved self.old.catalog.tables s word resolved
             → StepsTo S.Store history s result self.new }
         ensures kept { KeepsOnErr S.Store self.old self.new result }
-        ensures refused { IfErr result (λ refusal. (s : StatementModel)
-            → IsResolved self.old.catalog.tables s word resolved
-            → MayRefuseOver self.old.catalog.tables self.old.clock s refusal) }
-        ensures memory { OnErr result (IsSameInMemory self.old self.new) }
-        ensures usable { WasUsable S.Store self.old.connection self.new.connection }
+        ensures over { (s : StatementModel) → IsResolved self.old.catalog.tables s word resolved
+            → StepOver S.Store self.old s result self.new }
         ensures others { SparesOthers S.Store self.old.connection self.new.connection }
     {
         let change = resolved?;
@@ -393,11 +390,8 @@ impl<S: Alter> Engine<S> {
             → IfErr result (MayRefuseQuery S.Store self.old self.new
             (statement.sequenced (plain_query query.now))) }
         ensures kept { KeepsOnErr S.Store self.old self.new result }
-        ensures refused { IfErr result
-            (MayRefuseOver self.old.catalog.tables self.old.clock
-            (statement.sequenced (plain_query query.now))) }
-        ensures memory { OnErr result (IsSameInMemory self.old self.new) }
-        ensures usable { WasUsable S.Store self.old.connection self.new.connection }
+        ensures over { StepOver S.Store self.old (statement.sequenced (plain_query query.now)) result
+            self.new }
         ensures others { SparesOthers S.Store self.old.connection self.new.connection }
     {
         let query = resolve_sequenced(alloc, self.store.catalog(), query)?;
@@ -418,11 +412,8 @@ impl<S: Alter> Engine<S> {
             → IfErr result (MayRefuseQuery S.Store self.old self.new
             (statement.stored (plain_stored query.now))) }
         ensures kept { KeepsOnErr S.Store self.old self.new result }
-        ensures refused { IfErr result
-            (MayRefuseOver self.old.catalog.tables self.old.clock
-            (statement.stored (plain_stored query.now))) }
-        ensures memory { OnErr result (IsSameInMemory self.old self.new) }
-        ensures usable { WasUsable S.Store self.old.connection self.new.connection }
+        ensures over { StepOver S.Store self.old (statement.stored (plain_stored query.now)) result
+            self.new }
         ensures others { SparesOthers S.Store self.old.connection self.new.connection }
     {
         let query = resolve_stored_query(alloc, self.store.catalog(), query)?;
@@ -455,10 +446,7 @@ impl<S: Alter> Engine<S> {
             → IfErr result (MayRefuseQuery S.Store self.old self.new (plain statement.now)) }
 
         // And whatever the database holds:
-        ensures refused { IfErr result
-            (MayRefuseOver self.old.catalog.tables self.old.clock (plain statement.now)) }
-        ensures memory { OnErr result (IsSameInMemory self.old self.new) }
-        ensures usable { WasUsable S.Store self.old.connection self.new.connection }
+        ensures over { StepOver S.Store self.old (plain statement.now) result self.new }
         ensures others { SparesOthers S.Store self.old.connection self.new.connection }
     {
         match statement.form() {

@@ -9,9 +9,9 @@
 //!   `specs/engine/VersionLists`.
 #![tactic(auto)]
 
-pub mod engine;
+mod engine;
 pub mod laws;
-pub mod script;
+mod script;
 
 pub use engine::Engine;
 pub use script::check::check_script;

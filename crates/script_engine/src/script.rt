@@ -14,19 +14,21 @@ ghost use Rattle.sqlite.specs.Held.{state};
 ghost use Rattle.version_store.specs.StoreState.{IsUsable, SparesOthers};
 ghost use Rattle.version_tables.specs.Steps.{IsAsBefore};
 ghost use Rattle.history_model.specs.Histories.{History};
+ghost use Rattle.script_engine.specs.engine.EngineState.{EngineState};
+ghost use Rattle.script_engine.specs.engine.Opens.{Opens};
 ghost use Rattle.script_engine.specs.engine.Stored.{DatabaseRepresents, EngineRepresents};
 ghost use Rattle.script_engine.specs.engine.Stored.{IsAlwaysUsable, IsBadStore, RepresentsSome};
 ghost use Rattle.script_engine.specs.engine.Stored.{WasUsable};
 ghost use Rattle.script_engine.specs.script.AuditedRuns.{IsAuditedRunFrom, results_of};
 ghost use Rattle.script_engine.specs.script.Listening.{HearsAll, StepFront};
-ghost use Rattle.script_engine.specs.script.Script.{IsCutInto, IsRunBy, IsRunFrom, MayRefuseRun};
-ghost use Rattle.script_engine.specs.script.Script.{MayRefuseScript};
+ghost use Rattle.script_engine.specs.script.Script.{IsCutInto, IsRunBy, IsRunFrom, KeptStepOver};
+ghost use Rattle.script_engine.specs.script.Script.{MayRefuseRun, MayRefuseScript, PieceStepOver};
 ghost use Rattle.script_engine.specs.script.Script.{TextApplies, most_bytes};
 
-pub mod check;
-pub mod listener;
-pub mod over;
-pub mod piece_result;
+pub(crate) mod check;
+pub(crate) mod listener;
+pub(crate) mod over;
+pub(crate) mod piece_result;
 
 use crate::engine::Engine;
 use crate::script::listener::{AllKept, Listener};
@@ -138,6 +140,8 @@ fn run_piece<S: Alter, K: PieceResult<S>>(
         → (history : History) → EngineRepresents S.Store history engine.old
         → RepresentsSome S.Store
         (K.is_step history (lexemes_at script.now piece.now) result) engine.new }
+    ensures over { KeptStepOver S.Store K.result_of engine.old (lexemes_at script.now piece.now)
+        result engine.new }
     ensures usable { WasUsable S.Store engine.old.connection engine.new.connection }
     ensures others { SparesOthers S.Store engine.old.connection engine.new.connection }
 {
@@ -167,6 +171,8 @@ fn run_pieces<S: Alter, K: PieceResult<S>, L: Listener<K>>(
     ensures run { (results : List K)
         × HearsAll L.hears 1 listener.old results result listener.new
         × (length results ≤ length pieces.now)
+        × StepFront (KeptStepOver S.Store K.result_of) engine.old
+        (map (spanned (lexemes_at script.now tokens.now)) pieces.now) results result engine.new
         × (IsUsable S.Store engine.new.connection
         → (history : History) → EngineRepresents S.Store history engine.old
         → RepresentsSome S.Store (StepFront K.is_step history
@@ -201,7 +207,13 @@ pub fn run<S: Alter, K: PieceResult<S> + Drop>(
         → (history : History) → DatabaseRepresents history (state S.Store connection).now
         → (made : IsRunBy K.is_step history script.now ran.0.items)
         × EngineRepresents S.Store made.last ran.1) }
+
+    // And whatever the database holds, of the engine that is opened and the one that is given.
+    ensures over { IfOk result (λ ran. (opening : EngineState S) × Opens S.Store connection opening
+        × ((made : IsRunBy (KeptStepOver S.Store K.result_of) opening script.now ran.0.items)
+        × (made.last ≡ ran.1))) }
     ensures others { IfOk result (λ ran. SparesOthers S.Store connection ran.1.connection) }
+    ensures usable { IfOk result (λ ran. WasUsable S.Store connection ran.1.connection) }
 
     ensures refused { IfErr result (λ failed. MayRefuseRun script.now failed.0) }
     ensures bad { IfErr result (λ failed. IsUsable S.Store failed.1 → failed.0 ≡ BadStore
@@ -242,6 +254,11 @@ pub fn run_script<S: Alter + Drop>(
     ensures run { IsAlwaysUsable S.Store
         → (history : History) → DatabaseRepresents history (state S.Store connection).now
         → IfOk result (λ results. IsRunFrom history script.now results.items) }
+
+    // And whatever the database holds, of the engine that is opened.
+    ensures over { IfOk result (λ results. (opening : EngineState S)
+        × Opens S.Store connection opening
+        × IsRunBy (PieceStepOver S.Store) opening script.now results.items) }
     ensures refused { IfErr result (MayRefuseRun script.now) }
     ensures bad { IsAlwaysUsable S.Store → IfErr result (λ refusal. refusal ≡ BadStore
         → IsBadStore (state S.Store connection).now) }
@@ -267,6 +284,11 @@ pub fn run_audited<S: Alter + Drop>(
     ensures run { IsAlwaysUsable S.Store
         → (history : History) → DatabaseRepresents history (state S.Store connection).now
         → IfOk result (λ entries. IsRunFrom history script.now (results_of entries.items)) }
+
+    // And whatever the database holds, of the engine that is opened.
+    ensures over { IfOk result (λ entries. (opening : EngineState S)
+        × Opens S.Store connection opening
+        × IsRunBy (PieceStepOver S.Store) opening script.now (results_of entries.items)) }
     ensures refused { IfErr result (MayRefuseRun script.now) }
     ensures bad { IsAlwaysUsable S.Store → IfErr result (λ refusal. refusal ≡ BadStore
         → IsBadStore (state S.Store connection).now) }

@@ -10,3 +10,4 @@ pub mod Scans
 pub mod RowValues
 pub mod GoodStore
 pub mod Laws
+pub mod Faults

@@ -65,13 +65,12 @@ abbrev pub Visits : {M X : Type 0} → (M → VersionRow → M) → Contents →
     → Result X Refusal → Type 0
 Visits next c table window = VisitsChosen next c table (window_sees window)
 
--- where the visitor had refused no row: it has refused none on Ok; and on Err either its own
--- refusal is answered, or it has refused none and the store failed
-abbrev pub AnswersRefusal : {X : Type 0} → (Option Refusal → Type 0) → (Option Refusal → Type 0)
-    → Result X Refusal → Type 0
-AnswersRefusal old new (Ok x) = old None → new None
-AnswersRefusal old new (Err refusal) =
-    old None → new (Some refusal) ⊎ (new None × IsStoreRefusal refusal)
+-- a visitor that had refused no row has refused none on Ok; and on Err either its own refusal is
+-- answered, or it has refused none and the store failed
+abbrev pub AnswersRefusal : {X : Type 0} → (Option Refusal → Type 0) → Result X Refusal → Type 0
+AnswersRefusal answered (Ok x) = answered None
+AnswersRefusal answered (Err refusal) =
+    answered (Some refusal) ⊎ (answered None × IsStoreRefusal refusal)
 
 -- the visitor's own: it may answer that, and says that it did
 abbrev pub IsOwnRefusal : (Refusal → Type 0) → (Option Refusal → Type 0) → Refusal → Type 0

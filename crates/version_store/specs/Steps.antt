@@ -1,10 +1,9 @@
 -- What a step inside a transaction makes, and what a whole transaction makes.
-use Rattle.std.specs.Prelude.{◌≡◌, IsTrue, OnErr, OnOk, Result}
+use Rattle.std.specs.Prelude.{◌≡◌, IsTrue, OnOk, Result}
 use Rattle.sqlite.specs.Store.{Ghosts}
 use Rattle.sqlite.specs.State.{HasCleanDisk}
 use Rattle.sqlite.specs.Held.{Held, state}
 use Rattle.version_tables.specs.Represents.{Records, Represents}
-use Rattle.version_tables.specs.Steps.{IsAsBefore}
 use Rattle.version_store.specs.Contents.{Contents}
 use Rattle.version_store.specs.Written.{Has}
 
@@ -32,9 +31,3 @@ CommitsWhere g old new result P change =
     → Represents (state g old).now records
     → OnOk result (Represents (state g new).now (change records)
     × ((state g new).committed ≡ (state g new).now))
-
--- on Err what was there is there
-abbrev pub Undoes : {S X E : Type 0} → Ghosts S → Held S → Held S → Result X E → Type 0
-Undoes g old new result =
-    HasCleanDisk (state g new) → IsTrue (state g new).is_open
-    → OnErr result (IsAsBefore (state g old) (state g new))

@@ -96,6 +96,11 @@ Changes g old new result change =
     IsUsable g new.connection → (c : Contents) → StoreRepresents g old c
     → OnOk result (StoreRepresents g new (change c)) × OnErr result (StoreRepresents g new c)
 
+-- where a call is refused and the connection is usable as it ends, the database is as before
+abbrev pub StaysOnErr : {S X E : Type 0} → Ghosts S → Held S → Held S → Result X E → Type 0
+StaysOnErr g old new result =
+    IsUsable g new → OnErr result (IsAsBefore (state g old) (state g new))
+
 -- the tables, the clock and the database are as before; the connection was usable if it is so now,
 -- and no fault is forgotten
 pub record IsOnlyRead {S : Type 0} (g : Ghosts S) (old new : StoreState S) : Type 0 where

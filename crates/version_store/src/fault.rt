@@ -7,8 +7,10 @@ ghost use Rattle.period_core.specs.declared.refusal.Refusal.TheVariants.{Memory 
 ghost use Rattle.sqlite.specs.declared.error.Error.TheVariants.{SqliteFailure};
 ghost use Rattle.sqlite.specs.declared.error.ErrorCode.TheVariants.{OutOfMemory};
 ghost use Rattle.version_store.specs.declared.fault.OpenFault.TheVariants.{BadStore as IsBad};
+ghost use Rattle.version_store.specs.declared.fault.OpenFault.TheVariants.{Store as Unread};
 ghost use Rattle.version_store.specs.declared.fault.StoreFault.TheVariants.{Database as Failed};
 ghost use Rattle.version_store.specs.declared.fault.StoreFault.TheVariants.{Memory as NoMemory};
+ghost use Rattle.version_store.specs.Faults.{IsJudgement};
 ghost use Rattle.version_store.specs.StoreState.{IsOpenRefusal, IsStoreRefusal};
 
 use period_core::{DecodeFault, Memory, Refusal};
@@ -36,18 +38,24 @@ impl From<Error> for StoreFault {
 }
 
 impl From<Memory> for StoreFault {
+    ghost from_gives = { λ _ fault. fault ≡ NoMemory };
+
     fn from(_fault: Memory) -> StoreFault {
         StoreFault::Memory
     }
 }
 
 impl From<AllocError> for StoreFault {
+    ghost from_gives = { λ _ fault. fault ≡ NoMemory };
+
     fn from(_error: AllocError) -> StoreFault {
         StoreFault::Memory
     }
 }
 
 impl<T: Drop> From<AllocFailed<T>> for StoreFault {
+    ghost from_gives = { λ _ fault. fault ≡ NoMemory };
+
     fn from(_error: AllocFailed<T>) -> StoreFault {
         StoreFault::Memory
     }
@@ -86,7 +94,8 @@ pub(crate) enum OpenFault {
 }
 
 impl From<Error> for OpenFault {
-    ghost from_gives = { λ _ fault. fault ≢ IsBad };
+    ghost from_gives = { λ error fault. (fault ≢ IsBad)
+        × (error ≡ SqliteFailure OutOfMemory → fault ≡ Unread NoMemory) };
 
     fn from(error: Error) -> OpenFault {
         OpenFault::Store(StoreFault::from(error))
@@ -94,7 +103,7 @@ impl From<Error> for OpenFault {
 }
 
 impl From<Memory> for OpenFault {
-    ghost from_gives = { λ _ fault. fault ≢ IsBad };
+    ghost from_gives = { λ _ fault. fault ≡ Unread NoMemory };
 
     fn from(fault: Memory) -> OpenFault {
         OpenFault::Store(StoreFault::from(fault))
@@ -102,7 +111,8 @@ impl From<Memory> for OpenFault {
 }
 
 impl From<DecodeFault> for OpenFault {
-    ghost from_gives = { λ decoding fault. fault ≡ IsBad → decoding ≡ Malformed };
+    ghost from_gives = { λ decoding fault.
+        IsJudgement fault × (fault ≡ IsBad → decoding ≡ Malformed) };
 
     fn from(fault: DecodeFault) -> OpenFault {
         match fault {
@@ -114,7 +124,8 @@ impl From<DecodeFault> for OpenFault {
 
 impl From<OpenFault> for Refusal {
     ghost from_gives = { λ fault refusal.
-        IsOpenRefusal refusal × (refusal ≡ BadStore → fault ≡ IsBad) };
+        IsOpenRefusal refusal × (refusal ≡ BadStore → fault ≡ IsBad)
+        × (fault ≡ Unread NoMemory → refusal ≡ MemoryRefusal) };
 
     fn from(fault: OpenFault) -> Refusal {
         match fault {

@@ -4,9 +4,11 @@ ghost use Rattle.std.specs.Prelude.{◌≡◌, [], false, IfErr, IfOk, IsTrue};
 ghost use Rattle.sqlite.specs.Held.{state};
 ghost use Rattle.sqlite.specs.State.{HasCleanDisk};
 ghost use Rattle.version_tables.specs.Good.{IsClock};
+ghost use Rattle.version_tables.specs.Represents.{HaveOwnRowids};
 ghost use Rattle.version_tables.specs.Steps.{Keeps};
 ghost use Rattle.version_tables.specs.Tables.{HasStoreTables};
 ghost use Rattle.version_store.specs.Contents.{AreVersionsOf, Contents};
+ghost use Rattle.version_store.specs.Faults.{IsUnread};
 ghost use Rattle.version_store.specs.GoodStore.{AreLawful, IsGoodStore, NothingMore};
 ghost use Rattle.version_store.specs.Units.{in_microseconds};
 ghost use Rattle.version_store.specs.Written.{HasIn};
@@ -49,10 +51,17 @@ pub(crate) fn inspect<S: Alter>(
         → HasStoreTables (state S.Store connection.old).now.schema
         → IfErr result (λ fault. fault ≡ BadStore
         → ¬ IsGoodStore NothingMore (state S.Store connection.old).now) }
+    ensures why { HasCleanDisk (state S.Store connection.new)
+        → IsTrue (state S.Store connection.new).is_open
+        → IsGoodStore NothingMore (state S.Store connection.old).now
+        → HaveOwnRowids ((state S.Store connection.old).now.trees 2)
+        → IfErr result (IsUnread (state S.Store connection.old) (state S.Store connection.new)) }
     ensures lawful { IfOk result (λ found. AreLawful [] found.0.tables) }
     ensures clock { IfOk result (λ found. IsClock found.1 found.2) }
     ensures same { HasCleanDisk (state S.Store connection.new)
         → Keeps (state S.Store connection.old) (state S.Store connection.new) }
+    ensures clean { HasCleanDisk (state S.Store connection.new)
+        → HasCleanDisk (state S.Store connection.old) }
     ensures mode { connection.new.in_transaction ≡ false }
 {
     if !columns_there(connection) {

@@ -8,6 +8,7 @@ ghost use Rattle.catalog_core.specs.table.TableWords.{has_date_period, has_disti
 ghost use Rattle.catalog_core.specs.declared.table.TableDef.{TableDef as AnyTable};
 ghost use Rattle.version_tables.specs.declared.form.Form.{Form as AnyForm};
 ghost use Rattle.version_store.specs.Contents.{HasMore, rows_of_table};
+ghost use Rattle.version_store.specs.Faults.{IsJudgement};
 ghost use Rattle.version_store.specs.GoodStore.{AreReadAs, AreTables, IsReadAs, IsTableRow};
 ghost use Rattle.version_store.specs.GoodStore.{AreStoreRows, IsVersionRow};
 ghost use Rattle.version_store.specs.declared.fault.OpenFault.TheVariants.{BadStore};
@@ -29,6 +30,7 @@ fn read_table(alloc: Global, catalog: &Catalog, row: &Row) -> Result<TableDef, O
     ensures distinct { IfOk result (λ d. has_distinct_names d ≡ true) }
     ensures bad { IfErr result (λ fault. fault ≡ BadStore
         → (d : AnyTable) → ¬ IsTableRow catalog.now.tables row.now d) }
+    ensures named { IfErr result IsJudgement }
 {
     if !is_definition(row, catalog.len() as u32 + 1) {
         return Err(OpenFault::BadStore);
@@ -49,6 +51,7 @@ fn read_tables(alloc: Global, rows: &[Row]) -> Result<Catalog, OpenFault>
     ensures good { IfOk result (λ catalog. AreTables rows.now catalog.tables) }
     ensures bad { IfErr result (λ fault. fault ≡ BadStore
         → (tables : List AnyTable) → ¬ AreTables rows.now tables) }
+    ensures named { IfErr result IsJudgement }
 {
     let mut catalog = Catalog::new(alloc);
     if rows.len() > MOST_TABLES {
@@ -74,6 +77,7 @@ fn check_version(
         (λ found. IsReadAs form catalog.now.tables clock row.now found.0 found.1) }
     ensures bad { IfErr result (λ fault. fault ≡ BadStore
         → ¬ IsVersionRow form catalog.now.tables clock row.now) }
+    ensures named { IfErr result IsJudgement }
 {
     if !is_version(row, form, clock, catalog.len() as u32) {
         return Err(OpenFault::BadStore);
@@ -138,6 +142,7 @@ fn check_versions(
         (λ lists. AreReadAs form catalog.now.tables clock rows.items lists.items) }
     ensures bad { IfErr result (λ fault. fault ≡ BadStore
         → ¬ AllByRecursion (IsVersionRow form catalog.now.tables clock) rows.items) }
+    ensures named { IfErr result IsJudgement }
 {
     let mut lists = no_rows(alloc, catalog.len())?;
     for row in rows {
@@ -162,6 +167,7 @@ pub(crate) fn check_rows(
     ensures bad { IfErr result (λ fault. fault ≡ BadStore
         → (known : List AnyTable) (form : AnyForm) (clock : ℤ)
         → ¬ AreStoreRows metas.now tables.now versions.items known form clock) }
+    ensures named { IfErr result IsJudgement }
 {
     let Some((form, clock)) = clock_of(metas) else {
         return Err(OpenFault::BadStore);

@@ -1,8 +1,7 @@
 //! Version rows passed to a visitor, one at a time, as they are read; and all of a table.
 
 ghost use Rattle.std.specs.Prelude.{◌≡◌, ◌⊎◌, ℤ, Bool, false, true, IfErr, IfOk, IsOk};
-ghost use Rattle.std.specs.Prelude.{MatchOption};
-ghost use Rattle.std.specs.Prelude.{OnErr, OnOk};
+ghost use Rattle.std.specs.Prelude.{MatchOption, None, OnErr, OnOk};
 ghost use Rattle.std.specs.List.{All};
 ghost use Rattle.period_core.specs.Encoding.{IsColumnValue};
 ghost use Rattle.period_core.specs.declared.refusal.Refusal.TheVariants.{Memory};
@@ -68,13 +67,14 @@ fn visit_row<V: RowVisitor>(
     row: &Row,
     visitor: &mut V,
 ) -> Result<(), Refusal>
+    requires { V.answered visitor.old None }
     ensures visited { OnOk result ((version : TableVersion)
         → (row.now ≡ shown (written_version version)) → All IsColumnValue version.values
         → (read : AnyRow) × (version_in version.table read ≡ version_of form version)
         × (V.meaning visitor.new ≡ V.next (V.meaning visitor.old) read)) }
     ensures refused { OnErr result (V.meaning visitor.new ≡ V.meaning visitor.old) }
     ensures named { IfErr result (λ refusal. IsStoreRefusal refusal ⊎ V.may_refuse refusal) }
-    ensures answered { AnswersRefusal (V.answered visitor.old) (V.answered visitor.new) result }
+    ensures answered { AnswersRefusal (V.answered visitor.new) result }
     ensures why { (version : TableVersion) → IsDated (version_of form version)
         → All IsColumnValue version.values → (row.now ≡ shown (written_version version))
         → IfErr result (λ refusal.
@@ -94,7 +94,8 @@ fn scan_selected<S: Alter, V: RowVisitor>(
     selection: Selection,
     visitor: &mut V,
 ) -> Result<(), Refusal>
-    requires { connection.old.in_transaction ≡ false }
+    requires settled { connection.old.in_transaction ≡ false }
+    requires takes { V.answered visitor.old None }
     ensures visited { HasCleanDisk (state S.Store connection.new)
         → (c : Contents) → HasIn form (state S.Store connection.old).now c
         → (chooses : ℤ → ℤ → Bool) → Selects form selection chooses
@@ -112,7 +113,7 @@ fn scan_selected<S: Alter, V: RowVisitor>(
     ensures mode { connection.new.in_transaction ≡ false }
     ensures faults { KeepsFaults (state S.Store connection.old) (state S.Store connection.new) }
     ensures named { IfErr result (λ refusal. IsStoreRefusal refusal ⊎ V.may_refuse refusal) }
-    ensures answered { AnswersRefusal (V.answered visitor.old) (V.answered visitor.new) result }
+    ensures answered { AnswersRefusal (V.answered visitor.new) result }
 {
     let mut rows = match rows_of(connection, u32::from(table), selection) {
         Ok(rows) => rows,
@@ -142,7 +143,8 @@ pub(crate) fn scan_rows<S: Alter, V: RowVisitor>(
     window: Window,
     visitor: &mut V,
 ) -> Result<(), Refusal>
-    requires { connection.old.in_transaction ≡ false }
+    requires settled { connection.old.in_transaction ≡ false }
+    requires takes { V.answered visitor.old None }
     ensures visited { HasCleanDisk (state S.Store connection.new)
         → (c : Contents) → Has (state S.Store connection.old).now c → AreDated c.versions
         → Visits V.next c table window (V.meaning visitor.old) (V.meaning visitor.new) result }
@@ -159,7 +161,7 @@ pub(crate) fn scan_rows<S: Alter, V: RowVisitor>(
     ensures empty { is_empty window ≡ true → IsOk result × (connection.new ≡ connection.old)
         × (V.meaning visitor.new ≡ V.meaning visitor.old) }
     ensures named { IfErr result (λ refusal. IsStoreRefusal refusal ⊎ V.may_refuse refusal) }
-    ensures answered { AnswersRefusal (V.answered visitor.old) (V.answered visitor.new) result }
+    ensures answered { AnswersRefusal (V.answered visitor.new) result }
 {
     match selection_of(window) {
         Some(selection) => {

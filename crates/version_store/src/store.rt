@@ -1,11 +1,12 @@
 //! The store: what is kept in memory over a connection.
 
 ghost use Rattle.std.specs.Prelude.{◌≡◌, ◌⊎◌, ◌<◌, ◌<ℤ◌, ◌≤ℤ◌, ◌++◌, ◌∷◌, [], List};
-ghost use Rattle.std.specs.Prelude.{IfErr, IfOk, IsOk, IsTrue, OnErr, OnOk, false, length, true};
+ghost use Rattle.std.specs.Prelude.{IfErr, IfOk, IsOk, IsTrue, None, OnErr, OnOk, false, length};
+ghost use Rattle.std.specs.Prelude.{true};
 ghost use Rattle.catalog_core.specs.Limits.{most_tables};
 ghost use Rattle.catalog_core.specs.table.TableWords.{has_date_period, has_distinct_names};
 ghost use Rattle.catalog_core.specs.declared.table.TableDef.{TableDef};
-ghost use Rattle.period_core.specs.Moments.{forever};
+ghost use Rattle.period_core.specs.Moments.{first_moment, forever};
 ghost use Rattle.sqlite.specs.Held.{state};
 ghost use Rattle.version_tables.specs.Making.{HasCounters};
 ghost use Rattle.version_tables.specs.Presence.{HasNoStoreTable};
@@ -16,7 +17,7 @@ ghost use Rattle.version_store.specs.Contents.{AreRowsOf, Contents, empty_conten
 ghost use Rattle.version_store.specs.DistinctKeys.{HaveDistinctKeys};
 ghost use Rattle.version_store.specs.Scans.{AnswersRefusal, IsOwnRefusal, Visits, is_empty};
 ghost use Rattle.version_store.specs.StoreState.{Changes, IsFailure, IsMadeBehind, IsOnlyRead};
-ghost use Rattle.version_store.specs.StoreState.{IsStoreRefusal, IsUsable, SparesOthers};
+ghost use Rattle.version_store.specs.StoreState.{IsStoreRefusal, IsUsable, SparesOthers, StaysOnErr};
 ghost use Rattle.version_store.specs.StoreState.{StoreRepresents};
 
 use crate::fault::refusal_of;
@@ -84,11 +85,14 @@ impl<S: Alter> VersionStore<S> {
             → HasNoStoreTable (state S.Store connection).now.schema
             → HasCounters (state S.Store connection).now.schema
             → IsMadeBehind (state S.Store connection) (state S.Store store.connection)) }
-        ensures empty { IfOk result (λ store. store.catalog.tables ≡ []) }
+        ensures empty { IfOk result
+            (λ store. (store.catalog.tables ≡ []) × (store.clock ≡ first_moment)) }
+        ensures usable { IfOk result (λ store. IsUsable S.Store store.connection
+            → IsUsable S.Store connection) }
         ensures none { IfErr result (λ failed. IsUsable S.Store failed.1
             → IsAsBefore (state S.Store connection) (state S.Store failed.1)) }
-        ensures was_open { IfErr result (λ failed. IsUsable S.Store failed.1
-            → IsTrue (state S.Store connection).is_open) }
+        ensures was_usable { IfErr result (λ failed. IsUsable S.Store failed.1
+            → IsUsable S.Store connection) }
         ensures settled { IfErr result (λ failed. failed.1.in_transaction ≡ false) }
         ensures named { IfErr result (λ failed. IsStoreRefusal failed.0) }
     {
@@ -142,6 +146,7 @@ impl<S: Alter> VersionStore<S> {
             (self.new.catalog.tables ≡ self.old.catalog.tables ++ definition ∷ []) }
         ensures none { OnErr result (self.new.catalog.tables ≡ self.old.catalog.tables) }
         ensures clock { self.new.clock ≡ self.old.clock }
+        ensures none_stored { StaysOnErr S.Store self.old.connection self.new.connection result }
         ensures others { SparesOthers S.Store self.old.connection self.new.connection }
         ensures usable { IsUsable S.Store self.new.connection
             → IsUsable S.Store self.old.connection }
@@ -168,6 +173,7 @@ impl<S: Alter> VersionStore<S> {
         ensures catalog { self.new.catalog ≡ self.old.catalog }
         ensures advanced { OnOk result (self.new.clock ≡ moment) }
         ensures clock { OnErr result (self.new.clock ≡ self.old.clock) }
+        ensures none_stored { StaysOnErr S.Store self.old.connection self.new.connection result }
         ensures others { SparesOthers S.Store self.old.connection self.new.connection }
         ensures usable { IsUsable S.Store self.new.connection
             → IsUsable S.Store self.old.connection }
@@ -193,6 +199,7 @@ impl<S: Alter> VersionStore<S> {
             (planned table moment plan.now.ended plan.now.added) }
         ensures catalog { self.new.catalog ≡ self.old.catalog }
         ensures clock { self.new.clock ≡ self.old.clock }
+        ensures none_stored { StaysOnErr S.Store self.old.connection self.new.connection result }
         ensures others { SparesOthers S.Store self.old.connection self.new.connection }
         ensures usable { IsUsable S.Store self.new.connection
             → IsUsable S.Store self.old.connection }
@@ -225,10 +232,10 @@ impl<S: Alter> VersionStore<S> {
     }
 
     /// Passes the version rows of the table of a number that the window sees to the visitor, one at
-    /// a time: by values, then period start, then system start. A refusal of the visitor ends the
-    /// scan and is answered; every other is out of memory, or comes of a fault of the database. On
-    /// `Err` the visitor has received some of the first rows. Nothing is changed. Where the window
-    /// is empty, no row is passed, and the database is not called.
+    /// a time: by values, then period start, then system start. The visitor has refused no row
+    /// before. A refusal of it ends the scan and is answered; every other is out of memory, or comes
+    /// of a fault of the database. On `Err` the visitor has received some of the first rows. Nothing
+    /// is changed. Where the window is empty, no row is passed, and the database is not called.
     pub fn scan<V: RowVisitor>(
         &mut self,
         alloc: Global,
@@ -236,6 +243,7 @@ impl<S: Alter> VersionStore<S> {
         window: Window,
         visitor: &mut V,
     ) -> Result<(), Refusal>
+        requires { V.answered visitor.old None }
         ensures visited { IsUsable S.Store self.new.connection
             → (c : Contents) → StoreRepresents S.Store self.old c
             → Visits V.next c table window (V.meaning visitor.old) (V.meaning visitor.new) result }
@@ -249,7 +257,7 @@ impl<S: Alter> VersionStore<S> {
         ensures read { IsOnlyRead S.Store self.old self.new }
         ensures empty { is_empty window ≡ true → IsOk result × (self.new ≡ self.old)
             × (V.meaning visitor.new ≡ V.meaning visitor.old) }
-        ensures answered { AnswersRefusal (V.answered visitor.old) (V.answered visitor.new) result }
+        ensures answered { AnswersRefusal (V.answered visitor.new) result }
         ensures named { IfErr result (λ refusal. IsStoreRefusal refusal ⊎ V.may_refuse refusal) }
     {
         scan_rows(alloc, &mut self.connection, table, window, visitor)

@@ -5,8 +5,8 @@ ghost use Rattle.version_tables.specs.Keeping.{LeavesOthers};
 ghost use Rattle.version_tables.specs.Moves.{AreInSeconds, moved};
 ghost use Rattle.version_tables.specs.Represents.{with_definition};
 ghost use Rattle.version_store.specs.Changed.{planned, with_clock};
-ghost use Rattle.version_store.specs.StoreState.{IsUsable};
-ghost use Rattle.version_store.specs.Steps.{Carries, Commits, CommitsWhere, Undoes};
+ghost use Rattle.version_store.specs.StoreState.{IsUsable, StaysOnErr};
+ghost use Rattle.version_store.specs.Steps.{Carries, Commits, CommitsWhere};
 ghost use Rattle.version_tables.specs.Steps.{CommitsNothing, ChangesWhere};
 
 use crate::fault::StoreFault;
@@ -30,7 +30,7 @@ pub(crate) fn write_plan<S: Alter>(
     ensures made { Commits S.Store connection.old connection.new result
         (planned table moment plan.now.ended plan.now.added) }
     ensures others { OnOk result (LeavesOthers S.Store connection.old connection.new) }
-    ensures none { Undoes S.Store connection.old connection.new result }
+    ensures none { StaysOnErr S.Store connection.old connection.new result }
     ensures usable { IsUsable S.Store connection.new → IsUsable S.Store connection.old }
     ensures mode { connection.new.in_transaction ≡ false }
 {
@@ -85,7 +85,7 @@ pub(crate) fn write_table<S: Alter>(
     ensures made { CommitsWhere S.Store connection.old connection.new result
         (λ records. number ≡ length records.tables + 1) (with_definition definition.now) }
     ensures others { OnOk result (LeavesOthers S.Store connection.old connection.new) }
-    ensures none { Undoes S.Store connection.old connection.new result }
+    ensures none { StaysOnErr S.Store connection.old connection.new result }
     ensures usable { IsUsable S.Store connection.new → IsUsable S.Store connection.old }
     ensures mode { connection.new.in_transaction ≡ false }
 {
@@ -105,7 +105,7 @@ pub(crate) fn write_clock<S: Alter>(
     requires { connection.old.in_transaction ≡ false }
     ensures made { Commits S.Store connection.old connection.new result (with_clock moment) }
     ensures others { OnOk result (LeavesOthers S.Store connection.old connection.new) }
-    ensures none { Undoes S.Store connection.old connection.new result }
+    ensures none { StaysOnErr S.Store connection.old connection.new result }
     ensures usable { IsUsable S.Store connection.new → IsUsable S.Store connection.old }
     ensures mode { connection.new.in_transaction ≡ false }
 {
@@ -143,7 +143,7 @@ pub(crate) fn write_move<S: Alter>(
     ensures made { CommitsWhere S.Store connection.old connection.new result
         (AreInSeconds clock) moved }
     ensures others { OnOk result (LeavesOthers S.Store connection.old connection.new) }
-    ensures none { Undoes S.Store connection.old connection.new result }
+    ensures none { StaysOnErr S.Store connection.old connection.new result }
     ensures usable { IsUsable S.Store connection.new → IsUsable S.Store connection.old }
     ensures mode { connection.new.in_transaction ≡ false }
 {

@@ -24,11 +24,12 @@ pub trait RowVisitor {
     /// Which refusals it may answer.
     ghost may_refuse: { AnyRefusal → Type 0 };
 
-    /// How it answered last: by a refusal, or by none. A visitor may leave this open.
+    /// Which refusal it has answered: `None` where it has refused no row.
     ghost answered: { Self → Option AnyRefusal → Type 0 };
 
-    /// Takes a row, or refuses it. A refused row leaves the meaning.
+    /// Takes a row, or refuses it. A refused row leaves the meaning, and is the last that is passed.
     fn visit(&mut self, row: VersionRow) -> Result<(), Refusal>
+        requires { answered self.old None }
         ensures taken { OnOk result (meaning self.new ≡ next (meaning self.old) row) }
         ensures refused { OnErr result (meaning self.new ≡ meaning self.old) }
         ensures named { IfErr result may_refuse }
@@ -36,25 +37,29 @@ pub trait RowVisitor {
         ensures refuses { IfErr result (λ refusal. answered self.new (Some refusal)) };
 }
 
-/// A visitor that keeps all rows, in the order in which it takes them.
+/// A visitor that keeps all rows, in the order in which it takes them. A row for which there is no
+/// memory is refused.
 #[derive(Drop, Debug)]
 pub struct RowCollector {
     /// The rows so far.
     pub rows: Vec<VersionRow>,
+    /// Why it refused a row, if it did.
+    pub refusal: Option<Refusal>,
 }
 
 impl RowCollector {
-    /// No rows so far.
+    /// No rows so far, and none refused.
     pub fn new(alloc: Global) -> RowCollector
-        ensures { result.rows.items ≡ [] }
+        ensures rows { result.rows.items ≡ [] }
+        ensures refusal { result.refusal ≡ None }
     {
         RowCollector {
             rows: Vec::new(alloc),
+            refusal: None,
         }
     }
 }
 
-// A row is refused where there is no memory for it.
 impl RowVisitor for RowCollector {
     ghost Meaning = { List AnyRow };
 
@@ -64,10 +69,15 @@ impl RowVisitor for RowCollector {
 
     ghost may_refuse = { λ refusal. refusal ≡ Memory };
 
-    ghost answered = { λ _ _. Unit {0} };
+    ghost answered = { λ kept answer. kept.refusal ≡ answer };
 
     fn visit(&mut self, row: VersionRow) -> Result<(), Refusal> {
-        self.rows.push(row)?;
-        Ok(())
+        match self.rows.push(row) {
+            Ok(()) => Ok(()),
+            Err(_) => {
+                self.refusal = Some(Refusal::Memory);
+                Err(Refusal::Memory)
+            }
+        }
     }
 }

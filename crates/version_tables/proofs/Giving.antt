@@ -18,10 +18,10 @@ use Rattle.sqlite_resolve.specs.declared.error.CompileError.{CompileError}
 use Rattle.version_tables.specs.Selections.{select_given, select_text}
 use Rattle.version_tables.specs.declared.selection.Selection.{Selection}
 use Rattle.version_tables.specs.Represents.{Records, Represents}
-use Rattle.version_tables.specs.Giving.{AreFirst, GivesNext, HasGivenRows, IsAfterQuery, HasNotBegun, FailsWithReason}
-use Rattle.version_tables.specs.Steps.{HasReason, Keeps, KeepsFaults}
-use Rattle.version_tables.proofs.Reasons.{fails_with_reason}
-use Rattle.version_tables.specs.Tables.{schema_with}
+use Rattle.version_tables.specs.Giving.{AreFirst, GivesNext, HasGivenRows, IsAfterQuery, HasNotBegun}
+use Rattle.version_tables.specs.Steps.{FailsWithReason, HasReason, Keeps, KeepsFaults}
+use Rattle.version_tables.proofs.Reasons.{select_fails}
+use Rattle.version_tables.specs.Tables.{HasStoreTables, schema_with}
 use Rattle.version_tables.proofs.Selects.{failed_keeps, select_reads, understood_none}
 use Rattle.version_tables.proofs.Shows.{reads}
 use Rattle.version_tables.proofs.Texts.{select_is}
@@ -89,7 +89,7 @@ module _ {S : Type 0} (g : Ghosts S) (table : ℕ) (selection : Selection) (firs
       mode = h.mode mode;
       faults = record { faults = h.survives.counts; limit = h.survives.limit };
     };
-    why = λ clean m stands. fails_with_reason (state g first) (state g now) table selection m stands e (h.err clean);
+    why = λ clean has. select_fails (state g first) (state g now) table selection has e (h.err clean);
   }
 
   -- ---- a row more, or the end
@@ -149,7 +149,7 @@ module _ {S : Type 0} (g : Ghosts S) (table : ℕ) (selection : Selection) (firs
     ]
 
     pub why_so : {X : Type 0} (r : Result X Error) → (HasCleanDisk (state g now) → IfErr r (FailsToAdvance g before now)) → FailsWithReason g first now r
-    why_so (Ok x) failed clean m stands = tt
-    why_so (Err e) failed clean m stands =
+    why_so (Ok x) failed clean has = tt
+    why_so (Err e) failed clean has =
         let so_far = was.unchanged (still_clean clean) in
-        since e so_far (fails_with_reason (state g before) (state g now) table selection m (subst (λ db. Represents db m) (sym so_far.0.now_is) stands) e (failed clean text params given (was.goes_on (still_clean clean))))
+        since e so_far (select_fails (state g before) (state g now) table selection (subst (λ (db : Database). HasStoreTables db.schema) (sym so_far.0.now_is) has) e (failed clean text params given (was.goes_on (still_clean clean))))

@@ -1,5 +1,5 @@
 -- Rows in the order of their rowids.
-use Rattle.std.proofs.Common.{◌≡◌, ◌⊎◌, inl, inr, ℕ, suc, ◌+◌, ◌<◌, ℤ, ◌<ℤ◌, pos, List, [], ◌∷◌, map, filter, length, get_or, true, false, not, refl, sym, ap, subst, ◌∙◌, arith, Ordering, Less, Equal, Greater, true≢false}
+use Rattle.std.proofs.Common.{◌≡◌, ◌⊎◌, inl, inr, ℕ, zero, suc, ◌+◌, ◌<◌, ℤ, ◌<ℤ◌, pos, List, [], ◌∷◌, map, filter, length, get_or, true, false, not, refl, sym, ap, ap₂, subst, ◌∙◌, arith, Ordering, Less, Equal, Greater, true≢false}
 use Rattle.std.specs.Prelude.{IsSorted}
 use Rattle.std.specs.List.{AllByRecursion}
 use Rattle.std.specs.List.Sorted.{IsPermutation}
@@ -17,7 +17,8 @@ use Rattle.sqlite.specs.View.{is_int}
 use Rattle.std.proofs.lemmas.Int.{ints}
 use Rattle.version_tables.specs.Represents.{rowid_shown, table_shown, defined, same_rowid, HaveDistinctRowids}
 use Rattle.version_tables.specs.Rows.{AreNumbered, AreRising, InOrder, Rise, by_rowid}
-use Rattle.version_tables.proofs.Goes.{untied_along, tied_turned}
+use Rattle.sqlite_rules.proofs.TableLemmas.{int_is}
+use Rattle.version_tables.proofs.Goes.{rid, tied_turned, untied_along}
 
 -- ---- lists
 
@@ -113,11 +114,11 @@ definitions_in_order tree tables ds order says =
 
 -- ---- rowids
 
+pub int_less : (m n : ℤ) → m <ℤ n → int_cmp m n ≡ Less
+int_less m n h = grind (arith, nat_tests, ints)
+
 rises_by : (a b : Row) → Rise a b → by_rowid a b ≡ Less
 rises_by a b h = rw (h.low_is.1, h.high_is.1) (value_cmp-Int h.low h.high ∙ int_less h.low h.high h.rises)
-  where
-    int_less : (m n : ℤ) → m <ℤ n → int_cmp m n ≡ Less
-    int_less m n h = grind (arith, nat_tests, ints)
 
 rising_table : (rows : List Row) → AreRising rows → IsTable rows
 rising_table [] up = tt
@@ -134,3 +135,40 @@ own_rowids tree ids same ints up =
       ascending_from_map (λ a b. same_rowid a b ≡ false) rowid_shown tree (untied_along _ _ back (table_untied ids (rising_table ids up))),
       all_from_map (λ r. is_int (rowid r) ≡ true) rowid_shown tree (all-permutation (λ r. is_int (rowid r) ≡ true) _ _ back (all_by_place (λ r. is_int (rowid r) ≡ true) [] ids ints)),
     )
+
+-- ---- and back: rows with rowids of their own show them rising
+
+pub int_greater : (m n : ℤ) → int_cmp m n ≡ Less → m <ℤ n
+int_greater m n h = grind (arith, nat_tests, ints)
+
+pub rid_below : (a b : Row) → is_int (rowid a) ≡ true → is_int (rowid b) ≡ true → by_rowid a b ≡ Less → rid a <ℤ rid b
+rid_below a b int_a int_b below = int_greater (rid a) (rid b) (sym (value_cmp-Int (rid a) (rid b)) ∙ ap₂ value_cmp (sym (int_is (rowid a) int_a)) (sym (int_is (rowid b) int_b)) ∙ below)
+
+rise_of : (a b : Row) → is_int (rowid a) ≡ true → is_int (rowid b) ≡ true → by_rowid a b ≡ Less → Rise (rowid_shown a) (rowid_shown b)
+rise_of a b int_a int_b below = record {
+  low = rid a;
+  high = rid b;
+  low_is = (omega arith, int_is (rowid a) int_a);
+  high_is = (omega arith, int_is (rowid b) int_b);
+  rises = rid_below a b int_a int_b below;
+}
+
+numbered_shown : (rows : List Row) → AllByRecursion (λ r. is_int (rowid r) ≡ true) rows → AreNumbered (map rowid_shown rows)
+numbered_shown [] ints k low = absurd (omega (arith, low))
+numbered_shown (x ∷ rows) ints zero low = ints.0
+numbered_shown (x ∷ rows) ints (suc k) low = numbered_shown rows ints.1 k (omega (arith, low))
+
+rising_shown : (rows : List Row) → IsTable rows → AllByRecursion (λ r. is_int (rowid r) ≡ true) rows → AreRising (map rowid_shown rows)
+rising_shown [] up ints k low = absurd (omega (arith, low))
+rising_shown (x ∷ []) up ints k low = absurd (omega (arith, low))
+rising_shown (x ∷ y ∷ rows) up ints zero low = rise_of x y ints.0 ints.1.0 up.0.0
+rising_shown (x ∷ y ∷ rows) up ints (suc k) low =
+    let next : suc (k + 1) ≡ suc k + 1 = omega arith in
+    subst (λ (n : ℕ). Rise (get_or (map rowid_shown (y ∷ rows)) k []) (get_or (map rowid_shown (x ∷ y ∷ rows)) n [])) next (rising_shown (y ∷ rows) up.1 ints.1 k (omega (arith, low)))
+
+pub rowids_rise : (tree ids : List Row) → InOrder rowid_shown by_rowid tree ids → HaveDistinctRowids tree → AllByRecursion (λ r. is_int (rowid r) ≡ true) tree → AreNumbered ids × AreRising ids
+rowids_rise tree ids order untied keyed =
+    let to = order.0 in
+    let ints = all-permutation (λ r. is_int (rowid r) ≡ true) tree to order.1 keyed in
+    let up = sorted_table to order.3 (untied_along tree to order.1 untied) in
+    subst (λ (l : List Row). AreNumbered l × AreRising l) (sym order.2) (numbered_shown to ints, rising_shown to up ints)

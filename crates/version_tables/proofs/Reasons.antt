@@ -1,13 +1,16 @@
--- Why a query of the versions fails where the three tables are there.
-use Rattle.std.proofs.Common.{◌≡◌, ◌∙◌, inl, inr, ℕ, List, [], ◌∷◌, true, codes, Ok, Err, Result, refl, sym, ap, subst, subst₂, append-nil, length, true≢false, arith}
-use Rattle.std.specs.Prelude.{nat_le}
+-- Why a text of the store fails where the three tables are there.
+use Rattle.std.proofs.Common.{◌≡◌, ◌∙◌, inl, inr, ℕ, List, [], ◌∷◌, true, false, codes, Ok, Err, Result, IfErr, refl, sym, ap, subst, subst₂, append-nil, length, true≢false, arith}
+use Rattle.std.specs.Prelude.{nat_le, Vec}
+use Rattle.std.specs.declared.alloc.Global.{Global}
 use Rattle.std.specs.List.{Any}
 use Rattle.std.proofs.lemmas.Bool.Decides.{nat_tests}
 use Rattle.sqlite.specs.Order.{Row}
 use Rattle.sqlite.specs.Effect.{Database, RefusesToRead}
 use Rattle.sqlite.specs.Command.TheVariants.{Select}
+use Rattle.sqlite.specs.Query.{Query}
 use Rattle.sqlite.specs.Listing.{understood, reads_listing, IsSourceOf}
-use Rattle.sqlite.specs.State.{State, Fails, FailsToQuery, HasCause, IsNoStatement, IsNotRun, store_error}
+use Rattle.sqlite.specs.State.{State, Fails, FailsToQuery, HasCause, IsNoStatement, IsNotRun, Survives, store_error}
+use Rattle.sqlite.specs.Tree.{Trees}
 use Rattle.sqlite.specs.declared.error.Error.{Error}
 use Rattle.sqlite_trees.specs.declared.error.StoreError.{StoreError}
 use Rattle.sqlite_trees.specs.declared.error.StoreError.TheVariants.{OutOfMemory, Io, Corrupt, Full, Broken, Unstorable}
@@ -17,24 +20,21 @@ use Rattle.sqlite_resolve.specs.declared.error.CompileError.{CompileError}
 use Rattle.sqlite_sql.specs.Program.{ProgramOverflows}
 use Rattle.sqlite_typing.specs.Types.{accepts_program}
 use Rattle.sqlite_tied.specs.Compute.{everything}
-use Rattle.version_tables.specs.Represents.{Records, Represents}
 use Rattle.version_tables.specs.Selections.{select_given, select_text}
-use Rattle.version_tables.specs.Steps.{HasReason}
-use Rattle.version_tables.specs.Tables.{Others, schema_with}
+use Rattle.version_tables.specs.Steps.{HasReason, KeepsFaults}
+use Rattle.version_tables.specs.Tables.{HasStoreTables, Others, schema_with}
+use Rattle.version_tables.specs.Texts.{meta_rows_text, rowids_text, table_rows_text, version_rows_text}
 use Rattle.version_tables.specs.declared.selection.Selection.{Selection}
 use Rattle.version_tables.specs.declared.selection.Selection.TheVariants.{Whole, EndingAt, Overlapping}
+use Rattle.version_tables.proofs.Asks.{meta_asks, meta_names, meta_order, meta_project, rowid_asks, rowid_names, rowid_project, table_asks, table_names, table_project, version_asks, version_names, version_order, version_project}
 use Rattle.version_tables.proofs.Texts.{select_is, select_query}
+use Rattle.version_tables.proofs.Whole.{whole}
 
 -- ---- the text is one statement, of so many parameters
 
-abbrev IsOne : List ℕ → ℕ → Result Compiled CompileError → Type 0
+abbrev pub IsOne : List ℕ → ℕ → Result Compiled CompileError → Type 0
 IsOne text count (Ok c) = (nat_le (length text) c.tail ≡ true) × (count ≡ length c.names)
 IsOne text count (Err e) = ⊥
-
-abbrev count_given : Selection → ℕ
-count_given Whole = 1
-count_given (EndingAt end) = 2
-count_given (Overlapping start end) = 3
 
 whole_one : (others : Others) → IsOne (select_text Whole) 1 (understood (schema_with others) (select_text Whole))
 unfolding understood everything
@@ -48,86 +48,119 @@ overlapping_one : (others : Others) (start end : _) → IsOne (select_text (Over
 unfolding understood everything
 overlapping_one others start end = (refl, refl)
 
-is_one : (others : Others) (selection : Selection) → IsOne (select_text selection) (count_given selection) (understood (schema_with others) (select_text selection))
-is_one others Whole = whole_one others
-is_one others (EndingAt end) = ending_one others end
-is_one others (Overlapping start end) = overlapping_one others start end
+select_one : (table : ℕ) (selection : Selection) (others : Others) → IsOne (select_text selection) (length (select_given table selection)) (understood (schema_with others) (select_text selection))
+select_one table Whole others = whole_one others
+select_one table (EndingAt end) others = ending_one others end
+select_one table (Overlapping start end) others = overlapping_one others start end
 
-given_long : (table : ℕ) (selection : Selection) → length (select_given table selection) ≡ count_given selection
-given_long table Whole = refl
-given_long table (EndingAt end) = refl
-given_long table (Overlapping start end) = refl
+meta_one : (others : Others) → IsOne meta_rows_text 0 (understood (schema_with others) meta_rows_text)
+unfolding understood everything
+meta_one others = (refl, refl)
 
--- the names of the columns that it shows
-abbrev shown_names : List (List ℕ)
-shown_names = codes "vals" ∷ codes "s" ∷ codes "e" ∷ codes "ss" ∷ codes "se" ∷ []
+table_one : (others : Others) → IsOne table_rows_text 0 (understood (schema_with others) table_rows_text)
+unfolding understood everything
+table_one others = (refl, refl)
+
+version_one : (others : Others) → IsOne version_rows_text 0 (understood (schema_with others) version_rows_text)
+unfolding understood everything
+version_one others = (refl, refl)
+
+rowid_one : (others : Others) → IsOne rowids_text 0 (understood (schema_with others) rowids_text)
+unfolding understood everything
+rowid_one others = (refl, refl)
 
 -- ---- it is typed, and sums nothing
 
-typed : (others : Others) (table : ℕ) (selection : Selection) → accepts_program (schema_with others) [] (select_query selection) (select_given table selection) ≡ true
-typed others table Whole = refl
-typed others table (EndingAt end) = refl
-typed others table (Overlapping start end) = refl
+select_typed : (table : ℕ) (selection : Selection) (others : Others) → accepts_program (schema_with others) [] (select_query selection) (select_given table selection) ≡ true
+select_typed table Whole others = refl
+select_typed table (EndingAt end) others = refl
+select_typed table (Overlapping start end) others = refl
 
-none_of : {A : Type 0} (xs : List A) → Any (λ (x : A). ⊥) xs → ⊥
+pub none_of : {A : Type 0} (xs : List A) → Any (λ (x : A). ⊥) xs → ⊥
 none_of xs any = any.4
 
-never_overflows : (db : Database) (params : Row) (selection : Selection) → ProgramOverflows db.trees params [] [] (select_query selection) → ⊥
-never_overflows db params selection (inl group) = group
-never_overflows db params selection (inr some) = none_of _ some
+abbrev pub NeverOverflows : Row → Query → Type 0
+NeverOverflows params query = (db : Trees) → ProgramOverflows db params [] [] query → ⊥
+
+select_never : (params : Row) (selection : Selection) → NeverOverflows params (select_query selection)
+select_never params selection db (inl group) = group
+select_never params selection db (inr some) = none_of _ some
 
 -- ---- why it fails
 
 module _ (old new : State) where
-  by_cause : (e : Error) (cause : StoreError) → e ≡ store_error cause → HasCause old new ⊥ cause → HasReason old new e
-  by_cause e OutOfMemory is h on = inl is
-  by_cause e Io is h on = inr (inl h)
-  by_cause e Corrupt is h on = inr (inl h)
-  by_cause e Full is h on = inr (inl h)
-  by_cause e Broken is h on = absurd (true≢false (sym on ∙ h))
-  by_cause e Unstorable is h on = absurd h
+  pub by_cause : (TooBig : Type 0) → ¬ TooBig → (e : Error) (cause : StoreError) → e ≡ store_error cause → HasCause old new TooBig cause → HasReason old new e
+  by_cause TooBig small e OutOfMemory is h on = inl is
+  by_cause TooBig small e Io is h on = inr (inl h)
+  by_cause TooBig small e Corrupt is h on = inr (inl h)
+  by_cause TooBig small e Full is h on = inr (inl h)
+  by_cause TooBig small e Broken is h on = absurd (true≢false (sym on ∙ h))
+  by_cause TooBig small e Unstorable is h on = absurd (small h)
 
-  by_failure : (e : Error) → Fails old new ⊥ e → HasReason old new e
-  by_failure e failed = by_cause e failed.0 failed.1 failed.2
+  pub by_failure : (TooBig : Type 0) → ¬ TooBig → (e : Error) → Fails old new TooBig e → HasReason old new e
+  by_failure TooBig small e failed = by_cause TooBig small e failed.0 failed.1 failed.2
 
-  module _ (table : ℕ) (selection : Selection) (m : Records) (stands : Represents old.now m) where
-    abbrev text : List ℕ
-    text = select_text selection
+  pub keeps_faults : {P : Trees → Type 0} → Survives old new P → KeepsFaults old new
+  keeps_faults s = record { faults = s.counts; limit = s.limit }
 
-    abbrev params : Row
-    params = select_given table selection
+-- the text is one of the store's
+module _ (text : List ℕ) (params : Row) (one : (others : Others) → IsOne text (length params) (understood (schema_with others) text)) (plain : (others : Others) → IsPlain (understood (schema_with others) text))
+    (s : State) (has : HasStoreTables s.now.schema) where
+  pub known : (r : Result Compiled CompileError) → understood s.now.schema text ≡ r → understood (schema_with has.others) text ≡ r
+  known r is = ap (λ schema. understood schema text) (sym has.schema_is) ∙ is
 
-    abbrev others : Others
-    others = stands.schema.others
+  pub not_refused : (e : Error) → IsNoStatement s text params e → ⊥
+  not_refused e (inl (fault, is, _)) = subst (IsOne text (length params)) (known (Err fault) is) (one has.others)
+  not_refused e (inr (c, is, inl (long, _))) =
+      let fits = (subst (IsOne text (length params)) (known (Ok c) is) (one has.others)).0 in
+      long (grind (arith, nat_tests, fits))
+  not_refused e (inr (c, is, inr (inl (other, _)))) = other (subst (IsOne text (length params)) (known (Ok c) is) (one has.others)).1
+  not_refused e (inr (c, is, inr (inr (clock, _)))) = clock (subst IsPlain (known (Ok c) is) (plain has.others)).1
 
-    known : (r : Result Compiled CompileError) → understood old.now.schema text ≡ r → understood (schema_with others) text ≡ r
-    known r is = ap (λ schema. understood schema text) (sym stands.schema.schema_is) ∙ is
+-- and a query
+module _ (text : List ℕ) (query : Query) (names : List (List ℕ)) (params : Row) (one : (others : Others) → IsOne text (length params) (understood (schema_with others) text))
+    (asks : (others : Others) → (command_of (understood (schema_with others) text) ≡ Select (record { lets = []; body = query }) names) × (reads_listing (schema_with others) text ≡ false) × IsPlain (understood (schema_with others) text))
+    (typed : (others : Others) → accepts_program (schema_with others) [] query params ≡ true) (never : NeverOverflows params query) (old new : State) (has : HasStoreTables old.now.schema) where
+  reads_with_reason : (e : Error) → RefusesToRead old.step_limit (Select (record { lets = []; body = query }) names) old.now params e → HasReason old new e
+  reads_with_reason e (inl (is, untyped)) = absurd (true≢false (sym (ap (λ schema. accepts_program schema [] query params) has.schema_is ∙ typed has.others) ∙ untyped))
+  reads_with_reason e (inr (inl (is, over))) = absurd (never old.now.trees over)
+  reads_with_reason e (inr (inr (is, some))) = λ on. inr (inr some)
 
-    not_refused : (e : Error) → IsNoStatement old text params e → ⊥
-    not_refused e (inl (fault, is, _)) = subst (IsOne text (count_given selection)) (known (Err fault) is) (is_one others selection)
-    not_refused e (inr (c, is, inl (long, _))) =
-        let one = subst (IsOne text (count_given selection)) (known (Ok c) is) (is_one others selection) in
-        let fits = one.0 in
-        long (grind (arith, nat_tests, fits))
-    not_refused e (inr (c, is, inr (inl (other, _)))) =
-        let one = subst (IsOne text (count_given selection)) (known (Ok c) is) (is_one others selection) in
-        other (given_long table selection ∙ one.1)
-    not_refused e (inr (c, is, inr (inr (clock, _)))) =
-        clock (subst IsPlain (known (Ok c) is) (select_is others selection).2).1
+  pub fails_with_reason : (e : Error) → FailsToQuery text params old new e → HasReason old new e
+  unfolding FailsToQuery IsNotRun
+  fails_with_reason e (inl (inl refused)) = absurd (not_refused text params one (λ others. (asks others).2) old has e refused.0)
+  fails_with_reason e (inl (inr failed)) = by_failure old new ⊥ (λ none. none) e failed
+  fails_with_reason e (inr h) =
+      let is = known text params one (λ others. (asks others).2) old has (Ok h.0) h.1.is in
+      let it = asks has.others in
+      let bare = subst IsPlain is it.2 in
+      let read = rw (bare.0, bare.1, append-nil params) at h.2 in
+      let db : read.0 ≡ old.now = subst (λ b. IsSourceOf b old.now read.0) (ap (λ schema. reads_listing schema text) has.schema_is ∙ it.1) read.1 in
+      let command = sym (ap command_of is) ∙ it.0 in
+      reads_with_reason e (subst₂ (λ k d. RefusesToRead old.step_limit k d params e) command db read.2)
 
-    reads_with_reason : (e : Error) (names : List (List ℕ)) → RefusesToRead old.step_limit (Select (record { lets = []; body = select_query selection }) names) old.now params e → HasReason old new e
-    reads_with_reason e names (inl (is, untyped)) = absurd (true≢false (sym (ap (λ schema. accepts_program schema [] (select_query selection) params) stands.schema.schema_is ∙ typed others table selection) ∙ untyped))
-    reads_with_reason e names (inr (inl (is, over))) = absurd (never_overflows old.now params selection over)
-    reads_with_reason e names (inr (inr (is, some))) = λ on. inr (inr some)
+  pub query_fails : (r : Result (Vec Row Global) Error) → IfErr r (FailsToQuery text params old new) → IfErr r (HasReason old new)
+  query_fails (Ok rows) failed = tt
+  query_fails (Err e) failed = fails_with_reason e failed
 
-    pub fails_with_reason : (e : Error) → FailsToQuery text params old new e → HasReason old new e
-    unfolding FailsToQuery IsNotRun
-    fails_with_reason e (inl (inl refused)) = absurd (not_refused e refused.0)
-    fails_with_reason e (inl (inr failed)) = by_failure e failed
-    fails_with_reason e (inr h) =
-        let is = known (Ok h.0) h.1.is in
-        let bare = subst IsPlain is (select_is others selection).2 in
-        let it = rw (bare.0, bare.1, append-nil params) at h.2 in
-        let db : it.0 ≡ old.now = subst (λ b. IsSourceOf b old.now it.0) (ap (λ schema. reads_listing schema text) stands.schema.schema_is ∙ (select_is others selection).1) it.1 in
-        let command = sym (ap command_of is) ∙ (select_is others selection).0 in
-        reads_with_reason e shown_names (subst₂ (λ k d. RefusesToRead old.step_limit k d params e) command db it.2)
+-- ---- the queries of the store
+
+pub select_fails : (old new : State) (table : ℕ) (selection : Selection) → HasStoreTables old.now.schema → (e : Error) → FailsToQuery (select_text selection) (select_given table selection) old new e → HasReason old new e
+select_fails old new table selection has =
+    fails_with_reason (select_text selection) (select_query selection) (codes "vals" ∷ codes "s" ∷ codes "e" ∷ codes "ss" ∷ codes "se" ∷ []) (select_given table selection) (select_one table selection) (λ others. select_is others selection)
+    (select_typed table selection) (select_never (select_given table selection) selection) old new has
+
+abbrev FailsWith : List ℕ → Type 1
+FailsWith text = (old new : State) → HasStoreTables old.now.schema → (r : Result (Vec Row Global) Error) → IfErr r (FailsToQuery text [] old new) → IfErr r (HasReason old new)
+
+pub meta_fails : FailsWith meta_rows_text
+meta_fails = query_fails meta_rows_text (whole 0 meta_project meta_order) meta_names [] meta_one meta_asks (λ others. refl) (λ db over. elim over [ inl group ↦ group | inr some ↦ none_of _ some ])
+
+pub table_fails : FailsWith table_rows_text
+table_fails = query_fails table_rows_text (whole 1 table_project meta_order) table_names [] table_one table_asks (λ others. refl) (λ db over. elim over [ inl group ↦ group | inr some ↦ none_of _ some ])
+
+pub version_fails : FailsWith version_rows_text
+version_fails = query_fails version_rows_text (whole 2 version_project version_order) version_names [] version_one version_asks (λ others. refl) (λ db over. elim over [ inl group ↦ group | inr some ↦ none_of _ some ])
+
+pub rowid_fails : FailsWith rowids_text
+rowid_fails = query_fails rowids_text (whole 2 rowid_project meta_order) rowid_names [] rowid_one rowid_asks (λ others. refl) (λ db over. elim over [ inl group ↦ group | inr some ↦ none_of _ some ])

@@ -1,6 +1,6 @@
 -- The query of versions of one table, whose rows are given one at a time.
 use Rattle.std.specs.Prelude.{◌≡◌, ℕ, false, List, [], ◌∷◌, ◌++◌, map, Option, Some, None}
-use Rattle.std.specs.Prelude.{IfErr, IsPermutation, IsSorted, IsTrue, Result}
+use Rattle.std.specs.Prelude.{IsPermutation, IsSorted, IsTrue, Result}
 use Rattle.sqlite.specs.Store.{Ghosts}
 use Rattle.sqlite.specs.Effect.{Database}
 use Rattle.sqlite.specs.Order.{Row}
@@ -10,7 +10,7 @@ use Rattle.sqlite.specs.State.{HasCleanDisk, IsUnchanged}
 use Rattle.sqlite.specs.declared.error.Error.{Error}
 use Rattle.version_tables.specs.Represents.{Records, Represents, Version, shown, version_cmp}
 use Rattle.version_tables.specs.Selections.{select_given, select_text, selected}
-use Rattle.version_tables.specs.Steps.{HasReason, Keeps, KeepsFaults}
+use Rattle.version_tables.specs.Steps.{FailsWithReason, Keeps, KeepsFaults}
 use Rattle.version_tables.specs.declared.selection.Selection.{Selection}
 
 -- the selected versions of the table, each once and in order
@@ -42,12 +42,6 @@ pub record IsAfterQuery {S : Type 0} (g : Ghosts S) (first now : Held S) : Type 
   pub keeps : HasCleanDisk (state g now) → Keeps (state g first) (state g now)
   pub mode : now.in_transaction ≡ false
   pub faults : KeepsFaults (state g first) (state g now)
-
--- where the three tables were there, an error of the query has a reason
-abbrev pub FailsWithReason : {S X : Type 0} → Ghosts S → Held S → Held S → Result X Error → Type 0
-FailsWithReason g first now result =
-    HasCleanDisk (state g now) → (records : Records) → Represents (state g first).now records
-    → IfErr result (HasReason (state g first) (state g now))
 
 -- a query that did not begin
 pub record HasNotBegun {S X : Type 0} (g : Ghosts S) (first : Held S) (result : Result X Error)

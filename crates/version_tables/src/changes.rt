@@ -1,12 +1,14 @@
 //! The changes, each one statement inside a transaction that the caller opens and commits. Days and
-//! moments are numbers of the calendar.
+//! moments are numbers of the calendar. Over a healthy database each is refused for nothing but
+//! memory and faults, and leaves the database healthy.
 
 ghost use Rattle.std.specs.Prelude.{◌≡◌, ◌+◌, length, OnOk};
 ghost use Rattle.version_tables.specs.Keeping.{LeavesOthers};
 ghost use Rattle.version_tables.specs.Represents.{ended, key_of, removed};
 ghost use Rattle.version_tables.specs.Represents.{with_clock, with_definition, with_ends};
-ghost use Rattle.version_tables.specs.Steps.{CommitsNothing, ChangesKey, ChangesRecords};
-ghost use Rattle.version_tables.specs.Steps.{ChangesWhere};
+ghost use Rattle.version_tables.specs.Healthy.{IsShort};
+ghost use Rattle.version_tables.specs.Steps.{ChangeFailsWithReason, ChangesKey, ChangesRecords};
+ghost use Rattle.version_tables.specs.Steps.{ChangesWhere, CommitsNothing, StaysHealthy};
 
 use sqlite::{Alter, Error, Transaction, params};
 
@@ -25,6 +27,10 @@ pub fn remove_version<S: Alter>(
     ensures others { OnOk result
         (LeavesOthers S.Store transaction.old.conn.now transaction.new.conn.now) }
     ensures inside { CommitsNothing S.Store transaction.old.conn.now transaction.new.conn.now }
+    ensures why { ChangeFailsWithReason S.Store transaction.old.conn.now transaction.new.conn.now
+        result 0 (λ _ _. Unit {0}) }
+    ensures healthy { StaysHealthy S.Store transaction.old.conn.now transaction.new.conn.now
+        result 0 (λ _. Unit {0}) }
 {
     transaction.execute(
         "DELETE FROM bt_version WHERE tab = ?1 AND vals = ?2 AND s = ?3 AND ss = ?4",
@@ -47,6 +53,10 @@ pub fn end_version<S: Alter>(
     ensures others { OnOk result
         (LeavesOthers S.Store transaction.old.conn.now transaction.new.conn.now) }
     ensures inside { CommitsNothing S.Store transaction.old.conn.now transaction.new.conn.now }
+    ensures why { ChangeFailsWithReason S.Store transaction.old.conn.now transaction.new.conn.now
+        result 0 (λ _ _. IsShort values.now) }
+    ensures healthy { StaysHealthy S.Store transaction.old.conn.now transaction.new.conn.now
+        result 0 (λ _. Unit {0}) }
 {
     transaction.execute(
         "UPDATE bt_version SET se = ?5 WHERE tab = ?1 AND vals = ?2 AND s = ?3 AND ss = ?4",
@@ -71,6 +81,10 @@ pub fn move_ends<S: Alter>(
     ensures others { OnOk result
         (LeavesOthers S.Store transaction.old.conn.now transaction.new.conn.now) }
     ensures inside { CommitsNothing S.Store transaction.old.conn.now transaction.new.conn.now }
+    ensures why { ChangeFailsWithReason S.Store transaction.old.conn.now transaction.new.conn.now
+        result 0 (λ _ _. IsShort values.now) }
+    ensures healthy { StaysHealthy S.Store transaction.old.conn.now transaction.new.conn.now
+        result 0 (λ _. Unit {0}) }
 {
     transaction.execute(
         "UPDATE bt_version SET e = ?5, se = ?6 \
@@ -92,6 +106,11 @@ pub fn insert_definition<S: Alter>(
     ensures others { OnOk result
         (LeavesOthers S.Store transaction.old.conn.now transaction.new.conn.now) }
     ensures inside { CommitsNothing S.Store transaction.old.conn.now transaction.new.conn.now }
+    ensures why { ChangeFailsWithReason S.Store transaction.old.conn.now transaction.new.conn.now
+        result 0 (λ _ records.
+        (id ≡ length records.tables + 1) × IsShort definition.now) }
+    ensures healthy { StaysHealthy S.Store transaction.old.conn.now transaction.new.conn.now
+        result 0 (λ _. Unit {0}) }
 {
     transaction.execute(
         "INSERT INTO bt_table (id, def) VALUES (?1, ?2)",
@@ -107,6 +126,10 @@ pub fn set_clock<S: Alter>(transaction: &mut Transaction<'_, S>, clock: i64) -> 
     ensures others { OnOk result
         (LeavesOthers S.Store transaction.old.conn.now transaction.new.conn.now) }
     ensures inside { CommitsNothing S.Store transaction.old.conn.now transaction.new.conn.now }
+    ensures why { ChangeFailsWithReason S.Store transaction.old.conn.now transaction.new.conn.now
+        result 0 (λ _ _. Unit {0}) }
+    ensures healthy { StaysHealthy S.Store transaction.old.conn.now transaction.new.conn.now
+        result 0 (λ _. Unit {0}) }
 {
     transaction.execute("UPDATE bt_meta SET clock = ?1", params![clock])
 }

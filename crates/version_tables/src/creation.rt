@@ -107,9 +107,10 @@ pub fn create<S: Alter>(connection: &mut Connection<S>, form: i64, clock: i64) -
     ensures none { HasCleanDisk (state S.Store connection.new)
         → IsTrue (state S.Store connection.new).is_open
         → OnErr result (IsAsBefore (state S.Store connection.old) (state S.Store connection.new)) }
-    ensures was_open { HasCleanDisk (state S.Store connection.new)
+    ensures was_usable { HasCleanDisk (state S.Store connection.new)
         → IsTrue (state S.Store connection.new).is_open
-        → OnErr result (IsTrue (state S.Store connection.old).is_open) }
+        → HasCleanDisk (state S.Store connection.old)
+        × IsTrue (state S.Store connection.old).is_open }
     ensures mode { connection.new.in_transaction ≡ false }
 {
     // For the proof alone: whether a transaction is open is known by this call.

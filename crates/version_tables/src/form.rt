@@ -36,7 +36,7 @@ impl Form {
     }
 
     /// The form that has this number, if there is one.
-    pub fn of_number(number: i64) -> Option<Form>
+    pub(crate) fn of_number(number: i64) -> Option<Form>
         ensures { MatchOption result ((form : Form) → ¬ (form_number form ≡ number))
             (λ form. form_number form ≡ number) }
     {
@@ -48,7 +48,7 @@ impl Form {
     }
 
     /// The number of the first moment, in the form's unit.
-    pub fn least_number(self) -> i64
+    pub(crate) fn least_number(self) -> i64
         ensures { result ≡ least_number self }
     {
         match self {
@@ -58,7 +58,7 @@ impl Form {
     }
 
     /// The number of the open end, at which current versions end, in the form's unit.
-    pub fn open_end(self) -> i64
+    pub(crate) fn open_end(self) -> i64
         ensures { result ≡ open_end self }
     {
         match self {
@@ -68,7 +68,7 @@ impl Form {
     }
 
     /// Whether the number is that of a moment, in the form's unit.
-    pub fn has_number(self, number: i64) -> bool
+    pub(crate) fn has_number(self, number: i64) -> bool
         ensures { IsTrue result ↔ IsNumberIn self number }
     {
         self.least_number() <= number && number <= self.open_end()

@@ -9,7 +9,9 @@ ghost use Rattle.sqlite.specs.Values.{bound};
 ghost use Rattle.version_tables.specs.Adding.{IsBatch, cells, given_numbered, given_rows};
 ghost use Rattle.version_tables.specs.Keeping.{LeavesOthers};
 ghost use Rattle.version_tables.specs.Represents.{all_added, new_version};
-ghost use Rattle.version_tables.specs.Steps.{ChangesRecords, CommitsNothing};
+ghost use Rattle.version_tables.specs.Healthy.{CanAdd, IsNextNumber};
+ghost use Rattle.version_tables.specs.Steps.{ChangeFailsWithReason, ChangesRecords};
+ghost use Rattle.version_tables.specs.Steps.{CommitsNothing, NumbersOn, StaysHealthy};
 ghost use Rattle.version_tables.specs.Texts.{eight_text, four_text, one_text, two_text};
 ghost use Rattle.version_tables.specs.Texts.{numbered_text, thirty_two_text};
 
@@ -169,6 +171,10 @@ fn insert_batch<S: Alter>(
     ensures others { OnOk result
         (LeavesOthers S.Store transaction.old.conn.now transaction.new.conn.now) }
     ensures inside { CommitsNothing S.Store transaction.old.conn.now transaction.new.conn.now }
+    ensures why { ChangeFailsWithReason S.Store transaction.old.conn.now transaction.new.conn.now
+        result (length rows.now) (λ _. CanAdd (map (new_version table from to) rows.now)) }
+    ensures room { NumbersOn S.Store transaction.old.conn.now transaction.new.conn.now
+        result (length rows.now) (λ _. Unit {0}) }
 {
     let parameters = parameters(alloc, table, from, to, rows)?;
     match transaction.execute(text_for(rows.len()), parameters.as_slice()) {
@@ -195,6 +201,11 @@ fn insert_numbered<S: Alter>(
     ensures others { OnOk result
         (LeavesOthers S.Store transaction.old.conn.now transaction.new.conn.now) }
     ensures inside { CommitsNothing S.Store transaction.old.conn.now transaction.new.conn.now }
+    ensures why { ChangeFailsWithReason S.Store transaction.old.conn.now transaction.new.conn.now
+        result (length rows.now) (λ db records. IsNextNumber first db
+        × CanAdd (map (new_version table from to) rows.now) records) }
+    ensures room { NumbersOn S.Store transaction.old.conn.now transaction.new.conn.now
+        result (length rows.now) (IsNextNumber first) }
 {
     let parameters = numbered_parameters(alloc, table, from, to, first, rows)?;
     match transaction.execute(NUMBERED_ROWS, parameters.as_slice()) {
@@ -235,6 +246,11 @@ fn insert_next<S: Alter>(
     ensures others { OnOk result
         (LeavesOthers S.Store transaction.old.conn.now transaction.new.conn.now) }
     ensures inside { CommitsNothing S.Store transaction.old.conn.now transaction.new.conn.now }
+    ensures why { ChangeFailsWithReason S.Store transaction.old.conn.now transaction.new.conn.now
+        result (length rows.now) (λ db records. IfSome last (λ n. IsNextNumber (n +ℤ pos 1) db)
+        × CanAdd (map (new_version table from to) rows.now) records) }
+    ensures room { NumbersOn S.Store transaction.old.conn.now transaction.new.conn.now
+        result (length rows.now) (λ db. IfSome last (λ n. IsNextNumber (n +ℤ pos 1) db)) }
 {
     match first_number(last, rows.len()) {
         Some(first) => insert_numbered(alloc, transaction, table, from, to, first, rows),
@@ -243,7 +259,8 @@ fn insert_next<S: Alter>(
 }
 
 /// Adds rows to a table, with the system time from the moment `from` on and before the moment `to`.
-/// It is refused where a version has the key of one of them, or two of them have one key.
+/// It is refused where a version has the key of one of them, or two of them have one key. Over a
+/// healthy database, with room for them, it is refused for nothing else but memory and faults.
 pub fn insert_versions<S: Alter>(
     alloc: Global,
     transaction: &mut Transaction<'_, S>,
@@ -258,6 +275,10 @@ pub fn insert_versions<S: Alter>(
     ensures others { OnOk result
         (LeavesOthers S.Store transaction.old.conn.now transaction.new.conn.now) }
     ensures inside { CommitsNothing S.Store transaction.old.conn.now transaction.new.conn.now }
+    ensures why { ChangeFailsWithReason S.Store transaction.old.conn.now transaction.new.conn.now
+        result (length rows.now) (λ _. CanAdd (map (new_version table from to) rows.now)) }
+    ensures healthy { StaysHealthy S.Store transaction.old.conn.now transaction.new.conn.now
+        result (length rows.now) (λ _. Unit {0}) }
 {
     let mut rest = rows;
     // The database gives the number after the greatest, so those after its last one are free.

@@ -10,11 +10,10 @@ ghost use Rattle.sqlite.specs.Held.{Held, state};
 ghost use Rattle.sqlite.specs.Order.{Row as Values};
 ghost use Rattle.sqlite.specs.State.{HasCleanDisk};
 ghost use Rattle.version_tables.specs.Giving.{GivesNext, HasGivenRows, IsAfterQuery, HasNotBegun};
-ghost use Rattle.version_tables.specs.Giving.{FailsWithReason};
 ghost use Rattle.version_tables.specs.Represents.{meta_shown, rowid_shown, table_shown};
 ghost use Rattle.version_tables.specs.Represents.{version_shown};
 ghost use Rattle.version_tables.specs.Rows.{InOrder, by_rowid};
-ghost use Rattle.version_tables.specs.Steps.{OnlyReads, ReturnsRows};
+ghost use Rattle.version_tables.specs.Steps.{FailsWithReason, OnlyReads, ReturnsRows};
 ghost use Rattle.version_tables.specs.declared.selection.Selection.{Selection as AnySelection};
 
 use crate::selection::Selection;
@@ -121,11 +120,11 @@ pub fn version_rows<S: Alter>(connection: &mut Connection<S>) -> Result<Vec<Row>
     )
 }
 
-/// The rowids of bt_version, in ascending order where no two are the same.
+/// The rowids of bt_version, by themselves.
 pub fn rowids<S: Alter>(connection: &mut Connection<S>) -> Result<Vec<Row>, Error>
     requires { connection.old.in_transaction ≡ false }
     ensures shows { ReturnsRows S.Store connection.old connection.new result
-        (λ db rows. IsPermutation (map rowid_shown (db.trees 2)) rows) }
+        (λ db rows. InOrder rowid_shown by_rowid (db.trees 2) rows) }
     ensures reads { OnlyReads S.Store connection.old connection.new result }
     ensures mode { connection.new.in_transaction ≡ false }
 {

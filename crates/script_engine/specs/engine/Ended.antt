@@ -1,6 +1,6 @@
 -- What an engine has in memory of the versions that have ended.
-use Rattle.std.specs.Prelude.{◌≡◌, ◌≤ℤ◌, ◌++◌, ℕ, ℤ, AllPairs, Bool, List, [], IsPermutation}
-use Rattle.std.specs.Prelude.{filter, map, not}
+use Rattle.std.specs.Prelude.{◌≡◌, ◌<ℤ◌, ◌≤ℤ◌, ◌++◌, ℕ, ℤ, AllPairs, Bool, Contains, List, []}
+use Rattle.std.specs.Prelude.{IsPermutation, filter, map, not}
 use Rattle.std.specs.List.{All}
 use Rattle.std.specs.Option.{option_map_or}
 use Rattle.std.specs.Ordering.{int_eq}
@@ -21,6 +21,11 @@ has_ended version = not (int_eq version.to forever)
 -- each of the versions ended no later than those after it
 abbrev pub AreInOrderOfEnds : List VersionRow → Type 0
 AreInOrderOfEnds = AllPairs (λ (first second : VersionRow). first.to ≤ℤ second.to)
+
+-- one of the versions ended after the moment
+abbrev pub SomeEndedAfter : ℤ → List VersionRow → Type 0
+SomeEndedAfter moment versions =
+    (version : VersionRow) × Contains versions version × (moment <ℤ version.to)
 
 -- the same of a version of a table
 abbrev pub table_ended : TableVersion → Bool

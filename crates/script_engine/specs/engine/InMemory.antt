@@ -64,9 +64,10 @@ pub record FollowCatalog (catalog : List TableDef) (tables : List TableRows) : T
   pub count : length tables ≡ length catalog
   pub indexed : HaveIndexes catalog tables
 
--- what is in memory is as it was: the catalog, the clock, and of each table the current rows, in
--- any order
+-- what is in memory is as it was: the catalog, the clock, of each table the current rows, in any
+-- order, and the versions that have ended
 pub record IsSameInMemory {S : Type 0} (old new : EngineState S) : Type 0 where
   pub catalog : new.catalog.tables ≡ old.catalog.tables
   pub clock : new.clock ≡ old.clock
   pub rows : (number : ℕ) → IsPermutation (rows_in old.tables number) (rows_in new.tables number)
+  pub ended : new.ended ≡ old.ended

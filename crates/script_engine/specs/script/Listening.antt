@@ -1,7 +1,6 @@
 -- What a listener receives, and the run of a script's first pieces.
 use Rattle.std.specs.Prelude.{◌≡◌, ◌⊎◌, ◌+◌, ◌++◌, ◌∷◌, ℕ, Bool, List, [], false, true}
 use Rattle.sql_statements.specs.Lexemes.{Lexeme}
-use Rattle.history_model.specs.Histories.{History}
 use Rattle.script_engine.specs.script.Script.{IsCutInto, StepPieces}
 
 -- the listener receives the results one after the other, numbered from `n` on; after each it asks
@@ -16,19 +15,19 @@ HearsAll {L} Hears n old (result ∷ results) goes_on new =
 
 -- the results are those of the first pieces, one after the other, each by such a step; of all of
 -- them where the run is not stopped
-pub record StepFront {R : Type 0} (IsStep : History → List Lexeme → R → History → Type 0)
-    (history : History) (pieces : List (List Lexeme)) (results : List R) (goes_on : Bool)
-    (last : History) : Type 0 where
+pub record StepFront {H R : Type 0} (IsStep : H → List Lexeme → R → H → Type 0)
+    (opening : H) (pieces : List (List Lexeme)) (results : List R) (goes_on : Bool) (last : H)
+    : Type 0 where
   pub front : List (List Lexeme)
   pub back : List (List Lexeme)
   pub parted : pieces ≡ front ++ back
   pub all : goes_on ≡ true → back ≡ []
-  pub run : StepPieces IsStep history front results last
+  pub run : StepPieces IsStep opening front results last
 
 -- the results are those of the script's first pieces, from the opening on
-pub record IsFrontRunBy {R : Type 0} (IsStep : History → List Lexeme → R → History → Type 0)
-    (opening : History) (script : List ℕ) (results : List R) (goes_on : Bool) : Type 0 where
+pub record IsFrontRunBy {H R : Type 0} (IsStep : H → List Lexeme → R → H → Type 0)
+    (opening : H) (script : List ℕ) (results : List R) (goes_on : Bool) : Type 0 where
   pub pieces : List (List Lexeme)
   pub cut : IsCutInto script pieces
-  pub last : History
+  pub last : H
   pub run : StepFront IsStep opening pieces results goes_on last

@@ -11,8 +11,11 @@ use Rattle.sql_statements.specs.Lexemes.{Lexeme}
 use Rattle.sql_statements.specs.Lexis.{StopsAt, TokensOf}
 use Rattle.sql_front.specs.Pieces.{HasPieces}
 use Rattle.sql_statements.specs.Trees.{Statement}
+use Rattle.sqlite.specs.Store.{Ghosts}
 use Rattle.history_model.specs.Histories.{History, new_database, opened}
 use Rattle.version_store.specs.StoreState.{IsOpenRefusal, IsStoreRefusal}
+use Rattle.script_engine.specs.engine.EngineState.{EngineState}
+use Rattle.script_engine.specs.engine.Over.{StepOver}
 use Rattle.script_engine.specs.engine.Runs.{Step}
 use Rattle.statement_reports.specs.declared.outcome.Outcome.{Outcome}
 
@@ -27,24 +30,38 @@ TextApplies piece refusal =
     (IsOverlong piece × (refusal ≡ LimitReached))
     ⊎ ((IsOverlong piece → ⊥) × PieceApplies piece refusal)
 
--- a piece that spells no sound statement is refused, and the history stays; the result of another
--- is that of its statement
-abbrev pub PieceStep : History → List Lexeme → Result Outcome Refusal → History → Type 0
-PieceStep history piece result new =
+-- a piece that spells no sound statement is refused, and all stays; the result of another is that
+-- of its statement
+abbrev pub PieceStepBy : {H : Type 0} → (H → Statement → Result Outcome Refusal → H → Type 0)
+    → H → List Lexeme → Result Outcome Refusal → H → Type 0
+PieceStepBy IsStep old piece result new =
     ((refusal : Refusal) × (result ≡ Err refusal) × MayAnswer (TextApplies piece) refusal
-    × (new ≡ history))
+    × (new ≡ old))
     ⊎ ((s : Statement) × NoneApplies (TextApplies piece) × IsStatement piece s
-    × Step history s result new)
+    × IsStep old s result new)
+
+-- in a history
+abbrev pub PieceStep : History → List Lexeme → Result Outcome Refusal → History → Type 0
+PieceStep = PieceStepBy Step
+
+-- over an engine, whatever its database holds
+abbrev pub PieceStepOver : {S : Type 0} → Ghosts S → EngineState S → List Lexeme
+    → Result Outcome Refusal → EngineState S → Type 0
+PieceStepOver g = PieceStepBy (StepOver g)
+
+-- over an engine, of what is kept of a piece: by the result that it has
+abbrev pub KeptStepOver : {S K : Type 0} → Ghosts S → (K → Result Outcome Refusal)
+    → EngineState S → List Lexeme → K → EngineState S → Type 0
+KeptStepOver g result_of old piece kept = PieceStepOver g old piece (result_of kept)
 
 -- the results of the pieces, one after the other, each by such a step
-abbrev pub StepPieces : {R : Type 0} → (History → List Lexeme → R → History → Type 0)
-    → History → List (List Lexeme) → List R → History → Type 0
-StepPieces IsStep history [] [] new = new ≡ history
-StepPieces IsStep history (piece ∷ pieces) (result ∷ results) new =
-    (middle : History)
-    × IsStep history piece result middle × StepPieces IsStep middle pieces results new
-StepPieces IsStep history [] (result ∷ results) new = ⊥
-StepPieces IsStep history (piece ∷ pieces) [] new = ⊥
+abbrev pub StepPieces : {H R : Type 0} → (H → List Lexeme → R → H → Type 0)
+    → H → List (List Lexeme) → List R → H → Type 0
+StepPieces IsStep old [] [] new = new ≡ old
+StepPieces {H} IsStep old (piece ∷ pieces) (result ∷ results) new =
+    (middle : H) × IsStep old piece result middle × StepPieces IsStep middle pieces results new
+StepPieces IsStep old [] (result ∷ results) new = ⊥
+StepPieces IsStep old (piece ∷ pieces) [] new = ⊥
 
 -- those of a run
 abbrev pub RunPieces
@@ -89,11 +106,11 @@ pub record IsCutInto (script : List ℕ) (pieces : List (List Lexeme)) : Type 0 
   pub parted : HasPieces tokens pieces
 
 -- the results are those of the script's pieces, from the opening on, each by such a step
-pub record IsRunBy {R : Type 0} (IsStep : History → List Lexeme → R → History → Type 0)
-    (opening : History) (script : List ℕ) (results : List R) : Type 0 where
+pub record IsRunBy {H R : Type 0} (IsStep : H → List Lexeme → R → H → Type 0)
+    (opening : H) (script : List ℕ) (results : List R) : Type 0 where
   pub pieces : List (List Lexeme)
   pub cut : IsCutInto script pieces
-  pub last : History
+  pub last : H
   pub run : StepPieces IsStep opening pieces results last
 
 -- those of a run

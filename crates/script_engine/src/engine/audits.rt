@@ -1,15 +1,15 @@
 //! Statements that are run with an audit of their answer, over the rows that were seen for it.
 
-ghost use Rattle.std.specs.Prelude.{◌≡◌, IfErr, IfOk, OnErr};
+ghost use Rattle.std.specs.Prelude.{◌≡◌, IfErr, IfOk};
 ghost use Rattle.catalog_core.specs.query.Queries.{plain_query as plain_resolved};
 ghost use Rattle.history_model.specs.Histories.{History};
 ghost use Rattle.sql_statements.specs.Plain.{plain, plain_query};
 ghost use Rattle.sql_statements.specs.Trees as statement;
 ghost use Rattle.version_store.specs.StoreState.{IsUsable, SparesOthers};
 ghost use Rattle.script_engine.specs.engine.Audits.{AuditedStepsTo, IsVerdictOver};
-ghost use Rattle.script_engine.specs.engine.InMemory.{IsSameInMemory};
-ghost use Rattle.script_engine.specs.engine.Runs.{IsQuery, MayRefuseOver, MayRefuseQuery};
-ghost use Rattle.script_engine.specs.engine.Stored.{EngineRepresents, KeepsOnErr, WasUsable};
+ghost use Rattle.script_engine.specs.engine.Over.{StepOver};
+ghost use Rattle.script_engine.specs.engine.Runs.{IsQuery, MayRefuseQuery};
+ghost use Rattle.script_engine.specs.engine.Stored.{EngineRepresents, KeepsOnErr};
 
 use crate::engine::Engine;
 use crate::engine::sequenced_queries::answered;
@@ -49,10 +49,8 @@ impl<S: Alter> Engine<S> {
             → IfErr result.result (MayRefuseQuery S.Store self.old self.new
             (statement.sequenced (plain_query query.now))) }
         ensures kept { KeepsOnErr S.Store self.old self.new result.result }
-        ensures refused { IfErr result.result (MayRefuseOver self.old.catalog.tables self.old.clock
-            (statement.sequenced (plain_query query.now))) }
-        ensures memory { OnErr result.result (IsSameInMemory self.old self.new) }
-        ensures usable { WasUsable S.Store self.old.connection self.new.connection }
+        ensures over { StepOver S.Store self.old (statement.sequenced (plain_query query.now))
+            result.result self.new }
         ensures others { SparesOthers S.Store self.old.connection self.new.connection }
     {
         let query = match resolve_sequenced(alloc, self.store.catalog(), query) {
@@ -90,10 +88,7 @@ impl<S: Alter> Engine<S> {
             → IfErr result.result (MayRefuseQuery S.Store self.old self.new (plain statement.now)) }
 
         // And whatever the database holds:
-        ensures refused { IfErr result.result
-            (MayRefuseOver self.old.catalog.tables self.old.clock (plain statement.now)) }
-        ensures memory { OnErr result.result (IsSameInMemory self.old self.new) }
-        ensures usable { WasUsable S.Store self.old.connection self.new.connection }
+        ensures over { StepOver S.Store self.old (plain statement.now) result.result self.new }
         ensures others { SparesOthers S.Store self.old.connection self.new.connection }
     {
         match statement.form() {

@@ -2,7 +2,7 @@
 //! it.
 
 ghost use Rattle.std.specs.Prelude.{◌≡◌, ◌++◌, ◌∷◌, [], IfErr, IfOk, IfSome, IsPermutation, List};
-ghost use Rattle.std.specs.Prelude.{OnErr, OnOk, map};
+ghost use Rattle.std.specs.Prelude.{None, OnErr, OnOk, map};
 ghost use Rattle.ended_versions.specs.Packed.{AreEndedBy, AreOfColumns, Hold, PackedVersion};
 ghost use Rattle.ended_versions.specs.Packed.{closed_at, packed};
 ghost use Rattle.period_core.specs.declared.version.VersionRow.{VersionRow as Version};
@@ -18,8 +18,8 @@ ghost use Rattle.version_store.specs.Changed.{planned};
 ghost use Rattle.version_store.specs.Contents.{Contents};
 ghost use Rattle.version_store.specs.DistinctKeys.{HaveDistinctKeys};
 ghost use Rattle.version_store.specs.StoreState.{Changes, IsStoreRefusal, IsUsable};
-ghost use Rattle.version_store.specs.StoreState.{SparesOthers, StoreRepresents};
-ghost use Rattle.script_engine.specs.engine.Ended.{AreInOrderOfEnds};
+ghost use Rattle.version_store.specs.StoreState.{SparesOthers, StaysOnErr, StoreRepresents};
+ghost use Rattle.script_engine.specs.engine.Ended.{AreInOrderOfEnds, SomeEndedAfter};
 ghost use Rattle.script_engine.specs.engine.InMemory.{FollowCatalog};
 ghost use Rattle.script_engine.specs.engine.Stored.{WasUsable};
 
@@ -51,6 +51,7 @@ pub fn apply_closing<S: Alter>(
         (planned number store.old.clock plan.now.ended plan.now.added) }
     ensures catalog { store.new.catalog ≡ store.old.catalog }
     ensures clock { store.new.clock ≡ store.old.clock }
+    ensures none_stored { StaysOnErr S.Store store.old.connection store.new.connection result }
     ensures usable { WasUsable S.Store store.old.connection store.new.connection }
     ensures others { SparesOthers S.Store store.old.connection store.new.connection }
     ensures distinct { IsUsable S.Store store.new.connection
@@ -161,6 +162,7 @@ pub fn listed(
     ensures held { IfOk result (λ found. IfSome found (λ list. (ended : List Version)
         × Hold list ended × IsPermutation versions.items ended)) }
     ensures before { IfOk result (λ found. IfSome found (AreEndedBy moment)) }
+    ensures none { IfOk result (λ found. found ≡ None → SomeEndedAfter moment versions.items) }
 {
     let ended = in_order_of_ends(versions)?;
     for version in &ended {

@@ -1,14 +1,17 @@
 //! The versions of the tables in memory, loaded from what was read of a store as it was opened.
 
-ghost use Rattle.std.specs.Prelude.{◌≡◌, ◌++◌, ℕ, [], IfErr, IfOk, IsPermutation, List, OnErr};
+ghost use Rattle.std.specs.Prelude.{◌≡◌, ◌⊎◌, ◌++◌, ℕ, [], IfErr, IfOk, IsPermutation, List, OnErr};
 ghost use Rattle.std.specs.Prelude.{OnOk, filter, length};
 ghost use Rattle.ended_versions.specs.Packed.{AreEndedBy, Hold};
+ghost use Rattle.period_core.specs.declared.refusal.Refusal.TheVariants.{Memory as OutOfMemory};
 ghost use Rattle.period_core.specs.declared.version.VersionRow.{VersionRow as Version};
 ghost use Rattle.period_keys.specs.Lawful.{key_positions};
 ghost use Rattle.period_keys.specs.Rows.{HasRows};
 ghost use Rattle.version_store.specs.Contents.{Contents, rows_of_table};
+ghost use Rattle.version_store.specs.GoodStore.{AreGood, NothingMore};
 ghost use Rattle.version_store.specs.StoreState.{IsStoreRefusal};
-ghost use Rattle.script_engine.specs.engine.Ended.{AllEndedBy, HaveEnded, has_ended, is_current};
+ghost use Rattle.script_engine.specs.engine.Ended.{AllEndedBy, HaveEnded, SomeEndedAfter};
+ghost use Rattle.script_engine.specs.engine.Ended.{has_ended, is_current};
 ghost use Rattle.script_engine.specs.engine.InMemory.{AreReadOf, HaveCurrentRows};
 
 use crate::engine::closed::{listed, no_versions};
@@ -73,6 +76,8 @@ fn load_table(
     ensures ended { IfOk result (λ found. (ended : List Version)
         × Hold found.1 ended × IsPermutation (filter has_ended versions) ended) }
     ensures before { IfOk result (λ found. AreEndedBy clock found.1) }
+    ensures why { IfErr result (λ refusal. (refusal ≡ OutOfMemory)
+        ⊎ SomeEndedAfter clock (filter has_ended versions)) }
     ensures named { IfErr result IsStoreRefusal }
 {
     let mut rows = no_rows(alloc, table)?;
@@ -114,6 +119,9 @@ pub fn load(
     ensures ended { (c : Contents) → AreReadOf c catalog.now.tables lists.items
         → IfOk result (λ found. HaveEnded c found.1.items) }
     ensures before { IfOk result (λ found. AllEndedBy clock found.1.items) }
+    ensures why { (c : Contents) → AreReadOf c catalog.now.tables lists.items
+        → AreGood NothingMore c → c.clock ≡ clock
+        → IfErr result (λ refusal. refusal ≡ OutOfMemory) }
     ensures count { IfOk result
         (λ found. length found.0.items ≡ length catalog.now.tables) }
     ensures some { OnErr result (catalog.now.tables ≡ [] → ⊥) }

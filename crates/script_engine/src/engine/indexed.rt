@@ -7,6 +7,7 @@ ghost use Rattle.catalog_core.specs.create.Lawful.{IsLawful};
 ghost use Rattle.catalog_core.specs.declared.table.TableDef.{TableDef as Definition};
 ghost use Rattle.catalog_core.specs.table.TableWords.{table_of};
 ghost use Rattle.period_core.specs.declared.refusal.Refusal.TheVariants.{BadStore};
+ghost use Rattle.period_core.specs.declared.refusal.Refusal.TheVariants.{Memory as OutOfMemory};
 ghost use Rattle.period_core.specs.declared.version.VersionRow.{VersionRow as Version};
 ghost use Rattle.period_keys.specs.Current.{rows_by_key};
 ghost use Rattle.period_keys.specs.Keys.{key_values};
@@ -17,9 +18,10 @@ ghost use Rattle.period_keys.specs.Versions.{begun};
 ghost use Rattle.version_store.specs.Changed.{planned};
 ghost use Rattle.version_store.specs.Contents.{Contents};
 ghost use Rattle.version_store.specs.DistinctKeys.{HaveDistinctKeys};
-ghost use Rattle.version_store.specs.GoodStore.{AreLawful};
+ghost use Rattle.version_store.specs.GoodStore.{AreGood, AreLawful};
 ghost use Rattle.version_store.specs.StoreState.{Changes, IsOpenRefusal, IsStoreRefusal};
-ghost use Rattle.version_store.specs.StoreState.{IsUsable, SparesOthers, StoreRepresents};
+ghost use Rattle.version_store.specs.StoreState.{IsUsable, SparesOthers, StaysOnErr};
+ghost use Rattle.version_store.specs.StoreState.{StoreRepresents};
 ghost use Rattle.script_engine.specs.engine.Ended.{AllEndedBy, HaveEnded};
 ghost use Rattle.script_engine.specs.engine.Faults.{AreConstrained};
 ghost use Rattle.script_engine.specs.engine.InMemory.{AreReadOf, FollowCatalog, HaveCurrentRows};
@@ -112,6 +114,9 @@ pub fn load_lawful(
     ensures bad { (c : Contents) → AreReadOf c catalog.now.tables lists.items
         → IfErr result (λ refusal. refusal ≡ BadStore → AreConstrained c → ⊥) }
     ensures some { OnErr result (catalog.now.tables ≡ [] → ⊥) }
+    ensures why { (c : Contents) → AreReadOf c catalog.now.tables lists.items
+        → AreGood AreConstrained c → c.clock ≡ clock
+        → IfErr result (λ refusal. refusal ≡ OutOfMemory) }
     ensures named { IfErr result IsOpenRefusal }
 {
     let (rows, ended) = load(alloc, catalog, clock, lists)?;
@@ -144,6 +149,7 @@ pub fn apply_plan<S: Alter>(
         (planned number store.old.clock plan.now.ended plan.now.added) }
     ensures catalog { store.new.catalog ≡ store.old.catalog }
     ensures clock { store.new.clock ≡ store.old.clock }
+    ensures none_stored { StaysOnErr S.Store store.old.connection store.new.connection result }
     ensures usable { WasUsable S.Store store.old.connection store.new.connection }
     ensures others { SparesOthers S.Store store.old.connection store.new.connection }
     ensures distinct { IsUsable S.Store store.new.connection

@@ -5,7 +5,7 @@ ghost use Rattle.version_store.specs.StoreState.{IsUsable, SparesOthers};
 ghost use Rattle.history_model.specs.Histories.{History};
 ghost use Rattle.script_engine.specs.engine.Stored.{EngineRepresents, RepresentsSome, WasUsable};
 ghost use Rattle.script_engine.specs.script.Listening.{HearsAll, IsFrontRunBy};
-ghost use Rattle.script_engine.specs.script.Script.{MayRefuseScript};
+ghost use Rattle.script_engine.specs.script.Script.{KeptStepOver, MayRefuseScript};
 
 use crate::engine::Engine;
 use crate::script::listener::Listener;
@@ -25,10 +25,13 @@ pub fn run_over<S: Alter, K: PieceResult<S>, L: Listener<K>>(
     script: &[u8],
     listener: &mut L,
 ) -> Result<bool, Refusal>
-    // Whatever history the engine represents, what is passed on are the results of a run of the
-    // script's first pieces from it on, and the engine then represents the history to which it led.
+    // What is passed on are the results of a run of the script's first pieces: whatever the database
+    // holds, from the engine as it was to the engine as it is; and from whatever history the engine
+    // represents to one that it represents then.
     ensures run { IfOk result (λ goes_on. (results : List K)
         × HearsAll L.hears 1 listener.old results goes_on listener.new
+        × ((made : IsFrontRunBy (KeptStepOver S.Store K.result_of) engine.old script.now results
+        goes_on) × (made.last ≡ engine.new))
         × (IsUsable S.Store engine.new.connection
         → (history : History) → EngineRepresents S.Store history engine.old
         → (made : IsFrontRunBy K.is_step history script.now results goes_on)

@@ -1,15 +1,19 @@
 //! What a run keeps of each piece of a script: its result, or with it the audit of its answer.
 
-ghost use Rattle.std.specs.Prelude.{List};
+ghost use Rattle.std.specs.Prelude.{◌≡◌, List, Result, Err};
 ghost use Rattle.period_core.specs.Leasts.{MayAnswer, NoneApplies};
+ghost use Rattle.period_core.specs.declared.refusal.Refusal.{Refusal as RefusalModel};
 ghost use Rattle.sql_front.specs.Grammar.{IsStatement};
 ghost use Rattle.sql_statements.specs.Lexemes.{Lexeme};
 ghost use Rattle.sql_statements.specs.Plain.{plain};
 ghost use Rattle.history_model.specs.Histories.{History};
 ghost use Rattle.version_store.specs.StoreState.{IsUsable, SparesOthers};
-ghost use Rattle.script_engine.specs.engine.Stored.{EngineRepresents, RepresentsSome, WasUsable};
+ghost use Rattle.script_engine.specs.engine.Over.{StepOver};
+ghost use Rattle.script_engine.specs.engine.Stored.{EngineRepresents, RepresentsSome};
 ghost use Rattle.script_engine.specs.script.AuditedRuns.{AuditedPieceStep};
 ghost use Rattle.script_engine.specs.script.Script.{PieceStep, TextApplies};
+ghost use Rattle.statement_reports.specs.declared.entry.Entry.{Entry as EntryModel};
+ghost use Rattle.statement_reports.specs.declared.outcome.Outcome.{Outcome as OutcomeModel};
 
 use crate::engine::Engine;
 use period_core::Refusal;
@@ -23,10 +27,14 @@ pub trait PieceResult<S: Alter> {
     /// When it may be kept of a piece in a history, and which history follows.
     ghost is_step: { History → List Lexeme → Self → History → Type 0 };
 
+    /// The result that is kept.
+    ghost result_of: { Self → Result OutcomeModel RefusalModel };
+
     /// Of a piece that is refused by its tokens alone.
     fn refused(refusal: Refusal) -> Self
-        ensures { (piece : List Lexeme) → MayAnswer (TextApplies piece) refusal
-            → (history : History) → is_step history piece result history };
+        ensures step { (piece : List Lexeme) → MayAnswer (TextApplies piece) refusal
+            → (history : History) → is_step history piece result history }
+        ensures told { result_of result ≡ Err refusal };
 
     /// Of a piece that spells this statement, which is run.
     fn executed(alloc: Global, engine: &mut Engine<S>, statement: &Statement) -> Self
@@ -35,12 +43,15 @@ pub trait PieceResult<S: Alter> {
             → (piece : List Lexeme) → NoneApplies (TextApplies piece)
             → IsStatement piece (plain statement.now)
             → RepresentsSome S.Store (is_step history piece result) engine.new }
-        ensures usable { WasUsable S.Store engine.old.connection engine.new.connection }
+        ensures over { StepOver S.Store engine.old (plain statement.now) (result_of result)
+            engine.new }
         ensures others { SparesOthers S.Store engine.old.connection engine.new.connection };
 }
 
 impl<S: Alter> PieceResult<S> for Result<Outcome, Refusal> {
     ghost is_step = { PieceStep };
+
+    ghost result_of = { λ result. result };
 
     fn refused(refusal: Refusal) -> Result<Outcome, Refusal> {
         Err(refusal)
@@ -57,6 +68,8 @@ impl<S: Alter> PieceResult<S> for Result<Outcome, Refusal> {
 
 impl<S: Alter> PieceResult<S> for Entry {
     ghost is_step = { AuditedPieceStep };
+
+    ghost result_of = { λ (entry : EntryModel). entry.result };
 
     fn refused(refusal: Refusal) -> Entry {
         Entry::unaudited(Err(refusal))

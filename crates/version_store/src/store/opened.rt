@@ -1,10 +1,12 @@
 //! A store that has been opened, and is not in use yet.
 
-ghost use Rattle.std.specs.Prelude.{◌≡◌, ◌≢◌, ◌⊎◌, [], false, IfErr, IfOk, IsOk, IsTrue};
+ghost use Rattle.std.specs.Prelude.{◌≡◌, ◌≢◌, ◌⊎◌, [], false, IfErr, IfOk, IsOk};
 ghost use Rattle.period_core.specs.declared.refusal.Refusal.TheVariants.{BadStore};
+ghost use Rattle.period_core.specs.Moments.{first_moment};
 ghost use Rattle.sqlite.specs.Held.{state};
 ghost use Rattle.version_tables.specs.Making.{HasCounters};
 ghost use Rattle.version_tables.specs.Presence.{HasNoStoreTable};
+ghost use Rattle.version_tables.specs.Represents.{HaveOwnRowids};
 ghost use Rattle.version_tables.specs.Steps.{IsAsBefore};
 ghost use Rattle.version_tables.specs.Tables.{no_schema};
 ghost use Rattle.version_tables.specs.declared.form.Form.{Form as AnyForm};
@@ -12,7 +14,7 @@ ghost use Rattle.version_tables.specs.declared.form.Form.TheVariants.{Microsecon
 ghost use Rattle.version_store.specs.Contents.{AreVersionsOf, Contents, empty_contents};
 ghost use Rattle.version_store.specs.GoodStore.{AreGood, AreLawful, HaveTables, IsGoodStore};
 ghost use Rattle.version_store.specs.GoodStore.{NothingMore};
-ghost use Rattle.version_store.specs.StoreState.{IsMadeBehind, IsOpenRefusal, IsOurs};
+ghost use Rattle.version_store.specs.StoreState.{IsFailure, IsMadeBehind, IsOpenRefusal, IsOurs};
 ghost use Rattle.version_store.specs.StoreState.{IsStoreRefusal, IsUsable, OpenedRepresents};
 ghost use Rattle.version_store.specs.StoreState.{SparesOthers, StoreRepresents};
 ghost use Rattle.version_store.specs.Units.{in_microseconds};
@@ -151,15 +153,22 @@ impl<S: Alter> VersionStore<S> {
         ensures others { IfOk result (λ found.
             SparesOthers S.Store connection found.0.store.connection) }
         ensures empty { IfOk result (λ found. HasNoStoreTable (state S.Store connection).now.schema
-            → (found.0.store.catalog.tables ≡ []) × (found.0.form ≡ Microseconds)) }
+            → (found.0.store.catalog.tables ≡ []) × (found.0.store.clock ≡ first_moment)
+            × (found.0.form ≡ Microseconds)) }
+        ensures usable { IfOk result (λ found. IsUsable S.Store found.0.store.connection
+            → IsUsable S.Store connection) }
         ensures lawful { IfOk result (λ found. AreLawful [] found.0.store.catalog.tables) }
         ensures bad { IfErr result (λ failed. IsUsable S.Store failed.1 → failed.0 ≡ BadStore
             → (¬ HasNoStoreTable (state S.Store connection).now.schema)
             × ¬ IsGoodStore NothingMore (state S.Store connection).now) }
+        ensures why { IfErr result (λ failed. IsUsable S.Store failed.1
+            → IsGoodStore NothingMore (state S.Store connection).now
+            → HaveOwnRowids ((state S.Store connection).now.trees 2)
+            → IsFailure S.Store connection failed.1 failed.0) }
         ensures none { IfErr result (λ failed. IsUsable S.Store failed.1
             → IsAsBefore (state S.Store connection) (state S.Store failed.1)) }
-        ensures was_open { IfErr result (λ failed. IsUsable S.Store failed.1
-            → IsTrue (state S.Store connection).is_open) }
+        ensures was_usable { IfErr result (λ failed. IsUsable S.Store failed.1
+            → IsUsable S.Store connection) }
         ensures settled { IfErr result (λ failed. failed.1.in_transaction ≡ false) }
         ensures named { IfErr result (λ failed. IsOpenRefusal failed.0) }
     {
@@ -192,7 +201,8 @@ impl<S: Alter> VersionStore<S> {
     }
 
     /// Closes the store and opens it again, with the same tables, clock and versions. A store whose
-    /// contents are good is not refused as a bad one.
+    /// contents are good is not refused as a bad one, and for nothing but memory and faults of its
+    /// database.
     pub fn reopen(
         self,
         alloc: Global,
@@ -205,7 +215,8 @@ impl<S: Alter> VersionStore<S> {
             → AreVersionsOf c found.1.items) }
         ensures kept { IfErr result (λ failed. IsUsable S.Store failed.1
             → (c : Contents) → StoreRepresents S.Store self c → AreGood NothingMore c
-            → failed.0 ≢ BadStore) }
+            → (failed.0 ≢ BadStore)
+            × IsFailure S.Store self.connection failed.1 failed.0) }
     {
         let connection = self.close();
         // For the proof alone: while a connection is open, no two rows share a key.

@@ -9,7 +9,6 @@ use Rattle.version_store.proofs.Scanned.{all_visits, last_readable, none_yet, on
 use Rattle.version_store.proofs.Standing.{failed_by}
 use Rattle.version_store.specs.StoreState.{IsFailure}
 use Rattle.version_store.specs.Units.{in_microseconds}
-use Rattle.version_store.specs.Written.{written_in}
 use Rattle.version_store.proofs.scans.scan_selected.Goals as goal
 
 -- no query
@@ -112,7 +111,7 @@ rows-preserved g c =
     record {
       same_reference = search rules;
       mode = search rules;
-      answered = λ none. c.in_default-visit_row.ensures.answered (c.rows.invariant.answered none);
+      answered = c.in_default-visit_row.ensures.answered;
       visited = one_visited g.S.Store c.args.form g.V.RowVisitor.next c.args.table selection c.args.connection.now c.rows.rows.conn.now now.conn.now _ _ _ c.rows.invariant.visited c.in-Some.row.now _ gives some c.in_default-visit_row.ensures.visited;
     }
 
@@ -131,7 +130,7 @@ returns-in-Err-clause-why g c usable d has dated =
     let old = c.args.connection.now in
     let after = c.rows_of.follows.lender-at-none in
     let refused = rw c.in-Err.is at c.rows_of.follows.holds-at-none in
-    inr (failed_by g.S.Store old after c.in-Err.error c.refusal_of.result c.refusal_of.ensures.memory (refused.why usable.0 (written_in c.args.form d) has.rows) ((refused.left.keeps usable.0).was_open usable.1))
+    inr (failed_by g.S.Store old after c.in-Err.error c.refusal_of.result c.refusal_of.ensures.memory (refused.why usable.0 has.rows.schema) ((refused.left.keeps usable.0).was_open usable.1))
 
 pub returns-in-Err-to_next_row-clause-why : goal.returns-in-Err-to_next_row-clause-why
 returns-in-Err-to_next_row-clause-why g c usable d has dated =
@@ -144,7 +143,7 @@ returns-in-Err-to_next_row-clause-why g c usable d has dated =
     let left : IsAfterQuery g.S.Store old now = c.in-Err-to_next_row.ensures.left c.args.table selection old was.0 was.1 in
     let refusal = c.refusal_of-in-Err-to_next_row.result in
     let failed : IsFailure g.S.Store old now refusal =
-    failed_by g.S.Store old now c.in-Err-to_next_row.error refusal c.refusal_of-in-Err-to_next_row.ensures.memory (c.in-Err-to_next_row.ensures.why c.args.table selection old was.0 was.1 sure (written_in c.args.form d) has.rows) ((left.keeps sure).was_open on) in
+    failed_by g.S.Store old now c.in-Err-to_next_row.error refusal c.refusal_of-in-Err-to_next_row.ensures.memory (c.in-Err-to_next_row.ensures.why c.args.table selection old was.0 was.1 sure has.rows.schema) ((left.keeps sure).was_open on) in
     inr (search rules)
 
 pub returns-in-Err-visit_row-clause-why : goal.returns-in-Err-visit_row-clause-why

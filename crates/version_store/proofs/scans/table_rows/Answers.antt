@@ -8,7 +8,7 @@ use Rattle.version_store.proofs.scans.table_rows.Goals as goal
 
 pub returns-clause-rows : goal.returns-clause-rows
 returns-clause-rows g c clean d has =
-    all_rows {X = Unit {0}} (in_microseconds c.args.form d) c.args.table c.new-kept.result.rows.items c.scan_selected.new.visitor.rows.items tt c.new-kept.ensures
+    all_rows {X = Unit {0}} (in_microseconds c.args.form d) c.args.table c.new-kept.result.rows.items c.scan_selected.new.visitor.rows.items tt c.new-kept.ensures.rows
     (c.in_ok-scan_selected.ensures.visited clean d has (selects Whole) (λ from to. refl))
 
 pub returns-in_err-scan_selected-clause-why : goal.returns-in_err-scan_selected-clause-why

@@ -5,9 +5,9 @@ use Rattle.version_store.proofs.Found.{same_row}
 use Rattle.version_store.proofs.Standing.{on_ok}
 use Rattle.version_store.proofs.scans.visit_row.Goals as goal
 
-answers : {X : Type 0} (old new : Option Refusal → Type 0) (r : Result X Refusal) → OnOk r (new None) → IfErr r (λ refusal. new (Some refusal)) → AnswersRefusal old new r
-answers old new (Ok x) takes refuses = λ _. takes
-answers old new (Err refusal) takes refuses = λ _. inl refuses
+answers : {X : Type 0} (answered : Option Refusal → Type 0) (r : Result X Refusal) → OnOk r (answered None) → IfErr r (λ refusal. answered (Some refusal)) → AnswersRefusal answered r
+answers answered (Ok x) takes refuses = takes
+answers answered (Err refusal) takes refuses = inl refuses
 
 pub returns-clause-visited : goal.returns-clause-visited
 returns-clause-visited g c =
@@ -15,4 +15,4 @@ returns-clause-visited g c =
     on_ok c.visit.result (λ taken v shows held. (c.in_ok-version.version, same_row c.args.form v read.0 c.in_ok-version.version held c.in_ok-version.ensures.values (sym shows ∙ read.1) read.2, taken)) c.visit.ensures.taken
 
 pub returns-clause-answered : goal.returns-clause-answered
-returns-clause-answered g c = answers (g.V.RowVisitor.answered c.args.visitor.now) (g.V.RowVisitor.answered c.visit.new.self) c.visit.result c.visit.ensures.takes c.visit.ensures.refuses
+returns-clause-answered g c = answers (g.V.RowVisitor.answered c.visit.new.self) c.visit.result c.visit.ensures.takes c.visit.ensures.refuses

@@ -1,9 +1,10 @@
-use Rattle.std.proofs.Common.{◌≡◌, Ok, ap, refl, ◌∙◌, w64}
+use Rattle.std.proofs.Common.{◌≡◌, ◌+◌, ℕ, Ok, ap, arith, length, refl, subst, ◌∙◌, w64}
 use Rattle.std.proofs.lemmas.Int.{to_z-of_z}
 use Rattle.sqlite.specs.Values.{bound}
 use Rattle.sqlite.specs.Held.{state}
 use Rattle.version_tables.specs.Adding.{given_rows}
-use Rattle.version_tables.proofs.Adds.{adds_batch, batches}
+use Rattle.version_tables.specs.Healthy.{IsHealthy}
+use Rattle.version_tables.proofs.Adds.{adds_batch, batch_fails, batch_leaves, batches, some_rows}
 use Rattle.version_tables.proofs.Keeping.{statement_leaves, version_own}
 use Rattle.version_tables.proofs.Steps.{one_statement}
 use Rattle.version_tables.proofs.insertion.insert_batch.Goals as goal
@@ -14,7 +15,7 @@ returns-in-Ok-clause-made g c clean begun =
     let texts = c.text_for.ensures in
     let text = batches rows c.text_for.result.now c.requires texts.one texts.two texts.four texts.eight texts.thirty_two in
     let given : bound c.as_slice.result.now ≡ given_rows c.args.table c.args.from c.args.to rows = ap bound c.as_slice.ensures.value ∙ rw (to_z-of_z w64 c.args.from c.ranges.from, to_z-of_z w64 c.args.to c.ranges.to) at c.in_ok-parameters.ensures in
-    adds_batch c.text_for.result.now c.args.table c.args.from c.args.to rows text.0 text.1 (state g.S.Store c.args.transaction.now.conn.now) (state g.S.Store c.execute.new.self.conn.now) (Ok c.in-Ok.field-0) (rw given at (c.in-Ok.ensures.runs clean begun)) begun
+    adds_batch c.text_for.result.now c.args.table c.args.from c.args.to rows (λ others. (text.0 others).0) text.1 (state g.S.Store c.args.transaction.now.conn.now) (state g.S.Store c.execute.new.self.conn.now) (Ok c.in-Ok.field-0) (rw given at (c.in-Ok.ensures.runs clean begun)) begun
 
 pub returns-clause-inside : goal.returns-clause-inside
 returns-clause-inside g c = one_statement g.S.Store _ _ _ _ c.execute.result c.execute.ensures.ended c.execute.ensures.runs c.execute.ensures.survives
@@ -23,4 +24,23 @@ pub returns-in-Ok-clause-others : goal.returns-in-Ok-clause-others
 returns-in-Ok-clause-others g c =
     let texts = c.text_for.ensures in
     let is = (batches c.args.rows.now c.text_for.result.now c.requires texts.one texts.two texts.four texts.eight texts.thirty_two).0 in
-    statement_leaves version_own _ _ _ is refl g.S.Store _ _ (Ok c.in-Ok.field-0) c.in-Ok.ensures.ended c.in-Ok.ensures.runs
+    statement_leaves version_own _ _ _ (λ others. (is others).0) refl g.S.Store _ _ (Ok c.in-Ok.field-0) c.in-Ok.ensures.ended c.in-Ok.ensures.runs
+
+pub returns-clause-why : goal.returns-clause-why
+returns-clause-why g c clean begun healthy records was can =
+    let rows = c.args.rows.now in
+    let texts = c.text_for.ensures in
+    let text = batches rows c.text_for.result.now c.requires texts.one texts.two texts.four texts.eight texts.thirty_two in
+    let given : bound c.as_slice.result.now ≡ given_rows c.args.table c.args.from c.args.to rows = ap bound c.as_slice.ensures.value ∙ rw (to_z-of_z w64 c.args.from c.ranges.from, to_z-of_z w64 c.args.to c.ranges.to) at c.in_ok-parameters.ensures in
+    let all : length rows ≡ length rows + 0 = omega arith in
+    batch_fails c.text_for.result.now c.args.table c.args.from c.args.to rows text (state g.S.Store c.args.transaction.now.conn.now) records was 0 (subst (λ (n : ℕ). IsHealthy n (state g.S.Store c.args.transaction.now.conn.now).now) all healthy) can
+    (state g.S.Store c.execute.new.self.conn.now) c.in-Err.error (rw given at (c.in-Err.ensures.runs clean begun))
+
+pub returns-in-Ok-clause-room : goal.returns-in-Ok-clause-room
+returns-in-Ok-clause-room g c clean begun left healthy _ records was =
+    let rows = c.args.rows.now in
+    let texts = c.text_for.ensures in
+    let text = batches rows c.text_for.result.now c.requires texts.one texts.two texts.four texts.eight texts.thirty_two in
+    let given : bound c.as_slice.result.now ≡ given_rows c.args.table c.args.from c.args.to rows = ap bound c.as_slice.ensures.value ∙ rw (to_z-of_z w64 c.args.from c.ranges.from, to_z-of_z w64 c.args.to c.ranges.to) at c.in_ok-parameters.ensures in
+    batch_leaves c.text_for.result.now c.args.table c.args.from c.args.to rows text (state g.S.Store c.args.transaction.now.conn.now) records was left healthy (some_rows (length rows) c.requires)
+    (state g.S.Store c.execute.new.self.conn.now) c.in-Ok.field-0 (rw given at (c.in-Ok.ensures.runs clean begun)).0

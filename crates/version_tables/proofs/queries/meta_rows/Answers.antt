@@ -5,6 +5,7 @@ use Rattle.version_tables.specs.Texts.{meta_rows_text}
 use Rattle.version_tables.specs.Represents.{meta_shown}
 use Rattle.version_tables.proofs.Whole.{order_cmp, all_shown, in_order}
 use Rattle.version_tables.proofs.Asks.{meta_project, meta_order, meta_names, meta_asks}
+use Rattle.version_tables.proofs.Reasons.{meta_fails, keeps_faults}
 use Rattle.version_tables.proofs.Selects.{meta_reads, query_unchanged, query_keeps}
 use Rattle.version_tables.proofs.queries.meta_rows.Goals as goal
 
@@ -21,4 +22,6 @@ returns-clause-reads g c =
       clean = search rules;
       unchanged = λ clean. query_unchanged meta_rows_text meta_reads [] old new c.query_all.result (c.query_all.ensures.ok clean);
       keeps = λ clean. query_keeps meta_rows_text meta_reads [] old new (search rules) c.query_all.result (c.query_all.ensures.ok clean) (c.query_all.ensures.err clean);
+      faults = keeps_faults old new c.query_all.ensures.survives;
+      why = λ clean has. meta_fails old new has c.query_all.result (c.query_all.ensures.err clean);
     }

@@ -7,6 +7,7 @@ use Rattle.sqlite_value.proofs.OrderLemmas.{then-Equal}
 use Rattle.version_tables.specs.Rows.{by_rowid}
 use Rattle.version_tables.proofs.Whole.{all_shown, in_order_by}
 use Rattle.version_tables.proofs.Asks.{table_project, meta_order, table_names, table_asks}
+use Rattle.version_tables.proofs.Reasons.{table_fails, keeps_faults}
 use Rattle.version_tables.proofs.Selects.{table_reads, query_unchanged, query_keeps}
 use Rattle.version_tables.proofs.queries.table_rows.Goals as goal
 
@@ -23,4 +24,6 @@ returns-clause-reads g c =
       clean = search rules;
       unchanged = λ clean. query_unchanged table_rows_text table_reads [] old new c.query_all.result (c.query_all.ensures.ok clean);
       keeps = λ clean. query_keeps table_rows_text table_reads [] old new (search rules) c.query_all.result (c.query_all.ensures.ok clean) (c.query_all.ensures.err clean);
+      faults = keeps_faults old new c.query_all.ensures.survives;
+      why = λ clean has. table_fails old new has c.query_all.result (c.query_all.ensures.err clean);
     }

@@ -5,6 +5,7 @@ use Rattle.version_tables.specs.Texts.{version_rows_text}
 use Rattle.version_tables.specs.Represents.{version_shown}
 use Rattle.version_tables.proofs.Whole.{order_cmp, all_shown, in_order}
 use Rattle.version_tables.proofs.Asks.{version_project, version_order, version_names, version_asks}
+use Rattle.version_tables.proofs.Reasons.{version_fails, keeps_faults}
 use Rattle.version_tables.proofs.Selects.{version_reads, query_unchanged, query_keeps}
 use Rattle.version_tables.proofs.queries.version_rows.Goals as goal
 
@@ -21,4 +22,6 @@ returns-clause-reads g c =
       clean = search rules;
       unchanged = λ clean. query_unchanged version_rows_text version_reads [] old new c.query_all.result (c.query_all.ensures.ok clean);
       keeps = λ clean. query_keeps version_rows_text version_reads [] old new (search rules) c.query_all.result (c.query_all.ensures.ok clean) (c.query_all.ensures.err clean);
+      faults = keeps_faults old new c.query_all.ensures.survives;
+      why = λ clean has. version_fails old new has c.query_all.result (c.query_all.ensures.err clean);
     }

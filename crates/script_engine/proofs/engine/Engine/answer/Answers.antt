@@ -1,4 +1,4 @@
-use Rattle.std.proofs.Common.{◌≡◌, ◌∙◌, List, ap, inl, map, subst, sym}
+use Rattle.std.proofs.Common.{◌≡◌, ◌∙◌, List, ap, inl, map, refl, subst, sym}
 use Rattle.std.proofs.lemmas.Result.{err_from_is_err_and}
 use Rattle.period_core.specs.Leasts.{MayAnswer, NoneApplies}
 use Rattle.sql_statements.specs.Plain.{plain_query}
@@ -11,12 +11,13 @@ use Rattle.catalog_core.specs.declared.table.TableDef.{TableDef}
 use Rattle.catalog_core.specs.declared.table.catalog.Catalog.{Catalog}
 use Rattle.period_keys.specs.Current.{rows_by_key}
 use Rattle.script_engine.specs.engine.EngineState.{EngineState, engine_of}
-use Rattle.script_engine.specs.engine.InMemory.{IsSameInMemory}
+use Rattle.statement_reports.specs.declared.outcome.Outcome.TheVariants.{Answer as Answered}
 use Rattle.script_engine.proofs.Answered.{answered_step, failed_answer}
 use Rattle.script_engine.proofs.Fits.{of_catalog}
 use Rattle.script_engine.proofs.Handed.{handed_catalog, handed_rows, has_the_same}
 use Rattle.script_engine.proofs.Refused.{failed_query}
-use Rattle.script_engine.proofs.SameInMemory.{failed_over, same_memory}
+use Rattle.script_engine.proofs.OverFacts.{asked_over, untouched_over}
+use Rattle.script_engine.proofs.SameInMemory.{failed_over}
 use Rattle.script_engine.proofs.engine.Engine.answer.Goals as goal
 
 pub returns-clause-step : goal.returns-clause-step
@@ -51,36 +52,6 @@ returns-in_err-answer-clause-step g c usable history kept =
     (subst (λ (k : Catalog). NoneApplies (Holds (query_conditions k.tables s))) catalog c.in_ok-query.ensures.sound)
     (has_the_same g.S.Store history old kept new same) c.in_err-answer.ensures.named)
 
-pub returns-in_err-query-clause-refused : goal.returns-in_err-query-clause-refused
-returns-in_err-query-clause-refused g c =
-    let p = err_from_is_err_and c.from_residual.result c.from_residual.ensures.1 in
-    rw (p.1, p.2) (let s : Statement = statement.sequenced (plain_query c.args.query.now) in
-    let same : c.catalog.result.now.tables ≡ c.args.self.now.catalog.tables = ap (λ (k : Catalog). k.tables) c.catalog.ensures ∙ ap (λ s. s.catalog.tables) c.self.view_is in
-    inl (inl (subst (λ (tables : List TableDef). MayAnswer (Holds (query_conditions tables s)) c.in_err-query.field-0.0) same c.in_err-query.ensures.refused)))
-
-pub returns-in_err-query-clause-memory : goal.returns-in_err-query-clause-memory
-returns-in_err-query-clause-memory g c =
-    let p = err_from_is_err_and c.from_residual.result c.from_residual.ensures.1 in
-    rw p.1 (same_memory c.args.self.now)
-
-pub returns-in_err-answer-clause-refused : goal.returns-in_err-answer-clause-refused
-returns-in_err-answer-clause-refused g c =
-    let p = err_from_is_err_and c.from_residual-in_err-answer.result c.from_residual-in_err-answer.ensures.1 in
-    rw (p.1, p.2) (let s : Statement = statement.sequenced (plain_query c.args.query.now) in
-    let old : EngineState g.row.S.Denot = c.args.self.now in
-    let same : c.catalog.result.now.tables ≡ old.catalog.tables = ap (λ (k : Catalog). k.tables) c.catalog.ensures ∙ ap (λ s. s.catalog.tables) c.self.view_is in
-    failed_over old.catalog.tables old.clock s c.in_err-answer.field-0.0
-    (subst (λ (tables : List TableDef). NoneApplies (Holds (query_conditions tables s))) same c.in_ok-query.ensures.sound)
-    c.in_err-answer.ensures.named)
-
-pub returns-in_err-answer-clause-memory : goal.returns-in_err-answer-clause-memory
-returns-in_err-answer-clause-memory g c =
-    let p = err_from_is_err_and c.from_residual-in_err-answer.result c.from_residual-in_err-answer.ensures.1 in
-    let old : EngineState g.row.S.Denot = c.args.self.now in
-    let new : EngineState g.row.S.Denot = engine_of c.self.inside.store (map rows_by_key c.self.inside.tables.items) c.answer_of.new.ended.items in
-    let same : new ≡ old = ap (engine_of c.self.inside.store (map rows_by_key c.self.inside.tables.items)) c.answer_of.ensures.same ∙ c.self.view_is in
-    rw p.1 (subst (IsSameInMemory old) (sym same) (same_memory old))
-
 pub returns-in_err-query-clause-queries : goal.returns-in_err-query-clause-queries
 returns-in_err-query-clause-queries g c usable history kept =
     let p = err_from_is_err_and c.from_residual.result c.from_residual.ensures.1 in
@@ -103,3 +74,34 @@ returns-in_err-answer-clause-queries g c usable history kept =
     let known = handed_catalog g.S.Store history old kept c.catalog-catalog.result.now (c.catalog-catalog.ensures ∙ ap (λ (e : EngineState g.row.S.Denot). e.catalog) c.self.view_is) in
     let of = of_catalog c.catalog-catalog.result.now.tables asked query (subst (λ (k : Catalog). ResolvesQuery k.tables s query) (c.catalog.ensures ∙ sym c.catalog-catalog.ensures) c.in_ok-query.ensures.resolved) in
     failed_query g.S.Store old new s c.in_err-answer.field-0.0 (inl (c.in_err-answer.ensures.why history known rows of)))
+
+pub returns-clause-over : goal.returns-clause-over
+returns-clause-over g c =
+    let s : Statement = statement.sequenced (plain_query c.args.query.now) in
+    let old : EngineState g.row.S.Denot = c.args.self.now in
+    let catalog : c.catalog.result.now ≡ old.catalog = c.catalog.ensures ∙ ap (λ (e : EngineState g.row.S.Denot). e.catalog) c.self.view_is in
+    let new : EngineState g.row.S.Denot = engine_of c.self.inside.store (map rows_by_key c.self.inside.tables.items) c.answer_of.new.ended.items in
+    let same : new ≡ old = ap (engine_of c.self.inside.store (map rows_by_key c.self.inside.tables.items)) c.answer_of.ensures.same ∙ c.self.view_is in
+    asked_over g.S.Store old s new (Answered c.in_ok-answer.answer) same
+    (subst (λ (k : Catalog). NoneApplies (Holds (query_conditions k.tables s))) catalog c.in_ok-query.ensures.sound) (refl, refl)
+
+pub returns-in_err-query-clause-over : goal.returns-in_err-query-clause-over
+returns-in_err-query-clause-over g c =
+    let p = err_from_is_err_and c.from_residual.result c.from_residual.ensures.1 in
+    rw (p.1, p.2) (let s : Statement = statement.sequenced (plain_query c.args.query.now) in
+    let same : c.catalog.result.now.tables ≡ c.args.self.now.catalog.tables = ap (λ (k : Catalog). k.tables) c.catalog.ensures ∙ ap (λ s. s.catalog.tables) c.self.view_is in
+    untouched_over g.S.Store c.args.self.now s c.args.self.now c.in_err-query.field-0.0 refl
+    (inl (inl (subst (λ (tables : List TableDef). MayAnswer (Holds (query_conditions tables s)) c.in_err-query.field-0.0) same c.in_err-query.ensures.refused))))
+
+pub returns-in_err-answer-clause-over : goal.returns-in_err-answer-clause-over
+returns-in_err-answer-clause-over g c =
+    let p = err_from_is_err_and c.from_residual-in_err-answer.result c.from_residual-in_err-answer.ensures.1 in
+    rw (p.1, p.2) (let s : Statement = statement.sequenced (plain_query c.args.query.now) in
+    let old : EngineState g.row.S.Denot = c.args.self.now in
+    let catalog : c.catalog.result.now ≡ old.catalog = c.catalog.ensures ∙ ap (λ (e : EngineState g.row.S.Denot). e.catalog) c.self.view_is in
+    let new : EngineState g.row.S.Denot = engine_of c.self.inside.store (map rows_by_key c.self.inside.tables.items) c.answer_of.new.ended.items in
+    let same : new ≡ old = ap (engine_of c.self.inside.store (map rows_by_key c.self.inside.tables.items)) c.answer_of.ensures.same ∙ c.self.view_is in
+    untouched_over g.S.Store old s new c.in_err-answer.field-0.0 same
+    (failed_over old.catalog.tables old.clock s c.in_err-answer.field-0.0
+    (subst (λ (k : Catalog). NoneApplies (Holds (query_conditions k.tables s))) catalog c.in_ok-query.ensures.sound)
+    c.in_err-answer.ensures.named))

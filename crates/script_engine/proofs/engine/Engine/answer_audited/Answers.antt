@@ -1,5 +1,5 @@
-use Rattle.std.proofs.Common.{◌≡◌, ◌∙◌, List, ap, inl, map, subst, sym}
-use Rattle.std.specs.Prelude.{IfErr, OnErr}
+use Rattle.std.proofs.Common.{◌≡◌, ◌∙◌, List, ap, inl, map, refl, subst, sym}
+use Rattle.std.specs.Prelude.{IfErr}
 use Rattle.period_core.specs.Leasts.{MayAnswer, NoneApplies}
 use Rattle.sql_statements.specs.Plain.{plain_query}
 use Rattle.sql_statements.specs.Trees.{Statement}
@@ -13,15 +13,17 @@ use Rattle.period_keys.specs.Current.{rows_by_key}
 use Rattle.script_engine.specs.engine.Answering.{IsOfCatalog}
 use Rattle.script_engine.specs.engine.Audits.{AuditedStepsTo}
 use Rattle.script_engine.specs.engine.EngineState.{EngineState}
-use Rattle.script_engine.specs.engine.InMemory.{IsSameInMemory}
-use Rattle.script_engine.specs.engine.Runs.{MayRefuseOver, MayRefuseQuery}
+use Rattle.script_engine.specs.engine.Over.{StepOver}
+use Rattle.script_engine.specs.engine.Runs.{MayRefuseQuery}
 use Rattle.statement_reports.specs.declared.entry.Entry.{Entry}
+use Rattle.statement_reports.specs.declared.outcome.Outcome.TheVariants.{Answer as Answered}
 use Rattle.script_engine.proofs.Answered.{answered_step, failed_answer}
 use Rattle.script_engine.proofs.Audited.{answer_entry, refused_entry}
 use Rattle.script_engine.proofs.Fits.{of_catalog}
 use Rattle.script_engine.proofs.Handed.{handed_rows, has_still}
 use Rattle.script_engine.proofs.Refused.{failed_query}
-use Rattle.script_engine.proofs.SameInMemory.{failed_over, same_memory}
+use Rattle.script_engine.proofs.OverFacts.{asked_over, untouched_over}
+use Rattle.script_engine.proofs.SameInMemory.{failed_over}
 use Rattle.script_engine.proofs.Steps.{tables_of}
 use Rattle.script_engine.proofs.engine.Engine.answer_audited.Goals as goal
 
@@ -58,29 +60,6 @@ returns-clause-step g c usable history kept =
     (failed_answer g.S.Store history old asked kept old c.in-Err-answered.refusal
     (subst (λ (k : Catalog). NoneApplies (Holds (query_conditions k.tables s))) catalog c.in-Ok.ensures.sound) (has_still g.S.Store history old kept) c.in-Err-answered.ensures.named))
 
-pub returns-in-Err-clause-refused : goal.returns-in-Err-clause-refused
-returns-in-Err-clause-refused g c =
-    let s : Statement = statement.sequenced (plain_query c.args.query.now) in
-    let same : c.catalog.result.now.tables ≡ c.args.self.now.catalog.tables = ap (λ (k : Catalog). k.tables) c.catalog.ensures ∙ ap (λ s. s.catalog.tables) c.self.view_is in
-    subst (λ (entry : Entry). IfErr entry.result (MayRefuseOver c.args.self.now.catalog.tables c.args.self.now.clock s)) (sym c.unaudited.ensures)
-    (inl (inl (subst (λ (tables : List TableDef). MayAnswer (Holds (query_conditions tables s)) c.in-Err.refusal) same c.in-Err.ensures.refused)))
-
-pub returns-in-Err-clause-memory : goal.returns-in-Err-clause-memory
-returns-in-Err-clause-memory g c = subst (λ (entry : Entry). OnErr entry.result (IsSameInMemory c.args.self.now c.args.self.now)) (sym c.unaudited.ensures) (same_memory c.args.self.now)
-
-pub returns-clause-refused : goal.returns-clause-refused
-returns-clause-refused g c =
-    let s : Statement = statement.sequenced (plain_query c.args.query.now) in
-    let old : EngineState g.row.S.Denot = c.args.self.now in
-    let same : c.catalog.result.now.tables ≡ old.catalog.tables = ap (λ (k : Catalog). k.tables) c.catalog.ensures ∙ ap (λ s. s.catalog.tables) c.self.view_is in
-    subst (λ (entry : Entry). IfErr entry.result (MayRefuseOver old.catalog.tables old.clock s)) (sym c.unaudited-in-Err-answered.ensures)
-    (failed_over old.catalog.tables old.clock s c.in-Err-answered.refusal
-    (subst (λ (tables : List TableDef). NoneApplies (Holds (query_conditions tables s))) same c.in-Ok.ensures.sound)
-    c.in-Err-answered.ensures.named)
-
-pub returns-clause-memory : goal.returns-clause-memory
-returns-clause-memory g c = subst (λ (entry : Entry). OnErr entry.result (IsSameInMemory c.args.self.now c.args.self.now)) (sym c.unaudited-in-Err-answered.ensures) (same_memory c.args.self.now)
-
 pub returns-in-Err-clause-queries : goal.returns-in-Err-clause-queries
 returns-in-Err-clause-queries g c usable history kept =
     let s : Statement = statement.sequenced (plain_query c.args.query.now) in
@@ -102,3 +81,31 @@ returns-clause-queries g c usable history kept =
     let of = subst (λ (defs : List TableDef). IsOfCatalog defs query) (tables_of g.S.Store history old kept) (of_catalog old.catalog.tables asked query (subst (λ (k : Catalog). ResolvesQuery k.tables s query) catalog c.in-Ok.ensures.resolved)) in
     subst (λ (entry : Entry). IfErr entry.result (MayRefuseQuery g.S.Store old old s)) (sym c.unaudited-in-Err-answered.ensures)
     (failed_query g.S.Store old old s c.in-Err-answered.refusal (inl (c.in-Err-answered.ensures.why history rows of)))
+
+pub returns-in-Ok-answered-clause-over : goal.returns-in-Ok-answered-clause-over
+returns-in-Ok-answered-clause-over g c =
+    let s : Statement = statement.sequenced (plain_query c.args.query.now) in
+    let old : EngineState g.row.S.Denot = c.args.self.now in
+    let catalog : c.catalog.result.now ≡ old.catalog = c.catalog.ensures ∙ ap (λ (e : EngineState g.row.S.Denot). e.catalog) c.self.view_is in
+    asked_over g.S.Store old s old (Answered c.in-Ok-answered.answer) refl
+    (subst (λ (k : Catalog). NoneApplies (Holds (query_conditions k.tables s))) catalog c.in-Ok.ensures.sound) (refl, refl)
+
+pub returns-in-Err-clause-over : goal.returns-in-Err-clause-over
+returns-in-Err-clause-over g c =
+    let s : Statement = statement.sequenced (plain_query c.args.query.now) in
+    let old : EngineState g.row.S.Denot = c.args.self.now in
+    let same : c.catalog.result.now.tables ≡ old.catalog.tables = ap (λ (k : Catalog). k.tables) c.catalog.ensures ∙ ap (λ s. s.catalog.tables) c.self.view_is in
+    subst (λ (entry : Entry). StepOver g.S.Store old s entry.result old) (sym c.unaudited.ensures)
+    (untouched_over g.S.Store old s old c.in-Err.refusal refl
+    (inl (inl (subst (λ (tables : List TableDef). MayAnswer (Holds (query_conditions tables s)) c.in-Err.refusal) same c.in-Err.ensures.refused))))
+
+pub returns-clause-over : goal.returns-clause-over
+returns-clause-over g c =
+    let s : Statement = statement.sequenced (plain_query c.args.query.now) in
+    let old : EngineState g.row.S.Denot = c.args.self.now in
+    let catalog : c.catalog.result.now ≡ old.catalog = c.catalog.ensures ∙ ap (λ (e : EngineState g.row.S.Denot). e.catalog) c.self.view_is in
+    subst (λ (entry : Entry). StepOver g.S.Store old s entry.result old) (sym c.unaudited-in-Err-answered.ensures)
+    (untouched_over g.S.Store old s old c.in-Err-answered.refusal refl
+    (failed_over old.catalog.tables old.clock s c.in-Err-answered.refusal
+    (subst (λ (k : Catalog). NoneApplies (Holds (query_conditions k.tables s))) catalog c.in-Ok.ensures.sound)
+    c.in-Err-answered.ensures.named))

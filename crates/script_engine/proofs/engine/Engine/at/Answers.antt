@@ -30,7 +30,7 @@ returns-in-Some-2-clause-memory g c =
     let ended = c.self.inside.ended.items in
     let new : EngineState g.row.S.Denot = engine_of c.advance.new.self tables ended in
     subst (λ (e : EngineState g.row.S.Denot). OnErr c.advance.result (IsSameInMemory e new)) c.self.view_is
-    (on_err_weaker c.advance.result (λ same. list_memory (engine_of c.self.inside.store tables ended) new (ap (λ k. k.tables) c.advance.ensures.catalog) same refl) c.advance.ensures.clock)
+    (on_err_weaker c.advance.result (λ same. list_memory (engine_of c.self.inside.store tables ended) new (ap (λ k. k.tables) c.advance.ensures.catalog) same refl refl) c.advance.ensures.clock)
 
 pub returns-in-None-clause-memory : goal.returns-in-None-clause-memory
 returns-in-None-clause-memory g c = same_memory c.args.self.now

@@ -1,9 +1,8 @@
-use Rattle.std.proofs.lemmas.Bool.{false≢true}
 use Rattle.std.proofs.lemmas.Result.{IfErr-at_err, err_from_is_err_and}
-use Rattle.std.proofs.Common.{◌≡◌, ◌∙◌, false, List, Ok, Some, ap, inl, inr, map, subst, subst₂, sym}
+use Rattle.std.proofs.Common.{◌≡◌, ◌∙◌, List, Ok, Some, ap, inl, inr, map, refl, subst, subst₂, sym}
 use Rattle.period_core.specs.Leasts.{MayAnswer}
 use Rattle.catalog_core.specs.RefusalConditions.{Holds}
-use Rattle.catalog_core.specs.change.Resolution.{change_conditions, has_empty_row}
+use Rattle.catalog_core.specs.change.Resolution.{change_conditions}
 use Rattle.catalog_core.specs.table.TableWords.{table_of}
 use Rattle.catalog_core.specs.declared.table.TableDef.{TableDef}
 use Rattle.catalog_core.specs.declared.table.catalog.Catalog.{Catalog}
@@ -24,9 +23,9 @@ use Rattle.statement_reports.specs.declared.outcome.Word.{Word}
 use Rattle.script_engine.proofs.Changed.{changed_step, hold_before, lawful_before, resolved_table, unchanged_step, unlawful_step, unplanned_step, unresolved_step}
 use Rattle.script_engine.proofs.Indexed.{ended_there}
 use Rattle.script_engine.proofs.InMemory.{current-kept}
-use Rattle.script_engine.proofs.ChangeRefusals.{constrained, none_without_empty, unplanned, unresolved}
-use Rattle.script_engine.proofs.Refused.{days-planned}
-use Rattle.script_engine.proofs.SameInMemory.{failed_over, rows_memory, same_memory}
+use Rattle.script_engine.proofs.ChangeRefusals.{constrained, planned_sound, unplanned, unresolved}
+use Rattle.script_engine.proofs.OverFacts.{accepted_over, change_follows, refused_over, untouched_over}
+use Rattle.script_engine.proofs.SameInMemory.{failed_over, rows_memory}
 use Rattle.script_engine.proofs.engine.Engine.change.Goals as goal
 
 pub returns-in_err-change-clause-step : goal.returns-in_err-change-clause-step
@@ -52,6 +51,7 @@ lawful_plan-requires g c =
     }
 
 -- the plan is over the rows in memory
+
 pub apply-requires-clause-split : goal.apply-requires-clause-split
 apply-requires-clause-split g c =
     let change = c.in_ok-change.change in
@@ -138,54 +138,55 @@ returns-in_err-apply-clause-kept g c =
       ended = subst (HaveEnded contents) (sym c.in_err-apply.ensures.open) has.ended;
     })
 
-pub returns-in_err-change-clause-refused : goal.returns-in_err-change-clause-refused
-returns-in_err-change-clause-refused g c =
+pub returns-in_err-change-clause-over : goal.returns-in_err-change-clause-over
+returns-in_err-change-clause-over g c =
     let p = err_from_is_err_and c.from_residual.result c.from_residual.ensures.1 in
     rw (p.1, p.2) (λ s is.
-    inl (unresolved c.args.self.now.catalog.tables c.args.self.now.clock s is.form c.in_err-change.field-0.0
-    (IfErr-at_err (MayAnswer (Holds (change_conditions c.args.self.now.catalog.tables s))) c.in_err-change.was is.refused)))
+    let old : EngineState g.row.S.Denot = c.args.self.now in
+    untouched_over g.S.Store old s old c.in_err-change.field-0.0 refl
+    (inl (unresolved old.catalog.tables old.clock s is.form c.in_err-change.field-0.0
+    (IfErr-at_err (MayAnswer (Holds (change_conditions old.catalog.tables s))) c.in_err-change.was is.refused))))
 
-pub returns-in_err-change-clause-memory : goal.returns-in_err-change-clause-memory
-returns-in_err-change-clause-memory g c =
-    let p = err_from_is_err_and c.from_residual.result c.from_residual.ensures.1 in
-    rw p.1 (same_memory c.args.self.now)
-
-pub returns-in_err-made-clause-refused : goal.returns-in_err-made-clause-refused
-returns-in_err-made-clause-refused g c =
+pub returns-in_err-made-clause-over : goal.returns-in_err-made-clause-over
+returns-in_err-made-clause-over g c =
     let p = err_from_is_err_and c.from_residual-in_err-made.result c.from_residual-in_err-made.ensures.1 in
     rw (p.1, p.2) (λ s is.
     let change = c.in_ok-change.change in
     let refusal = c.in_err-made.field-0.0 in
     let old : EngineState g.row.S.Denot = c.args.self.now in
     let known : IsResolved old.catalog.tables s c.args.word (Ok change) = subst (IsResolved old.catalog.tables s c.args.word) c.in_ok-change.was is in
-    elim c.in_err-made.ensures.refused [
+    untouched_over g.S.Store old s old refusal refl
+    (elim c.in_err-made.ensures.refused [
       | inl none ↦ inl (unplanned old.catalog.tables old.clock s known.form change.action known.sound known.empty refusal (inl none))
       | inr other ↦ elim other [
         | inl memory ↦ inl (unplanned old.catalog.tables old.clock s known.form change.action known.sound known.empty refusal (inr (inl memory)))
         | inr unlawful ↦ constrained old.catalog.tables old.clock s known.form change.action known.sound known.empty refusal unlawful.0 unlawful.1
       ]
-    ])
+    ]))
 
-pub returns-in_err-made-clause-memory : goal.returns-in_err-made-clause-memory
-returns-in_err-made-clause-memory g c =
-    let p = err_from_is_err_and c.from_residual-in_err-made.result c.from_residual-in_err-made.ensures.1 in
-    rw p.1 (same_memory c.args.self.now)
-
-pub returns-in_err-apply-clause-refused : goal.returns-in_err-apply-clause-refused
-returns-in_err-apply-clause-refused g c =
+pub returns-in_err-apply-clause-over : goal.returns-in_err-apply-clause-over
+returns-in_err-apply-clause-over g c =
     let p = err_from_is_err_and c.from_residual-in_err-apply.result c.from_residual-in_err-apply.ensures.1 in
     rw (p.1, p.2) (λ s is.
     let change = c.in_ok-change.change in
     let plan = c.in_ok-made.made.plan in
     let old : EngineState g.row.S.Denot = c.args.self.now in
+    let new : EngineState g.row.S.Denot = c.apply.new.self in
     let known : IsResolved old.catalog.tables s c.args.word (Ok change) = subst (IsResolved old.catalog.tables s c.args.word) c.in_ok-change.was is in
     let of = c.in_ok-made.ensures.plan in
-    failed_over old.catalog.tables old.clock s c.in_err-apply.field-0.0
-    (none_without_empty old.catalog.tables old.clock s known.form change.action known.sound known.empty
-    (λ found. let off : has_empty_row change.action ≡ false = days-planned change.action of.listed plan of.plans in absurd (false≢true (sym off ∙ found))))
-    c.in_err-apply.ensures.named)
+    refused_over g.S.Store old s new c.in_err-apply.field-0.0
+    (failed_over old.catalog.tables old.clock s c.in_err-apply.field-0.0 (planned_sound old.catalog.tables old.clock s known.form change.action known.sound known.empty of.listed plan of.plans) c.in_err-apply.ensures.named)
+    (rows_memory old new change.table c.apply.ensures.catalog c.apply.ensures.clock c.in_err-apply.ensures.none c.in_err-apply.ensures.open)
+    c.in_err-apply.ensures.none_stored c.apply.ensures.usable)
 
-pub returns-in_err-apply-clause-memory : goal.returns-in_err-apply-clause-memory
-returns-in_err-apply-clause-memory g c =
-    let p = err_from_is_err_and c.from_residual-in_err-apply.result c.from_residual-in_err-apply.ensures.1 in
-    rw p.1 (rows_memory c.args.self.now c.apply.new.self c.in_ok-change.change.table c.apply.ensures.catalog c.apply.ensures.clock c.in_err-apply.ensures.none)
+pub returns-clause-over : goal.returns-clause-over
+returns-clause-over g c = λ s is.
+    let change = c.in_ok-change.change in
+    let plan = c.in_ok-made.made.plan in
+    let old : EngineState g.row.S.Denot = c.args.self.now in
+    let new : EngineState g.row.S.Denot = c.apply.new.self in
+    let known : IsResolved old.catalog.tables s c.args.word (Ok change) = subst (IsResolved old.catalog.tables s c.args.word) c.in_ok-change.was is in
+    let of = c.in_ok-made.ensures.plan in
+    accepted_over g.S.Store old s new c.done.result (planned_sound old.catalog.tables old.clock s known.form change.action known.sound known.empty of.listed plan of.plans)
+    (change_follows old new s known.form (ap (λ (k : Catalog). k.tables) c.apply.ensures.catalog, c.apply.ensures.clock))
+    c.apply.ensures.usable

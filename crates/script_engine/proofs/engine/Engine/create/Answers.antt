@@ -20,10 +20,14 @@ use Rattle.script_engine.proofs.EndedAfter.{ended-created, none_ended}
 use Rattle.script_engine.proofs.InMemory.{current-created}
 use Rattle.script_engine.proofs.Steps.{created_step, uncreated_step, unmade_step}
 use Rattle.script_engine.proofs.TableNumbers.{few_tables}
-use Rattle.std.proofs.Common.{inl}
+use Rattle.std.proofs.Common.{Ok, Err, inl}
 use Rattle.sql_statements.specs.Trees as statement
-use Rattle.script_engine.specs.engine.InMemory.{IsSameInMemory}
-use Rattle.script_engine.proofs.SameInMemory.{failed_over, list_memory, same_memory}
+use Rattle.sql_statements.specs.Trees.{Statement}
+use Rattle.statement_reports.specs.declared.outcome.Outcome.TheVariants.{Done}
+use Rattle.statement_reports.specs.declared.outcome.Word.TheVariants as word
+use Rattle.script_engine.specs.engine.Over.{StepOver}
+use Rattle.script_engine.proofs.OverFacts.{accepted_over, refused_over, untouched_over}
+use Rattle.script_engine.proofs.SameInMemory.{failed_over, list_memory}
 use Rattle.script_engine.proofs.engine.Engine.create.Goals as goal
 
 -- a table without rows
@@ -96,34 +100,6 @@ returns-in-Err-clause-kept g c = λ usable contents has.
       ended = subst (HaveEnded contents) (sym (c.remove_versions.ensures.ended c.self.inside.ended.items [] c.in_ok-add_versions.ensures.closed)) was.ended;
     }
 
-pub returns-in_err-definition-clause-refused : goal.returns-in_err-definition-clause-refused
-returns-in_err-definition-clause-refused g c =
-    let p = err_from_is_err_and c.from_residual.result c.from_residual.ensures.1 in
-    rw (p.1, p.2) (let same : c.catalog.result.now.tables ≡ c.args.self.now.catalog.tables = ap (λ (k : Catalog). k.tables) c.catalog.ensures ∙ ap (λ s. s.catalog.tables) c.self.view_is in
-    inl (inl (subst (λ (tables : List TableDef). MayAnswer (Holds (create_conditions tables c.args.create.now)) c.in_err-definition.field-0.0) same c.in_err-definition.ensures.refused)))
-
-pub returns-in_err-definition-clause-memory : goal.returns-in_err-definition-clause-memory
-returns-in_err-definition-clause-memory g c =
-    let p = err_from_is_err_and c.from_residual.result c.from_residual.ensures.1 in
-    rw p.1 (same_memory c.args.self.now)
-
-pub returns-in-Err-clause-refused : goal.returns-in-Err-clause-refused
-returns-in-Err-clause-refused g c =
-    let old : EngineState g.row.S.Denot = c.args.self.now in
-    let same : c.catalog.result.now.tables ≡ old.catalog.tables = ap (λ (k : Catalog). k.tables) c.catalog.ensures ∙ ap (λ s. s.catalog.tables) c.self.view_is in
-    failed_over old.catalog.tables old.clock (statement.create c.args.create.now) c.in-Err.refusal
-    (subst (λ (tables : List TableDef). NoneApplies (Holds (create_conditions tables c.args.create.now))) same c.in_ok-definition.ensures.sound)
-    c.in-Err.ensures.named
-
-pub returns-in-Err-clause-memory : goal.returns-in-Err-clause-memory
-returns-in-Err-clause-memory g c =
-    let ts : List RowsByKey = map rows_by_key c.self.inside.tables.items in
-    let old : EngineState g.row.S.Denot = engine_of c.self.inside.store ts c.self.inside.ended.items in
-    let new : EngineState g.row.S.Denot = engine_of c.add_table.new.self (map rows_by_key c.remove_versions.new.tables.items) c.remove_versions.new.ended.items in
-    subst (λ (e : EngineState g.row.S.Denot). IsSameInMemory e new) c.self.view_is
-    (list_memory old new c.in-Err.ensures.none c.in-Err.ensures.clock
-    (c.remove_versions.ensures.rows ts (without_rows c.in_ok-definition.definition) c.in_ok-add_versions.ensures.rows))
-
 pub invariant_of-self-in-Ok : goal.invariant_of-self-in-Ok
 invariant_of-self-in-Ok g c =
     let definition : TableDef = c.in_ok-definition.definition in
@@ -142,3 +118,40 @@ invariant_of-self-in-Err g c =
       subst (λ (m : ℤ). AllEndedBy m c.remove_versions.new.ended.items) (sym c.in-Err.ensures.clock)
           (subst (AllEndedBy c.self.inside.store.clock) (sym (c.remove_versions.ensures.ended c.self.inside.ended.items [] c.in_ok-add_versions.ensures.closed)) c.self.invariant.1),
     )
+
+pub returns-in_err-definition-clause-over : goal.returns-in_err-definition-clause-over
+returns-in_err-definition-clause-over g c =
+    let p = err_from_is_err_and c.from_residual.result c.from_residual.ensures.1 in
+    rw (p.1, p.2) (let same : c.catalog.result.now.tables ≡ c.args.self.now.catalog.tables = ap (λ (k : Catalog). k.tables) c.catalog.ensures ∙ ap (λ s. s.catalog.tables) c.self.view_is in
+    untouched_over g.S.Store c.args.self.now (statement.create c.args.create.now) c.args.self.now c.in_err-definition.field-0.0 refl
+    (inl (inl (subst (λ (tables : List TableDef). MayAnswer (Holds (create_conditions tables c.args.create.now)) c.in_err-definition.field-0.0) same c.in_err-definition.ensures.refused))))
+
+pub returns-in-Ok-clause-over : goal.returns-in-Ok-clause-over
+returns-in-Ok-clause-over g c =
+    let ts : List RowsByKey = map rows_by_key c.self.inside.tables.items in
+    let old : EngineState g.row.S.Denot = engine_of c.self.inside.store ts c.self.inside.ended.items in
+    let new : EngineState g.row.S.Denot = engine_of c.add_table.new.self (map rows_by_key c.add_versions.new.tables.items) c.add_versions.new.ended.items in
+    let create = c.args.create.now in
+    let definition = c.in_ok-definition.definition in
+    subst (λ (e : EngineState g.row.S.Denot). StepOver g.S.Store e (statement.create create) (Ok (Done word.Create 0)) new) c.self.view_is
+    (accepted_over g.S.Store old (statement.create create) new (Done word.Create 0)
+    (subst (λ (k : Catalog). NoneApplies (Holds (create_conditions k.tables create))) c.catalog.ensures c.in_ok-definition.ensures.sound)
+    ((definition, subst (λ (k : Catalog). Defines k.tables create definition) c.catalog.ensures c.in_ok-definition.ensures.defined, c.in-Ok.ensures.added), c.in-Ok.ensures.clock)
+    c.add_table.ensures.usable)
+
+pub returns-in-Err-clause-over : goal.returns-in-Err-clause-over
+returns-in-Err-clause-over g c =
+    let ts : List RowsByKey = map rows_by_key c.self.inside.tables.items in
+    let old : EngineState g.row.S.Denot = engine_of c.self.inside.store ts c.self.inside.ended.items in
+    let new : EngineState g.row.S.Denot = engine_of c.add_table.new.self (map rows_by_key c.remove_versions.new.tables.items) c.remove_versions.new.ended.items in
+    let s : Statement = statement.create c.args.create.now in
+    subst (λ (e : EngineState g.row.S.Denot). StepOver g.S.Store e s (Err c.in-Err.refusal) new) c.self.view_is
+    (refused_over g.S.Store old s new c.in-Err.refusal
+    (failed_over old.catalog.tables old.clock s c.in-Err.refusal
+    (subst (λ (k : Catalog). NoneApplies (Holds (create_conditions k.tables c.args.create.now))) c.catalog.ensures c.in_ok-definition.ensures.sound)
+    c.in-Err.ensures.named)
+    (list_memory old new c.in-Err.ensures.none c.in-Err.ensures.clock
+    (c.remove_versions.ensures.rows ts (without_rows c.in_ok-definition.definition) c.in_ok-add_versions.ensures.rows)
+    (c.remove_versions.ensures.ended c.self.inside.ended.items [] c.in_ok-add_versions.ensures.closed))
+    c.in-Err.ensures.none_stored
+    c.add_table.ensures.usable)

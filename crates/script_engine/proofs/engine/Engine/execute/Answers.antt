@@ -1,5 +1,4 @@
 use Rattle.std.proofs.Common.{◌≡◌, ◌∙◌, List, Result, ap, subst, subst₂, sym}
-use Rattle.std.proofs.lemmas.Result.{IfErr-weaker}
 use Rattle.period_core.specs.declared.refusal.Refusal.{Refusal}
 use Rattle.sql_statements.specs.Plain.{plain, plain_delete, plain_form, plain_query, plain_stored, plain_update}
 use Rattle.sql_statements.specs.Trees.{Statement}
@@ -11,7 +10,8 @@ use Rattle.statement_reports.specs.declared.outcome.Word.TheVariants as word
 use Rattle.script_engine.specs.engine.Planned.{IsResolved}
 use Rattle.script_engine.specs.engine.Runs.{StepsTo}
 use Rattle.std.specs.Prelude.{IfErr}
-use Rattle.script_engine.specs.engine.Runs.{IsQuery, MayRefuseOver, MayRefuseQuery}
+use Rattle.script_engine.specs.engine.Over.{StepOver}
+use Rattle.script_engine.specs.engine.Runs.{IsQuery, MayRefuseQuery}
 use Rattle.script_engine.proofs.Resolved.{resolved_delete, resolved_insert, resolved_update}
 use Rattle.script_engine.proofs.engine.Engine.execute.Goals as goal
 
@@ -55,14 +55,14 @@ returns-in-Insert-clause-step g c usable history kept =
     subst₂ (λ (tables : List TableDef) (s : Statement). IsResolved tables s word.Insert r) same said (resolved_insert c.catalog.result.now.tables c.in-Insert.insert r c.resolve_insert-resolved.ensures.sound c.resolve_insert-resolved.ensures.resolved c.resolve_insert-resolved.ensures.empty c.resolve_insert-resolved.ensures.refused) in
     c.change.ensures.step usable history kept (plain c.args.statement.now) known
 
-pub returns-in-Insert-clause-refused : goal.returns-in-Insert-clause-refused
-returns-in-Insert-clause-refused g c =
+pub returns-in-Insert-clause-over : goal.returns-in-Insert-clause-over
+returns-in-Insert-clause-over g c =
     let r : Result Change Refusal = c.resolve_insert-resolved.result in
     let same : c.catalog.result.now.tables ≡ c.args.self.now.catalog.tables = ap (λ (k : Catalog). k.tables) c.catalog.ensures in
     let said : statement.insert c.in-Insert.insert ≡ plain c.args.statement.now = ap plain_form (sym c.in-Insert.is) ∙ c.form.ensures in
     let known : IsResolved c.args.self.now.catalog.tables (plain c.args.statement.now) word.Insert r =
     subst₂ (λ (tables : List TableDef) (s : Statement). IsResolved tables s word.Insert r) same said (resolved_insert c.catalog.result.now.tables c.in-Insert.insert r c.resolve_insert-resolved.ensures.sound c.resolve_insert-resolved.ensures.resolved c.resolve_insert-resolved.ensures.empty c.resolve_insert-resolved.ensures.refused) in
-    IfErr-weaker c.change.result _ (MayRefuseOver c.args.self.now.catalog.tables c.args.self.now.clock (plain c.args.statement.now)) (λ refusal may. may (plain c.args.statement.now) known) c.change.ensures.refused
+    c.change.ensures.over (plain c.args.statement.now) known
 
 pub change-requires-in-Update : goal.change-requires-in-Update
 change-requires-in-Update g c =
@@ -82,14 +82,14 @@ returns-in-Update-clause-step g c usable history kept =
     subst₂ (λ (tables : List TableDef) (s : Statement). IsResolved tables s word.Update r) same said (resolved_update c.catalog-in-Update.result.now.tables (plain_update c.in-Update.update) r c.resolve_update-resolved.ensures.sound c.resolve_update-resolved.ensures.resolved c.resolve_update-resolved.ensures.refused) in
     c.change-in-Update.ensures.step usable history kept (plain c.args.statement.now) known
 
-pub returns-in-Update-clause-refused : goal.returns-in-Update-clause-refused
-returns-in-Update-clause-refused g c =
+pub returns-in-Update-clause-over : goal.returns-in-Update-clause-over
+returns-in-Update-clause-over g c =
     let r : Result Change Refusal = c.resolve_update-resolved.result in
     let same : c.catalog-in-Update.result.now.tables ≡ c.args.self.now.catalog.tables = ap (λ (k : Catalog). k.tables) c.catalog-in-Update.ensures in
     let said : statement.update (plain_update c.in-Update.update) ≡ plain c.args.statement.now = ap plain_form (sym c.in-Update.is) ∙ c.form.ensures in
     let known : IsResolved c.args.self.now.catalog.tables (plain c.args.statement.now) word.Update r =
     subst₂ (λ (tables : List TableDef) (s : Statement). IsResolved tables s word.Update r) same said (resolved_update c.catalog-in-Update.result.now.tables (plain_update c.in-Update.update) r c.resolve_update-resolved.ensures.sound c.resolve_update-resolved.ensures.resolved c.resolve_update-resolved.ensures.refused) in
-    IfErr-weaker c.change-in-Update.result _ (MayRefuseOver c.args.self.now.catalog.tables c.args.self.now.clock (plain c.args.statement.now)) (λ refusal may. may (plain c.args.statement.now) known) c.change-in-Update.ensures.refused
+    c.change-in-Update.ensures.over (plain c.args.statement.now) known
 
 pub change-requires-in-Delete : goal.change-requires-in-Delete
 change-requires-in-Delete g c =
@@ -109,34 +109,34 @@ returns-in-Delete-clause-step g c usable history kept =
     subst₂ (λ (tables : List TableDef) (s : Statement). IsResolved tables s word.Delete r) same said (resolved_delete c.catalog-in-Delete.result.now.tables (plain_delete c.in-Delete.delete) r c.resolve_delete-resolved.ensures.sound c.resolve_delete-resolved.ensures.resolved c.resolve_delete-resolved.ensures.refused) in
     c.change-in-Delete.ensures.step usable history kept (plain c.args.statement.now) known
 
-pub returns-in-Delete-clause-refused : goal.returns-in-Delete-clause-refused
-returns-in-Delete-clause-refused g c =
+pub returns-in-Delete-clause-over : goal.returns-in-Delete-clause-over
+returns-in-Delete-clause-over g c =
     let r : Result Change Refusal = c.resolve_delete-resolved.result in
     let same : c.catalog-in-Delete.result.now.tables ≡ c.args.self.now.catalog.tables = ap (λ (k : Catalog). k.tables) c.catalog-in-Delete.ensures in
     let said : statement.delete (plain_delete c.in-Delete.delete) ≡ plain c.args.statement.now = ap plain_form (sym c.in-Delete.is) ∙ c.form.ensures in
     let known : IsResolved c.args.self.now.catalog.tables (plain c.args.statement.now) word.Delete r =
     subst₂ (λ (tables : List TableDef) (s : Statement). IsResolved tables s word.Delete r) same said (resolved_delete c.catalog-in-Delete.result.now.tables (plain_delete c.in-Delete.delete) r c.resolve_delete-resolved.ensures.sound c.resolve_delete-resolved.ensures.resolved c.resolve_delete-resolved.ensures.refused) in
-    IfErr-weaker c.change-in-Delete.result _ (MayRefuseOver c.args.self.now.catalog.tables c.args.self.now.clock (plain c.args.statement.now)) (λ refusal may. may (plain c.args.statement.now) known) c.change-in-Delete.ensures.refused
+    c.change-in-Delete.ensures.over (plain c.args.statement.now) known
 
-pub returns-in-Sequenced-clause-refused : goal.returns-in-Sequenced-clause-refused
-returns-in-Sequenced-clause-refused g c =
+pub returns-in-Sequenced-clause-over : goal.returns-in-Sequenced-clause-over
+returns-in-Sequenced-clause-over g c =
     let said : statement.sequenced (plain_query c.in-Sequenced.query) ≡ plain c.args.statement.now = ap plain_form (sym c.in-Sequenced.is) ∙ c.form.ensures in
-    subst (λ (s : Statement). IfErr c.answer.result (MayRefuseOver c.args.self.now.catalog.tables c.args.self.now.clock s)) said c.answer.ensures.refused
+    subst (λ (s : Statement). StepOver g.S.Store c.args.self.now s c.answer.result c.answer.new.self) said c.answer.ensures.over
 
-pub returns-in-At-clause-refused : goal.returns-in-At-clause-refused
-returns-in-At-clause-refused g c =
+pub returns-in-At-clause-over : goal.returns-in-At-clause-over
+returns-in-At-clause-over g c =
     let said : statement.at c.in-At.moment ≡ plain c.args.statement.now = ap plain_form (sym c.in-At.is) ∙ c.form.ensures in
-    subst (λ (s : Statement). IfErr c.advance.result (MayRefuseOver c.args.self.now.catalog.tables c.args.self.now.clock s)) said c.advance.ensures.refused
+    subst (λ (s : Statement). StepOver g.S.Store c.args.self.now s c.advance.result c.advance.new.self) said c.advance.ensures.over
 
-pub returns-in-Create-clause-refused : goal.returns-in-Create-clause-refused
-returns-in-Create-clause-refused g c =
+pub returns-in-Create-clause-over : goal.returns-in-Create-clause-over
+returns-in-Create-clause-over g c =
     let said : statement.create c.table.result.now ≡ plain c.args.statement.now = ap statement.create c.table.ensures.value ∙ ap plain_form (sym c.in-Create.is) ∙ c.form.ensures in
-    subst (λ (s : Statement). IfErr c.create.result (MayRefuseOver c.args.self.now.catalog.tables c.args.self.now.clock s)) said c.create.ensures.refused
+    subst (λ (s : Statement). StepOver g.S.Store c.args.self.now s c.create.result c.create.new.self) said c.create.ensures.over
 
-pub returns-in-Stored-clause-refused : goal.returns-in-Stored-clause-refused
-returns-in-Stored-clause-refused g c =
+pub returns-in-Stored-clause-over : goal.returns-in-Stored-clause-over
+returns-in-Stored-clause-over g c =
     let said : statement.stored (plain_stored c.in-Stored.query) ≡ plain c.args.statement.now = ap plain_form (sym c.in-Stored.is) ∙ c.form.ensures in
-    subst (λ (s : Statement). IfErr c.show.result (MayRefuseOver c.args.self.now.catalog.tables c.args.self.now.clock s)) said c.show.ensures.refused
+    subst (λ (s : Statement). StepOver g.S.Store c.args.self.now s c.show.result c.show.new.self) said c.show.ensures.over
 
 pub returns-in-Sequenced-clause-queries : goal.returns-in-Sequenced-clause-queries
 returns-in-Sequenced-clause-queries g c usable history kept asks =

@@ -6,9 +6,9 @@ use Rattle.catalog_core.specs.query.Resolving.{IsSequenced}
 use Rattle.script_engine.specs.engine.Audits.{AuditedStepsTo}
 use Rattle.statement_reports.specs.declared.entry.Entry.{Entry}
 use Rattle.script_engine.proofs.Audited.{not_sequenced, other_entry}
-use Rattle.std.specs.Prelude.{IfErr, OnErr}
-use Rattle.script_engine.specs.engine.InMemory.{IsSameInMemory}
-use Rattle.script_engine.specs.engine.Runs.{MayRefuseOver, MayRefuseQuery}
+use Rattle.std.specs.Prelude.{IfErr}
+use Rattle.script_engine.specs.engine.Over.{StepOver}
+use Rattle.script_engine.specs.engine.Runs.{MayRefuseQuery}
 use Rattle.script_engine.proofs.engine.Engine.execute_audited.Goals as goal
 
 pub returns-in-Sequenced-clause-step : goal.returns-in-Sequenced-clause-step
@@ -23,19 +23,6 @@ returns-in_default-clause-step g c usable history kept =
     subst (λ (entry : Entry). AuditedStepsTo g.S.Store history s entry c.execute.new.self) (sym c.unaudited.ensures)
     (other_entry g.S.Store history s c.execute.new.self c.execute.result other (c.execute.ensures.step usable history kept))
 
-pub returns-in-Sequenced-clause-refused : goal.returns-in-Sequenced-clause-refused
-returns-in-Sequenced-clause-refused g c =
-    let said : statement.sequenced (plain_query c.in-Sequenced.query) ≡ plain c.args.statement.now = ap plain_form (sym c.in-Sequenced.is) ∙ c.form.ensures in
-    subst (λ (s : Statement). IfErr c.answer_audited.result.result (MayRefuseOver c.args.self.now.catalog.tables c.args.self.now.clock s)) said c.answer_audited.ensures.refused
-
-pub returns-in_default-clause-refused : goal.returns-in_default-clause-refused
-returns-in_default-clause-refused g c =
-    subst (λ (entry : Entry). IfErr entry.result (MayRefuseOver c.args.self.now.catalog.tables c.args.self.now.clock (plain c.args.statement.now))) (sym c.unaudited.ensures) c.execute.ensures.refused
-
-pub returns-in_default-clause-memory : goal.returns-in_default-clause-memory
-returns-in_default-clause-memory g c =
-    subst (λ (entry : Entry). OnErr entry.result (IsSameInMemory c.args.self.now c.execute.new.self)) (sym c.unaudited.ensures) c.execute.ensures.memory
-
 pub returns-in-Sequenced-clause-queries : goal.returns-in-Sequenced-clause-queries
 returns-in-Sequenced-clause-queries g c usable history kept asks =
     let said : statement.sequenced (plain_query c.in-Sequenced.query) ≡ plain c.args.statement.now = ap plain_form (sym c.in-Sequenced.is) ∙ c.form.ensures in
@@ -44,3 +31,12 @@ returns-in-Sequenced-clause-queries g c usable history kept asks =
 pub returns-in_default-clause-queries : goal.returns-in_default-clause-queries
 returns-in_default-clause-queries g c usable history kept asks =
     subst (λ (entry : Entry). IfErr entry.result (MayRefuseQuery g.S.Store c.args.self.now c.execute.new.self (plain c.args.statement.now))) (sym c.unaudited.ensures) (c.execute.ensures.queries usable history kept asks)
+
+pub returns-in-Sequenced-clause-over : goal.returns-in-Sequenced-clause-over
+returns-in-Sequenced-clause-over g c =
+    let said : statement.sequenced (plain_query c.in-Sequenced.query) ≡ plain c.args.statement.now = ap plain_form (sym c.in-Sequenced.is) ∙ c.form.ensures in
+    subst (λ (s : Statement). StepOver g.S.Store c.args.self.now s c.answer_audited.result.result c.answer_audited.new.self) said c.answer_audited.ensures.over
+
+pub returns-in_default-clause-over : goal.returns-in_default-clause-over
+returns-in_default-clause-over g c =
+    subst (λ (entry : Entry). StepOver g.S.Store c.args.self.now (plain c.args.statement.now) entry.result c.execute.new.self) (sym c.unaudited.ensures) c.execute.ensures.over

@@ -4,82 +4,94 @@ use Rattle.sqlite.specs.Held.{Held, state}
 use Rattle.sqlite.specs.Store.{Ghosts}
 use Rattle.history_model.specs.Histories.{History}
 use Rattle.period_keys.specs.Current.{rows_by_key}
-use Rattle.period_keys.specs.Rows.{RowsByKey}
+use Rattle.period_keys.specs.TableRows.{TableRows}
 use Rattle.period_core.specs.declared.version.VersionRow.{VersionRow}
 use Rattle.catalog_core.specs.declared.table.catalog.Catalog.{Catalog}
 use Rattle.version_tables.proofs.ColumnFacts.{never}
 use Rattle.version_tables.specs.Steps.{IsAsBefore}
+use Rattle.version_tables.specs.declared.form.Form.TheVariants.{Microseconds}
 use Rattle.version_store.specs.Contents.{AreVersionsOf, Contents, empty_contents}
 use Rattle.version_store.specs.GoodStore.{HaveTables}
-use Rattle.version_store.specs.StoreState.{IsUsable, OpenedRepresents, OpenedState}
+use Rattle.version_store.specs.StoreState.{IsMadeBehind, IsUsable, OpenedRepresents, OpenedState, StoreState}
 use Rattle.version_store.specs.Units.{in_microseconds}
 use Rattle.version_store.specs.Written.{HasIn}
 use Rattle.version_store.proofs.Beside.{spares_then}
-use Rattle.version_store.proofs.Opens.{has_contents}
+use Rattle.version_store.proofs.Opens.{has_contents, same_contents}
 use Rattle.version_store.proofs.ReadRows.{none_of_nothing}
 use Rattle.script_engine.specs.engine.EngineState.{EngineState, engine_of}
 use Rattle.script_engine.specs.engine.InMemory.{AreReadOf}
 use Rattle.script_engine.specs.engine.Stored.{EngineRepresents}
 use Rattle.script_engine.proofs.NewStore.{new_store}
 use Rattle.ended_versions.specs.Packed.{PackedVersion}
-use Rattle.script_engine.proofs.Openings.{all_points, good_history, good_tables, its_contents, other_points}
+use Rattle.script_engine.proofs.Openings.{all_points, good_and_lawful, good_history, good_tables, its_contents, other_points}
 use Rattle.script_engine.proofs.engine.Engine.open.Goals as goal
 
 -- what was read of an opened store is that of the contents that it represents
 read_of : {S : Type 0} (g : Ghosts S) (opened : OpenedState S) (catalog : Catalog) (lists : List (List VersionRow)) (d : Contents) → catalog ≡ opened.store.catalog → OpenedRepresents g opened d → AreVersionsOf d lists → HaveTables d → AreReadOf d catalog.tables lists
 read_of g opened catalog lists d is stored versions tabled = record { same = ap (λ (k : Catalog). k.tables) is ∙ stored.catalog; versions = versions; tabled = tabled }
 
-pub returns-in-Ok-accept-clause-opened : goal.returns-in-Ok-accept-clause-opened
-returns-in-Ok-accept-clause-opened g c = λ usable history stands.
-    let rows : List RowsByKey = map rows_by_key c.in-Ok-load_lawful.loaded.0.items in
-    let ended : List (List PackedVersion) = c.in-Ok-load_lawful.loaded.1.items in
-    let before = c.in-Ok-accept.ensures.usable usable in
-    let new : EngineState g.row.S.Denot = engine_of c.in-Ok-accept.store rows ended in
-    let read = read_of g.S.Store c.in-Ok.found.0 c.catalog.result.now c.in-Ok.found.1.items in
-    elim stands [
-      | inl fresh ↦
-          (let stored = c.in-Ok.ensures.fresh before fresh.0 in
-          let its = read empty_contents c.catalog.ensures stored.0 (none_of_nothing c.in-Ok.found.1.items stored.1) tt in
-          subst (λ (h : History). EngineRepresents g.S.Store h new) (sym fresh.1)
-          (new_store g.S.Store new (record {
-            stored = c.in-Ok-accept.ensures.accepted usable empty_contents stored.0;
-            current = c.in-Ok-load_lawful.ensures.loaded empty_contents its;
-            ended = c.in-Ok-load_lawful.ensures.ended empty_contents its;
-          })))
-      | inr it ↦
-          (let d = in_microseconds it.0 it.1 in
-          let stored = c.in-Ok.ensures.same before it.0 it.1 it.2 in
-          let its = read d c.catalog.ensures stored (c.in-Ok.ensures.versions before it.0 it.1 it.2) (c.in-Ok.ensures.tabled before it.0 it.1 it.2) in
-          record {
-            contents = d;
-            stored = c.in-Ok-accept.ensures.accepted usable d stored;
-            said = it.3;
-            current = c.in-Ok-load_lawful.ensures.loaded d its;
-            ended = c.in-Ok-load_lawful.ensures.ended d its;
-          })
-    ]
+-- what it keeps in memory
+abbrev opened_engine : {S : Type 0} → StoreState S → List TableRows → List (List PackedVersion) → EngineState S
+opened_engine store tables ended = engine_of store (map rows_by_key tables) ended
 
-pub returns-in-Ok-accept-clause-good : goal.returns-in-Ok-accept-clause-good
-returns-in-Ok-accept-clause-good g c = λ usable ours.
-    let rows : List RowsByKey = map rows_by_key c.in-Ok-load_lawful.loaded.0.items in
-    let ended : List (List PackedVersion) = c.in-Ok-load_lawful.loaded.1.items in
-    let before = c.in-Ok-accept.ensures.usable usable in
-    let new : EngineState g.row.S.Denot = engine_of c.in-Ok-accept.store rows ended in
-    elim (c.in-Ok.ensures.good before ours) [
-      | inl none ↦ inl none
-      | inr it ↦
-          let d = its_contents it.0 in
-          let its = read_of g.S.Store c.in-Ok.found.0 c.catalog.result.now c.in-Ok.found.1.items d c.catalog.ensures it.2 it.3 (good_tables it.0) in
-          let lawful = c.in-Ok-load_lawful.ensures.lawful d its in
-          inr (
-            all_points it.0 lawful,
-            good_history g.S.Store new _ it.0 lawful (record {
-              stored = c.in-Ok-accept.ensures.accepted usable d it.2;
-              current = c.in-Ok-load_lawful.ensures.loaded d its;
-              ended = c.in-Ok-load_lawful.ensures.ended d its;
-            }),
-          )
-    ]
+pub returns-in-Ok-accept-clause-opened : goal.returns-in-Ok-accept-clause-opened
+returns-in-Ok-accept-clause-opened g c =
+    let new : EngineState g.row.S.Denot = opened_engine c.in-Ok-accept.store c.in-Ok-load_lawful.loaded.0.items c.in-Ok-load_lawful.loaded.1.items in
+    let opened = c.in-Ok.found.0 in
+    let accepted = c.in-Ok-accept.ensures in
+    let read = read_of g.S.Store opened c.catalog.result.now c.in-Ok.found.1.items in
+    let same : opened.form ≡ Microseconds → opened.store ≡ c.in-Ok-accept.store = λ form. sym (accepted.unwritten form).1 in
+    record {
+      represents = λ usable history stands.
+          let before = accepted.usable usable in
+          elim stands [
+            | inl fresh ↦
+                (let stored = c.in-Ok.ensures.fresh before fresh.0 in
+                let its = read empty_contents c.catalog.ensures stored.0 (none_of_nothing c.in-Ok.found.1.items stored.1) tt in
+                subst (λ (h : History). EngineRepresents g.S.Store h new) (sym fresh.1)
+                (new_store g.S.Store new (record {
+                  stored = accepted.accepted usable empty_contents stored.0;
+                  current = c.in-Ok-load_lawful.ensures.loaded empty_contents its;
+                  ended = c.in-Ok-load_lawful.ensures.ended empty_contents its;
+                })))
+            | inr it ↦
+                (let d = in_microseconds it.0 it.1 in
+                let stored = c.in-Ok.ensures.same before it.0 it.1 it.2 in
+                let its = read d c.catalog.ensures stored (c.in-Ok.ensures.versions before it.0 it.1 it.2) (c.in-Ok.ensures.tabled before it.0 it.1 it.2) in
+                record {
+                  contents = d;
+                  stored = accepted.accepted usable d stored;
+                  said = it.3;
+                  current = c.in-Ok-load_lawful.ensures.loaded d its;
+                  ended = c.in-Ok-load_lawful.ensures.ended d its;
+                })
+          ];
+      good = λ usable ours.
+          let before = accepted.usable usable in
+          elim (c.in-Ok.ensures.good before ours) [
+            | inl none ↦ inl none
+            | inr it ↦
+                let d = its_contents it.0 in
+                let its = read d c.catalog.ensures it.2 it.3 (good_tables it.0) in
+                let lawful = c.in-Ok-load_lawful.ensures.lawful d its in
+                inr (
+                  all_points it.0 lawful,
+                  good_history g.S.Store new _ it.0 lawful (record {
+                    stored = accepted.accepted usable d it.2;
+                    current = c.in-Ok-load_lawful.ensures.loaded d its;
+                    ended = c.in-Ok-load_lawful.ensures.ended d its;
+                  }),
+                )
+          ];
+      beside = λ usable none counted.
+          subst (λ (store : StoreState g.row.S.Denot). IsMadeBehind (state g.S.Store c.args.connection) (state g.S.Store store.connection)) (same (c.in-Ok.ensures.empty none).2)
+          (c.in-Ok.ensures.beside (accepted.usable usable) none counted);
+      empty = λ none.
+          let made = c.in-Ok.ensures.empty none in
+          (ap (λ (k : Catalog). k.tables) accepted.kept.0 ∙ made.0, accepted.kept.1 ∙ made.1);
+      others = spares_then g.S.Store c.args.connection opened.store.connection c.in-Ok-accept.store.connection c.in-Ok.ensures.others accepted.usable accepted.others;
+      usable = λ usable. c.in-Ok.ensures.usable (accepted.usable usable);
+    }
 
 -- a store that cannot be moved is as it was opened
 pub returns-in-Err-accept-clause-none : goal.returns-in-Err-accept-clause-none
@@ -138,6 +150,37 @@ returns-in-Err-accept-clause-named g c = inr c.in-Err-accept.ensures.named
 pub returns-in-Err-accept-clause-bad : goal.returns-in-Err-accept-clause-bad
 returns-in-Err-accept-clause-bad g c = λ usable bad. absurd (elim c.in-Err-accept.ensures.named [ inl memory ↦ cc | inr failed ↦ cc ])
 
-pub returns-in-Ok-accept-clause-others : goal.returns-in-Ok-accept-clause-others
-returns-in-Ok-accept-clause-others g c =
-    spares_then g.S.Store c.args.connection c.in-Ok.found.0.store.connection c.in-Ok-accept.store.connection c.in-Ok.ensures.others c.in-Ok-accept.ensures.usable c.in-Ok-accept.ensures.others
+-- ---- a good store is refused for a reason
+
+pub returns-in-Err-clause-why : goal.returns-in-Err-clause-why
+returns-in-Err-clause-why g c = λ usable good form rowids. c.in-Err.ensures.why usable (other_points good) rowids
+
+-- what is read of it is good, and lawful
+pub returns-in-Err-load_lawful-clause-why : goal.returns-in-Err-load_lawful-clause-why
+returns-in-Err-load_lawful-clause-why g c = λ handed good form rowids.
+    let before = subst (IsUsable g.S.Store) c.refuse.ensures.same handed in
+    let old : Database = (state g.S.Store c.args.connection).now in
+    let five = other_points good in
+    let d = its_contents five in
+    let has : HasIn five.form old five.contents = has_contents old five rowids.0 rowids.1 in
+    let stored = c.in-Ok.ensures.same before five.form five.contents has in
+    let its = read_of g.S.Store c.in-Ok.found.0 c.catalog.result.now c.in-Ok.found.1.items d c.catalog.ensures stored (c.in-Ok.ensures.versions before five.form five.contents has) (good_tables five) in
+    inl (c.in-Err-load_lawful.ensures.why d its (good_and_lawful good) (sym (c.clock-clock.ensures ∙ stored.clock)))
+
+-- one of form 2 is accepted
+pub returns-in-Err-accept-clause-why : goal.returns-in-Err-accept-clause-why
+returns-in-Err-accept-clause-why g c = λ usable good form rowids.
+    let before = c.in-Err-accept.ensures.was_usable usable in
+    let old : Database = (state g.S.Store c.args.connection).now in
+    let five = other_points good in
+    let has : HasIn five.form old five.contents = has_contents old five rowids.0 rowids.1 in
+    let two : c.in-Ok.found.0.form ≡ Microseconds = elim (c.in-Ok.ensures.good before (λ all. five.tables_there)) [
+      | inl none ↦ (c.in-Ok.ensures.empty none).2
+      | inr it ↦ elim (c.in-Ok.ensures.unchanged before) [
+        | inl empty ↦ empty.1
+        | inr same ↦
+            let ours = subst (λ (e : Database). HasIn c.in-Ok.found.0.form e it.2.counted) same.0 it.2.now in
+            (same_contents old c.in-Ok.found.0.form five.form it.2.counted five.contents ours has).1 ∙ form
+      ]
+    ] in
+    absurd (never (c.in-Err-accept.ensures.unwritten two).0)

@@ -13,11 +13,12 @@ use Rattle.period_keys.specs.Current.{rows_by_key}
 use Rattle.script_engine.specs.engine.VersionLists.{AreShownIn}
 use Rattle.script_engine.specs.engine.Ended.{HaveEnded}
 use Rattle.script_engine.specs.engine.EngineState.{EngineState, engine_of}
-use Rattle.script_engine.specs.engine.InMemory.{HaveCurrentRows, IsSameInMemory}
+use Rattle.script_engine.specs.engine.InMemory.{HaveCurrentRows}
 use Rattle.script_engine.proofs.Shown.{failed_show, shown_step}
 use Rattle.script_engine.proofs.Handed.{has_the_same}
 use Rattle.script_engine.proofs.Refused.{failed_query}
-use Rattle.script_engine.proofs.SameInMemory.{failed_over, same_memory}
+use Rattle.script_engine.proofs.OverFacts.{asked_over, untouched_over}
+use Rattle.script_engine.proofs.SameInMemory.{failed_over}
 use Rattle.script_engine.proofs.engine.Engine.show.Goals as goal
 
 pub returns-clause-step : goal.returns-clause-step
@@ -53,34 +54,6 @@ returns-in_err-rows-clause-step g c usable history kept =
     let sound = subst (λ (k : Catalog). NoneApplies (Holds (stored_query_conditions k.tables asked))) catalog c.in_ok-query.ensures.sound in
     failed_show g.S.Store history old asked kept new Memory sound (has_the_same g.S.Store history old kept new same) (inl refl))
 
-pub returns-in_err-query-clause-refused : goal.returns-in_err-query-clause-refused
-returns-in_err-query-clause-refused g c =
-    let p = err_from_is_err_and c.from_residual.result c.from_residual.ensures.1 in
-    rw (p.1, p.2) (let same : c.catalog.result.now.tables ≡ c.args.self.now.catalog.tables = ap (λ (k : Catalog). k.tables) c.catalog.ensures ∙ ap (λ s. s.catalog.tables) c.self.view_is in
-    inl (inl (subst (λ (tables : List TableDef). MayAnswer (Holds (stored_query_conditions tables (plain_stored c.args.query.now))) c.in_err-query.field-0.0) same c.in_err-query.ensures.refused)))
-
-pub returns-in_err-query-clause-memory : goal.returns-in_err-query-clause-memory
-returns-in_err-query-clause-memory g c =
-    let p = err_from_is_err_and c.from_residual.result c.from_residual.ensures.1 in
-    rw p.1 (same_memory c.args.self.now)
-
-pub returns-in_err-rows-clause-refused : goal.returns-in_err-rows-clause-refused
-returns-in_err-rows-clause-refused g c =
-    let p = err_from_is_err_and c.from_residual-in_err-rows.result c.from_residual-in_err-rows.ensures.1 in
-    rw (p.1, p.2) (let old : EngineState g.row.S.Denot = c.args.self.now in
-    let asked = plain_stored c.args.query.now in
-    let same : c.catalog.result.now.tables ≡ old.catalog.tables = ap (λ (k : Catalog). k.tables) c.catalog.ensures ∙ ap (λ s. s.catalog.tables) c.self.view_is in
-    let sound = subst (λ (tables : List TableDef). NoneApplies (Holds (stored_query_conditions tables asked))) same c.in_ok-query.ensures.sound in
-    failed_over old.catalog.tables old.clock (statement.stored asked) Memory sound (inl refl))
-
-pub returns-in_err-rows-clause-memory : goal.returns-in_err-rows-clause-memory
-returns-in_err-rows-clause-memory g c =
-    let p = err_from_is_err_and c.from_residual-in_err-rows.result c.from_residual-in_err-rows.ensures.1 in
-    let old : EngineState g.row.S.Denot = c.args.self.now in
-    let new : EngineState g.row.S.Denot = engine_of c.self.inside.store (map rows_by_key c.self.inside.tables.items) c.shown_by.new.ended.items in
-    let same : new ≡ old = ap (engine_of c.self.inside.store (map rows_by_key c.self.inside.tables.items)) c.shown_by.ensures.same ∙ c.self.view_is in
-    rw p.1 (subst (IsSameInMemory old) (sym same) (same_memory old))
-
 pub returns-in_err-query-clause-queries : goal.returns-in_err-query-clause-queries
 returns-in_err-query-clause-queries g c usable history kept =
     let p = err_from_is_err_and c.from_residual.result c.from_residual.ensures.1 in
@@ -93,3 +66,32 @@ returns-in_err-rows-clause-queries g c usable history kept =
     rw (p.1, p.2) (let old : EngineState g.row.S.Denot = c.args.self.now in
     let new : EngineState g.row.S.Denot = engine_of c.self.inside.store (map rows_by_key c.self.inside.tables.items) c.shown_by.new.ended.items in
     failed_query g.S.Store old new (statement.stored (plain_stored c.args.query.now)) Memory (inl refl))
+
+pub returns-clause-over : goal.returns-clause-over
+returns-clause-over g c =
+    let asked = plain_stored c.args.query.now in
+    let old : EngineState g.row.S.Denot = c.args.self.now in
+    let catalog : c.catalog.result.now ≡ old.catalog = c.catalog.ensures ∙ ap (λ (e : EngineState g.row.S.Denot). e.catalog) c.self.view_is in
+    let new : EngineState g.row.S.Denot = engine_of c.self.inside.store (map rows_by_key c.self.inside.tables.items) c.shown_by.new.ended.items in
+    let same : new ≡ old = ap (engine_of c.self.inside.store (map rows_by_key c.self.inside.tables.items)) c.shown_by.ensures.same ∙ c.self.view_is in
+    asked_over g.S.Store old (statement.stored asked) new _ same
+    (subst (λ (k : Catalog). NoneApplies (Holds (stored_query_conditions k.tables asked))) catalog c.in_ok-query.ensures.sound) (refl, refl)
+
+pub returns-in_err-query-clause-over : goal.returns-in_err-query-clause-over
+returns-in_err-query-clause-over g c =
+    let p = err_from_is_err_and c.from_residual.result c.from_residual.ensures.1 in
+    rw (p.1, p.2) (let same : c.catalog.result.now.tables ≡ c.args.self.now.catalog.tables = ap (λ (k : Catalog). k.tables) c.catalog.ensures ∙ ap (λ s. s.catalog.tables) c.self.view_is in
+    untouched_over g.S.Store c.args.self.now (statement.stored (plain_stored c.args.query.now)) c.args.self.now c.in_err-query.field-0.0 refl
+    (inl (inl (subst (λ (tables : List TableDef). MayAnswer (Holds (stored_query_conditions tables (plain_stored c.args.query.now))) c.in_err-query.field-0.0) same c.in_err-query.ensures.refused))))
+
+pub returns-in_err-rows-clause-over : goal.returns-in_err-rows-clause-over
+returns-in_err-rows-clause-over g c =
+    let p = err_from_is_err_and c.from_residual-in_err-rows.result c.from_residual-in_err-rows.ensures.1 in
+    rw (p.1, p.2) (let asked = plain_stored c.args.query.now in
+    let old : EngineState g.row.S.Denot = c.args.self.now in
+    let catalog : c.catalog.result.now ≡ old.catalog = c.catalog.ensures ∙ ap (λ (e : EngineState g.row.S.Denot). e.catalog) c.self.view_is in
+    let new : EngineState g.row.S.Denot = engine_of c.self.inside.store (map rows_by_key c.self.inside.tables.items) c.shown_by.new.ended.items in
+    let same : new ≡ old = ap (engine_of c.self.inside.store (map rows_by_key c.self.inside.tables.items)) c.shown_by.ensures.same ∙ c.self.view_is in
+    untouched_over g.S.Store old (statement.stored asked) new Memory same
+    (failed_over old.catalog.tables old.clock (statement.stored asked) Memory
+    (subst (λ (k : Catalog). NoneApplies (Holds (stored_query_conditions k.tables asked))) catalog c.in_ok-query.ensures.sound) (inl refl)))

@@ -1,11 +1,14 @@
 use Rattle.std.proofs.Common.{◌≡◌, ◌≤ℤ◌, ◌+◌, ◌++◌, ◌∷◌, [], ◌∙◌, List, ap, map, subst, sym, take}
+use Rattle.std.specs.List.{Contains}
 use Rattle.std.specs.List.Sorted.{IsPermutation}
 use Rattle.std.proofs.lemmas.List.{map-append, take_more, take_all}
-use Rattle.std.proofs.lemmas.List.Elements.{All-nil, All-push}
+use Rattle.std.proofs.lemmas.List.Elements.{All-nil, All-push, Contains-get_or}
+use Rattle.std.proofs.lemmas.List.Sorted.{Contains-permutation, IsPermutation-sym}
 use Rattle.period_core.specs.declared.version.VersionRow.{VersionRow}
 use Rattle.ended_versions.specs.Packed.{AreEndedBy, AreOfColumns, PackedVersion, packed}
 use Rattle.ended_versions.proofs.PackedFacts.{OfColumns}
 use Rattle.script_engine.specs.engine.Ended.{AreInOrderOfEnds}
+use Rattle.script_engine.proofs.EndedInTime.{later}
 use Rattle.script_engine.proofs.EndedLoaded.{ended_so_far, not_later}
 use Rattle.script_engine.proofs.engine.closed.listed.Goals as goal
 
@@ -52,3 +55,12 @@ returns-clause-held c =
 
 pub returns-clause-before : goal.returns-clause-before
 returns-clause-before c = c.loop-version.invariant.before
+
+-- the first that ended after the moment is one of the versions
+pub returns-then-gt-clause-none : goal.returns-then-gt-clause-none
+returns-then-gt-clause-none c = λ none.
+    let ended : List VersionRow = c.deref-version-items.result.now in
+    let version : VersionRow = c.version-item.result in
+    let there : Contains ended version = subst (Contains ended) (sym c.version-item.is) (Contains-get_or ended c.loop-version.version-index version c.loop-version-test.true) in
+    let same : IsPermutation c.args.versions.items ended = subst (IsPermutation c.args.versions.items) (sym c.deref-version-items.ensures.value) c.in_ok-ended.ensures.ended in
+    (version, Contains-permutation ended c.args.versions.items version (IsPermutation-sym c.args.versions.items ended same) there, later version.to c.args.moment c.if-gt.ensures)

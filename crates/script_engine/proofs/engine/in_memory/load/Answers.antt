@@ -1,6 +1,7 @@
-use Rattle.std.proofs.Common.{◌≡◌, ◌<◌, ◌≤◌, ◌+◌, ◌++◌, ◌∷◌, ◌∙◌, ℕ, List, [], ap, arith, get_or, length, length-append, map, subst, sym}
+use Rattle.std.proofs.Common.{◌≡◌, ◌<◌, ◌≤◌, ◌+◌, ◌++◌, ◌∷◌, ◌∙◌, ℕ, List, [], ap, arith, inl, inr, get_or, length, length-append, map, subst, sym}
 use Rattle.std.specs.List.Sorted.{IsPermutation}
 use Rattle.std.proofs.lemmas.List.Elements.{All-push}
+use Rattle.std.proofs.lemmas.Result.{err_from_is_err_and}
 use Rattle.catalog_core.specs.declared.table.TableDef.{TableDef}
 use Rattle.ended_versions.specs.Packed.{AreEndedBy}
 use Rattle.period_core.specs.declared.version.VersionRow.{VersionRow}
@@ -8,6 +9,7 @@ use Rattle.period_keys.specs.Lawful.{key_positions}
 use Rattle.version_store.specs.Contents.{Contents, of_table, rows_of_table, version_in}
 use Rattle.script_engine.specs.engine.Ended.{AllEndedBy}
 use Rattle.script_engine.specs.engine.InMemory.{AreReadOf}
+use Rattle.script_engine.proofs.EndedInTime.{none_late}
 use Rattle.script_engine.proofs.EndedLoaded.{table_loaded}
 use Rattle.script_engine.proofs.EndedLoaded.{AreLoaded as AreEndedLoaded, all_loaded as all_ended, one_loaded as one_ended}
 use Rattle.script_engine.proofs.Loaded.{AreLoaded, all_loaded, current_loaded, one_loaded}
@@ -66,3 +68,18 @@ returns-clause-ended c d read =
     let place = c.loop-place.place in
     let all : length d.tables ≤ place = subst (λ (l : List TableDef). length l ≤ place) read.same (omega (arith, c.loop-place-test.false, c.len-place-end.ensures)) in
     all_ended d place c.loop-place.ended.items all (c.loop-place.invariant.ended d read) read.tabled
+
+-- of a good store no version ended too late
+pub returns-in_err-rows-clause-why : goal.returns-in_err-rows-clause-why
+returns-in_err-rows-clause-why c =
+    let p = err_from_is_err_and c.from_residual.result c.from_residual.ensures.1 in
+    rw (p.1, p.2) (λ d read good clock.
+    let number : ℕ = c.loop-place.place + 1 in
+    let lists : List (List VersionRow) = c.args.lists.items in
+    let versions : List VersionRow = c.take_rows-versions.result in
+    let given : versions ≡ rows_of_table lists number = c.take_rows-versions.ensures.taken ∙ c.loop-place.invariant.left number (omega arith) in
+    let all = subst (λ (l : List VersionRow). IsPermutation (of_table number d.versions) (map (version_in number) l)) (sym given) (read.versions number) in
+    elim c.in_err-rows.ensures.why [
+      | inl memory ↦ memory
+      | inr late ↦ absurd (none_late d c.args.clock number versions good clock all late)
+    ])

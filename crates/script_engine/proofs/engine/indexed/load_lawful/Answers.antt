@@ -48,3 +48,6 @@ returns-then-not-lawful-clause-bad c = λ d read bad lawful.
     let law = c.in_ok-lawful.ensures (current_state d) (subst₂ (λ (tables : List TableDef) (ts : List RowsByKey). HoldCurrent tables (current_state d) ts) (sym read.same) (sym rows) hold) in
     let on : c.in_ok-lawful.lawful ≡ true = law.1 (subst (λ (tables : List TableDef). IsLawfulState tables (current_state d)) (sym read.same) lawful) in
     false≢true (sym c.if-not-lawful.true ∙ on)
+
+pub returns-then-not-lawful-clause-why : goal.returns-then-not-lawful-clause-why
+returns-then-not-lawful-clause-why c = λ d read good clock. absurd (returns-then-not-lawful-clause-bad c d read refl good.constrained)

@@ -8,7 +8,7 @@ pub returns-in_err-write_clock-clause-changes : goal.returns-in_err-write_clock-
 returns-in_err-write_clock-clause-changes g k usable c stands =
     let was = subst (λ s. StoreRepresents g.S.Store s c) (sym k.self.view_is) stands in
     let p = err_from_is_err_and k.from_residual.result k.from_residual.ensures.1 in
-    rw p.1 (tt, stays g.S.Store _ _ c was (k.in_err-write_clock.ensures.none usable.0 usable.1) refl refl)
+    rw p.1 (tt, stays g.S.Store _ _ c was (k.in_err-write_clock.ensures.none usable) refl refl)
 
 pub returns-clause-changes : goal.returns-clause-changes
 returns-clause-changes g k usable c stands =

@@ -18,7 +18,7 @@ pub returns-in_err-write_plan-clause-changes : goal.returns-in_err-write_plan-cl
 returns-in_err-write_plan-clause-changes g k usable c stands =
     let was = subst (λ s. StoreRepresents g.S.Store s c) (sym k.self.view_is) stands in
     let p = err_from_is_err_and k.from_residual.result k.from_residual.ensures.1 in
-    rw p.1 (tt, stays g.S.Store _ _ c was (k.in_err-write_plan.ensures.none usable.0 usable.1) refl refl)
+    rw p.1 (tt, stays g.S.Store _ _ c was (k.in_err-write_plan.ensures.none usable) refl refl)
 
 pub returns-clause-distinct : goal.returns-clause-distinct
 returns-clause-distinct g k usable c stands =

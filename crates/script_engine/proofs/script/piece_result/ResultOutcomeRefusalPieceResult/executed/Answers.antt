@@ -5,3 +5,6 @@ use Rattle.script_engine.proofs.script.piece_result.ResultOutcomeRefusalPieceRes
 pub returns-clause-step : goal.returns-clause-step
 returns-clause-step g c usable history kept piece none spelled =
     stated_piece g.S.Store history piece (plain c.args.statement.now) c.execute.result c.execute.new.self none spelled (c.execute.ensures.step usable history kept)
+
+pub returns-clause-over : goal.returns-clause-over
+returns-clause-over g c = c.execute.ensures.over
