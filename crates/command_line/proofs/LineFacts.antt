@@ -5,7 +5,7 @@ use Rattle.command_line.specs.Lines.{IsReported, MayBeReportedAs, fault_line, wi
 use Rattle.command_line.specs.declared.fault.ProgramName.{ProgramName}
 use Rattle.command_line.specs.declared.fault.ProgramName.TheVariants.{Bitemporal, BitemporalFile}
 use Rattle.command_line.specs.declared.fault.RunFault.{RunFault}
-use Rattle.command_line.specs.declared.fault.RunFault.TheVariants.{Script, Memory, Words, Read, Write, NoStore, Locked}
+use Rattle.command_line.specs.declared.fault.RunFault.TheVariants.{Script, Memory, Words, Read, Write, NoStore, Locked, Unfinished}
 
 pub memory_is : codes "bitemporal: 61 Memory\n" ≡ fault_line Bitemporal Memory
 unfolding digits
@@ -28,6 +28,7 @@ may_without Read = inl refl
 may_without Write = inl refl
 may_without NoStore = inl refl
 may_without Locked = inl refl
+may_without Unfinished = inl refl
 
 -- a fault whose line is the bytes written
 pub told_by : (program : ProgramName) (fault told : RunFault) (has_failed : Bool) (old new : Option (List ℕ)) (line : List ℕ) → line ≡ fault_line program told → MayBeReportedAs fault told

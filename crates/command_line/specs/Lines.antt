@@ -13,6 +13,7 @@ use Rattle.statement_reports.specs.declared.fault.ReportFault.TheVariants as rep
 use Rattle.command_line.specs.declared.fault.RunFault.{RunFault}
 use Rattle.command_line.specs.declared.fault.RunFault.TheVariants.{Script, Memory, Words, Read}
 use Rattle.command_line.specs.declared.fault.RunFault.TheVariants.{Write, NoStore, Locked}
+use Rattle.command_line.specs.declared.fault.RunFault.TheVariants.{Unfinished}
 use Rattle.command_line.specs.declared.fault.ProgramName.{ProgramName}
 use Rattle.command_line.specs.declared.fault.ProgramName.TheVariants.{Bitemporal, BitemporalFile}
 
@@ -65,6 +66,8 @@ fault_line program Read = message_line program (codes "cannot read the script")
 fault_line program Write = message_line program (codes "cannot write the report")
 fault_line program NoStore = message_line program (codes "cannot open the store")
 fault_line program Locked = message_line program (codes "another program has the store open")
+fault_line program Unfinished =
+    message_line program (codes "the input ends within a statement, which was not run")
 
 -- known bytes grow by the first bytes of the line, all of them or fewer
 abbrev pub GetsFrontOf : Option (List ℕ) → Option (List ℕ) → List ℕ → Type 0

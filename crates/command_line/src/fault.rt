@@ -49,6 +49,8 @@ pub enum RunFault {
     NoStore,
     /// Another program has the store open.
     Locked,
+    /// The input ends within a statement, which was not run.
+    Unfinished,
 }
 
 impl RunFault {
@@ -138,6 +140,9 @@ pub(crate) fn ready_line(program: ProgramName, fault: RunFault) -> &'static [u8]
             RunFault::Write => b"bitemporal: cannot write the report\n",
             RunFault::NoStore => b"bitemporal: cannot open the store\n",
             RunFault::Locked => b"bitemporal: another program has the store open\n",
+            RunFault::Unfinished => {
+                b"bitemporal: the input ends within a statement, which was not run\n"
+            }
         },
         ProgramName::BitemporalFile => match fault {
             RunFault::Script(_) => b"bitemporal_file: 61 Memory\n",
@@ -147,6 +152,9 @@ pub(crate) fn ready_line(program: ProgramName, fault: RunFault) -> &'static [u8]
             RunFault::Write => b"bitemporal_file: cannot write the report\n",
             RunFault::NoStore => b"bitemporal_file: cannot open the store\n",
             RunFault::Locked => b"bitemporal_file: another program has the store open\n",
+            RunFault::Unfinished => {
+                b"bitemporal_file: the input ends within a statement, which was not run\n"
+            }
         },
     }
 }

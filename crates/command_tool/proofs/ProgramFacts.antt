@@ -7,7 +7,7 @@ use Rattle.clap.specs.declared.error.Error.{Error}
 use Rattle.command_line.specs.declared.command.CommandFault.TheVariants.{Clap, Memory as OutOfMemory}
 use Rattle.command_line.specs.declared.command.Mode.{Mode}
 use Rattle.command_line.specs.declared.fault.RunFault.{RunFault}
-use Rattle.command_line.specs.declared.fault.RunFault.TheVariants.{Script, Memory, Words, Read, Write, NoStore, Locked}
+use Rattle.command_line.specs.declared.fault.RunFault.TheVariants.{Script, Memory, Words, Read, Write, NoStore, Locked, Unfinished}
 use Rattle.command_line.specs.declared.fault.ProgramName.TheVariants.{Bitemporal}
 
 pub keeps_itself : (known : Option (List ℕ)) → Keeps known known
@@ -44,6 +44,7 @@ silent_if_failed mode script read_failed Read may = refl
 silent_if_failed mode script read_failed Write may = may
 silent_if_failed mode script read_failed NoStore may = may
 silent_if_failed mode script read_failed Locked may = may
+silent_if_failed mode script read_failed Unfinished may = may
 
 -- a run ends well whatever is known of its reader
 pub ends_if_failed : (r : ProgramRun) → EndsWell r → EndsWell (record r { read_failed = true })

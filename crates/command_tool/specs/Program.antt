@@ -21,6 +21,7 @@ use Rattle.command_line.specs.declared.command.Mode.TheVariants.{Run, RunAudited
 use Rattle.command_line.specs.declared.fault.RunFault.{RunFault}
 use Rattle.command_line.specs.declared.fault.RunFault.TheVariants.{Script, Memory, Words, Read}
 use Rattle.command_line.specs.declared.fault.RunFault.TheVariants.{Write, NoStore, Locked}
+use Rattle.command_line.specs.declared.fault.RunFault.TheVariants.{Unfinished}
 use Rattle.command_line.specs.declared.fault.ProgramName.TheVariants.{Bitemporal}
 
 -- the most bytes that are read: one more than a script may have
@@ -77,6 +78,7 @@ MayFailSilently MayRefuse input read_failed Read = read_failed ≡ true
 MayFailSilently MayRefuse input read_failed Write = ⊥
 MayFailSilently MayRefuse input read_failed NoStore = ⊥
 MayFailSilently MayRefuse input read_failed Locked = ⊥
+MayFailSilently MayRefuse input read_failed Unfinished = ⊥
 
 -- which refusals a whole script may get: only a run opens a store, and that is a new one
 abbrev pub MayRefuseIn : Mode → List ℕ → Refusal → Type 0
