@@ -1,9 +1,7 @@
 -- The lines that ask for a run or a check, as clap reads them.
 use Rattle.std.proofs.Common.{◌≡◌, ◌⊎◌, ◌∙◌, [], ◌∷◌, List, Option, Some, None, codes, false, true, ap, inl, inr, refl, subst, sym}
 use Rattle.clap.specs.Lexer.{long_of, short_of}
-use Rattle.clap.specs.declared.error.Error.{Error}
-use Rattle.clap.specs.declared.error.kind.ErrorKind.TheVariants.{OutOfMemory}
-use Rattle.clap.specs.Words.{App, HasKind, HasMatchesOf, Kinds, Row, Text, fault_of, found_of, is_simple, is_simple_and_free, kind_of, rows_of, subcommand_of, subcommand_rows, subcommand_rows_of}
+use Rattle.clap.specs.Words.{App, HasMatchesOf, Row, Text, fault_of, found_of, is_simple, is_simple_and_free, rows_of, subcommand_of, subcommand_rows, subcommand_rows_of}
 use Rattle.clap.specs.declared.parser.matches.ArgMatches.{ArgMatches}
 use Rattle.clap.specs.declared.parser.matches.ArgMatches.TheViews.{out-SubCommand}
 use Rattle.clap.specs.declared.parser.matches.SubCommand.{SubCommand}
@@ -129,20 +127,6 @@ pub same_choice : (chosen : Option (Text × List Row)) (mode other : Mode) (file
     → (mode ≡ other) × (file ≡ another)
 same_choice None mode other file another one two = absurd one
 same_choice (Some chosen) mode other file another one two = (same_mode chosen mode other one.0 two.0, one.1 ∙ sym two.1)
-
--- clap's clauses at this command
-pub none_found : (app : App) (words : List Text) → app ≡ bitemporal → (is_simple_and_free app ≡ true → fault_of app words ≡ []) → fault_of bitemporal words ≡ []
-none_found app words is none = ap (λ (a : App). fault_of a words) (sym is) ∙ none (ap is_simple_and_free is ∙ is_simple_and_free-bitemporal)
-
-pub one_found : (app : App) (words : List Text) (fault : Error) → app ≡ bitemporal → (is_simple_and_free app ≡ true → HasKind (fault_of app words) fault)
-    → HasKind (fault_of bitemporal words) fault
-one_found app words fault is one = subst (λ (a : App). HasKind (fault_of a words) fault) is (one (ap is_simple_and_free is ∙ is_simple_and_free-bitemporal))
-
--- a fault that is none of clap's is out of memory
-pub only_memory : (kinds : Kinds) (fault : Error) → kinds ≡ [] → HasKind kinds fault → kind_of fault ≡ OutOfMemory
-only_memory kinds fault none (inl memory) = memory
-only_memory [] fault none (inr among) = absurd among
-only_memory (kind ∷ kinds) fault none (inr among) = cc
 
 -- the subcommand of the matches is the one that clap's function gives
 pub row_of_subcommand : (app : App) (words : List Text) (matches : ArgMatches) → app ≡ bitemporal → HasMatchesOf app words matches

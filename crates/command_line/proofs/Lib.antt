@@ -1,5 +1,6 @@
 pub mod CommandLines
+mod ClapClauses
 mod ReadFacts
-mod FileFacts
+mod FileWords
 mod LineFacts
 mod LineExamples

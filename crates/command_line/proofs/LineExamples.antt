@@ -1,14 +1,20 @@
 -- Worked rows: the lines of faults, and what a command line chooses.
 use Rattle.std.specs.Prelude.{◌≡◌, ◌∷◌, [], ℕ, None, Option, Some, codes, false, refl, true}
-use Rattle.std.proofs.Common.{List, inl, inr}
+use Rattle.std.proofs.Common.{Global, List, String, arith, inl, inr}
+use Rattle.std.specs.List.{IsDistinct}
+use Rattle.std.proofs.lemmas.List.Elements.{All-cons, All-nil}
 use Rattle.std.proofs.lemmas.Option.{same_Some}
 use Rattle.std.specs.Fmt.{digits}
 use Rattle.clap.specs.Words.{Row}
 use Rattle.clap.specs.declared.builder.value_parser.Reading.{Reading}
 use Rattle.clap.specs.declared.parser.matches.ValueSource.{ValueSource}
 use Rattle.period_core.specs.declared.refusal.Refusal.TheVariants.{BadStore, BadToken}
+use Rattle.clap.specs.declared.error.kind.ErrorKind.TheVariants.{DisplayHelp}
+use Rattle.command_line.specs.CommandFaults.{IsToldFor}
 use Rattle.command_line.specs.CommandLine.{Chooses}
+use Rattle.command_line.specs.FileCommand.{IsFileCommand, IsFlag}
 use Rattle.command_line.specs.Lines.{IsReported, fault_line}
+use Rattle.command_line.specs.declared.command.CommandFault.TheVariants.{Mistake}
 use Rattle.command_line.specs.declared.command.Mode.TheVariants.{Run, RunAudited}
 use Rattle.command_line.specs.declared.fault.RunFault.TheVariants.{Script, Read, Write}
 use Rattle.command_line.specs.declared.fault.ProgramName.TheVariants.{Bitemporal, BitemporalFile}
@@ -59,3 +65,23 @@ chooses_no_audit count source reading = ((refl, flag_is_false), refl)
 -- behind FILE there is one
 chooses_file : (count : Option ℕ) (source : Option ValueSource) (reading : Reading) → Chooses (Some (codes "run", one_value (codes "FILE") (codes "a.sql") count source reading ∷ [])) Run (Some (codes "a.sql"))
 chooses_file count source reading = ((refl, no_flag), refl)
+
+-- ---- command lines of the second program
+
+-- flags stand before, between or after the names
+flag_before_names : IsFileCommand (codes "--stop" ∷ codes "pay.store" ∷ codes "a.sql" ∷ [])
+unfolding IsDistinct
+flag_before_names = record {
+  store = omega arith;
+  flags = All-cons IsFlag (codes "--stop") [] (inr (inl refl)) (All-nil IsFlag);
+  once = (tt, tt);
+  alone = λ tables. cc;
+}
+
+-- and --tables beside no script
+tables_beside_a_script : IsFileCommand (codes "pay.store" ∷ codes "--tables" ∷ codes "a.sql" ∷ []) → ⊥
+tables_beside_a_script form = let one = (form.alone refl).1 in omega (arith, one)
+
+-- a mistake is told for no request
+no_mistake : (text : String Global) → IsToldFor (λ kind. kind ≡ DisplayHelp) (Mistake text) → ⊥
+no_mistake text (kind, is, mistake) = mistake (inl is)

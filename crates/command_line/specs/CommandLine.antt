@@ -1,9 +1,11 @@
 -- The command line, and what it chooses.
 use Rattle.std.specs.Prelude.{◌≡◌, ◌⊎◌, ◌==◌, [], ◌∷◌, Bool, List, Option, Some, None, codes}
 use Rattle.std.specs.Prelude.{false, true}
-use Rattle.clap.specs.Words.{App, Row, Rule, Text, first_of, new_app, new_rule, with_rule}
-use Rattle.clap.specs.Words.{with_subcommand}
+use Rattle.clap.specs.Words.{App, IsAmong, Row, Rule, Text, fault_of, first_of, new_app, new_rule}
+use Rattle.clap.specs.Words.{with_rule, with_subcommand}
 use Rattle.clap.specs.declared.builder.action.ArgAction.TheVariants.{Set, SetTrue}
+use Rattle.clap.specs.declared.error.kind.ErrorKind.{ErrorKind}
+use Rattle.clap.specs.declared.error.kind.ErrorKind.TheVariants.{MissingSubcommand}
 use Rattle.command_line.specs.declared.command.Mode.{Mode}
 use Rattle.command_line.specs.declared.command.Mode.TheVariants.{Run, RunAudited, Check}
 
@@ -88,3 +90,7 @@ abbrev pub IsCommandLineFor : List Text → Mode → Option Text → Type 0
 IsCommandLineFor [] mode file = ⊥
 IsCommandLineFor (program ∷ []) mode file = ⊥
 IsCommandLineFor (program ∷ subcommand ∷ rest) mode file = IsSubcommandFor subcommand rest mode file
+
+-- clap finds this kind of fault in the words, or they name no subcommand
+abbrev pub IsLineFault : List Text → ErrorKind → Type 0
+IsLineFault words kind = IsAmong kind (fault_of bitemporal words) ⊎ (kind ≡ MissingSubcommand)

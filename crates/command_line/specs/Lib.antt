@@ -3,3 +3,4 @@ pub mod FileCommand
 pub mod Reading
 pub mod Audits
 pub mod Lines
+pub mod CommandFaults

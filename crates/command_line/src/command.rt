@@ -8,13 +8,14 @@ ghost use Rattle.clap.specs.Words.{app_of, fault_of, first_of, found_of, kind_of
 ghost use Rattle.clap.specs.Words.{subcommand_of};
 ghost use Rattle.clap.specs.declared.builder.Command.TheViews.{out-Command};
 ghost use Rattle.command_line.specs.CommandLine.{IsCommandLineFor, Chooses, IsMode, IsSet};
-ghost use Rattle.command_line.specs.CommandLine.{audit_flag};
+ghost use Rattle.command_line.specs.CommandLine.{IsLineFault, audit_flag};
 ghost use Rattle.command_line.specs.CommandLine.{bitemporal, file_word, run_command};
 ghost use Rattle.command_line.specs.CommandLine.{script_command};
+ghost use Rattle.command_line.specs.CommandFaults.{IsToldFor};
 
 use crate::help::{
     ABOUT, AUDIT_HELP, CHECK_ABOUT, CHECK_STATUSES, EXAMPLES, FILE_HELP, REFUSALS, RUN_ABOUT,
-    RUN_STATUSES, VERSION,
+    RUN_STATUSES, SECOND_PROGRAM, VERSION,
 };
 use clap::error::ErrorKind;
 use clap::{Arg, ArgAction, ArgMatches, Command};
@@ -33,26 +34,50 @@ pub enum Mode {
     Check,
 }
 
-/// Why a command line chooses nothing.
+/// Why a command line chooses nothing that runs.
 #[derive(Debug, Drop, Error)]
 pub enum CommandFault {
-    /// It is refused, or asks for help or the version; the fault says which, and has the text.
-    #[error(transparent)]
-    Clap(clap::Error),
+    /// The words ask for help or the version, and this is its text.
+    #[error("{0}")]
+    Shown(String),
+    /// There is a mistake in the words, and this text says which.
+    #[error("{0}")]
+    Mistake(String),
     /// Out of memory.
     #[error("out of memory")]
     Memory,
 }
 
 impl CommandFault {
-    /// The fault of clap; its out of memory is out of memory here.
-    pub fn of_clap(fault: clap::Error) -> CommandFault
-        ensures { kind_of fault ≡ ErrorKind.OutOfMemory → result ≡ CommandFault.Memory }
+    /// The fault that clap tells, with its text.
+    pub(crate) fn of_clap(alloc: Global, fault: &clap::Error) -> CommandFault
+        ensures memory { kind_of fault.now ≡ ErrorKind.OutOfMemory
+            → result ≡ CommandFault.Memory }
+        ensures told { IsToldFor (λ kind. kind ≡ kind_of fault.now) result }
     {
         if fault.kind() == ErrorKind::OutOfMemory {
             return CommandFault::Memory;
         }
-        CommandFault::Clap(fault)
+        match format!(in alloc; "{fault}") {
+            Ok(text) if fault.use_stderr() => CommandFault::Mistake(text),
+            Ok(text) => CommandFault::Shown(text),
+            Err(_) => CommandFault::Memory,
+        }
+    }
+
+    /// The mistake that the program itself finds in the words of this command.
+    pub(crate) fn of_mistake(
+        alloc: Global,
+        command: &mut Command<'_>,
+        kind: ErrorKind,
+        message: &str,
+    ) -> CommandFault
+        ensures { IsToldFor (λ found. found ≡ kind) result }
+    {
+        match command.error(kind, message) {
+            Ok(fault) => CommandFault::of_clap(alloc, &fault),
+            Err(_) => CommandFault::Memory,
+        }
     }
 }
 
@@ -159,8 +184,13 @@ fn file_of(alloc: Global, matches: &ArgMatches<'_>) -> Result<Option<String>, Al
     }
 }
 
+// The text below the program's own help.
+fn text_below_help(alloc: Global) -> Result<String, AllocError> {
+    format!(in alloc; "{EXAMPLES}\n\n{SECOND_PROGRAM}\n\n{RUN_STATUSES}\n\n{REFUSALS}")
+}
+
 /// What a command line, with the program's name as its first word, asks for: the mode, and the
-/// file where one is named. Else clap's fault, with the text to show, or out of memory.
+/// file where one is named.
 pub fn command_line<S: AsStr>(
     alloc: Global,
     words: &[S],
@@ -177,8 +207,11 @@ pub fn command_line<S: AsStr>(
     ensures chosen { IfOk result
         (λ chosen. Chooses (subcommand_of bitemporal (map S.text words.now)) chosen.0
         (option_map string_bytes chosen.1)) }
+
+    // Why it is refused is what clap finds, or else that no subcommand was met.
+    ensures refused { IfErr result (IsToldFor (IsLineFault (map S.text words.now))) }
 {
-    let Ok(after) = format!(in alloc; "{EXAMPLES}\n\n{RUN_STATUSES}\n\n{REFUSALS}") else {
+    let Ok(after) = text_below_help(alloc) else {
         return Err(CommandFault::Memory);
     };
     let Ok(mut command) = command(alloc, after.as_str()) else {
@@ -186,13 +219,13 @@ pub fn command_line<S: AsStr>(
     };
     let matches = match command.try_get_matches_from_mut(words) {
         Ok(matches) => matches,
-        Err(fault) => return Err(CommandFault::of_clap(fault)),
+        Err(fault) => return Err(CommandFault::of_clap(alloc, &fault)),
     };
     let Some((name, inner)) = matches.subcommand() else {
-        return Err(usage_fault(&mut command));
+        return Err(no_subcommand(alloc, &mut command));
     };
     let Some(mode) = mode_of(name, inner) else {
-        return Err(usage_fault(&mut command));
+        return Err(no_subcommand(alloc, &mut command));
     };
     match file_of(alloc, inner) {
         Ok(file) => Ok((mode, file)),
@@ -200,9 +233,14 @@ pub fn command_line<S: AsStr>(
     }
 }
 
-fn usage_fault(command: &mut Command<'_>) -> CommandFault {
-    match command.error(ErrorKind::MissingSubcommand, "a subcommand is required") {
-        Ok(fault) => CommandFault::Clap(fault),
-        Err(_) => CommandFault::Memory,
-    }
+// No subcommand of the program was met.
+fn no_subcommand(alloc: Global, command: &mut Command<'_>) -> CommandFault
+    ensures { IsToldFor (λ kind. kind ≡ ErrorKind.MissingSubcommand) result }
+{
+    CommandFault::of_mistake(
+        alloc,
+        command,
+        ErrorKind::MissingSubcommand,
+        "a subcommand is required",
+    )
 }

@@ -2,8 +2,10 @@
 //! the text of the command line's help, version or mistake.
 
 ghost use Rattle.std.specs.Prelude.{◌≡◌, ◌≤◌};
+ghost use Rattle.command_line.specs.CommandFaults.{IsShown};
 ghost use Rattle.command_line.specs.Lines.{IsReported, MayBeReportedAs, fault_line};
 
+use crate::command::CommandFault;
 use crate::fault::{ProgramName, RunFault, line_of_refusal, ready_line};
 use crate::tracked::Tracked;
 use std::alloc::Global;
@@ -25,24 +27,29 @@ pub fn end_in<W: Write>(
     2
 }
 
-/// Shows clap's text, a mistake on standard error, and else help or the version on the output.
-/// Gives the exit status.
+/// Ends a program whose words ask for nothing that runs: shows help or the version on the output,
+/// and a mistake on standard error. Gives the exit status: 0 for what is shown whole, else 2.
 pub fn show<W: Write, E: Write>(
     alloc: Global,
     program: ProgramName,
-    fault: &clap::Error,
+    fault: &CommandFault,
     out: &mut W,
     err: &mut Tracked<E>,
 ) -> u8
     ensures status { result ≤ 2 }
+    ensures shown { IsShown program fault.now result (W.contents out.old) (W.contents out.new)
+        err.new.has_failed (E.contents err.old.inner) (E.contents err.new.inner) }
 {
-    if fault.use_stderr() {
-        let _ = write!(err, "{fault}");
-        return 2;
-    }
-    match write!(out, "{fault}") {
-        Ok(()) => 0,
-        Err(_) => end_in(alloc, program, err, RunFault::Write),
+    match fault {
+        CommandFault::Shown(text) => match out.write_all(text.as_bytes()) {
+            Ok(()) => 0,
+            Err(_) => end_in(alloc, program, err, RunFault::Write),
+        },
+        CommandFault::Mistake(text) => {
+            write_text(err, text.as_bytes());
+            2
+        }
+        CommandFault::Memory => end_in(alloc, program, err, RunFault::Memory),
     }
 }
 
@@ -60,21 +67,21 @@ fn report_fault<W: Write>(
 {
     match fault {
         RunFault::Script(refusal) => match line_of_refusal(alloc, program, &refusal) {
-            Ok(line) => write_line(err, line.as_bytes()),
-            Err(_) => write_line(err, ready_line(program, RunFault::Memory)),
+            Ok(line) => write_text(err, line.as_bytes()),
+            Err(_) => write_text(err, ready_line(program, RunFault::Memory)),
         },
-        other => write_line(err, ready_line(program, other)),
+        other => write_text(err, ready_line(program, other)),
     }
 }
 
-// Writes the line, or as much of it as the writer takes before it fails.
-fn write_line<W: Write>(err: &mut Tracked<W>, line: &[u8])
+// Writes the text, or as much of it as the writer takes before it fails.
+fn write_text<W: Write>(err: &mut Tracked<W>, text: &[u8])
     ensures { IsReported err.new.has_failed
-        (W.contents err.old.inner) (W.contents err.new.inner) line.now }
+        (W.contents err.old.inner) (W.contents err.new.inner) text.now }
 {
     let mut written = 0;
-    'writes: while written < line.len() {
-        match err.write(&line[written..]) {
+    'writes: while written < text.len() {
+        match err.write(&text[written..]) {
             Ok(0) => return,
             Ok(count) => written += count,
             Err(_) => return,

@@ -1,15 +1,19 @@
 //! The command line of the second program: the store, the scripts, and what is asked of them.
 
-ghost use Rattle.std.specs.Prelude.{◌≡◌, [], IfOk, codes, false, map, unwrap_or};
+ghost use Rattle.std.specs.Prelude.{◌≡◌, ◌⊎◌, ◌<◌, [], IfErr, IfOk, IsNone, IsSome, MatchResult};
+ghost use Rattle.std.specs.Prelude.{OnOk, codes, false, length, map, true, unwrap_or};
 ghost use Rattle.std.specs.String.{string_bytes};
-ghost use Rattle.clap.specs.Words.{all_of, app_of, first_of, found_of, matches_of, rows_of};
-ghost use Rattle.clap.specs.Words.{rule_of};
-ghost use Rattle.command_line.specs.FileCommand.{Asks, bitemporal_file, flag_word, scripts_word};
-ghost use Rattle.command_line.specs.FileCommand.{store_word, tables_flag};
+ghost use Rattle.clap.specs.Words.{all_of, app_of, fault_of, first_of, found_of, matches_of};
+ghost use Rattle.clap.specs.Words.{rows_of, rule_of};
+ghost use Rattle.command_line.specs.CommandFaults.{IsToldFor};
+ghost use Rattle.command_line.specs.FileCommand.{AskFor, Asks, IsFileCommand, IsFileFault};
+ghost use Rattle.command_line.specs.FileCommand.{ListsAlone, arguments_of, bitemporal_file};
+ghost use Rattle.command_line.specs.FileCommand.{flag_word, scripts_word, store_word};
 
 use crate::command::{CommandFault, is_set, value_of};
 use crate::file_help::{ABOUT, AFTER_HELP, FILE_HELP, STOP_HELP, STORE_HELP, TABLES_HELP};
 use crate::help::{AUDIT_HELP, VERSION};
+use clap::error::ErrorKind;
 use clap::{Arg, ArgAction, ArgMatches, Command};
 use std::alloc::{AllocError, Global};
 use std::convert::AsStr;
@@ -58,23 +62,10 @@ fn flag<'a>(alloc: Global, name: &'a str, help: &'a str) -> Arg<'a>
         .action(ArgAction::SetTrue)
 }
 
-// The flag that lists the tables, and stands beside no other and no script.
-fn tables_argument<'a>(alloc: Global) -> Result<Arg<'a>, AllocError>
-    ensures rule { IfOk result (λ tables. rule_of tables ≡ tables_flag) }
-    ensures local { IfOk result (λ tables. tables.global ≡ false) }
-{
-    let tables = flag(alloc, "tables", TABLES_HELP);
-    let unaudited = tables.conflicts_with("audit")?;
-    let unstopped = unaudited.conflicts_with("stop")?;
-    let whole = unstopped.conflicts_with("FILE")?;
-    Ok(whole)
-}
-
 // The program's command line.
 fn file_command<'a>(alloc: Global) -> Result<Command<'a>, AllocError>
     ensures { IfOk result (λ c. app_of c ≡ bitemporal_file) }
 {
-    let tables = tables_argument(alloc)?;
     let named = Command::new(alloc, "bitemporal_file")
         .about(ABOUT)
         .version(VERSION)
@@ -83,7 +74,7 @@ fn file_command<'a>(alloc: Global) -> Result<Command<'a>, AllocError>
     let filed = placed.arg(file_arguments(alloc))?;
     let audited = filed.arg(flag(alloc, "audit", AUDIT_HELP))?;
     let stopping = audited.arg(flag(alloc, "stop", STOP_HELP))?;
-    let whole = stopping.arg(tables)?;
+    let whole = stopping.arg(flag(alloc, "tables", TABLES_HELP))?;
     Ok(whole)
 }
 
@@ -130,20 +121,67 @@ fn asked_of(alloc: Global, matches: &ArgMatches<'_>) -> Result<Asked, AllocError
     })
 }
 
-/// What a command line, with the program's name as its first word, asks for. Else clap's fault,
-/// with the text to show, or out of memory.
+// What stands beside `--tables`, as the usage names it, where that is set.
+fn beside_tables(asked: &Asked) -> Option<&'static str>
+    ensures alone { IsNone result → ListsAlone asked.now }
+    ensures beside { IsSome result → (asked.now.lists ≡ true)
+        × ((asked.now.audits ≡ true) ⊎ (asked.now.stops ≡ true)
+        ⊎ (0 < length asked.now.files.items)) }
+{
+    if !asked.lists {
+        None
+    } else if asked.audits {
+        Some("--audit")
+    } else if asked.stops {
+        Some("--stop")
+    } else if !asked.files.is_empty() {
+        Some("[FILE]...")
+    } else {
+        None
+    }
+}
+
+// The mistake of `--tables` beside another argument.
+fn tables_beside(alloc: Global, command: &mut Command<'_>, other: &str) -> CommandFault
+    ensures { IsToldFor (λ kind. kind ≡ ErrorKind.ArgumentConflict) result }
+{
+    match format!(in alloc; "the argument '--tables' cannot be used with '{other}'") {
+        Ok(message) => CommandFault::of_mistake(
+            alloc,
+            command,
+            ErrorKind::ArgumentConflict,
+            message.as_str(),
+        ),
+        Err(_) => CommandFault::Memory,
+    }
+}
+
+/// What a command line, with the program's name as its first word, asks for.
 pub fn asked_by<S: AsStr>(alloc: Global, words: &[S]) -> Result<Asked, CommandFault>
-    ensures { IfOk result (Asks (matches_of bitemporal_file (map S.text words.now))) }
+    // Lines of the usual form are accepted.
+    ensures accepts { IsFileCommand (arguments_of (map S.text words.now))
+        → MatchResult result (AskFor (arguments_of (map S.text words.now)))
+        (λ fault. fault ≡ CommandFault.Memory) }
+
+    // No other line is accepted than those in which clap finds no fault, and there the tables are
+    // listed and nothing else.
+    ensures taken { OnOk result (fault_of bitemporal_file (map S.text words.now) ≡ []) }
+    ensures asked { IfOk result (Asks (matches_of bitemporal_file (map S.text words.now))) }
+    ensures alone { IfOk result ListsAlone }
+    ensures refused { IfErr result (IsToldFor (IsFileFault (map S.text words.now))) }
 {
     let Ok(mut command) = file_command(alloc) else {
         return Err(CommandFault::Memory);
     };
     let matches = match command.try_get_matches_from_mut(words) {
         Ok(matches) => matches,
-        Err(fault) => return Err(CommandFault::of_clap(fault)),
+        Err(fault) => return Err(CommandFault::of_clap(alloc, &fault)),
     };
-    match asked_of(alloc, &matches) {
-        Ok(asked) => Ok(asked),
-        Err(_) => Err(CommandFault::Memory),
+    let Ok(asked) = asked_of(alloc, &matches) else {
+        return Err(CommandFault::Memory);
+    };
+    match beside_tables(&asked) {
+        None => Ok(asked),
+        Some(other) => Err(tables_beside(alloc, &mut command, other)),
     }
 }

@@ -30,6 +30,6 @@ pub use exit::{end_in, show};
 pub use fault::{ProgramName, RunFault};
 pub use file_command::{Asked, asked_by};
 pub use script_reader::read_script;
-pub use scripts::Scripts;
+pub use scripts::{ScriptFiles, Scripts};
 pub use tracked::Tracked;
 pub use words::words_of;

@@ -1,7 +1,13 @@
 //! Where the scripts of a command line are: the files that their names open.
 
-ghost use Rattle.std.specs.Prelude.{◌≡◌, ℕ, List, None, Option, IfOk};
+ghost use Rattle.std.specs.Prelude.{◌≡◌, ◌⊎◌, ◌≤◌, ◌+◌, ◌||◌, ℕ, List, None, Option, IfErr};
+ghost use Rattle.std.specs.Prelude.{IfOk, IfSome, false, length, true};
+ghost use Rattle.command_line.specs.Reading.{read_of};
 
+use crate::fault::RunFault;
+use crate::script_reader::read_script;
+use crate::tracked::Tracked;
+use std::alloc::Global;
 use std::fs::File;
 use std::io;
 use std::io::Read;
@@ -28,5 +34,73 @@ impl Scripts for HostRuntime {
 
     fn open_script(&self, name: &str) -> io::Result<File> {
         File::open(self, name)
+    }
+}
+
+/// The files of the scripts of a run, and whether one did not open or a read of one failed.
+#[derive(Drop)]
+pub struct ScriptFiles<'a, S> {
+    scripts: &'a S,
+    has_failed: bool,
+}
+
+impl<'a, S: Scripts> ScriptFiles<'a, S> {
+    /// Files of which none has failed yet.
+    pub fn new(scripts: &'a S) -> ScriptFiles<'a, S>
+        ensures same { result.scripts.now ≡ scripts.now }
+        ensures fresh { result.has_failed ≡ false }
+    {
+        ScriptFiles {
+            scripts,
+            has_failed: false,
+        }
+    }
+
+    /// Opens the file of this name to read it from its start.
+    pub fn open(&mut self, name: &str) -> Result<Tracked<S::Script>, RunFault>
+        ensures same { self.new.scripts ≡ self.old.scripts }
+        ensures opened { IfOk result (λ script.
+            S.Script.remaining script.inner ≡ S.content self.old.scripts.now name.now) }
+        ensures kept { IfOk result (λ _. self.new.has_failed ≡ self.old.has_failed) }
+        ensures refused { IfErr result (λ fault. (fault ≡ RunFault.Read)
+            × (self.new.has_failed ≡ true)) }
+    {
+        match self.scripts.open_script(name) {
+            Ok(script) => Ok(Tracked::new(script)),
+            Err(_) => {
+                self.has_failed = true;
+                Err(RunFault::Read)
+            }
+        }
+    }
+
+    /// Notes whether a read of an open file failed.
+    pub fn note(&mut self, script: &Tracked<S::Script>)
+        ensures same { self.new.scripts ≡ self.old.scripts }
+        ensures noted { self.new.has_failed ≡ (self.old.has_failed || script.now.has_failed) }
+    {
+        self.has_failed = self.has_failed || script.has_failed();
+    }
+
+    /// Reads the script in the file of this name, which may have at most `most` bytes, and at most
+    /// one byte more.
+    pub fn read_named(
+        &mut self,
+        alloc: Global,
+        name: &str,
+        most: usize,
+    ) -> Result<Vec<u8>, RunFault>
+        ensures same { self.new.scripts ≡ self.old.scripts }
+        ensures bytes { IfOk result (λ text. IfSome (S.content self.old.scripts.now name.now)
+            (λ all. text.items ≡ read_of most all)) }
+        ensures bounded { IfOk result (λ text. length text.items ≤ most + 1) }
+        ensures refused { IfErr result (λ fault. (fault ≡ RunFault.Memory)
+            ⊎ ((fault ≡ RunFault.Read) × (self.new.has_failed ≡ true))) }
+        ensures stays { self.old.has_failed ≡ true → self.new.has_failed ≡ true }
+    {
+        let mut script = self.open(name)?;
+        let read = read_script(alloc, &mut script, most);
+        self.note(&script);
+        read
     }
 }

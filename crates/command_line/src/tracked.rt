@@ -25,6 +25,13 @@ impl<T> Tracked<T> {
             has_failed: false,
         }
     }
+
+    /// Whether a read or a write failed.
+    pub(crate) fn has_failed(&self) -> bool
+        ensures { result ≡ self.now.has_failed }
+    {
+        self.has_failed
+    }
 }
 
 impl<R: Read> Read for Tracked<R> {

@@ -1,16 +1,22 @@
-use Rattle.std.proofs.Common.{List, Option, ⊎_elim, map, option_map, rules, string_bytes, subst, sym}
+use Rattle.std.proofs.Common.{List, Option, ⊎_elim, inl, inr, map, option_map, rules, string_bytes, subst, sym}
 use Rattle.clap.specs.Words.{Row, Text, subcommand_of}
-use Rattle.command_line.specs.CommandLine.{Chooses, bitemporal}
-use Rattle.command_line.proofs.CommandLines.{chosen_word, none_found, one_found, only_memory, read_as, row_of_subcommand, same_choice}
+use Rattle.command_line.specs.CommandLine.{Chooses, IsLineFault, bitemporal}
+use Rattle.command_line.proofs.ClapClauses.{none_found, one_found, only_memory, told_of, told_wider}
+use Rattle.command_line.proofs.CommandLines.{chosen_word, is_simple_and_free-bitemporal, read_as, row_of_subcommand, same_choice}
 use Rattle.command_line.proofs.command.command_line.Goals as goal
 
 pub returns-in-Ok-file_of-clause-refuses : goal.returns-in-Ok-file_of-clause-refuses
-returns-in-Ok-file_of-clause-refuses g c = none_found _ _ c.in-Ok-command.ensures c.in-Ok-try_get_matches_from_mut.ensures.kinds
+returns-in-Ok-file_of-clause-refuses g c = none_found bitemporal _ _ c.in-Ok-command.ensures is_simple_and_free-bitemporal c.in-Ok-try_get_matches_from_mut.ensures.kinds
 
 pub returns-in-Err-clause-accepts : goal.returns-in-Err-clause-accepts
 returns-in-Err-clause-accepts g c mode file asks =
-    let found = one_found _ _ c.in-Err.fault c.in-Ok-command.ensures c.in-Err.ensures.kinds in
-    c.of_clap.ensures (only_memory _ c.in-Err.fault (read_as _ mode file asks).0 found)
+    let found = one_found bitemporal _ _ c.in-Ok-command.ensures c.in-Err.fault is_simple_and_free-bitemporal c.in-Err.ensures.kinds in
+    c.of_clap.ensures.memory (only_memory _ c.in-Err.fault (read_as _ mode file asks).0 found)
+
+pub returns-in-Err-clause-refused : goal.returns-in-Err-clause-refused
+returns-in-Err-clause-refused g c =
+    let found = one_found bitemporal _ _ c.in-Ok-command.ensures c.in-Err.fault is_simple_and_free-bitemporal c.in-Err.ensures.kinds in
+    told_of _ _ c.in-Err.fault _ found c.of_clap.ensures.memory c.of_clap.ensures.told (λ kind among. inl among)
 
 pub returns-in_default-mode_of-clause-accepts : goal.returns-in_default-mode_of-clause-accepts
 returns-in_default-mode_of-clause-accepts g c mode file asks =
@@ -24,3 +30,6 @@ returns-in-Ok-file_of-clause-accepts g c mode file asks =
     let said = map g.S.AsStr.text c.args.words.now in
     let found : Chooses (subcommand_of bitemporal said) c.in-Some-mode_of.mode (option_map string_bytes c.in-Ok-file_of.file) = search rules in
     same_choice _ _ _ _ _ found (read_as said mode file asks).1
+
+pub returns-in_default-mode_of-clause-refused : goal.returns-in_default-mode_of-clause-refused
+returns-in_default-mode_of-clause-refused g c = told_wider _ (IsLineFault (map g.S.AsStr.text c.args.words.now)) _ (λ kind none. inr none) c.no_subcommand-in_default-mode_of.ensures

@@ -14,4 +14,4 @@ returns c =
     let filed = c.in_ok-filed.ensures.shape c.file_arguments.ensures.local ∙ ap₂ with_rule placed c.file_arguments.ensures.rule in
     let audited = c.in_ok-audited.ensures.shape c.flag.ensures.local ∙ ap₂ with_rule filed c.flag.ensures.rule in
     let stopping = c.in_ok-stopping.ensures.shape c.flag-2.ensures.local ∙ ap₂ with_rule audited c.flag-2.ensures.rule in
-    c.in_ok-whole.ensures.shape c.in_ok-tables.ensures.local ∙ ap₂ with_rule stopping c.in_ok-tables.ensures.rule
+    c.in_ok-whole.ensures.shape c.flag-3.ensures.local ∙ ap₂ with_rule stopping c.flag-3.ensures.rule
