@@ -2,4 +2,5 @@ mod Told
 mod RunFacts
 mod SessionFacts
 mod StoreFacts
+mod BlankFacts
 mod PartExamples

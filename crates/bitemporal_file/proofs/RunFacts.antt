@@ -1,10 +1,10 @@
 -- Scripts that are run one after the other.
-use Rattle.std.proofs.Common.{◌≡◌, ◌<◌, ◌⊎◌, ◌+◌, ◌++◌, ◌∷◌, ◌∙◌, ℕ, Bool, List, [], Option, None, Some, Result, Ok, Err, All, drop, get_or, length, map, take, false, true, ap, arith, inl, inr, refl, subst, sym, append_assoc}
+use Rattle.std.proofs.Common.{◌≡◌, ◌≢◌, ◌<◌, ◌⊎◌, ◌+◌, ◌++◌, ◌∷◌, ◌∙◌, ℕ, Bool, List, [], Option, None, Some, Result, Ok, Err, All, drop, get_or, length, map, take, false, true, ap, arith, inl, inr, refl, subst, sym, append_assoc}
 use Rattle.std.specs.Prelude.{IfSome, IsSome}
 use Rattle.std.specs.Io.KnownBytes.{Appends}
 use Rattle.std.proofs.KnownBytes.{Appends-nil, Appends-trans}
 use Rattle.std.proofs.lemmas.List.{append-nil, length-append, map-append, take-append-drop, take_more}
-use Rattle.std.proofs.lemmas.List.Elements.{All-append, All-cons, All-nil}
+use Rattle.std.proofs.lemmas.List.Elements.{All-append, All-cons, All-head, All-nil, All-tail}
 use Rattle.period_core.specs.declared.refusal.Refusal.{Refusal}
 use Rattle.history_model.specs.Histories.{History}
 use Rattle.sql_statements.specs.Lexemes.{Lexeme}
@@ -19,7 +19,7 @@ use Rattle.command_line.specs.Reading.{read_of}
 use Rattle.command_line.specs.declared.fault.RunFault.{RunFault}
 use Rattle.command_line.specs.declared.fault.RunFault.TheVariants.{Memory, Read, Script}
 use Rattle.bitemporal_file.specs.Reporting.{EndsAtRefusal, IsReportFault, TellsAll, greatest_from, texts_from}
-use Rattle.bitemporal_file.specs.ScriptRuns.{AreOfReaders, Ends, LeadsTo, MayRefuseNext, ScriptRun, reports, results_of}
+use Rattle.bitemporal_file.specs.ScriptRuns.{AllButLast, AreOfReaders, AreRun, Ends, IsWhole, LeadsTo, MayRefuseNext, ScriptRun, reports, results_of}
 use Rattle.bitemporal_file.specs.declared.reporter.Reporter.{Reporter}
 use Rattle.bitemporal_file.proofs.Told.{greatest-more, refusal-more}
 
@@ -71,7 +71,7 @@ module _ {W K : Type 0} (contents : W → Option (List ℕ)) (text : ℕ → K �
     low = λ low. low;
     written = λ none. Appends-nil (contents old.out);
     faulty = rw quiet tt;
-    whole = λ on. ((refl, All-nil (λ (run : ScriptRun K). run.is_whole ≡ true)), λ stops. All-nil (λ r. status r ≡ 0));
+    whole = λ on. (refl, λ stops. All-nil (λ r. status r ≡ 0));
     stopped = λ off. let no : ⊥ = cc in absurd no;
     refused = λ refusal is. let no : ⊥ = cc in absurd no;
   }
@@ -101,7 +101,7 @@ module _ {W K : Type 0} (contents : W → Option (List ℕ)) (text : ℕ → K �
     faulty = rw quiet tt;
     whole = λ is.
         let on : goes_on ≡ true = same_flow goes_on true is in (
-          (refl, All-cons (λ (run : ScriptRun K). run.is_whole ≡ true) (record { script = script; results = results; is_whole = goes_on }) [] on (All-nil (λ (run : ScriptRun K). run.is_whole ≡ true))),
+          refl,
           λ stops. subst (All (λ r. status r ≡ 0)) (sym (append-nil results)) ((told.on on).1 stops),
         );
     stopped = λ is.
@@ -192,7 +192,7 @@ module _ {W K : Type 0} (contents : W → Option (List ℕ)) (text : ℕ → K �
       middle.fault ≡ None → Ends contents text status readers old runs (Ok true) middle → Ends contents text status (known ∷ []) middle more ended new →
       Ends contents text status (readers ++ known ∷ []) old (runs ++ more) ended new
   ends_more readers known old runs middle more ended new quiet first last =
-      let ((count, wholes), zeros) = first.whole refl in
+      let (count, zeros) = first.whole refl in
       record {
         stops = last.stops ∙ first.stops;
         unused = λ is.
@@ -205,8 +205,8 @@ module _ {W K : Type 0} (contents : W → Option (List ℕ)) (text : ℕ → K �
             (Appends-trans (contents old.out) (contents middle.out) (contents new.out) (reports text runs) (reports text more) (first.written quiet) (last.written none));
         faulty = last.faulty;
         whole = λ is.
-            let ((its, whole), zero) = last.whole is in (
-              (length-append runs more ∙ (λ k. count k + its k) ∙ sym (length-append readers (known ∷ [])), All-append (λ (run : ScriptRun K). run.is_whole ≡ true) runs more wholes whole),
+            let (its, zero) = last.whole is in (
+              length-append runs more ∙ (λ k. count k + its k) ∙ sym (length-append readers (known ∷ [])),
               λ stops. subst (All (λ r. status r ≡ 0)) (sym (results-more runs more)) (All-append (λ r. status r ≡ 0) (results_of runs) (results_of more) (zeros stops) (zero (first.stops ∙ stops))),
             );
         stopped = λ is.
@@ -230,6 +230,47 @@ module _ {W K : Type 0} (contents : W → Option (List ℕ)) (text : ℕ → K �
     stopped = ends.stopped;
     refused = λ refusal is. next-within readers rest runs refusal (ends.refused refusal is);
   }
+
+-- ---- which came to their ends
+
+-- the run goes on where it does not stop
+pub went_on : (goes_on : Bool) → ◌≢◌ {A = Result Bool RunFault} (Ok goes_on) (Ok false) → goes_on ≡ true
+went_on true on = refl
+went_on false on = absurd (on refl)
+
+module _ {X : Type 0} (Holds : X → Type 0) where
+  all_but_last-append : (xs ys : List X) → All Holds xs → AllButLast Holds ys → AllButLast Holds (xs ++ ys)
+  all_but_last-append [] ys all but = but
+  all_but_last-append (x ∷ []) [] all but = tt
+  all_but_last-append (x ∷ []) (y ∷ ys) all but = (All-head Holds x [] all, but)
+  all_but_last-append (x ∷ next ∷ xs) ys all but = (All-head Holds x (next ∷ xs) all, all_but_last-append (next ∷ xs) ys (All-tail Holds x (next ∷ xs) all) but)
+
+module _ {K : Type 0} where
+  -- none was run
+  pub none_ran : (ended : Result Bool RunFault) (fault : Option RunFault) → AreRun {K = K} [] ended fault
+  none_ran ended fault = record { before = tt; last = λ quiet on. All-nil (IsWhole {K = K}) }
+
+  -- one was
+  pub one_ran : (run : ScriptRun K) (ended : Result Bool RunFault) (fault : Option RunFault) → (fault ≡ None → ended ≢ Ok false → run.is_whole ≡ true) → AreRun (run ∷ []) ended fault
+  one_ran run ended fault whole = record { before = tt; last = λ quiet on. All-cons (IsWhole {K = K}) run [] (whole quiet on) (All-nil (IsWhole {K = K})) }
+
+  -- others after those that came to their ends
+  pub more_ran : (runs more : List (ScriptRun K)) (ended : Result Bool RunFault) (fault : Option RunFault) → All IsWhole runs → AreRun more ended fault → AreRun (runs ++ more) ended fault
+  more_ran runs more ended fault wholes after = record {
+    before = all_but_last-append (IsWhole {K = K}) runs more wholes after.before;
+    last = λ quiet on. All-append (IsWhole {K = K}) runs more wholes (after.last quiet on);
+  }
+
+  pub whole_more : (runs : List (ScriptRun K)) (run : ScriptRun K) → All IsWhole runs → run.is_whole ≡ true → All IsWhole (runs ++ run ∷ [])
+  whole_more runs run wholes whole = All-append (IsWhole {K = K}) runs (run ∷ []) wholes (All-cons (IsWhole {K = K}) run [] whole (All-nil (IsWhole {K = K})))
+
+  pub whole_ran : (runs more : List (ScriptRun K)) (ended : Result Bool RunFault) (fault : Option RunFault) → All IsWhole runs → AreRun more ended fault → ended ≡ Ok true → fault ≡ None → All IsWhole (runs ++ more)
+  whole_ran runs more ended fault wholes after on quiet =
+      All-append (IsWhole {K = K}) runs more wholes (after.last quiet (λ off. let no : ◌≡◌ {A = Result Bool RunFault} (Ok true) (Ok false) = sym on ∙ off in cc))
+
+  -- no other
+  pub all_ran : (runs : List (ScriptRun K)) (ended : Result Bool RunFault) (fault : Option RunFault) → All IsWhole runs → AreRun runs ended fault
+  all_ran runs ended fault wholes = subst (λ (rs : List (ScriptRun K)). AreRun rs ended fault) (append-nil runs) (more_ran runs [] ended fault wholes (none_ran ended fault))
 
 -- ---- names
 

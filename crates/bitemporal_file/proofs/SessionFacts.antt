@@ -1,5 +1,10 @@
 -- Parts that are read and run one after the other.
 use Rattle.std.proofs.Common.{◌≡◌, ◌≤◌, ◌+◌, ◌++◌, ◌∷◌, ◌∙◌, ℕ, Bool, List, [], Option, None, Some, Ok, Err, All, add-zero, append_assoc, ap, arith, get_or, inl, inr, length, length-append, refl, subst, sym, take, false, true}
+use Rattle.std.specs.Prelude.{◌<◌, ◌⊎◌, IfOk, IfSome, Result}
+use Rattle.period_core.specs.Codes.{code_of}
+use Rattle.period_core.specs.declared.refusal.Refusal.TheVariants.{BadToken, NotUtf8, ScriptTooLarge}
+use Rattle.script_engine.specs.script.Listening.{IsFrontRunBy}
+use Rattle.script_engine.specs.script.Script.{MayRefuseScript, ScriptApplies, most_bytes}
 use Rattle.std.specs.Io.KnownBytes.{Consumes, IsAtEnd, Keeps}
 use Rattle.std.proofs.KnownBytes.{Consumes-kept, Consumes-nil, Consumes-trans}
 use Rattle.std.proofs.lemmas.List.{append-nil}
@@ -11,15 +16,14 @@ use Rattle.version_store.specs.StoreState.{IsUsable}
 use Rattle.script_engine.specs.engine.EngineState.{EngineState}
 use Rattle.script_engine.specs.engine.Stored.{EngineRepresents, RepresentsSome, WasUsable}
 use Rattle.sql_statements.specs.Lexemes.{Lexeme}
-use Rattle.period_core.specs.declared.refusal.Refusal.TheVariants.{ScriptTooLarge}
 use Rattle.command_line.specs.declared.fault.RunFault.{RunFault}
-use Rattle.command_line.specs.declared.fault.RunFault.TheVariants.{Script}
+use Rattle.command_line.specs.declared.fault.RunFault.TheVariants.{Memory, Read, Unfinished}
 use Rattle.bitemporal_file.specs.declared.parts.Place.{Place}
 use Rattle.bitemporal_file.specs.declared.reporter.Reporter.{Reporter}
-use Rattle.bitemporal_file.specs.Parts.{BeginsTooLarge, EndsAtSemicolon, IsOpen, IsPart, place_after, place_behind}
-use Rattle.bitemporal_file.specs.Reporting.{EndsWith, TellsAll}
+use Rattle.bitemporal_file.specs.Parts.{EndsAtSemicolon, HasNoToken, IsUnfinished, place_after, place_behind}
+use Rattle.bitemporal_file.specs.Reporting.{EndsWith, IsReportFault, TellsAll}
 use Rattle.bitemporal_file.specs.ScriptRuns.{ScriptRun, results_of}
-use Rattle.bitemporal_file.specs.Sessions.{ArePartsOf, AreCut, LeadsThrough, PartStep, bytes_of}
+use Rattle.bitemporal_file.specs.Sessions.{ArePartsOf, IsSessionFault, LeadsThrough, PartStep, bytes_of, placed_at}
 use Rattle.bitemporal_file.proofs.RunFacts.{faulty_flow, is_none_of_script, its_fault, its_own}
 use Rattle.bitemporal_file.proofs.Told.{ends_told, told_more}
 
@@ -46,6 +50,16 @@ taken-nothing a b c taken none first last empty =
 pub kept-taken : (a b c : Option (List ℕ)) (taken : List ℕ) → Keeps a b → Consumes b c taken → Consumes a c taken
 kept-taken a b c taken kept took = Consumes-trans a b c [] taken (Consumes-kept a a b [] (Consumes-nil a) kept) took
 
+-- what was read up to the end of an input is all of it
+pub all-read : (P : List ℕ → Type 0) (a b c : Option (List ℕ)) (all : List ℕ) → Consumes a b all → Consumes b c [] → IsAtEnd c → P all → IfSome a P
+all-read P None b c all first last end holds = tt
+all-read P (Some xs) None c all first last end holds = absurd first
+all-read P (Some xs) (Some ys) None all first last end holds = absurd last
+all-read P (Some xs) (Some ys) (Some zs) all first last end holds =
+    let none : ys ≡ [] = last ∙ end in
+    let whole : xs ≡ all = first ∙ ap (λ (rest : List ℕ). all ++ rest) none ∙ append-nil all in
+    subst P (sym whole) holds
+
 -- ---- one part more
 
 module _ {K : Type 0} where
@@ -70,22 +84,6 @@ module _ {K : Type 0} where
   pub bytes-length : (runs : List (ScriptRun K)) (run : ScriptRun K) → length (bytes_of (runs ++ run ∷ [])) ≡ length (bytes_of runs) + length run.script
   bytes-length runs run = ap length (bytes-one runs run) ∙ length-append (bytes_of runs) run.script
 
-  pub cut-all : (runs : List (ScriptRun K)) → AllEnd runs → AreCut runs
-  cut-all [] all = tt
-  cut-all (run ∷ []) all = inl (All-head (λ (r : ScriptRun K). EndsAtSemicolon r.script) run [] all)
-  cut-all (run ∷ next ∷ runs) all = (
-    All-head (λ (r : ScriptRun K). EndsAtSemicolon r.script) run (next ∷ runs) all,
-    cut-all (next ∷ runs) (All-tail (λ (r : ScriptRun K). EndsAtSemicolon r.script) run (next ∷ runs) all),
-  )
-
-  pub cut-more : (runs : List (ScriptRun K)) (run : ScriptRun K) → AllEnd runs → IsPart run.script → AreCut (runs ++ run ∷ [])
-  cut-more [] run all is = is
-  cut-more (first ∷ []) run all is = (All-head (λ (r : ScriptRun K). EndsAtSemicolon r.script) first [] all, is)
-  cut-more (first ∷ next ∷ runs) run all is = (
-    All-head (λ (r : ScriptRun K). EndsAtSemicolon r.script) first (next ∷ runs) all,
-    cut-more (next ∷ runs) run (All-tail (λ (r : ScriptRun K). EndsAtSemicolon r.script) first (next ∷ runs) all) is,
-  )
-
   pub taken-part : (known middle left : Option (List ℕ)) (runs : List (ScriptRun K)) (run : ScriptRun K) → Consumes known middle (bytes_of runs) → Consumes middle left run.script → Consumes known left (bytes_of (runs ++ run ∷ []))
   taken-part known middle left runs run first last =
       subst (Consumes known left) (sym (bytes-one runs run)) (Consumes-trans known middle left (bytes_of runs) run.script first last)
@@ -104,23 +102,25 @@ module _ {K : Type 0} where
   abbrev pub one_run : List ℕ → List K → Bool → ScriptRun K
   one_run script results is_whole = record { script = script; results = results; is_whole = is_whole }
 
-  pub parts_failed : (known left : Option (List ℕ)) (runs : List (ScriptRun K)) (fault : RunFault) → AreCut runs → Consumes known left (bytes_of runs) →
-      ((refusal : Refusal) → fault ≡ Script refusal → (refusal ≡ ScriptTooLarge) × BeginsTooLarge left) → ArePartsOf known runs (Err fault)
-  parts_failed known left runs fault cut taken refused = record {
+  pub parts_failed : (known left : Option (List ℕ)) (runs : List (ScriptRun K)) (fault : RunFault) → AllEnd runs → Consumes known left (bytes_of runs) →
+      (fault ≡ Unfinished → IfSome left IsUnfinished) → IsSessionFault fault → ArePartsOf known runs (Err fault)
+  parts_failed known left runs fault cut taken unfinished may = record {
     cut = cut;
     left = left;
     taken = taken;
     all = λ is. let no : ⊥ = cc in absurd no;
-    refused = λ refusal is. let same : fault ≡ Script refusal = cc in refused refusal same;
+    unfinished = λ is. let same : fault ≡ Unfinished = cc in unfinished same;
+    fault = may;
   }
 
-  pub parts_ended : (known left : Option (List ℕ)) (runs : List (ScriptRun K)) (goes_on : Bool) → AreCut runs → Consumes known left (bytes_of runs) → (goes_on ≡ true → IsAtEnd left) → ArePartsOf known runs (Ok goes_on)
+  pub parts_ended : (known left : Option (List ℕ)) (runs : List (ScriptRun K)) (goes_on : Bool) → AllEnd runs → Consumes known left (bytes_of runs) → (goes_on ≡ true → IfSome left HasNoToken) → ArePartsOf known runs (Ok goes_on)
   parts_ended known left runs goes_on cut taken end = record {
     cut = cut;
     left = left;
     taken = taken;
     all = λ is. let same : goes_on ≡ true = cc in end same;
-    refused = λ refusal is. let no : ⊥ = cc in absurd no;
+    unfinished = λ is. let no : ⊥ = cc in absurd no;
+    fault = tt;
   }
 
   module _ {W : Type 0} (contents : W → Option (List ℕ)) (text : ℕ → K → List ℕ) (status : K → ℕ) where
@@ -139,22 +139,65 @@ module _ {K : Type 0} where
     faulty_told old results goes_on fault new is told =
         ends_told contents text status old results goes_on (Err fault) new told (its_fault contents text status new.fault fault is (faulty_flow contents text status goes_on old new results fault is told)) (λ flow same. let no : ⊥ = cc in absurd no)
 
-    pub report_fault : (old : Reporter W) (results : List K) (goes_on : Bool) (fault : RunFault) (new : Reporter W) → new.fault ≡ Some fault → TellsAll contents text status old results goes_on new → (refusal : Refusal) → fault ≡ Script refusal → ⊥
-    report_fault old results goes_on fault new is told refusal same =
-        is_none_of_script contents text status fault refusal (its_own contents text status new.fault fault is (faulty_flow contents text status goes_on old new results fault is told)) same
+    pub report_fault : (old : Reporter W) (results : List K) (goes_on : Bool) (fault : RunFault) (new : Reporter W) → new.fault ≡ Some fault → TellsAll contents text status old results goes_on new → IsReportFault fault
+    report_fault old results goes_on fault new is told =
+        its_own contents text status new.fault fault is (faulty_flow contents text status goes_on old new results fault is told)
 
     -- without a fault
     pub quiet_told : (old : Reporter W) (results : List K) (goes_on : Bool) (new : Reporter W) → new.fault ≡ None → TellsAll contents text status old results goes_on new → EndsWith contents text status old results (Ok goes_on) new
     quiet_told old results goes_on new quiet told =
         ends_told contents text status old results goes_on (Ok goes_on) new told (rw quiet tt) (λ flow is. let same : flow ≡ goes_on = cc in (same, quiet))
 
--- ---- what was read
+-- ---- faults
 
-pub part_is : {X : Type 0} (is_last : Bool) (bytes : List ℕ) → (is_last ≡ false → EndsAtSemicolon bytes) → (is_last ≡ true → IsOpen bytes × X) → IsPart bytes
-part_is false bytes ended last = inl (ended refl)
-part_is true bytes ended last = inr (last refl).0
+-- why a part was not read
+pub read_fault : (fault : RunFault) → (fault ≡ Memory) ⊎ ((fault ≡ Read) ⊎ (fault ≡ Unfinished)) → IsSessionFault fault
+read_fault fault (inl is) = rw is tt
+read_fault fault (inr (inl is)) = rw is tt
+read_fault fault (inr (inr is)) = rw is tt
+
+-- why its report was not written
+pub told_fault : (fault : RunFault) → IsReportFault fault → IsSessionFault fault
+told_fault fault (inl is) = rw is tt
+told_fault fault (inr is) = rw is tt
+
+pub told_unfinished : (fault : RunFault) → IsReportFault fault → fault ≡ Unfinished → ⊥
+told_unfinished fault (inl is) unfinished = cc
+told_unfinished fault (inr is) unfinished = cc
+
+-- why it has no place
+pub unread_fault : (fault : RunFault) → fault ≡ Read → fault ≡ Unfinished → ⊥
+unread_fault fault is unfinished = cc
 
 -- ---- histories
+
+-- a part that has more bytes than a script may have is refused as too large
+pub too_large : (script : List ℕ) → most_bytes < length script → MayRefuseScript script ScriptTooLarge
+too_large script long = inl (record { applies = long; least = only })
+  where
+    only : (other : Refusal) → ScriptApplies script other → code_of ScriptTooLarge ≤ code_of other
+    only NotUtf8 holds = let no : ⊥ = omega (arith, holds.0) in absurd no
+    only ScriptTooLarge holds = omega arith
+    only (BadToken offset) holds = let no : ⊥ = omega (arith, holds.0) in absurd no
+    only _ holds = absurd holds
+
+-- a part that was run
+pub run_made : {S K : Type 0} (g : Ghosts S) (IsStep : History → List Lexeme → K → History → Type 0) (refused : Refusal → K) (start : ℕ) (history : History) (bytes script : List ℕ) (results : List K) (goes_on : Bool) (engine : EngineState S) → bytes ≡ script →
+    (made : IsFrontRunBy IsStep history bytes results goes_on) × EngineRepresents g made.last engine →
+    RepresentsSome g (PartStep IsStep refused start history (record { script = script; results = results; is_whole = goes_on })) engine
+run_made g IsStep refused start history bytes script results goes_on engine same ran =
+    let (made, after) = rw same at ran in (made.last, inl (made, refl), after)
+
+module _ {S K W : Type 0} (g : Ghosts S) (IsStep : History → List Lexeme → K → History → Type 0) (refused : Refusal → K) (contents : W → Option (List ℕ)) (text : ℕ → K → List ℕ) (status : K → ℕ) where
+  -- a part that was refused as a whole, and whether the session goes on
+  pub refused_part : (old new : Reporter W) (before after : EngineState S) (start : ℕ) (script : List ℕ) (refusal : Refusal) (result : Result Bool RunFault) → MayRefuseScript script refusal → after ≡ before →
+      IfOk result (λ goes_on. TellsAll contents text status old (refused (placed_at start refusal) ∷ []) goes_on new) →
+      IfOk result (λ goes_on. (results : List K) × TellsAll contents text status old results goes_on new
+      × (IsUsable g after.connection → (history : History) → EngineRepresents g history before
+      → RepresentsSome g (PartStep IsStep refused start history (record { script = script; results = results; is_whole = goes_on })) after))
+  refused_part old new before after start script refusal (Err fault) may same told = tt
+  refused_part old new before after start script refusal (Ok goes_on) may same told =
+      (refused (placed_at start refusal) ∷ [], told, λ usable history stands. (history, inr (refusal, may, refl, refl), subst (EngineRepresents g history) (sym same) stands))
 
 module _ {S K : Type 0} (g : Ghosts S) (IsStep : History → List Lexeme → K → History → Type 0) (refused : Refusal → K) where
   pub ran_further : (old middle new : EngineState S) (start : ℕ) (runs : List (ScriptRun K)) (run : ScriptRun K) → start ≡ length (bytes_of runs) → WasUsable g middle.connection new.connection →

@@ -45,8 +45,8 @@ module _ {K W : Type 0} (IsStep : History → List Lexeme → K → History → 
   -- what its steps led to, in other words
   pub given_so : (Second : (History → History → Type 0) → Type 0) → ((Led : History → History → Type 0) → First Led → Second Led) → (readers : List (Option (List ℕ))) (known : Option (List ℕ)) (old : Reporter W) (ended : Result Bool RunFault) (new : Reporter W) →
       RunsGiven IsStep refused contents text status First readers known old ended new → RunsGiven IsStep refused contents text status Second readers known old ended new
-  given_so Second so [] known old ended new (runs, parts, ends, led) = (runs, parts, ends, so (λ history last. LeadsThrough IsStep refused 0 history runs last) led)
-  given_so Second so (reader ∷ readers) known old ended new (runs, are, ends, led) = (runs, are, ends, so (λ history last. LeadsTo IsStep history runs last) led)
+  given_so Second so [] known old ended new (runs, parts, run, ends, led) = (runs, parts, run, ends, so (λ history last. LeadsThrough IsStep refused 0 history runs last) led)
+  given_so Second so (reader ∷ readers) known old ended new (runs, are, run, ends, led) = (runs, are, run, ends, so (λ history last. LeadsTo IsStep history runs last) led)
 
 -- what is known of the input, in other words
 pub runs_known : {S W : Type 0} (g : Ghosts S) (contents : W → Option (List ℕ)) (Opens Keeps : Held S → Type 0) (content_of : List ℕ → Option (List ℕ)) (known other : Option (List ℕ)) (asked : Asked) (old : Reporter W) (result : Result ℕ RunFault) (new : Reporter W) → other ≡ known →

@@ -1,12 +1,13 @@
 -- The parts into which semicolons cut a session.
-use Rattle.std.specs.Prelude.{◌≡◌, ◌≢◌, ◌<◌, ◌⊎◌, ◌++◌, ◌∷◌, ℕ, List, [], Option, length}
-use Rattle.std.specs.Prelude.{◌==◌, if◌then◌else◌}
-use Rattle.std.specs.Io.KnownBytes.{Consumes}
-use Rattle.sql_statements.specs.Lexis.{◌∈◌, line_feed, quote}
+use Rattle.std.specs.Prelude.{◌≡◌, ◌≢◌, ◌<◌, ◌≤◌, ◌++◌, ◌∷◌, ℕ, Bool, List, [], length}
+use Rattle.std.specs.Prelude.{◌==◌, ◌||◌, if◌then◌else◌, false, true}
+use Rattle.sql_statements.specs.Lexis.{TokensOf, ◌∈◌, is_blank, line_feed, quote}
 use Rattle.script_engine.specs.script.Script.{most_bytes}
 use Rattle.bitemporal_file.specs.declared.parts.Place.{Place}
 use Rattle.bitemporal_file.specs.declared.parts.Place.TheVariants.{Outside, BehindDash, InComment}
 use Rattle.bitemporal_file.specs.declared.parts.Place.TheVariants.{InText, Ended}
+use Rattle.bitemporal_file.specs.declared.parts.Part.{Part}
+use Rattle.bitemporal_file.specs.declared.parts.Part.TheVariants.{Whole, TooLarge}
 
 -- the place after a byte that is outside of texts and comments, where a dash leads to this place
 abbrev pub outside_after : Place → ℕ → Place
@@ -38,12 +39,23 @@ EndsAtSemicolon bytes =
     (front : List ℕ) × (byte : ℕ) × (bytes ≡ front ++ byte ∷ []) × IsOpen front
     × (place_behind Outside bytes ≡ Ended)
 
--- up to its semicolon, or without one
-abbrev pub IsPart : List ℕ → Type 0
-IsPart bytes = EndsAtSemicolon bytes ⊎ IsOpen bytes
+-- blanks and comments alone
+abbrev pub HasNoToken : List ℕ → Type 0
+HasNoToken bytes = TokensOf bytes []
 
--- the first part of the known bytes is larger than a script may be
-abbrev pub BeginsTooLarge : Option (List ℕ) → Type 0
-BeginsTooLarge known =
-    (front : List ℕ) × (left : Option (List ℕ)) × Consumes known left front
-    × IsPart front × (most_bytes < length front)
+-- more than blanks and comments, and no semicolon ends it
+abbrev pub IsUnfinished : List ℕ → Type 0
+IsUnfinished bytes = IsOpen bytes × ¬ HasNoToken bytes
+
+-- what is kept of a part: its bytes, or that it has more than a script may have, and how many
+abbrev pub IsPartOf : List ℕ → Part → Type 0
+IsPartOf bytes (Whole kept) = (kept.items ≡ bytes) × (length bytes ≤ most_bytes)
+IsPartOf bytes (TooLarge count) = (count ≡ length bytes) × (most_bytes < length bytes)
+
+-- a byte at a place is of a blank or a comment, or a dash that may begin one
+abbrev pub is_blank_at : Place → ℕ → Bool
+is_blank_at Outside byte = is_blank byte || byte ∈ "-"
+is_blank_at BehindDash byte = byte ∈ "-"
+is_blank_at InComment byte = true
+is_blank_at InText byte = false
+is_blank_at Ended byte = false

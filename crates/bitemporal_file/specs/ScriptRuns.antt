@@ -1,5 +1,5 @@
 -- Scripts that are run one after the other, and their reports.
-use Rattle.std.specs.Prelude.{◌≡◌, ◌≤◌, ◌++◌, ◌∷◌, ℕ, Bool, List, [], Option, None, Result}
+use Rattle.std.specs.Prelude.{◌≡◌, ◌≢◌, ◌≤◌, ◌++◌, ◌∷◌, ℕ, Bool, List, [], Option, None, Result}
 use Rattle.std.specs.Prelude.{Ok, Err}
 use Rattle.std.specs.Prelude.{All, IfSome, false, length, true}
 use Rattle.std.specs.Io.KnownBytes.{Appends}
@@ -35,10 +35,24 @@ AreOfReaders [] (run ∷ runs) = ⊥
 AreOfReaders (known ∷ readers) (run ∷ runs) =
     IfSome known (λ all. run.script ≡ read_of most_bytes all) × AreOfReaders readers runs
 
--- each of them was run, to its end
-abbrev pub AreAllRun : {K : Type 0} → List (Option (List ℕ)) → List (ScriptRun K) → Type 0
-AreAllRun readers runs =
-    (length runs ≡ length readers) × All (λ run. run.is_whole ≡ true) runs
+-- it came to its end
+abbrev pub IsWhole : {K : Type 0} → ScriptRun K → Type 0
+IsWhole run = run.is_whole ≡ true
+
+-- all but the last
+abbrev pub AllButLast : {X : Type 0} → (X → Type 0) → List X → Type 0
+AllButLast Holds [] = Unit {0}
+AllButLast Holds (x ∷ []) = Unit {0}
+AllButLast Holds (x ∷ next ∷ rest) = Holds x × AllButLast Holds (next ∷ rest)
+
+-- scripts that were run one after the other, up to their end or to what ended them, with this fault
+-- of the report or none
+pub record AreRun {K : Type 0} (runs : List (ScriptRun K)) (ended : Result Bool RunFault)
+    (fault : Option RunFault) : Type 0 where
+  -- each came to its end before the next began
+  pub before : AllButLast IsWhole runs
+  -- the last too, if neither --stop nor the report ended it
+  pub last : fault ≡ None → ended ≢ Ok false → All IsWhole runs
 
 -- the results of all, in order
 abbrev pub results_of : {K : Type 0} → List (ScriptRun K) → List K
@@ -71,9 +85,9 @@ pub record Ends {W K : Type 0} (contents : W → Option (List ℕ)) (text : ℕ 
   -- the output got the reports, and nothing else, unless the report was at fault
   pub written : new.fault ≡ None → Appends (contents old.out) (contents new.out) (reports text runs)
   pub faulty : IfSome new.fault (λ fault. IsReportFault fault × (ended ≡ Err fault))
-  -- all scripts came to their ends, with --stop without a refusal; or they ended at the first
+  -- all scripts were run, with --stop without a refusal; or they ended at the first
   pub whole : ended ≡ Ok true
-      → AreAllRun readers runs
+      → (length runs ≡ length readers)
       × (old.stops ≡ true → All (λ result. status result ≡ 0) (results_of runs))
   pub stopped : ended ≡ Ok false → (old.stops ≡ true) × EndsAtRefusal status (results_of runs)
   pub refused : (refusal : Refusal) → ended ≡ Err (Script refusal)

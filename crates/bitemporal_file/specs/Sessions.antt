@@ -1,16 +1,17 @@
 -- Sessions: the parts of an input that are run one after the other, as they are read.
-use Rattle.std.specs.Prelude.{◌≡◌, ◌≢◌, ◌⊎◌, ◌+◌, ◌++◌, ◌∷◌, ℕ, Bool, List, [], Option, Result}
-use Rattle.std.specs.Prelude.{Ok, Err, length, true}
-use Rattle.std.specs.Io.KnownBytes.{Consumes, IsAtEnd}
+use Rattle.std.specs.Prelude.{◌≡◌, ◌⊎◌, ◌+◌, ◌++◌, ◌∷◌, ℕ, Bool, List, [], Option, Result}
+use Rattle.std.specs.Prelude.{All, Err, IfErr, IfSome, Ok, length, true, ⊤}
+use Rattle.std.specs.Io.KnownBytes.{Consumes}
 use Rattle.history_model.specs.Histories.{History}
 use Rattle.sql_statements.specs.Lexemes.{Lexeme}
 use Rattle.period_core.specs.declared.refusal.Refusal.{Refusal}
-use Rattle.period_core.specs.declared.refusal.Refusal.TheVariants.{BadToken, ScriptTooLarge}
+use Rattle.period_core.specs.declared.refusal.Refusal.TheVariants.{BadToken}
 use Rattle.command_line.specs.declared.fault.RunFault.{RunFault}
-use Rattle.command_line.specs.declared.fault.RunFault.TheVariants.{Script}
+use Rattle.command_line.specs.declared.fault.RunFault.TheVariants.{Memory, Read, Unfinished}
+use Rattle.command_line.specs.declared.fault.RunFault.TheVariants.{Write}
 use Rattle.script_engine.specs.script.Listening.{IsFrontRunBy}
 use Rattle.script_engine.specs.script.Script.{MayRefuseScript}
-use Rattle.bitemporal_file.specs.Parts.{BeginsTooLarge, EndsAtSemicolon, IsPart}
+use Rattle.bitemporal_file.specs.Parts.{EndsAtSemicolon, HasNoToken, IsUnfinished}
 use Rattle.bitemporal_file.specs.ScriptRuns.{ScriptRun}
 
 -- the refusal of what begins at this byte: a bad token's place is counted from the beginning of all
@@ -25,7 +26,7 @@ abbrev pub PartStep : {K : Type 0} → (History → List Lexeme → K → Histor
 PartStep IsStep refused start history run last =
     ((made : IsFrontRunBy IsStep history run.script run.results run.is_whole)
     × (last ≡ made.last))
-    ⊎ ((refusal : Refusal) × MayRefuseScript run.script refusal × (refusal ≢ ScriptTooLarge)
+    ⊎ ((refusal : Refusal) × MayRefuseScript run.script refusal
     × (run.results ≡ refused (placed_at start refusal) ∷ []) × (last ≡ history))
 
 -- the results are those of the parts, each run from the history to which the one before it led, and
@@ -42,20 +43,23 @@ abbrev pub bytes_of : {K : Type 0} → List (ScriptRun K) → List ℕ
 bytes_of [] = []
 bytes_of (run ∷ runs) = run.script ++ bytes_of runs
 
--- each ends at its semicolon, but the last may end without one
-abbrev pub AreCut : {K : Type 0} → List (ScriptRun K) → Type 0
-AreCut [] = Unit {0}
-AreCut (run ∷ []) = IsPart run.script
-AreCut (run ∷ next ∷ runs) = EndsAtSemicolon run.script × AreCut (next ∷ runs)
+-- why a session ends: memory is out, the input or the report fails, or what is left is unfinished
+abbrev pub IsSessionFault : RunFault → Type 0
+IsSessionFault Memory = ⊤
+IsSessionFault Read = ⊤
+IsSessionFault Write = ⊤
+IsSessionFault Unfinished = ⊤
+IsSessionFault _ = ⊥
 
 -- the known bytes of an input begin with those of the parts that were run
 pub record ArePartsOf {K : Type 0} (known : Option (List ℕ)) (runs : List (ScriptRun K))
     (ended : Result Bool RunFault) : Type 0 where
-  pub cut : AreCut runs
+  -- each is up to its semicolon
+  pub cut : All (λ run. EndsAtSemicolon run.script) runs
   pub left : Option (List ℕ)
   pub taken : Consumes known left (bytes_of runs)
-  -- they are all of it, where the session came to its end
-  pub all : ended ≡ Ok true → IsAtEnd left
-  -- it is refused only for the next part, which is too large
-  pub refused : (refusal : Refusal) → ended ≡ Err (Script refusal)
-      → (refusal ≡ ScriptTooLarge) × BeginsTooLarge left
+  -- where the session came to its end, no more than blanks and comments are left
+  pub all : ended ≡ Ok true → IfSome left HasNoToken
+  -- it is unfinished only where more is left, without a semicolon
+  pub unfinished : ended ≡ Err Unfinished → IfSome left IsUnfinished
+  pub fault : IfErr ended IsSessionFault

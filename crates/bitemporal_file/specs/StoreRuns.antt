@@ -22,10 +22,11 @@ use Rattle.command_line.specs.declared.fault.RunFault.{RunFault}
 use Rattle.command_line.specs.Lines.{IsReported, MayBeReportedAs, fault_line}
 use Rattle.command_line.specs.declared.fault.ProgramName.TheVariants.{BitemporalFile}
 use Rattle.command_line.specs.declared.fault.RunFault.TheVariants.{Locked, Memory, NoStore, Read}
-use Rattle.command_line.specs.declared.fault.RunFault.TheVariants.{Script, Words, Write}
+use Rattle.command_line.specs.declared.fault.RunFault.TheVariants.{Script, Unfinished, Words, Write}
 use Rattle.command_line.specs.declared.file_command.Asked.{Asked}
 use Rattle.bitemporal_file.specs.Reporting.{EndsWith, entry_status, refused_entry, result_status}
-use Rattle.bitemporal_file.specs.ScriptRuns.{AreOfReaders, Ends, LeadsTo, ScriptRun, results_of}
+use Rattle.bitemporal_file.specs.ScriptRuns.{AreOfReaders, AreRun, Ends, LeadsTo, ScriptRun}
+use Rattle.bitemporal_file.specs.ScriptRuns.{results_of}
 use Rattle.bitemporal_file.specs.Sessions.{ArePartsOf, LeadsThrough}
 use Rattle.bitemporal_file.specs.declared.reporter.Reporter.{Reporter}
 
@@ -62,7 +63,7 @@ module _ {K W : Type 0} (IsStep : History → List Lexeme → K → History → 
   abbrev pub RunsScripts : List (Option (List ℕ)) → Reporter W → Result Bool RunFault
       → Reporter W → Type 0
   RunsScripts readers old ended new =
-      (runs : List (ScriptRun K)) × AreOfReaders readers runs
+      (runs : List (ScriptRun K)) × AreOfReaders readers runs × AreRun runs ended new.fault
       × Ends contents text status readers old runs ended new
       × Leads (λ history last. LeadsTo IsStep history runs last)
 
@@ -70,7 +71,7 @@ module _ {K W : Type 0} (IsStep : History → List Lexeme → K → History → 
   abbrev pub RunsSession : Option (List ℕ) → Reporter W → Result Bool RunFault → Reporter W
       → Type 0
   RunsSession known old ended new =
-      (runs : List (ScriptRun K)) × ArePartsOf known runs ended
+      (runs : List (ScriptRun K)) × ArePartsOf known runs ended × AreRun runs ended new.fault
       × EndsWith contents text status old (results_of runs) ended new
       × Leads (λ history last. LeadsThrough IsStep refused 0 history runs last)
 
@@ -101,6 +102,7 @@ MayNotOpen Read = ⊥
 MayNotOpen Write = ⊥
 MayNotOpen NoStore = ⊤
 MayNotOpen Locked = ⊤
+MayNotOpen Unfinished = ⊥
 
 -- how the store is opened and closed, and what is run in between; where it is used, others have in
 -- its database what they had

@@ -5,7 +5,7 @@ ghost use Rattle.std.specs.String.{string_bytes};
 ghost use Rattle.version_store.specs.StoreState.{IsUsable, SparesOthers};
 ghost use Rattle.history_model.specs.Histories.{History};
 ghost use Rattle.script_engine.specs.engine.Stored.{EngineRepresents, RepresentsSome, WasUsable};
-ghost use Rattle.bitemporal_file.specs.ScriptRuns.{AreOfReaders, Ends, LeadsTo, ScriptRun};
+ghost use Rattle.bitemporal_file.specs.ScriptRuns.{AreOfReaders, AreRun, Ends, LeadsTo, ScriptRun};
 
 use crate::reporter::{Reported, Reporter};
 use command_line::{RunFault, Scripts, Tracked, read_script};
@@ -25,6 +25,7 @@ fn run_script<S: Alter, K: PieceResult<S> + Reported + Drop, R: Read, W: Write>(
     requires { reporter.old.fault ≡ None }
     ensures ran { (runs : List (ScriptRun K))
         × AreOfReaders (R.remaining input.old.inner ∷ []) runs
+        × AreRun runs result reporter.new.fault
         × Ends W.contents K.text K.status_of (R.remaining input.old.inner ∷ [])
         reporter.old runs result reporter.new
         × (IsUsable S.Store engine.new.connection
@@ -55,6 +56,7 @@ fn run_named<S: Alter, K: PieceResult<S> + Reported + Drop, Q: Scripts, W: Write
     requires { reporter.old.fault ≡ None }
     ensures ran { (runs : List (ScriptRun K))
         × AreOfReaders (Q.content scripts.now name.now ∷ []) runs
+        × AreRun runs result reporter.new.fault
         × Ends W.contents K.text K.status_of (Q.content scripts.now name.now ∷ [])
         reporter.old runs result reporter.new
         × (IsUsable S.Store engine.new.connection
@@ -83,6 +85,7 @@ pub(crate) fn run_all<S: Alter, K: PieceResult<S> + Reported + Drop, Q: Scripts,
     requires { reporter.old.fault ≡ None }
     ensures ran { let readers = map (Q.content scripts.now) (map string_bytes names.now) in
         (runs : List (ScriptRun K)) × AreOfReaders readers runs
+        × AreRun runs result reporter.new.fault
         × Ends W.contents K.text K.status_of readers reporter.old runs result reporter.new
         × (IsUsable S.Store engine.new.connection
         → (history : History) → EngineRepresents S.Store history engine.old

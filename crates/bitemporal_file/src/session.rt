@@ -1,17 +1,16 @@
 //! A session: the parts of one input, each run as soon as it is read.
 
-ghost use Rattle.std.specs.Prelude.{◌≡◌, ◌<◌, List, None, IfErr, IfOk, IfSome, length};
+ghost use Rattle.std.specs.Prelude.{◌≡◌, ◌∷◌, ℕ, [], List, None, IfErr, IfOk, IfSome};
 ghost use Rattle.version_store.specs.StoreState.{IsUsable, SparesOthers};
 ghost use Rattle.history_model.specs.Histories.{History};
-ghost use Rattle.command_line.specs.declared.fault.RunFault.TheVariants.{Script};
-ghost use Rattle.period_core.specs.declared.refusal.Refusal.TheVariants.{ScriptTooLarge};
+ghost use Rattle.command_line.specs.declared.fault.RunFault.TheVariants.{Read as NotRead};
 ghost use Rattle.script_engine.specs.engine.Stored.{EngineRepresents, RepresentsSome, WasUsable};
-ghost use Rattle.script_engine.specs.script.Script.{most_bytes};
+ghost use Rattle.bitemporal_file.specs.Parts.{IsPartOf};
 ghost use Rattle.bitemporal_file.specs.Reporting.{EndsWith, TellsAll};
-ghost use Rattle.bitemporal_file.specs.ScriptRuns.{ScriptRun, results_of};
+ghost use Rattle.bitemporal_file.specs.ScriptRuns.{AreRun, ScriptRun, results_of};
 ghost use Rattle.bitemporal_file.specs.Sessions.{ArePartsOf, LeadsThrough, PartStep, placed_at};
 
-use crate::parts::read_part;
+use crate::parts::{Part, read_part};
 use crate::reporter::{Reported, Reporter};
 use command_line::RunFault;
 use period_core::Refusal;
@@ -34,41 +33,58 @@ fn placed(start: usize, refusal: Refusal) -> Option<Refusal>
     }
 }
 
+// Reports that a part that begins at this byte is refused as a whole, as the refusal of one
+// statement. Says whether the session goes on.
+fn refuse_part<K: Reported + Drop, W: Write>(
+    start: usize,
+    refusal: Refusal,
+    reporter: &mut Reporter<W>,
+) -> Result<bool, RunFault>
+    requires { reporter.old.fault ≡ None }
+    ensures told { IfOk result (λ goes_on. TellsAll W.contents K.text K.status_of reporter.old
+        (K.refused (placed_at start refusal) ∷ []) goes_on reporter.new) }
+    ensures none { IfErr result (λ fault. (fault ≡ NotRead) × (reporter.new ≡ reporter.old)) }
+{
+    match placed(start, refusal) {
+        Some(refusal) => Ok(reporter.hear(1, K::of_refusal(refusal))),
+        None => Err(RunFault::Read),
+    }
+}
+
 // Runs a part as a script of its own, and reports it. Where it is refused as a whole, that is
-// reported as the refusal of one statement; only a part that is too large ends the session.
+// reported as the refusal of one statement.
 fn run_part<S: Alter, K: PieceResult<S> + Reported + Drop, W: Write>(
     alloc: Global,
     engine: &mut Engine<S>,
     start: usize,
-    part: &[u8],
+    part: &Part,
     reporter: &mut Reporter<W>,
 ) -> Result<bool, RunFault>
     requires { reporter.old.fault ≡ None }
-    ensures ran { IfOk result (λ goes_on. (results : List K)
+    ensures ran { (script : List ℕ) → IsPartOf script part.now → IfOk result (λ goes_on.
+        (results : List K)
         × TellsAll W.contents K.text K.status_of reporter.old results goes_on reporter.new
         × (IsUsable S.Store engine.new.connection
         → (history : History) → EngineRepresents S.Store history engine.old
         → RepresentsSome S.Store (PartStep K.is_step K.refused start history
-        (record { script = part.now; results = results; is_whole = goes_on })) engine.new)) }
-    ensures none { IfErr result (λ fault. (reporter.new ≡ reporter.old)
-        × (engine.new ≡ engine.old)
-        × ((refusal : Refusal) → fault ≡ Script refusal
-        → (refusal ≡ ScriptTooLarge) × (most_bytes < length part.now))) }
+        (record { script = script; results = results; is_whole = goes_on })) engine.new)) }
+    ensures none { IfErr result (λ fault. (fault ≡ NotRead) × (reporter.new ≡ reporter.old)
+        × (engine.new ≡ engine.old)) }
     ensures usable { WasUsable S.Store engine.old.connection engine.new.connection }
     ensures others { SparesOthers S.Store engine.old.connection engine.new.connection }
 {
-    match run_over::<S, K, Reporter<W>>(alloc, engine, part, reporter) {
+    let bytes = match part {
+        Part::Whole(bytes) => bytes.as_slice(),
+        Part::TooLarge(_) => return refuse_part::<K, W>(start, Refusal::ScriptTooLarge, reporter),
+    };
+    match run_over::<S, K, Reporter<W>>(alloc, engine, bytes, reporter) {
         Ok(goes_on) => Ok(goes_on),
-        Err(Refusal::ScriptTooLarge) => Err(RunFault::Script(Refusal::ScriptTooLarge)),
-        Err(refusal) => match placed(start, refusal) {
-            Some(refusal) => Ok(reporter.hear(1, K::of_refusal(refusal))),
-            None => Err(RunFault::Read),
-        },
+        Err(refusal) => refuse_part::<K, W>(start, refusal, reporter),
     }
 }
 
 /// Runs the parts of an input, each up to its semicolon, as they are read. Says whether the run
-/// came to the input's end.
+/// came to the input's end, where no more than blanks and comments stand behind the last semicolon.
 pub(crate) fn run_parts<S: Alter, K: PieceResult<S> + Reported + Drop, R: Read, W: Write>(
     alloc: Global,
     engine: &mut Engine<S>,
@@ -77,6 +93,7 @@ pub(crate) fn run_parts<S: Alter, K: PieceResult<S> + Reported + Drop, R: Read, 
 ) -> Result<bool, RunFault>
     requires { reporter.old.fault ≡ None }
     ensures ran { (runs : List (ScriptRun K)) × ArePartsOf (R.remaining input.old) runs result
+        × AreRun runs result reporter.new.fault
         × EndsWith W.contents K.text K.status_of reporter.old (results_of runs) result reporter.new
         × (IsUsable S.Store engine.new.connection
         → (history : History) → EngineRepresents S.Store history engine.old
@@ -88,16 +105,17 @@ pub(crate) fn run_parts<S: Alter, K: PieceResult<S> + Reported + Drop, R: Read, 
     let mut start: usize = 0;
     // The input ends the loop. Its bound shows that it ends in any case.
     'parts: for _ in 0..u64::MAX {
-        let part = read_part(alloc, input)?;
-        let bytes = part.bytes.as_slice();
-        let goes_on = run_part::<S, K, W>(alloc, engine, start, bytes, reporter)?;
+        let Some(part) = read_part(alloc, input)? else {
+            return Ok(true);
+        };
+        let goes_on = run_part::<S, K, W>(alloc, engine, start, &part, reporter)?;
         if let Some(fault) = reporter.fault {
             return Err(fault);
         }
-        if part.is_last || !goes_on {
-            return Ok(goes_on);
+        if !goes_on {
+            return Ok(false);
         }
-        start = match start.checked_add(part.bytes.len()) {
+        start = match start.checked_add(part.len()) {
             Some(end) => end,
             None => return Err(RunFault::Read),
         };

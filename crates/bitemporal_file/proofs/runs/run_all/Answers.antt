@@ -2,8 +2,9 @@ use Rattle.std.proofs.Common.{◌≡◌, ◌<◌, ◌+◌, ◌++◌, ◌∷◌, 
 use Rattle.std.proofs.lemmas.Result.{err_from_is_err_and}
 use Rattle.version_store.proofs.Beside.{spares_same, spares_then}
 use Rattle.command_line.specs.declared.fault.RunFault.{RunFault}
-use Rattle.bitemporal_file.specs.ScriptRuns.{AreOfReaders, Ends}
-use Rattle.bitemporal_file.proofs.RunFacts.{ends_more, ends_within, known-all, known-next, leads-more, none_yet, quiet_of, readers-more, readers-within}
+use Rattle.bitemporal_file.specs.ScriptRuns.{AreOfReaders, AreRun, Ends}
+use Rattle.std.proofs.lemmas.List.Elements.{All-nil}
+use Rattle.bitemporal_file.proofs.RunFacts.{all_ran, ends_more, ends_within, known-all, known-next, leads-more, more_ran, none_yet, quiet_of, readers-more, readers-within, whole_ran}
 use Rattle.bitemporal_file.proofs.runs.run_all.Goals as goal
 
 pub loop-name-init : goal.loop-name-init
@@ -11,7 +12,7 @@ loop-name-init g c = record {
   quiet = c.requires;
   usable = λ usable. usable;
   others = spares_same g.S.Store c.args.engine.now.connection c.args.engine.now.connection (λ usable. refl);
-  ran = ([], tt, none_yet g.W.Write.contents g.K.Reported.text g.K.Reported.status_of c.args.reporter.now c.requires, λ usable history stands. (history, refl, stands));
+  ran = ([], tt, All-nil _, none_yet g.W.Write.contents g.K.Reported.text g.K.Reported.status_of c.args.reporter.now c.requires, λ usable history stands. (history, refl, stands));
 }
 
 pub loop-name-preserved : goal.loop-name-preserved
@@ -24,8 +25,8 @@ loop-name-preserved g c =
     let i = c.loop-name.name-index in
     let old = c.args.reporter.now in
     let new = c.run_named.new.reporter in
-    let (runs, are, ends, did) = c.loop-name.invariant.ran in
-    let (more, its, last, went) = c.run_named.ensures.ran in
+    let (runs, are, wholes, ends, did) = c.loop-name.invariant.ran in
+    let (more, its, run, last, went) = c.run_named.ensures.ran in
     let name = c.name-item.result in
     let inside : i < length names = omega arith in
     let readers = map content (map string_bytes (take i names)) in
@@ -37,7 +38,7 @@ loop-name-preserved g c =
     let its_known = subst (λ (k : Option (List ℕ)). AreOfReaders (k ∷ []) more) same its in
     let last_known = subst (λ (k : Option (List ℕ)). Ends contents text status (k ∷ []) c.loop-name.reporter more c.run_named.result new) same last in
     let last_whole = subst (λ (ended : Result Bool RunFault). Ends contents text status (known ∷ []) c.loop-name.reporter more ended new) whole last_known in
-    let count = (ends.whole refl).0.0 in
+    let count = (ends.whole refl).0 in
     record {
       quiet = quiet;
       usable = λ usable. c.loop-name.invariant.usable (c.run_named.ensures.usable usable);
@@ -45,6 +46,7 @@ loop-name-preserved g c =
       ran = (
         runs ++ more,
         subst (λ (rs : List (Option (List ℕ))). AreOfReaders rs (runs ++ more)) (sym next) (readers-more contents text status readers known runs more count are its_known),
+        whole_ran runs more c.run_named.result new.fault wholes run whole quiet,
         subst (λ (rs : List (Option (List ℕ))). Ends contents text status rs old (runs ++ more) (Ok true) new) (sym next) (ends_more contents text status readers known old runs c.loop-name.reporter more (Ok true) new c.loop-name.invariant.quiet ends last_whole),
         λ usable history stands.
             let (middle, leads, represents) = did (c.run_named.ensures.usable usable) history stands in
@@ -63,8 +65,8 @@ returns-in_err-goes_on-clause-ran g c =
     let i = c.loop-name.name-index in
     let old = c.args.reporter.now in
     let new = c.run_named.new.reporter in
-    let (runs, are, ends, did) = c.loop-name.invariant.ran in
-    let (more, its, last, went) = c.run_named.ensures.ran in
+    let (runs, are, wholes, ends, did) = c.loop-name.invariant.ran in
+    let (more, its, run, last, went) = c.run_named.ensures.ran in
     let name = c.name-item.result in
     let inside : i < length names = omega arith in
     let readers = map content (map string_bytes (take i names)) in
@@ -75,7 +77,7 @@ returns-in_err-goes_on-clause-ran g c =
     let its_known = subst (λ (k : Option (List ℕ)). AreOfReaders (k ∷ []) more) same its in
     let last_known = subst (λ (k : Option (List ℕ)). Ends contents text status (k ∷ []) c.loop-name.reporter more c.run_named.result new) same last in
     let last_whole = subst (λ (e : Result Bool RunFault). Ends contents text status (known ∷ []) c.loop-name.reporter more e new) whole last_known in
-    let count = (ends.whole refl).0.0 in
+    let count = (ends.whole refl).0 in
     let rest = map content (map string_bytes (drop (i + 1) names)) in
     let all : (readers ++ known ∷ []) ++ rest ≡ map content (map string_bytes names) = ap (λ (rs : List (Option (List ℕ))). rs ++ rest) (sym next) ∙ known-all string_bytes content names (i + 1) in
     let met = ends_more contents text status readers known old runs c.loop-name.reporter more (Err c.in_err-goes_on.field-0.0) new c.loop-name.invariant.quiet ends last_whole in
@@ -83,6 +85,7 @@ returns-in_err-goes_on-clause-ran g c =
     rw (p.1, p.2) (
       runs ++ more,
       subst (λ (rs : List (Option (List ℕ))). AreOfReaders rs (runs ++ more)) all (readers-within contents text status (readers ++ known ∷ []) rest (runs ++ more) (readers-more contents text status readers known runs more count are its_known)),
+      more_ran runs more (Err c.in_err-goes_on.field-0.0) new.fault wholes (subst (λ (ended : Result Bool RunFault). AreRun more ended new.fault) whole run),
       subst (λ (rs : List (Option (List ℕ))). Ends contents text status rs old (runs ++ more) (Err c.in_err-goes_on.field-0.0) new) all (ends_within contents text status (readers ++ known ∷ []) rest old (runs ++ more) (Err c.in_err-goes_on.field-0.0) new (λ on. let no : ⊥ = cc in no) met),
       λ usable history stands.
           let (middle, leads, represents) = did (c.run_named.ensures.usable usable) history stands in
@@ -100,8 +103,8 @@ returns-then-not-goes_on-clause-ran g c =
     let i = c.loop-name.name-index in
     let old = c.args.reporter.now in
     let new = c.run_named.new.reporter in
-    let (runs, are, ends, did) = c.loop-name.invariant.ran in
-    let (more, its, last, went) = c.run_named.ensures.ran in
+    let (runs, are, wholes, ends, did) = c.loop-name.invariant.ran in
+    let (more, its, run, last, went) = c.run_named.ensures.ran in
     let name = c.name-item.result in
     let inside : i < length names = omega arith in
     let readers = map content (map string_bytes (take i names)) in
@@ -112,12 +115,13 @@ returns-then-not-goes_on-clause-ran g c =
     let its_known = subst (λ (k : Option (List ℕ)). AreOfReaders (k ∷ []) more) same its in
     let last_known = subst (λ (k : Option (List ℕ)). Ends contents text status (k ∷ []) c.loop-name.reporter more c.run_named.result new) same last in
     let last_whole = subst (λ (e : Result Bool RunFault). Ends contents text status (known ∷ []) c.loop-name.reporter more e new) whole last_known in
-    let count = (ends.whole refl).0.0 in
+    let count = (ends.whole refl).0 in
     let rest = map content (map string_bytes (drop (i + 1) names)) in
     let all : (readers ++ known ∷ []) ++ rest ≡ map content (map string_bytes names) = ap (λ (rs : List (Option (List ℕ))). rs ++ rest) (sym next) ∙ known-all string_bytes content names (i + 1) in
     let met = ends_more contents text status readers known old runs c.loop-name.reporter more (Ok false) new c.loop-name.invariant.quiet ends last_whole in (
       runs ++ more,
       subst (λ (rs : List (Option (List ℕ))). AreOfReaders rs (runs ++ more)) all (readers-within contents text status (readers ++ known ∷ []) rest (runs ++ more) (readers-more contents text status readers known runs more count are its_known)),
+      more_ran runs more (Ok false) new.fault wholes (subst (λ (ended : Result Bool RunFault). AreRun more ended new.fault) whole run),
       subst (λ (rs : List (Option (List ℕ))). Ends contents text status rs old (runs ++ more) (Ok false) new) all (ends_within contents text status (readers ++ known ∷ []) rest old (runs ++ more) (Ok false) new (λ on. let no : ⊥ = cc in no) met),
       λ usable history stands.
           let (middle, leads, represents) = did (c.run_named.ensures.usable usable) history stands in
@@ -132,11 +136,12 @@ returns-clause-ran g c =
     let status = g.K.Reported.status_of in
     let content = g.Q.Scripts.content c.args.scripts.now in
     let names = c.args.names.now in
-    let (runs, are, ends, did) = c.loop-name.invariant.ran in
+    let (runs, are, wholes, ends, did) = c.loop-name.invariant.ran in
     let all = take_all c.loop-name.name-index names (omega arith) in
     let known = ap (λ ns. map content (map string_bytes ns)) all in (
       runs,
       subst (λ (rs : List (Option (List ℕ))). AreOfReaders rs runs) known are,
+      all_ran runs (Ok true) c.loop-name.reporter.fault wholes,
       subst (λ (rs : List (Option (List ℕ))). Ends contents text status rs c.args.reporter.now runs (Ok true) c.loop-name.reporter) known ends,
       did,
     )

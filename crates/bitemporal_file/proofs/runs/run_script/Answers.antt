@@ -4,7 +4,7 @@ use Rattle.script_engine.specs.engine.Stored.{EngineRepresents}
 use Rattle.script_engine.specs.script.Script.{MayRefuseScript}
 use Rattle.command_line.specs.declared.fault.RunFault.TheVariants.{Script}
 use Rattle.bitemporal_file.specs.ScriptRuns.{Ends}
-use Rattle.bitemporal_file.proofs.RunFacts.{none_run, one, one_ended, one_faulty, read_bytes, read_fault_is_plain, read_refusal, same_refusal}
+use Rattle.bitemporal_file.proofs.RunFacts.{none_ran, none_run, one, one_ran, one_ended, one_faulty, read_bytes, read_fault_is_plain, read_refusal, same_refusal, went_on}
 use Rattle.bitemporal_file.proofs.Told.{all_told}
 use Rattle.bitemporal_file.proofs.runs.run_script.Goals as goal
 
@@ -14,6 +14,7 @@ returns-in_err-script-clause-ran g c =
     rw (p.1, p.2) (
       [],
       tt,
+      none_ran _ _,
       none_run g.W.Write.contents g.K.Reported.text g.K.Reported.status_of _ c.args.reporter.now 1 c.in_err-script.field-0.0 c.requires (λ refusal is. absurd (read_fault_is_plain _ c.in_err-script.field-0.0 refusal c.in_err-script.ensures.refused is)),
       λ usable history stands. (history, refl, stands),
     )
@@ -25,6 +26,7 @@ returns-in-Some-clause-ran g c =
     let told = all_told g.W.Write.contents g.K.Reported.text g.K.Reported.status_of 1 (record c.args.reporter.now { next = 1 }) results c.in-Ok.goes_on c.run_over.new.listener c.requires heard in (
       one g.W.Write.contents g.K.Reported.text g.K.Reported.status_of script results c.in-Ok.goes_on,
       (read_bytes (g.R.Read.remaining c.args.input.now.inner) script c.in_ok-script.script.items c.as_slice.ensures.value c.in_ok-script.ensures.bytes, tt),
+      one_ran _ _ _ (λ quiet on. let no : ⊥ = cc in absurd no),
       one_faulty g.W.Write.contents g.K.Reported.text g.K.Reported.status_of _ script c.args.reporter.now results c.in-Ok.goes_on c.run_over.new.listener c.in-Some.fault c.in-Some.is told,
       λ usable history stands. let (made, after) = ran usable history stands in (made.last, (made, refl), after),
     )
@@ -36,6 +38,7 @@ returns-in-Ok-clause-ran g c =
     let told = all_told g.W.Write.contents g.K.Reported.text g.K.Reported.status_of 1 (record c.args.reporter.now { next = 1 }) results c.in-Ok.goes_on c.run_over.new.listener c.requires heard in (
       one g.W.Write.contents g.K.Reported.text g.K.Reported.status_of script results c.in-Ok.goes_on,
       (read_bytes (g.R.Read.remaining c.args.input.now.inner) script c.in_ok-script.script.items c.as_slice.ensures.value c.in_ok-script.ensures.bytes, tt),
+      one_ran _ _ _ (λ quiet on. went_on c.in-Ok.goes_on on),
       one_ended g.W.Write.contents g.K.Reported.text g.K.Reported.status_of _ script c.args.reporter.now results c.in-Ok.goes_on c.run_over.new.listener c.in-None.is told,
       λ usable history stands. let (made, after) = ran usable history stands in (made.last, (made, refl), after),
     )
@@ -48,6 +51,7 @@ returns-clause-ran g c =
     (λ other is. read_refusal (g.R.Read.remaining c.args.input.now.inner) c.as_slice.result.now c.in_ok-script.script.items other c.as_slice.ensures.value c.in_ok-script.ensures.bytes (subst (MayRefuseScript c.as_slice.result.now) (same_refusal refusal other is) c.in-Err.ensures.refused)) in (
       [],
       tt,
+      none_ran _ _,
       subst (λ (new : _). Ends g.W.Write.contents g.K.Reported.text g.K.Reported.status_of (g.R.Read.remaining c.args.input.now.inner ∷ []) c.args.reporter.now [] (Err (Script refusal)) new) (sym reporter) whole,
       λ usable history stands. (history, refl, subst (EngineRepresents g.S.Store history) (sym engine) stands),
     )
