@@ -1,23 +1,19 @@
 -- What conditions fix that say `column = literal`.
 use Rattle.std.proofs.Common.{◌≡◌, ◌∙◌, ◌<◌, ◌+◌, ◌++◌, ◌∷◌, [], ℕ, zero, suc, Bool, true, false, Some, List, arith, get_or, inl, inr, length, map, refl, sym, ap, subst}
-use Rattle.std.specs.Prelude.{◌&&◌, ◌||◌, ◌⊎◌, All, slice_get}
-use Rattle.std.proofs.lemmas.List.Elements.{All-head, All-nil, All-push}
+use Rattle.std.specs.Prelude.{◌&&◌, ◌||◌, slice_get}
 use Rattle.std.specs.Global.{Box, Vec}
 use Rattle.period_core.specs.declared.value.Value.{Value}
-use Rattle.sql_statements.specs.declared.statement.Comparison.TheVariants.{Equal}
 use Rattle.sql_statements.specs.declared.tree.Tree as code
 use Rattle.sql_statements.specs.Plain.{plain_condition}
 use Rattle.sql_statements.specs.Trees.{Condition, Conditions, any, all, conditions_of, negated, test, none, more}
-use Rattle.catalog_core.proofs.lemmas.conditions.Truth.{and_view, or_view, test_view}
-use Rattle.catalog_core.specs.Conditions.{compared, compares, each_satisfied, is_satisfied, meets, side_value, some_satisfied}
-use Rattle.catalog_core.specs.declared.condition.Comparand.{Comparand}
-use Rattle.catalog_core.specs.declared.condition.Comparand.TheVariants.{Position}
+use Rattle.catalog_core.proofs.lemmas.conditions.Truth.{and_view, or_view}
+use Rattle.catalog_core.specs.Conditions.{compares, each_satisfied, is_satisfied, meets, some_satisfied}
 use Rattle.catalog_core.specs.declared.condition.CompareValues.{CompareValues}
 use Rattle.history_model.specs.OrdinaryQuery.{meets_all}
-use Rattle.period_keys.specs.Equations.{both_equal, equation_fixes}
-use Rattle.period_keys.specs.FixedKeys.{AreEqualPlaces, Equates, IsEquation, OnlyPartEquates, SomePartEquates}
+use Rattle.period_keys.specs.Equations.{equation_fixes}
+use Rattle.period_keys.specs.FixedKeys.{Equates, IsEquation, OnlyPartEquates, SomePartEquates}
 
-both_true : (a b : Bool) → (a && b) ≡ true → (a ≡ true) × (b ≡ true)
+pub both_true : (a b : Bool) → (a && b) ≡ true → (a ≡ true) × (b ≡ true)
 both_true true b h = (refl, h)
 both_true false b h = absurd cc
 
@@ -115,7 +111,7 @@ get_behind (x ∷ xs) ys p =
     ap (slice_get (x ∷ (xs ++ ys))) next ∙ get_behind xs ys p
 
 -- conditions that all hold
-each_met : (conditions : List (code.Tree CompareValues)) (values : List Value) → meets_all conditions values ≡ true → (k : ℕ) (condition : code.Tree CompareValues) → k < length conditions → condition ≡ get_or conditions k condition → meets condition values ≡ true
+pub each_met : (conditions : List (code.Tree CompareValues)) (values : List Value) → meets_all conditions values ≡ true → (k : ℕ) (condition : code.Tree CompareValues) → k < length conditions → condition ≡ get_or conditions k condition → meets condition values ≡ true
 each_met [] values met k condition below at = absurd (omega (arith, below))
 each_met (c ∷ conditions) values met zero condition below at =
     ap (λ (x : code.Tree CompareValues). meets x values) at ∙ (both_true (meets c values) (meets_all conditions values) met).0
@@ -133,35 +129,3 @@ pub at_place : (first values rest : List Value) (start width position place : �
 at_place first values rest start width position place value long wide inside is there =
     let moved : place ≡ length first + position = is ∙ ap (λ (n : ℕ). n + position) (sym long) in
     sym (ap (slice_get (first ++ (values ++ rest))) moved ∙ get_behind first (values ++ rest) position ∙ get_left values rest position (omega (arith, inside, wide))) ∙ there
-
--- ---- places whose values are equal
-
--- a comparison of two positions
-pub test_equates : (condition : code.Tree CompareValues) (c : CompareValues) (left right : ℕ) → condition ≡ code.Test c → c.comparison ≡ Equal → c.left ≡ Position left → c.right ≡ Position right →
-    (row : List Value) → meets condition row ≡ true → slice_get row left ≡ slice_get row right
-test_equates condition c left right is equal at_left at_right row met =
-    let holds : compares row c ≡ true = sym (ap (is_satisfied (compares row)) (ap plain_condition is ∙ test_view c)) ∙ met in
-    both_equal (slice_get row left) (slice_get row right)
-    (subst (λ (r : Comparand). compared Equal (slice_get row left) (side_value r row) ≡ true) at_right
-    (subst (λ (l : Comparand). compared Equal (side_value l row) (side_value c.right row) ≡ true) at_left
-    (subst (λ o. compared o (side_value c.left row) (side_value c.right row) ≡ true) equal holds)))
-
--- a place that one of the conditions equates with one that is known
-pub places_more : (conditions : List (code.Tree CompareValues)) (place known other k : ℕ) (condition : code.Tree CompareValues) (places new : List ℕ) → k < length conditions → condition ≡ get_or conditions k condition →
-    ((row : List Value) → meets condition row ≡ true → slice_get row other ≡ slice_get row known) → AreEqualPlaces conditions place (known ∷ []) → (new ≡ places) ⊎ (new ≡ places ++ other ∷ []) → AreEqualPlaces conditions place places → AreEqualPlaces conditions place new
-places_more conditions place known other k condition places new below at equated its added are row met =
-    let IsSame : ℕ → Type 0 = λ (p : ℕ). slice_get row p ≡ slice_get row place in
-    let here : IsSame other = equated row (each_met conditions row met k condition below at) ∙ All-head IsSame known [] (its row met) in
-    elim added [
-      | inl same ↦ subst (All IsSame) (sym same) (are row met)
-      | inr longer ↦ subst (All IsSame) (sym longer) (All-push IsSame places other (are row met) here)
-    ]
-
--- of one that is known, and of the place itself
-pub places_known : (conditions : List (code.Tree CompareValues)) (place i : ℕ) (places : List ℕ) → i < length places → AreEqualPlaces conditions place places → AreEqualPlaces conditions place (get_or places i 0 ∷ [])
-places_known conditions place i places below are row met =
-    let IsSame : ℕ → Type 0 = λ (p : ℕ). slice_get row p ≡ slice_get row place in
-    All-push IsSame [] (get_or places i 0) (All-nil IsSame) (are row met i 0 below)
-
-pub places_one : (conditions : List (code.Tree CompareValues)) (place : ℕ) → AreEqualPlaces conditions place (place ∷ [])
-places_one conditions place row met = All-push (λ (p : ℕ). slice_get row p ≡ slice_get row place) [] place (All-nil (λ (p : ℕ). slice_get row p ≡ slice_get row place)) refl

@@ -23,6 +23,7 @@ pub mod Origins
 pub mod LawfulFacts
 pub mod VersionKeys
 pub mod Fixed
+pub mod EqualPlaces
 pub mod PlanParts
 pub mod FaultFacts
 pub mod ReferenceFacts

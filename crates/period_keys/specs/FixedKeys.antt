@@ -1,12 +1,15 @@
 -- Values that a condition fixes in each row that meets it.
-use Rattle.std.specs.Prelude.{◌≡◌, ◌⊎◌, ◌++◌, ℕ, All, Bool, IsTrue, List, Some, length, slice_get}
-use Rattle.std.specs.Prelude.{true}
+use Rattle.std.specs.Prelude.{◌≡◌, ◌≤◌, ◌<◌, ◌+◌, ◌==◌, ◌&&◌, ◌⊎◌, ◌++◌, ℕ, All, Bool, IsTrue}
+use Rattle.std.specs.Prelude.{List, Some, count_by, false, length, slice_get, true}
+use Rattle.std.specs.List.{Any, list_any}
 use Rattle.period_core.specs.declared.value.Value.{Value}
 use Rattle.sql_statements.specs.Plain.{plain_condition}
 use Rattle.sql_statements.specs.Trees.{Condition, Conditions, any, all, negated, test, none, more}
 use Rattle.sql_statements.specs.declared.statement.Comparison.TheVariants.{Equal}
 use Rattle.sql_statements.specs.declared.tree.Tree.{Tree}
+use Rattle.sql_statements.specs.declared.tree.Tree.TheVariants.{Test}
 use Rattle.catalog_core.specs.Conditions.{is_satisfied}
+use Rattle.catalog_core.specs.declared.condition.Comparand.{Comparand}
 use Rattle.catalog_core.specs.declared.condition.Comparand.TheVariants.{Literal, Position}
 use Rattle.catalog_core.specs.declared.condition.CompareValues.{CompareValues}
 use Rattle.catalog_core.specs.declared.stored.VersionTest.{VersionTest}
@@ -82,10 +85,63 @@ FixesKeyWithin conditions start width positions key =
     → IsTrue (meets_all conditions (first ++ (values ++ rest)))
     → values_at positions values ≡ key
 
--- ---- positions whose values are equal
+-- ---- what conditions say of the places of a combined row
 
--- in each combined row that meets the conditions the values at these positions equal that at one
-abbrev pub AreEqualPlaces : List (Tree CompareValues) → ℕ → List ℕ → Type 0
-AreEqualPlaces conditions place places =
-    (row : List Value) → IsTrue (meets_all conditions row)
-    → All (λ other. slice_get row other ≡ slice_get row place) places
+-- a condition compares the values at two places, in either order, and says that they are equal
+abbrev pub SaysEqual : Tree CompareValues → ℕ → ℕ → Type 0
+SaysEqual condition place other =
+    (c : CompareValues)
+    × (condition ≡ Test c)
+    × (c.comparison ≡ Equal)
+    × (((c.left ≡ Position place) × (c.right ≡ Position other))
+    ⊎ ((c.right ≡ Position place) × (c.left ≡ Position other)))
+
+-- one of the conditions says it
+abbrev pub SomeSaysEqual : List (Tree CompareValues) → ℕ → ℕ → Type 0
+SomeSaysEqual conditions place other =
+    Any (λ condition. SaysEqual condition place other) conditions
+
+-- the conditions say that the value at a place equals that at another: it is the same place, or one
+-- of them says that it equals the value at a place of which they say it
+pub data AreSaidEqual : List (Tree CompareValues) → ℕ → ℕ → Type 0 where
+  itself : {conditions : List (Tree CompareValues)} {place : ℕ}
+      → AreSaidEqual conditions place place
+  further : {conditions : List (Tree CompareValues)} {place known other : ℕ}
+      → AreSaidEqual conditions place known → SomeSaysEqual conditions known other
+      → AreSaidEqual conditions place other
+
+-- one of the conditions says `column = literal` of a place
+abbrev pub SomeEquates : List (Tree CompareValues) → ℕ → Value → Type 0
+SomeEquates conditions place value =
+    Any (λ condition. Equates IsEquation (plain_condition condition) place value) conditions
+
+-- of a place whose value equals that at this one, as the conditions say
+abbrev pub SayValue : List (Tree CompareValues) → ℕ → Type 0
+SayValue conditions place =
+    (other : ℕ) × AreSaidEqual conditions place other × (value : Value)
+    × SomeEquates conditions other value
+
+-- so of the place of each of these positions, which are among the values of the row
+abbrev pub SayKeyWithin : List (Tree CompareValues) → ℕ → ℕ → List ℕ → Type 0
+SayKeyWithin conditions start width positions =
+    All (λ position. (position < width) × SayValue conditions (start + position)) positions
+
+-- ---- places, each but the first by a condition of its own
+
+-- a side is one of these places
+abbrev pub has_side : List ℕ → Comparand → Bool
+has_side places (Position place) = list_any (λ other. other == place) places
+has_side places (Literal value) = false
+
+-- both sides of a comparison are
+abbrev pub has_sides : List ℕ → Condition CompareValues → Bool
+has_sides places (any parts) = false
+has_sides places (all parts) = false
+has_sides places (negated part) = false
+has_sides places (test c) = has_side places c.left && has_side places c.right
+
+-- there are no more places than such conditions, beside one
+abbrev pub AreFew : List (Tree CompareValues) → List ℕ → Type 0
+AreFew conditions places =
+    length places
+    ≤ count_by (λ condition. has_sides places (plain_condition condition)) conditions + 1

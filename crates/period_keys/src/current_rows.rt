@@ -71,7 +71,7 @@ impl CurrentRows {
     }
 
     /// The same with their periods, if there are any.
-    pub fn group_of_key(&self, key: &Key) -> Option<&KeyRows>
+    pub(crate) fn group_of_key(&self, key: &Key) -> Option<&KeyRows>
         ensures { MatchOption result (rows_of_key self.now key.now ≡ [])
             (λ group. group.now.rows.items ≡ rows_of_key self.now key.now) }
     {
@@ -83,7 +83,12 @@ impl CurrentRows {
 
     /// The first day that the period shares with some of those of the rows of a key that are not
     /// among those of the key that go.
-    pub fn first_shared(&self, gone: &KeyedPeriods, key: &Key, period: &Period) -> Option<Day>
+    pub(crate) fn first_shared(
+        &self,
+        gone: &KeyedPeriods,
+        key: &Key,
+        period: &Period,
+    ) -> Option<Day>
         ensures { IsLeastOf (SharesDayOfKept (map period_of (rows_of_key self.now key.now))
             (periods_at gone.now key.now) period.now) result }
     {

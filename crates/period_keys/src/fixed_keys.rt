@@ -1,15 +1,15 @@
 //! The key that a condition fixes, by `column = literal` for each of the key's columns.
 
-ghost use Rattle.std.specs.Prelude.{◌≡◌, ◌⊎◌, ◌↔◌, ◌++◌, ◌∷◌, [], ℕ, Bool, IfOk, IfSome, IsSome};
-ghost use Rattle.std.specs.Prelude.{IsTrue, List, MatchOption, OnOk, Some, slice_get, true};
+ghost use Rattle.std.specs.Prelude.{◌≡◌, ◌⊎◌, ◌↔◌, ◌++◌, ◌∷◌, ◌+◌, ◌<◌, ◌^◌, [], ℕ, Bool, IfOk};
+ghost use Rattle.std.specs.Prelude.{IfSome, IsSome, List, MatchOption, OnOk, Some, slice_get, true};
+ghost use Rattle.std.specs.List.{Contains};
 ghost use Rattle.sql_statements.specs.Plain.{plain_condition};
-ghost use Rattle.catalog_core.specs.Conditions.{meets};
 ghost use Rattle.catalog_core.specs.declared.condition.Comparand.TheVariants.{Literal, Position};
-ghost use Rattle.history_model.specs.OrdinaryQuery.{meets_all};
 ghost use Rattle.period_core.specs.declared.value.Value.{Value as ColumnValue};
-ghost use Rattle.period_keys.specs.FixedKeys.{AreEqualPlaces, Equates, EquatesKey, FixesKey};
-ghost use Rattle.period_keys.specs.FixedKeys.{FixesKeyWithin};
-ghost use Rattle.period_keys.specs.FixedKeys.{FixesWithin, IsEquation};
+ghost use Rattle.period_keys.specs.FixedKeys.{AreFew, AreSaidEqual, Equates, EquatesKey, FixesKey};
+ghost use Rattle.period_keys.specs.FixedKeys.{FixesKeyWithin, FixesWithin, IsEquation};
+ghost use Rattle.period_keys.specs.FixedKeys.{SayKeyWithin, SayValue, SaysEqual, SomeEquates};
+ghost use Rattle.period_keys.specs.FixedKeys.{SomeSaysEqual};
 
 use crate::key::Key;
 use catalog_core::{Comparand, CompareValues, Cond, VersionTest};
@@ -114,9 +114,9 @@ pub fn fixed_key<T: Equation>(
 }
 
 /// The key of a table's row that is part of a combined row: its values begin at `start`, and are
-/// `width` many. Where for each of these positions among them one of the conditions says `column =
-/// literal`, or of a position that it equates with that one, each such row of a combined row that
-/// meets all conditions has this key.
+/// `width` many. There is one exactly where for each of these positions among them one of the
+/// conditions says `column = literal` of its place, or of a place of which they say that its value
+/// is equal. Each such row of a combined row that meets all conditions has this key.
 pub fn fixed_key_within(
     alloc: Global,
     conditions: &[Cond],
@@ -124,8 +124,10 @@ pub fn fixed_key_within(
     width: usize,
     positions: &[usize],
 ) -> Result<Option<Key>, Memory>
-    ensures { IfOk result (λ found.
+    ensures fixed { IfOk result (λ found.
         IfSome found (FixesKeyWithin conditions.now start width positions.now)) }
+    ensures found { start + width < 2 ^ 64 → IfOk result (λ found.
+        IsSome found ↔ SayKeyWithin conditions.now start width positions.now) }
 {
     let mut key = Vec::new(alloc);
     for position in positions {
@@ -146,8 +148,10 @@ fn value_within(
     width: usize,
     position: usize,
 ) -> Result<Option<&Value>, Memory>
-    ensures { IfOk result (λ found. IfSome found
+    ensures fixed { IfOk result (λ found. IfSome found
         (λ value. FixesWithin conditions.now start width position value.now)) }
+    ensures found { start + width < 2 ^ 64 → IfOk result (λ found.
+        IsSome found ↔ ((position < width) × SayValue conditions.now (start + position))) }
 {
     if position >= width {
         return Ok(None);
@@ -166,8 +170,9 @@ fn value_within(
 
 // The value that one of the conditions fixes at a place.
 fn value_by_one(conditions: &[Cond], place: usize) -> Option<&Value>
-    ensures { IfSome result (λ value. (row : List ColumnValue)
-        → IsTrue (meets_all conditions.now row) → slice_get row place ≡ Some value.now) }
+    ensures { MatchOption result
+        ((value : ColumnValue) → SomeEquates conditions.now place value → ⊥)
+        (λ value. SomeEquates conditions.now place value.now) }
 {
     for condition in conditions {
         if let Some(value) = fixed_value(condition, place) {
@@ -177,14 +182,15 @@ fn value_by_one(conditions: &[Cond], place: usize) -> Option<&Value>
     None
 }
 
-// The place, and others whose values equal that at the place, by the conditions, one after the
-// other.
+// The place, and the others of which the conditions say that their values equal that at it. Each
+// of them but the first needs a condition of its own, so that no more are looked at than there are.
 fn equal_places(alloc: Global, conditions: &[Cond], place: usize) -> Result<Vec<usize>, Memory>
-    ensures { IfOk result (λ places. AreEqualPlaces conditions.now place places.items) }
+    ensures { IfOk result (λ places. (other : ℕ)
+        → Contains places.items other ↔ AreSaidEqual conditions.now place other) }
 {
     let mut places = Vec::new(alloc);
     places.push(place)?;
-    for i in 0..conditions.len() {
+    for i in 0..conditions.len() + 1 {
         let so_far = places.as_slice();
         if i >= so_far.len() {
             return Ok(places);
@@ -198,10 +204,13 @@ fn equal_places(alloc: Global, conditions: &[Cond], place: usize) -> Result<Vec<
 // Adds the places whose values one of the conditions equates with that at a place, if they are not
 // there.
 fn push_equals(conditions: &[Cond], known: usize, places: &mut Vec<usize>) -> Result<(), Memory>
-    ensures { OnOk result ((place : ℕ)
-        → AreEqualPlaces conditions.now place places.old.items
-        → AreEqualPlaces conditions.now place (known ∷ [])
-        → AreEqualPlaces conditions.now place places.new.items) }
+    ensures kept { OnOk result ((more : List ℕ) × (places.new.items ≡ places.old.items ++ more)) }
+    ensures found { OnOk result ((other : ℕ)
+        → SomeSaysEqual conditions.now known other → Contains places.new.items other) }
+    ensures only { OnOk result ((other : ℕ) → Contains places.new.items other
+        → Contains places.old.items other ⊎ SomeSaysEqual conditions.now known other) }
+    ensures few { OnOk result (Contains places.old.items known
+        → AreFew conditions.now places.old.items → AreFew conditions.now places.new.items) }
 {
     for condition in conditions {
         if let Some(other) = place_equated(condition, known) {
@@ -213,8 +222,10 @@ fn push_equals(conditions: &[Cond], known: usize, places: &mut Vec<usize>) -> Re
 
 // Adds a place, if it is not there.
 fn push_once(places: &mut Vec<usize>, place: usize) -> Result<(), Memory>
-    ensures { OnOk result ((places.new.items ≡ places.old.items)
-        ⊎ (places.new.items ≡ places.old.items ++ place ∷ [])) }
+    ensures { OnOk result (
+        (Contains places.old.items place × (places.new.items ≡ places.old.items))
+        ⊎ ((Contains places.old.items place → ⊥)
+        × (places.new.items ≡ places.old.items ++ place ∷ []))) }
 {
     if !places.as_slice().contains(&place) {
         places.push(place)?;
@@ -224,24 +235,34 @@ fn push_once(places: &mut Vec<usize>, place: usize) -> Result<(), Memory>
 
 // The other place, where the condition says that the values at both are equal.
 fn place_equated(condition: &Cond, place: usize) -> Option<usize>
-    ensures { IfSome result (λ other. (row : List ColumnValue)
-        → meets condition.now row ≡ true → slice_get row other ≡ slice_get row place) }
+    ensures { MatchOption result ((other : ℕ) → SaysEqual condition.now place other → ⊥)
+        (λ other. SaysEqual condition.now place other) }
 {
     let Tree::Test(test) = condition else {
         return None;
     };
-    match (test.comparison, &test.left, &test.right) {
-        (Comparison::Equal, Comparand::Position(left), Comparand::Position(right)) => {
-            if *left == place {
-                return Some(*right);
-            }
-            if *right == place {
-                return Some(*left);
-            }
-            None
-        }
+    match test.comparison {
+        Comparison::Equal => match place_beside(&test.left, &test.right, place) {
+            Some(other) => Some(other),
+            None => place_beside(&test.right, &test.left, place),
+        },
         _ => None,
     }
+}
+
+// The place of the one side, where the other side is this place.
+fn place_beside(column: &Comparand, other: &Comparand, place: usize) -> Option<usize>
+    ensures { MatchOption result
+        ((there : ℕ) → (column.now ≡ Position place) × (other.now ≡ Position there) → ⊥)
+        (λ there. (column.now ≡ Position place) × (other.now ≡ Position there)) }
+{
+    let Comparand::Position(here) = column else {
+        return None;
+    };
+    let Comparand::Position(there) = other else {
+        return None;
+    };
+    if *here == place { Some(*there) } else { None }
 }
 
 // The value that the condition fixes at a position. The parser gives a chain of OR or of AND even

@@ -44,7 +44,7 @@ impl Key {
     }
 
     /// The key of an integer and the values after it.
-    pub fn with_leading(number: i64, rest: Values) -> Key
+    pub(crate) fn with_leading(number: i64, rest: Values) -> Key
         ensures { result ≡ Int number ∷ rest }
     {
         Key {

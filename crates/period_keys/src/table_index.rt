@@ -73,7 +73,7 @@ impl TableIndex {
     }
 
     /// The rows' periods by their values at these positions, if they are indexed so.
-    pub fn by(&self, positions: &[usize]) -> Option<&KeyedPeriods>
+    pub(crate) fn by(&self, positions: &[usize]) -> Option<&KeyedPeriods>
         ensures found { IfSome result
             (λ periods. IsIndexOf positions.now (map row_of self.now.rows) periods.now) }
         ensures there { IsSome result ↔ Contains self.now.indexed positions.now }
@@ -87,7 +87,7 @@ impl TableIndex {
     }
 
     /// Indexes the rows' periods by their values at these positions too. An error changes nothing.
-    pub fn index_by(&mut self, alloc: Global, positions: Items<usize>) -> Result<(), Memory>
+    pub(crate) fn index_by(&mut self, alloc: Global, positions: Items<usize>) -> Result<(), Memory>
         ensures ok { OnOk result (self.new ≡ record {
           positions = self.old.positions;
           rows = self.old.rows;
@@ -101,7 +101,11 @@ impl TableIndex {
     }
 
     /// Indexes the rows' periods by their values at these positions, if they are not yet.
-    pub fn index_once(&mut self, alloc: Global, positions: Items<usize>) -> Result<(), Memory>
+    pub(crate) fn index_once(
+        &mut self,
+        alloc: Global,
+        positions: Items<usize>,
+    ) -> Result<(), Memory>
         ensures ok { OnOk result (Contains self.new.indexed positions) }
         ensures kept { HasMoreIndexes self.old self.new }
     {

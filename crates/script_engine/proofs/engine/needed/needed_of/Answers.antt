@@ -23,7 +23,7 @@ returns c widths =
     let versions : List VersionRow = c.args.current.now.rows in
     let key : List Value = c.in-Some.key in
     let fixes : FixesKeyWithin conjuncts start c.args.width positions key =
-    rw c.positions.ensures at (rw c.in-Some.is at c.in_ok-key.ensures) in
+    rw c.positions.ensures at (rw c.in-Some.is at c.in_ok-key.ensures.fixed) in
     let none : IsKept conjuncts start [] c.new-needed.result.items = subst (IsKept conjuncts start []) (sym c.new-needed.ensures.items) (kept_none conjuncts start) in
     key_needed conjuncts start c.args.width positions key versions c.push_needed.new.needed.items fixes widths
     (subst (λ (vs : List VersionRow). IsPruned conjuncts start (InSnapshot (map row_of vs)) c.push_needed.new.needed.items) c.of_key.ensures (c.in_ok-push_needed.ensures [] none))

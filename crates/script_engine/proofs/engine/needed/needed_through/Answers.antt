@@ -20,7 +20,7 @@ returns-in-Some c =
     let tables = map rows_by_key c.args.tables.now in
     let positions = c.positions_of_number-positions.result.now in
     let key : List Value = c.in-Some.key in
-    let fixes : FixesKeyWithin c.args.conjuncts.now c.args.start c.args.width positions key = rw c.in-Some.is at c.in_ok-key.ensures in
+    let fixes : FixesKeyWithin c.args.conjuncts.now c.args.start c.args.width positions key = rw c.in-Some.is at c.in_ok-key.ensures.fixed in
     if_ok c.needed_of_key.result
     (λ rows. (history : History) → RowsRepresent history tables c.args.ended.now → ((t : RowsByKey) → table_of tables reference.table ≡ Some t → positions ≡ t.positions)
     → (conjuncts : List (Tree CompareValues)) (start width : ℕ) → SeesWidth history reference width → FixesKeyWithin conjuncts start width positions key → IsNeeded history conjuncts start reference rows) _
