@@ -46,6 +46,22 @@ ChangeIsCaused g old new result count P =
     → (records : Records) → Represents (state g old).now records → P records
     → IfErr result (IsCaused (state g old) (state g new))
 
+-- so it has where P holds of contents that the database has
+abbrev pub PlanIsCaused : {S X : Type 0} → Ghosts S → Held S → Held S → Result X StoreFault → ℕ
+    → (Contents → Type 0) → Type 0
+PlanIsCaused g old new result count P =
+    HasCleanDisk (state g new) → IsTrue old.in_transaction → IsHealthy count (state g old).now
+    → (c : Contents) → Has (state g old).now c → P c
+    → IfErr result (IsCaused (state g old) (state g new))
+
+-- on Ok such a change leaves the database healthy, and so many versions use up room
+abbrev pub PlanStaysHealthy : {S X E : Type 0} → Ghosts S → Held S → Held S → Result X E → ℕ
+    → Type 0
+PlanStaysHealthy g old new result used =
+    HasCleanDisk (state g new) → IsTrue old.in_transaction → (left : ℕ)
+    → IsHealthy (used + left) (state g old).now → (c : Contents) → Has (state g old).now c
+    → OnOk result (IsHealthy left (state g new).now)
+
 -- so has one of a whole transaction
 abbrev pub CommitIsCaused : {S X : Type 0} → Ghosts S → Held S → Held S → Result X StoreFault → ℕ
     → (Records → Type 0) → Type 0
@@ -59,5 +75,12 @@ abbrev pub CommitsHealthy : {S X E : Type 0} → Ghosts S → Held S → Held S 
     → Type 0
 CommitsHealthy g old new result used =
     HasCleanDisk (state g new) → (left : ℕ) → IsHealthy (used + left) (state g old).now
-    → (records : Records) → Represents (state g old).now records
-    → OnOk result (IsHealthy left (state g new).now)
+    → (c : Contents) → Has (state g old).now c → OnOk result (IsHealthy left (state g new).now)
+
+-- the same of contents that P holds of
+abbrev pub CommitOfIsCaused : {S X : Type 0} → Ghosts S → Held S → Held S → Result X StoreFault → ℕ
+    → (Contents → Type 0) → Type 0
+CommitOfIsCaused g old new result count P =
+    HasCleanDisk (state g new) → IsHealthy count (state g old).now
+    → (c : Contents) → Has (state g old).now c → P c
+    → IfErr result (IsCaused (state g old) (state g new))

@@ -13,7 +13,7 @@ ghost use Rattle.version_tables.specs.Making.{HasCounters};
 ghost use Rattle.version_tables.specs.Presence.{HasNoStoreTable};
 ghost use Rattle.version_tables.specs.Steps.{IsAsBefore};
 ghost use Rattle.version_tables.specs.Tables.{no_schema};
-ghost use Rattle.version_store.specs.Changed.{planned, with_clock, with_table};
+ghost use Rattle.version_store.specs.Changed.{CanMake, planned, with_clock, with_table};
 ghost use Rattle.version_store.specs.Contents.{AreRowsOf, Contents, empty_contents};
 ghost use Rattle.version_store.specs.DistinctKeys.{HaveDistinctKeys};
 ghost use Rattle.version_store.specs.Scans.{AnswersRefusal, IsOwnRefusal, Visits, is_empty};
@@ -196,7 +196,9 @@ impl<S: Alter> VersionStore<S> {
     /// Makes what a plan says of the table of a number at a moment: its ended rows are closed then,
     /// or removed where they began then, and its added rows are recorded from then on. On `Err`
     /// nothing is changed. Where the connection is usable as the call ends it was so before, and
-    /// then no two versions had one key.
+    /// then no two versions had one key. Over a healthy database, with room for the added rows, a plan
+    /// after which no two versions have one key is refused for memory or a fault alone, if its rows
+    /// are short.
     pub fn apply(
         &mut self,
         alloc: Global,
@@ -215,6 +217,10 @@ impl<S: Alter> VersionStore<S> {
         ensures distinct { IsUsable S.Store self.new.connection
             → (c : Contents) → StoreRepresents S.Store self.old c → HaveDistinctKeys c.versions }
         ensures named { IfErr result IsStoreRefusal }
+        ensures why { FailsForReason S.Store self.old self.new result (length plan.now.added)
+            (CanMake table moment plan.now.ended plan.now.added) }
+        ensures healthy { LeavesHealthy S.Store self.old self.new result
+            (length plan.now.added) }
     {
         // For the proof alone: while a connection is open, no two rows share a key.
         let _live = self.connection.schema();

@@ -4,10 +4,10 @@ ghost use Rattle.std.specs.Prelude.{◌≡◌, ◌+◌, false, length, OnOk};
 ghost use Rattle.version_tables.specs.Keeping.{LeavesOthers};
 ghost use Rattle.version_tables.specs.Moves.{AreInSeconds, moved};
 ghost use Rattle.version_tables.specs.Represents.{with_definition};
-ghost use Rattle.version_store.specs.Changed.{planned, with_clock};
+ghost use Rattle.version_store.specs.Changed.{CanMake, planned, with_clock};
 ghost use Rattle.version_store.specs.StoreState.{IsUsable, StaysOnErr};
 ghost use Rattle.version_store.specs.Steps.{Carries, ChangeIsCaused, CommitIsCaused, Commits};
-ghost use Rattle.version_store.specs.Steps.{CommitsHealthy, CommitsWhere};
+ghost use Rattle.version_store.specs.Steps.{CommitOfIsCaused, CommitsHealthy, CommitsWhere};
 ghost use Rattle.version_tables.specs.Healthy.{IsShort};
 ghost use Rattle.version_tables.specs.Steps.{CommitsNothing, ChangesWhere, StaysHealthy};
 
@@ -35,6 +35,10 @@ pub(crate) fn write_plan<S: Alter>(
     ensures none { StaysOnErr S.Store connection.old connection.new result }
     ensures usable { IsUsable S.Store connection.new → IsUsable S.Store connection.old }
     ensures mode { connection.new.in_transaction ≡ false }
+    ensures why { CommitOfIsCaused S.Store connection.old connection.new result
+        (length plan.now.added) (CanMake table moment plan.now.ended plan.now.added) }
+    ensures healthy { CommitsHealthy S.Store connection.old connection.new result
+        (length plan.now.added) }
 {
     // For the proof alone: whether a transaction is open is known by this call.
     let _settled = connection.is_autocommit();

@@ -26,7 +26,7 @@ pub returns-in-Ok-clause-healthy : goal.returns-in-Ok-clause-healthy
 returns-in-Ok-clause-healthy g k usable c stands left healthy =
     let was = subst (λ s. StoreRepresents g.S.Store s c) (sym k.self.view_is) stands in
     let sound = subst (λ (s : StoreState _). IsHealthy (0 + left) (state g.S.Store s.connection).now) (sym k.self.view_is) healthy in
-    k.in-Ok.ensures.healthy usable.0 left sound (written c) was.now.rows
+    k.in-Ok.ensures.healthy usable.0 left sound c was.now
 
 pub returns-clause-why : goal.returns-clause-why
 returns-clause-why g k usable c stands healthy short =

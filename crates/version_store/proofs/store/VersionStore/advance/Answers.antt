@@ -30,4 +30,4 @@ pub returns-clause-healthy : goal.returns-clause-healthy
 returns-clause-healthy g k usable c stands left healthy =
     let was = subst (λ s. StoreRepresents g.S.Store s c) (sym k.self.view_is) stands in
     let sound = subst (λ (s : StoreState _). IsHealthy (0 + left) (state g.S.Store s.connection).now) (sym k.self.view_is) healthy in
-    k.in_ok-write_clock.ensures.healthy usable.0 left sound (written c) was.now.rows
+    k.in_ok-write_clock.ensures.healthy usable.0 left sound c was.now
