@@ -1,14 +1,15 @@
 //! The store: what is kept in memory over a connection.
 
-ghost use Rattle.std.specs.Prelude.{◌≡◌, ◌⊎◌, ◌<◌, ◌<ℤ◌, ◌≤ℤ◌, ◌++◌, ◌∷◌, [], List};
+ghost use Rattle.std.specs.Prelude.{◌≡◌, ◌⊎◌, ◌<◌, ◌≤◌, ◌<ℤ◌, ◌≤ℤ◌, ◌++◌, ◌∷◌, [], ℕ, List};
 ghost use Rattle.std.specs.Prelude.{IfErr, IfOk, IsOk, IsTrue, None, OnErr, OnOk, false, length};
 ghost use Rattle.std.specs.Prelude.{true};
 ghost use Rattle.catalog_core.specs.Limits.{most_tables};
 ghost use Rattle.catalog_core.specs.table.TableWords.{has_date_period, has_distinct_names};
 ghost use Rattle.catalog_core.specs.declared.table.TableDef.{TableDef};
+ghost use Rattle.period_core.specs.Encoding.{greatest_number};
 ghost use Rattle.period_core.specs.Moments.{first_moment, forever};
 ghost use Rattle.sqlite.specs.Held.{state};
-ghost use Rattle.version_tables.specs.Healthy.{IsShort};
+ghost use Rattle.version_tables.specs.Healthy.{IsHealthy, IsShort};
 ghost use Rattle.version_tables.specs.Making.{HasCounters};
 ghost use Rattle.version_tables.specs.Presence.{HasNoStoreTable};
 ghost use Rattle.version_tables.specs.Steps.{IsAsBefore};
@@ -74,8 +75,9 @@ fn take_last(alloc: Global, catalog: &mut Catalog)
 impl<S: Alter> VersionStore<S> {
     /// Makes the store's tables in a database that has none of them, in one transaction: a store
     /// without tables, whose clock is the first moment. They follow the tables of others, which are
-    /// left as they are. On `Err` nothing is changed, the connection is returned, and no
-    /// transaction is open on it.
+    /// left as they are; where there are none, the database is healthy, with room for as many
+    /// versions as there are numbers. On `Err` nothing is changed, the connection is returned, and
+    /// no transaction is open on it.
     pub fn create(
         alloc: Global,
         mut connection: Connection<S>,
@@ -88,6 +90,10 @@ impl<S: Alter> VersionStore<S> {
             → HasNoStoreTable (state S.Store connection).now.schema
             → HasCounters (state S.Store connection).now.schema
             → IsMadeBehind (state S.Store connection) (state S.Store store.connection)) }
+        ensures healthy { IfOk result (λ store. IsUsable S.Store store.connection
+            → (state S.Store connection).now.schema ≡ no_schema
+            → (count : ℕ) → count ≤ greatest_number
+            → IsHealthy count (state S.Store store.connection).now) }
         ensures empty { IfOk result
             (λ store. (store.catalog.tables ≡ []) × (store.clock ≡ first_moment)) }
         ensures usable { IfOk result (λ store. IsUsable S.Store store.connection
@@ -101,11 +107,15 @@ impl<S: Alter> VersionStore<S> {
     {
         let form = Form::Microseconds.number();
         match create(&mut connection, form, Moment::first().number()) {
-            Ok(()) => Ok(VersionStore {
-                connection,
-                catalog: Catalog::new(alloc),
-                clock: Moment::first(),
-            }),
+            Ok(()) => {
+                // For the proof alone: while a connection is open, its database obeys its schema.
+                let _live = connection.schema();
+                Ok(VersionStore {
+                    connection,
+                    catalog: Catalog::new(alloc),
+                    clock: Moment::first(),
+                })
+            }
             Err(error) => Err((refusal_of(&error), connection)),
         }
     }

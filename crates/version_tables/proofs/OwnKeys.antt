@@ -1,5 +1,5 @@
 -- Versions of which no two have one key, in any order and in part.
-use Rattle.std.proofs.Common.{◌≡◌, ◌∙◌, ◌++◌, ◌∷◌, ◌+◌, ◌≤◌, ◌==◌, ◌&&◌, ℕ, List, [], Bool, true, false, cond, Ordering, Less, Equal, Greater, map, filter, length, refl, sym, ap, subst, append_assoc, arith}
+use Rattle.std.proofs.Common.{◌≡◌, ◌∙◌, ◌++◌, ◌∷◌, ◌+◌, ◌≤◌, ◌==◌, ℕ, List, [], Bool, true, false, cond, Ordering, Less, Equal, Greater, map, filter, length, refl, sym, ap, subst, append_assoc, arith}
 use Rattle.std.specs.Cmp.Lexicographic.{slice_cmp}
 use Rattle.std.specs.List.{AllByRecursion}
 use Rattle.std.specs.Ordering.{int_cmp, is_eq, nat_cmp}
@@ -12,8 +12,7 @@ use Rattle.std.specs.List.Sorted.{IsPermutation}
 use Rattle.std.proofs.lemmas.List.{map-append}
 use Rattle.std.proofs.lemmas.List.Sorted.{IsPermutation-append_comm, IsPermutation-append_left, IsPermutation-append_right, IsPermutation-cons, IsPermutation-middle, IsPermutation-refl, IsPermutation-trans}
 use Rattle.sqlite.specs.Effect.{Database}
-use Rattle.sqlite.specs.Tree.{IsAscending}
-use Rattle.sqlite_trees.proofs.ListLemmas.{all-permutation, all_weaker, along_permutation}
+use Rattle.sqlite_trees.proofs.ListLemmas.{all-permutation, along_permutation}
 use Rattle.version_tables.specs.Healthy.{CanAdd, HaveOwnKeys, IsHealthy, IsShort}
 use Rattle.version_tables.specs.Represents.{Records, Version, all_added, same_key}
 use Rattle.version_tables.proofs.Clashes.{same_key-turned}

@@ -1,6 +1,6 @@
 -- What UPDATE of versions does, whatever columns it sets: of those of which its tests are true, and
 -- of those with a key.
-use Rattle.std.proofs.Common.{◌≡◌, ◌<◌, inl, inr, ℕ, pos, List, [], ◌∷◌, ◌++◌, map, drop, filter, length, Bool, true, false, not, ◌==◌, ◌≤◌, None, Ok, Err, refl, sym, ap, subst, subst₂, ◌∙◌, arith}
+use Rattle.std.proofs.Common.{◌≡◌, ◌<◌, inl, inr, ℕ, pos, List, [], ◌∷◌, ◌++◌, map, drop, filter, length, Bool, true, false, not, ◌≤◌, None, Ok, Err, refl, sym, ap, subst, subst₂, ◌∙◌, arith}
 use Rattle.std.specs.Prelude.{unwrap_or}
 use Rattle.std.specs.List.{list_all, AllByRecursion}
 use Rattle.std.specs.List.Sorted.{IsPermutation}

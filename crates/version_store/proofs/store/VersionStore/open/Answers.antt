@@ -5,6 +5,7 @@ use Rattle.sqlite.specs.Held.{state}
 use Rattle.version_tables.proofs.There.{not_both_ways, store_is_whole}
 use Rattle.version_tables.specs.Forms.{IsNumberIn, moment_in}
 use Rattle.version_tables.specs.Good.{IsClock}
+use Rattle.version_tables.specs.Presence.{HasNoStoreTable}
 use Rattle.version_tables.specs.declared.form.Form.{Form}
 use Rattle.version_tables.specs.declared.presence.Presence.TheVariants.{Missing, Partial, Whole}
 use Rattle.version_store.proofs.Opens.{are_dated, good_dated, have_tables, same_contents}
@@ -155,3 +156,8 @@ pub returns-in-None-clause-why : goal.returns-in-None-clause-why
 returns-in-None-clause-why g c = λ usable good own.
     let n : to_z w64 (of_z w64 c.in-Ok-inspect.number) ≡ c.in-Ok-inspect.number = search rules in
     no_clock c.in-Ok-inspect.form c.in-Ok-inspect.number c.in-Ok-inspect.ensures.clock (rw n at c.in-None.ensures)
+
+-- a new store is healthy
+
+pub returns-in-Some-clause-healthy : goal.returns-in-Some-clause-healthy
+returns-in-Some-clause-healthy g c = λ usable empty. absurd (not_both_ways c.args.connection.schema (subst HasNoStoreTable (sym empty) (record { meta = refl; table = refl; version = refl })) (c.in-Whole.ensures.whole.0 refl))
