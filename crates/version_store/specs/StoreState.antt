@@ -137,8 +137,8 @@ IsOpenRefusal refusal = (refusal ≡ BadStore) ⊎ IsStoreRefusal refusal
 abbrev pub IsOurs : Schema → Type 0
 IsOurs schema = HasEachStoreTable schema → HasStoreTables schema
 
--- over a healthy database, with room for so many versions more, a change of contents that P holds of
--- is refused for memory or a fault of the database alone
+-- over a healthy database, with room for so many versions more, a change of contents of which P
+-- holds is refused for memory or a fault of the database alone
 abbrev pub FailsForReason : {S X : Type 0} → Ghosts S → StoreState S → StoreState S
     → Result X Refusal → ℕ → (Contents → Type 0) → Type 0
 FailsForReason g old new result count P =

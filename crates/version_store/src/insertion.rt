@@ -134,8 +134,8 @@ fn add_row<S: Alter>(
     ensures why { IsCausedExcept S.Store transaction.old.conn.now transaction.new.conn.now result
         table moment pending.old.keys 1 (λ c. IsShort (encoded row.now.values)
         × HaveDistinctKeys (added_at table moment (row.now ∷ []) c).versions) }
-    ensures healthy { StaysHealthyExcept S.Store transaction.old.conn.now transaction.new.conn.now result
-        table moment pending.old.keys 1 }
+    ensures healthy { StaysHealthyExcept S.Store transaction.old.conn.now
+        transaction.new.conn.now result table moment pending.old.keys 1 }
 {
     let new = new_row(alloc, row)?;
     if pending.remove(&new.key) {
@@ -164,8 +164,8 @@ pub(crate) fn add_rows<S: Alter>(
         table moment pending.old.keys (length rows.now)
         (λ c. AllByRecursion (λ row. IsShort (encoded row.values)) rows.now
         × HaveDistinctKeys (added_at table moment rows.now c).versions) }
-    ensures healthy { StaysHealthyExcept S.Store transaction.old.conn.now transaction.new.conn.now result
-        table moment pending.old.keys (length rows.now) }
+    ensures healthy { StaysHealthyExcept S.Store transaction.old.conn.now
+        transaction.new.conn.now result table moment pending.old.keys (length rows.now) }
 {
     if pending.is_empty() {
         let new = new_rows(alloc, rows)?;

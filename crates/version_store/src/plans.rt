@@ -42,8 +42,8 @@ fn end_row<S: Alter>(
     ensures inside { CommitsNothing S.Store transaction.old.conn.now transaction.new.conn.now }
     ensures why { IsCausedExcept S.Store transaction.old.conn.now transaction.new.conn.now result
         table moment pending.old.keys 0 (λ _. IsShort (encoded row.now.values)) }
-    ensures healthy { StaysHealthyExcept S.Store transaction.old.conn.now transaction.new.conn.now result
-        table moment pending.old.keys 0 }
+    ensures healthy { StaysHealthyExcept S.Store transaction.old.conn.now
+        transaction.new.conn.now result table moment pending.old.keys 0 }
 {
     let key = version_key_of(alloc, &row.values, row.period)?;
     let from = row.from.number();
@@ -80,8 +80,8 @@ fn end_rows<S: Alter>(
     ensures why { IsCausedExcept S.Store transaction.old.conn.now transaction.new.conn.now result
         table moment pending.old.keys 0
         (λ _. AllByRecursion (λ row. IsShort (encoded row.values)) rows.now) }
-    ensures healthy { StaysHealthyExcept S.Store transaction.old.conn.now transaction.new.conn.now result
-        table moment pending.old.keys 0 }
+    ensures healthy { StaysHealthyExcept S.Store transaction.old.conn.now
+        transaction.new.conn.now result table moment pending.old.keys 0 }
 {
     for row in rows {
         end_row(alloc, transaction, table, moment, row, pending)?;
@@ -132,8 +132,8 @@ fn remove_rows<S: Alter>(
     ensures inside { CommitsNothing S.Store transaction.old.conn.now transaction.new.conn.now }
     ensures why { IsCausedExcept S.Store transaction.old.conn.now transaction.new.conn.now result
         table moment pending.old.keys 0 (λ _. Unit {0}) }
-    ensures healthy { StaysHealthyExcept S.Store transaction.old.conn.now transaction.new.conn.now result
-        table moment pending.old.keys 0 }
+    ensures healthy { StaysHealthyExcept S.Store transaction.old.conn.now
+        transaction.new.conn.now result table moment pending.old.keys 0 }
 {
     'removals: while let Some(key) = pending.pop_first() {
         remove_row(transaction, table, moment, &key)?;
@@ -157,8 +157,8 @@ pub(crate) fn put_plan<S: Alter>(
     ensures inside { CommitsNothing S.Store transaction.old.conn.now transaction.new.conn.now }
     ensures why { PlanIsCaused S.Store transaction.old.conn.now transaction.new.conn.now result
         (length plan.now.added) (CanMake table moment plan.now.ended plan.now.added) }
-    ensures healthy { PlanStaysHealthy S.Store transaction.old.conn.now transaction.new.conn.now result
-        (length plan.now.added) }
+    ensures healthy { PlanStaysHealthy S.Store transaction.old.conn.now
+        transaction.new.conn.now result (length plan.now.added) }
 {
     let mut pending = BTreeSet::new(alloc);
     end_rows(

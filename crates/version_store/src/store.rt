@@ -20,8 +20,8 @@ ghost use Rattle.version_store.specs.DistinctKeys.{HaveDistinctKeys};
 ghost use Rattle.version_store.specs.Scans.{AnswersRefusal, IsOwnRefusal, Visits, is_empty};
 ghost use Rattle.version_store.specs.StoreState.{Changes, FailsForReason, IsFailure};
 ghost use Rattle.version_store.specs.StoreState.{IsMadeBehind, IsOnlyRead, LeavesHealthy};
-ghost use Rattle.version_store.specs.StoreState.{IsStoreRefusal, IsUsable, SparesOthers, StaysOnErr};
-ghost use Rattle.version_store.specs.StoreState.{StoreRepresents};
+ghost use Rattle.version_store.specs.StoreState.{IsStoreRefusal, IsUsable, SparesOthers};
+ghost use Rattle.version_store.specs.StoreState.{StaysOnErr, StoreRepresents};
 ghost use Rattle.version_store.specs.Written.{written_table};
 
 use crate::fault::refusal_of;
@@ -149,8 +149,8 @@ impl<S: Alter> VersionStore<S> {
 
     /// Adds a table to fewer than 64; its number is then the number of tables. Its application
     /// period is over two different DATE columns, and no two of its columns share a name. On `Err`
-    /// nothing is changed. Over a healthy database it is refused for memory or a fault alone, if the
-    /// bytes of the definition are short.
+    /// nothing is changed. Over a healthy database a definition of few bytes is refused for memory
+    /// or a fault alone.
     pub fn add_table(&mut self, alloc: Global, definition: TableDef) -> Result<(), Refusal>
         requires room { length self.old.catalog.tables < most_tables }
         requires dated { has_date_period definition ≡ true }
@@ -182,7 +182,7 @@ impl<S: Alter> VersionStore<S> {
     }
 
     /// Sets the clock to a moment that is not before it, and before FOREVER. On `Err` nothing is
-    /// changed. Over a healthy database it is refused for memory or a fault alone.
+    /// changed. Over a healthy database a moment is refused for memory or a fault alone.
     pub fn advance(&mut self, moment: Moment) -> Result<(), Refusal>
         requires later { self.old.clock ≤ℤ moment }
         requires before_the_end { moment <ℤ forever }
@@ -206,9 +206,9 @@ impl<S: Alter> VersionStore<S> {
     /// Makes what a plan says of the table of a number at a moment: its ended rows are closed then,
     /// or removed where they began then, and its added rows are recorded from then on. On `Err`
     /// nothing is changed. Where the connection is usable as the call ends it was so before, and
-    /// then no two versions had one key. Over a healthy database, with room for the added rows, a plan
-    /// after which no two versions have one key is refused for memory or a fault alone, if its rows
-    /// are short.
+    /// then no two versions had one key. Over a healthy database, with room for the added rows, a
+    /// plan of short rows, after which no two versions have one key, is refused for memory or a
+    /// fault alone.
     pub fn apply(
         &mut self,
         alloc: Global,
@@ -258,8 +258,8 @@ impl<S: Alter> VersionStore<S> {
 
     /// Passes the version rows of the table of a number that the window sees to the visitor, one at
     /// a time: by values, then period start, then system start. The visitor has refused no row
-    /// before. A refusal of it ends the scan and is answered; every other is out of memory, or comes
-    /// of a fault of the database. On `Err` the visitor has received some of the first rows. Nothing
+    /// before. Its refusal ends the scan and is answered; every other is out of memory, or comes of
+    /// a fault of the database. On `Err` the visitor has received some of the first rows. Nothing
     /// is changed. Where the window is empty, no row is passed, and the database is not called.
     pub fn scan<V: RowVisitor>(
         &mut self,
