@@ -1,13 +1,16 @@
 -- What the changes make of a store's contents.
 use Rattle.std.specs.Prelude.{◌++◌, ◌∷◌, [], ℕ, ℤ, Bool, cond, List, map}
-use Rattle.std.specs.List.{flat_map, list_any}
+use Rattle.std.specs.List.{AllByRecursion, flat_map, list_any}
 use Rattle.std.specs.Ordering.{int_cmp, is_eq}
+use Rattle.period_core.specs.Encoding.{encoded}
 use Rattle.period_core.specs.Moments.{forever}
 use Rattle.period_core.specs.declared.row.PeriodRow.{PeriodRow}
 use Rattle.period_core.specs.declared.version.VersionRow.{VersionRow}
 use Rattle.catalog_core.specs.declared.table.TableDef.{TableDef}
 use Rattle.version_store.specs.Contents.{Contents, TableVersion, added_in, same_version}
 use Rattle.version_store.specs.Contents.{version_in}
+use Rattle.version_store.specs.DistinctKeys.{HaveDistinctKeys}
+use Rattle.version_tables.specs.Healthy.{IsShort}
 
 -- one more table, after the others
 abbrev pub with_table : TableDef → Contents → Contents
@@ -43,3 +46,11 @@ added_at table moment added c =
 -- what a plan makes of a table at a moment: rows end, and then rows are added
 abbrev pub planned : ℕ → ℤ → List VersionRow → List PeriodRow → Contents → Contents
 planned table moment ended added c = added_at table moment added (ended_at table moment ended c)
+
+-- a plan that can be made of contents: each of its rows is short as it is written, and no two
+-- versions are of one key afterwards
+pub record CanMake (table : ℕ) (moment : ℤ) (ended : List VersionRow) (added : List PeriodRow)
+    (c : Contents) : Type 0 where
+  pub ended_short : AllByRecursion (λ (row : VersionRow). IsShort (encoded row.values)) ended
+  pub added_short : AllByRecursion (λ (row : PeriodRow). IsShort (encoded row.values)) added
+  pub distinct : HaveDistinctKeys (planned table moment ended added c).versions

@@ -1,13 +1,19 @@
 //! Rows that a plan adds. A row that ended as it began has to be removed: where a row is added at
 //! its place it becomes that row, which saves a removal and an insertion.
 
-ghost use Rattle.std.specs.Prelude.{◌≡◌, ◌∷◌, [], map, OnOk};
+ghost use Rattle.std.specs.Prelude.{◌≡◌, ◌∷◌, [], length, map, OnOk};
+ghost use Rattle.std.specs.List.{AllByRecursion};
+ghost use Rattle.period_core.specs.Encoding.{encoded};
 ghost use Rattle.period_core.specs.Moments.{forever};
+ghost use Rattle.version_tables.specs.Healthy.{CanAdd, IsShort};
 ghost use Rattle.version_tables.specs.Keeping.{LeavesOthers};
 ghost use Rattle.version_tables.specs.Represents.{added, all_added, new_version, removed};
-ghost use Rattle.version_tables.specs.Steps.{ChangesRecords, CommitsNothing};
+ghost use Rattle.version_tables.specs.Steps.{ChangesRecords, CommitsNothing, StaysHealthy};
 ghost use Rattle.version_store.specs.Changed.{added_at};
-ghost use Rattle.version_store.specs.PendingRemovals.{CarriesExcept, key_at};
+ghost use Rattle.version_store.specs.DistinctKeys.{HaveDistinctKeys};
+ghost use Rattle.version_store.specs.PendingRemovals.{CarriesExcept, IsCausedExcept};
+ghost use Rattle.version_store.specs.PendingRemovals.{StaysHealthyExcept, key_at};
+ghost use Rattle.version_store.specs.Steps.{ChangeIsCaused};
 
 use crate::fault::StoreFault;
 use crate::written_rows::{new_row, new_rows};
@@ -33,6 +39,10 @@ fn insert_rows<S: Alter>(
     ensures others { OnOk result
         (LeavesOthers S.Store transaction.old.conn.now transaction.new.conn.now) }
     ensures inside { CommitsNothing S.Store transaction.old.conn.now transaction.new.conn.now }
+    ensures why { ChangeIsCaused S.Store transaction.old.conn.now transaction.new.conn.now result
+        (length new.now) (CanAdd (map (new_version table moment forever) new.now)) }
+    ensures healthy { StaysHealthy S.Store transaction.old.conn.now transaction.new.conn.now result
+        (length new.now) (λ _. Unit {0}) }
 {
     let until = Moment::forever().number();
     insert_versions(
@@ -60,6 +70,10 @@ fn insert_row<S: Alter>(
     ensures others { OnOk result
         (LeavesOthers S.Store transaction.old.conn.now transaction.new.conn.now) }
     ensures inside { CommitsNothing S.Store transaction.old.conn.now transaction.new.conn.now }
+    ensures why { ChangeIsCaused S.Store transaction.old.conn.now transaction.new.conn.now result
+        1 (CanAdd (new_version table moment forever new.now ∷ [])) }
+    ensures healthy { StaysHealthy S.Store transaction.old.conn.now transaction.new.conn.now result
+        1 (λ _. Unit {0}) }
 {
     insert_rows(alloc, transaction, table, moment, slice::from_ref(new))
 }
@@ -79,6 +93,10 @@ fn replace_row<S: Alter>(
     ensures others { OnOk result
         (LeavesOthers S.Store transaction.old.conn.now transaction.new.conn.now) }
     ensures inside { CommitsNothing S.Store transaction.old.conn.now transaction.new.conn.now }
+    ensures why { ChangeIsCaused S.Store transaction.old.conn.now transaction.new.conn.now result
+        1 (λ _. IsShort new.now.key.values.items) }
+    ensures healthy { StaysHealthy S.Store transaction.old.conn.now transaction.new.conn.now result
+        1 (λ _. Unit {0}) }
 {
     let to = Moment::forever().number();
     let replaced = move_ends(
@@ -113,6 +131,11 @@ fn add_row<S: Alter>(
     ensures others { OnOk result
         (LeavesOthers S.Store transaction.old.conn.now transaction.new.conn.now) }
     ensures inside { CommitsNothing S.Store transaction.old.conn.now transaction.new.conn.now }
+    ensures why { IsCausedExcept S.Store transaction.old.conn.now transaction.new.conn.now result
+        table moment pending.old.keys 1 (λ c. IsShort (encoded row.now.values)
+        × HaveDistinctKeys (added_at table moment (row.now ∷ []) c).versions) }
+    ensures healthy { StaysHealthyExcept S.Store transaction.old.conn.now
+        transaction.new.conn.now result table moment pending.old.keys 1 }
 {
     let new = new_row(alloc, row)?;
     if pending.remove(&new.key) {
@@ -137,6 +160,12 @@ pub(crate) fn add_rows<S: Alter>(
     ensures others { OnOk result
         (LeavesOthers S.Store transaction.old.conn.now transaction.new.conn.now) }
     ensures inside { CommitsNothing S.Store transaction.old.conn.now transaction.new.conn.now }
+    ensures why { IsCausedExcept S.Store transaction.old.conn.now transaction.new.conn.now result
+        table moment pending.old.keys (length rows.now)
+        (λ c. AllByRecursion (λ row. IsShort (encoded row.values)) rows.now
+        × HaveDistinctKeys (added_at table moment rows.now c).versions) }
+    ensures healthy { StaysHealthyExcept S.Store transaction.old.conn.now
+        transaction.new.conn.now result table moment pending.old.keys (length rows.now) }
 {
     if pending.is_empty() {
         let new = new_rows(alloc, rows)?;

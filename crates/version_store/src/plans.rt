@@ -1,13 +1,18 @@
 //! What a plan makes of a table, step by step inside a transaction: rows end, others are added, and
 //! last those are removed that ended as they began, where none was added with their key.
 
-ghost use Rattle.std.specs.Prelude.{◌≡◌, ◌∷◌, [], OnOk};
+ghost use Rattle.std.specs.Prelude.{◌≡◌, ◌∷◌, [], length, OnOk};
+ghost use Rattle.std.specs.List.{AllByRecursion};
+ghost use Rattle.period_core.specs.Encoding.{encoded};
+ghost use Rattle.version_tables.specs.Healthy.{IsShort};
 ghost use Rattle.version_tables.specs.Keeping.{LeavesOthers};
 ghost use Rattle.version_tables.specs.Represents.{removed};
-ghost use Rattle.version_tables.specs.Steps.{ChangesRecords, CommitsNothing};
-ghost use Rattle.version_store.specs.Changed.{ended_at, planned};
-ghost use Rattle.version_store.specs.PendingRemovals.{CarriesExcept, key_at};
-ghost use Rattle.version_store.specs.Steps.{Carries};
+ghost use Rattle.version_tables.specs.Steps.{ChangesRecords, CommitsNothing, StaysHealthy};
+ghost use Rattle.version_store.specs.Changed.{CanMake, ended_at, planned};
+ghost use Rattle.version_store.specs.PendingRemovals.{CarriesExcept, IsCausedExcept};
+ghost use Rattle.version_store.specs.PendingRemovals.{StaysHealthyExcept, key_at};
+ghost use Rattle.version_store.specs.Steps.{Carries, ChangeIsCaused, PlanIsCaused};
+ghost use Rattle.version_store.specs.Steps.{PlanStaysHealthy};
 
 use crate::fault::StoreFault;
 use crate::insertion::add_rows;
@@ -35,6 +40,10 @@ fn end_row<S: Alter>(
     ensures others { OnOk result
         (LeavesOthers S.Store transaction.old.conn.now transaction.new.conn.now) }
     ensures inside { CommitsNothing S.Store transaction.old.conn.now transaction.new.conn.now }
+    ensures why { IsCausedExcept S.Store transaction.old.conn.now transaction.new.conn.now result
+        table moment pending.old.keys 0 (λ _. IsShort (encoded row.now.values)) }
+    ensures healthy { StaysHealthyExcept S.Store transaction.old.conn.now
+        transaction.new.conn.now result table moment pending.old.keys 0 }
 {
     let key = version_key_of(alloc, &row.values, row.period)?;
     let from = row.from.number();
@@ -68,6 +77,11 @@ fn end_rows<S: Alter>(
     ensures others { OnOk result
         (LeavesOthers S.Store transaction.old.conn.now transaction.new.conn.now) }
     ensures inside { CommitsNothing S.Store transaction.old.conn.now transaction.new.conn.now }
+    ensures why { IsCausedExcept S.Store transaction.old.conn.now transaction.new.conn.now result
+        table moment pending.old.keys 0
+        (λ _. AllByRecursion (λ row. IsShort (encoded row.values)) rows.now) }
+    ensures healthy { StaysHealthyExcept S.Store transaction.old.conn.now
+        transaction.new.conn.now result table moment pending.old.keys 0 }
 {
     for row in rows {
         end_row(alloc, transaction, table, moment, row, pending)?;
@@ -88,6 +102,10 @@ fn remove_row<S: Alter>(
     ensures others { OnOk result
         (LeavesOthers S.Store transaction.old.conn.now transaction.new.conn.now) }
     ensures inside { CommitsNothing S.Store transaction.old.conn.now transaction.new.conn.now }
+    ensures why { ChangeIsCaused S.Store transaction.old.conn.now transaction.new.conn.now result
+        0 (λ _. Unit {0}) }
+    ensures healthy { StaysHealthy S.Store transaction.old.conn.now transaction.new.conn.now result
+        0 (λ _. Unit {0}) }
 {
     remove_version(
         transaction,
@@ -112,6 +130,10 @@ fn remove_rows<S: Alter>(
     ensures others { OnOk result
         (LeavesOthers S.Store transaction.old.conn.now transaction.new.conn.now) }
     ensures inside { CommitsNothing S.Store transaction.old.conn.now transaction.new.conn.now }
+    ensures why { IsCausedExcept S.Store transaction.old.conn.now transaction.new.conn.now result
+        table moment pending.old.keys 0 (λ _. Unit {0}) }
+    ensures healthy { StaysHealthyExcept S.Store transaction.old.conn.now
+        transaction.new.conn.now result table moment pending.old.keys 0 }
 {
     'removals: while let Some(key) = pending.pop_first() {
         remove_row(transaction, table, moment, &key)?;
@@ -133,6 +155,10 @@ pub(crate) fn put_plan<S: Alter>(
     ensures others { OnOk result
         (LeavesOthers S.Store transaction.old.conn.now transaction.new.conn.now) }
     ensures inside { CommitsNothing S.Store transaction.old.conn.now transaction.new.conn.now }
+    ensures why { PlanIsCaused S.Store transaction.old.conn.now transaction.new.conn.now result
+        (length plan.now.added) (CanMake table moment plan.now.ended plan.now.added) }
+    ensures healthy { PlanStaysHealthy S.Store transaction.old.conn.now
+        transaction.new.conn.now result (length plan.now.added) }
 {
     let mut pending = BTreeSet::new(alloc);
     end_rows(

@@ -1,24 +1,28 @@
 //! The store: what is kept in memory over a connection.
 
-ghost use Rattle.std.specs.Prelude.{◌≡◌, ◌⊎◌, ◌<◌, ◌<ℤ◌, ◌≤ℤ◌, ◌++◌, ◌∷◌, [], List};
+ghost use Rattle.std.specs.Prelude.{◌≡◌, ◌⊎◌, ◌<◌, ◌≤◌, ◌<ℤ◌, ◌≤ℤ◌, ◌++◌, ◌∷◌, [], ℕ, List};
 ghost use Rattle.std.specs.Prelude.{IfErr, IfOk, IsOk, IsTrue, None, OnErr, OnOk, false, length};
 ghost use Rattle.std.specs.Prelude.{true};
 ghost use Rattle.catalog_core.specs.Limits.{most_tables};
 ghost use Rattle.catalog_core.specs.table.TableWords.{has_date_period, has_distinct_names};
 ghost use Rattle.catalog_core.specs.declared.table.TableDef.{TableDef};
+ghost use Rattle.period_core.specs.Encoding.{greatest_number};
 ghost use Rattle.period_core.specs.Moments.{first_moment, forever};
 ghost use Rattle.sqlite.specs.Held.{state};
+ghost use Rattle.version_tables.specs.Healthy.{IsHealthy, IsShort};
 ghost use Rattle.version_tables.specs.Making.{HasCounters};
 ghost use Rattle.version_tables.specs.Presence.{HasNoStoreTable};
 ghost use Rattle.version_tables.specs.Steps.{IsAsBefore};
 ghost use Rattle.version_tables.specs.Tables.{no_schema};
-ghost use Rattle.version_store.specs.Changed.{planned, with_clock, with_table};
+ghost use Rattle.version_store.specs.Changed.{CanMake, planned, with_clock, with_table};
 ghost use Rattle.version_store.specs.Contents.{AreRowsOf, Contents, empty_contents};
 ghost use Rattle.version_store.specs.DistinctKeys.{HaveDistinctKeys};
 ghost use Rattle.version_store.specs.Scans.{AnswersRefusal, IsOwnRefusal, Visits, is_empty};
-ghost use Rattle.version_store.specs.StoreState.{Changes, IsFailure, IsMadeBehind, IsOnlyRead};
-ghost use Rattle.version_store.specs.StoreState.{IsStoreRefusal, IsUsable, SparesOthers, StaysOnErr};
-ghost use Rattle.version_store.specs.StoreState.{StoreRepresents};
+ghost use Rattle.version_store.specs.StoreState.{Changes, FailsForReason, IsFailure};
+ghost use Rattle.version_store.specs.StoreState.{IsMadeBehind, IsOnlyRead, LeavesHealthy};
+ghost use Rattle.version_store.specs.StoreState.{IsStoreRefusal, IsUsable, SparesOthers};
+ghost use Rattle.version_store.specs.StoreState.{StaysOnErr, StoreRepresents};
+ghost use Rattle.version_store.specs.Written.{written_table};
 
 use crate::fault::refusal_of;
 use crate::scans::{scan_rows, table_rows};
@@ -71,8 +75,9 @@ fn take_last(alloc: Global, catalog: &mut Catalog)
 impl<S: Alter> VersionStore<S> {
     /// Makes the store's tables in a database that has none of them, in one transaction: a store
     /// without tables, whose clock is the first moment. They follow the tables of others, which are
-    /// left as they are. On `Err` nothing is changed, the connection is returned, and no
-    /// transaction is open on it.
+    /// left as they are; where there are none, the database is healthy, with room for as many
+    /// versions as there are numbers. On `Err` nothing is changed, the connection is returned, and
+    /// no transaction is open on it.
     pub fn create(
         alloc: Global,
         mut connection: Connection<S>,
@@ -85,6 +90,10 @@ impl<S: Alter> VersionStore<S> {
             → HasNoStoreTable (state S.Store connection).now.schema
             → HasCounters (state S.Store connection).now.schema
             → IsMadeBehind (state S.Store connection) (state S.Store store.connection)) }
+        ensures healthy { IfOk result (λ store. IsUsable S.Store store.connection
+            → (state S.Store connection).now.schema ≡ no_schema
+            → (count : ℕ) → count ≤ greatest_number
+            → IsHealthy count (state S.Store store.connection).now) }
         ensures empty { IfOk result
             (λ store. (store.catalog.tables ≡ []) × (store.clock ≡ first_moment)) }
         ensures usable { IfOk result (λ store. IsUsable S.Store store.connection
@@ -98,11 +107,15 @@ impl<S: Alter> VersionStore<S> {
     {
         let form = Form::Microseconds.number();
         match create(&mut connection, form, Moment::first().number()) {
-            Ok(()) => Ok(VersionStore {
-                connection,
-                catalog: Catalog::new(alloc),
-                clock: Moment::first(),
-            }),
+            Ok(()) => {
+                // For the proof alone: while a connection is open, its database obeys its schema.
+                let _live = connection.schema();
+                Ok(VersionStore {
+                    connection,
+                    catalog: Catalog::new(alloc),
+                    clock: Moment::first(),
+                })
+            }
             Err(error) => Err((refusal_of(&error), connection)),
         }
     }
@@ -136,7 +149,8 @@ impl<S: Alter> VersionStore<S> {
 
     /// Adds a table to fewer than 64; its number is then the number of tables. Its application
     /// period is over two different DATE columns, and no two of its columns share a name. On `Err`
-    /// nothing is changed.
+    /// nothing is changed. Over a healthy database a definition of few bytes is refused for memory
+    /// or a fault alone.
     pub fn add_table(&mut self, alloc: Global, definition: TableDef) -> Result<(), Refusal>
         requires room { length self.old.catalog.tables < most_tables }
         requires dated { has_date_period definition ≡ true }
@@ -151,6 +165,9 @@ impl<S: Alter> VersionStore<S> {
         ensures usable { IsUsable S.Store self.new.connection
             → IsUsable S.Store self.old.connection }
         ensures named { IfErr result IsStoreRefusal }
+        ensures why { FailsForReason S.Store self.old self.new result 0
+            (λ _. IsShort (written_table definition)) }
+        ensures healthy { LeavesHealthy S.Store self.old self.new result 0 }
     {
         let bytes = encode_def(alloc, &definition)?;
         let number = self.catalog.len() as u32 + 1;
@@ -165,7 +182,7 @@ impl<S: Alter> VersionStore<S> {
     }
 
     /// Sets the clock to a moment that is not before it, and before FOREVER. On `Err` nothing is
-    /// changed.
+    /// changed. Over a healthy database a moment is refused for memory or a fault alone.
     pub fn advance(&mut self, moment: Moment) -> Result<(), Refusal>
         requires later { self.old.clock ≤ℤ moment }
         requires before_the_end { moment <ℤ forever }
@@ -178,6 +195,8 @@ impl<S: Alter> VersionStore<S> {
         ensures usable { IsUsable S.Store self.new.connection
             → IsUsable S.Store self.old.connection }
         ensures named { IfErr result IsStoreRefusal }
+        ensures why { FailsForReason S.Store self.old self.new result 0 (λ _. Unit {0}) }
+        ensures healthy { LeavesHealthy S.Store self.old self.new result 0 }
     {
         write_clock(&mut self.connection, moment)?;
         self.clock = moment;
@@ -187,7 +206,9 @@ impl<S: Alter> VersionStore<S> {
     /// Makes what a plan says of the table of a number at a moment: its ended rows are closed then,
     /// or removed where they began then, and its added rows are recorded from then on. On `Err`
     /// nothing is changed. Where the connection is usable as the call ends it was so before, and
-    /// then no two versions had one key.
+    /// then no two versions had one key. Over a healthy database, with room for the added rows, a
+    /// plan of short rows, after which no two versions have one key, is refused for memory or a
+    /// fault alone.
     pub fn apply(
         &mut self,
         alloc: Global,
@@ -206,6 +227,10 @@ impl<S: Alter> VersionStore<S> {
         ensures distinct { IsUsable S.Store self.new.connection
             → (c : Contents) → StoreRepresents S.Store self.old c → HaveDistinctKeys c.versions }
         ensures named { IfErr result IsStoreRefusal }
+        ensures why { FailsForReason S.Store self.old self.new result (length plan.now.added)
+            (CanMake table moment plan.now.ended plan.now.added) }
+        ensures healthy { LeavesHealthy S.Store self.old self.new result
+            (length plan.now.added) }
     {
         // For the proof alone: while a connection is open, no two rows share a key.
         let _live = self.connection.schema();
@@ -233,8 +258,8 @@ impl<S: Alter> VersionStore<S> {
 
     /// Passes the version rows of the table of a number that the window sees to the visitor, one at
     /// a time: by values, then period start, then system start. The visitor has refused no row
-    /// before. A refusal of it ends the scan and is answered; every other is out of memory, or comes
-    /// of a fault of the database. On `Err` the visitor has received some of the first rows. Nothing
+    /// before. Its refusal ends the scan and is answered; every other is out of memory, or comes of
+    /// a fault of the database. On `Err` the visitor has received some of the first rows. Nothing
     /// is changed. Where the window is empty, no row is passed, and the database is not called.
     pub fn scan<V: RowVisitor>(
         &mut self,

@@ -27,7 +27,7 @@ pub trait RowVisitor {
     /// Which refusal it has answered: `None` where it has refused no row.
     ghost answered: { Self → Option AnyRefusal → Type 0 };
 
-    /// Takes a row, or refuses it. A refused row leaves the meaning, and is the last that is passed.
+    /// Takes a row, or refuses it. A refused row leaves the meaning, and no other follows it.
     fn visit(&mut self, row: VersionRow) -> Result<(), Refusal>
         requires { answered self.old None }
         ensures taken { OnOk result (meaning self.new ≡ next (meaning self.old) row) }

@@ -1,12 +1,13 @@
 //! Rows as a plan's change writes them.
 
-ghost use Rattle.std.specs.Prelude.{◌≡◌, ℕ, ℤ, map, IfOk};
+ghost use Rattle.std.specs.Prelude.{◌≡◌, ℕ, ℤ, map, IfErr, IfOk};
 ghost use Rattle.std.specs.List.{All, AllByRecursion};
 ghost use Rattle.period_core.specs.Encoding.{IsColumnValue, encoded};
 ghost use Rattle.period_core.specs.Moments.{forever};
 ghost use Rattle.version_tables.specs.Represents.{new_version};
 ghost use Rattle.version_store.specs.Contents.{added_in};
 ghost use Rattle.version_store.specs.Written.{written_version};
+ghost use Rattle.version_store.specs.declared.fault.StoreFault.TheVariants.{Memory};
 
 use crate::fault::StoreFault;
 use period_core::{Period, PeriodRow, Values, encode_values};
@@ -22,6 +23,7 @@ pub(crate) fn version_key_of(
     ensures bytes { IfOk result (λ key. key.values.items ≡ encoded values.now) }
     ensures start { IfOk result (λ key. key.start ≡ period.start) }
     ensures held { IfOk result (λ _. All IsColumnValue values.now) }
+    ensures why { IfErr result (λ fault. fault ≡ Memory) }
 {
     Ok(VersionKey {
         values: encode_values(alloc, values.as_slice())?,
@@ -35,6 +37,7 @@ pub(crate) fn new_row(alloc: Global, row: &PeriodRow) -> Result<NewRow, StoreFau
     ensures start { IfOk result (λ new. new.key.start ≡ row.now.period.start) }
     ensures end { IfOk result (λ new. new.end ≡ row.now.period.end) }
     ensures held { IfOk result (λ _. All IsColumnValue row.now.values) }
+    ensures why { IfErr result (λ fault. fault ≡ Memory) }
 {
     Ok(NewRow {
         key: version_key_of(alloc, &row.values, row.period)?,
@@ -49,6 +52,7 @@ pub(crate) fn new_rows(alloc: Global, rows: &[PeriodRow]) -> Result<Vec<NewRow>,
         ≡ map (λ row. written_version (added_in table moment forever row)) rows.now) }
     ensures held { IfOk result
         (λ _. AllByRecursion (λ row. All IsColumnValue row.values) rows.now) }
+    ensures why { IfErr result (λ fault. fault ≡ Memory) }
 {
     let mut new = Vec::with_capacity(alloc, rows.len())?;
     for row in rows {

@@ -1,10 +1,10 @@
 -- What the database allows of an edit of one of the three tables: the rules of its columns, its size, and the references.
-use Rattle.std.proofs.Common.{◌≡◌, ◌≢◌, ◌∙◌, inl, inr, ℕ, ℤ, pos, negsuc, zero, suc, ◌+◌, ◌*◌, ◌^◌, ◌≤◌, ◌<◌, ◌&&◌, ◌||◌, ◌≤ℤ◌, ◌+ℤ◌, List, [], ◌∷◌, length, map, get_or, Bool, true, false, not, Some, None, refl, sym, ap, subst, true≢false, arith, codes}
+use Rattle.std.proofs.Common.{◌≡◌, ◌≢◌, ◌∙◌, inl, inr, ℕ, ℤ, pos, negsuc, zero, suc, ◌+◌, ◌^◌, ◌≤◌, ◌<◌, ◌&&◌, ◌||◌, ◌≤ℤ◌, ◌+ℤ◌, List, [], ◌∷◌, length, Bool, true, false, not, Some, None, refl, sym, ap, subst, true≢false, arith, codes}
 use Rattle.std.specs.Prelude.{All, nat_lt}
 use Rattle.std.specs.Float.{NotNan}
 use Rattle.std.specs.Float.Ieee
 use Rattle.std.specs.Int.{bit_at}
-use Rattle.std.specs.List.{AllByRecursion, list_all, list_any, sum_by}
+use Rattle.std.specs.List.{AllByRecursion, list_all, sum_by}
 use Rattle.std.proofs.lemmas.Bool.{and_parts, or_parts}
 use Rattle.std.proofs.lemmas.Int.{ints}
 use Rattle.std.proofs.lemmas.Bool.Decides.{nat_tests}
@@ -14,16 +14,15 @@ use Rattle.sqlite_schema.specs.declared.schema.Index.{Index}
 use Rattle.sqlite.specs.Order.{Row}
 use Rattle.sqlite.specs.Table.{Table}
 use Rattle.sqlite.specs.Tree.{Trees, rowid, with_tree}
-use Rattle.sqlite.specs.View.{is_int}
 use Rattle.sqlite.specs.declared.types.Value.{Value}
 use Rattle.sqlite.specs.declared.types.Value.TheVariants.{Blob, Int, Null}
 use Rattle.sqlite_rules.proofs.ListLemmas.{all_has}
-use Rattle.sqlite_rules.specs.Edit.{Applies, Edit, IsOversized, IsRefused, are_fresh, edited, have_rowids, id_in, is_referred, left_by}
+use Rattle.sqlite_rules.specs.Edit.{Applies, Edit, IsOversized, IsRefused, are_fresh, edited, have_rowids, id_in, left_by}
 use Rattle.sqlite_rules.specs.Lists.{Has}
 use Rattle.sqlite_rules.specs.declared.error.Refusal.{Refusal}
 use Rattle.sqlite_rules.specs.declared.error.Refusal.TheVariants.{BadReference, Mismatch, NoRowid, TooDeep, Violates}
 use Rattle.sqlite_schema.specs.Names.{same_name}
-use Rattle.sqlite_schema.specs.Rules.{Keeps, ParentKey, Refers, has_null, has_parent, index_reals, is_among, is_held, is_key_if_to, parent_key, passes, table_reals}
+use Rattle.sqlite_schema.specs.Rules.{Keeps, Refers, has_parent, is_among, is_held, is_key_if_to, parent_key, passes}
 use Rattle.sqlite_schema.specs.declared.schema.Among.TheVariants as among
 use Rattle.sqlite_schema.specs.declared.schema.Constraint.TheVariants.{Check, Datatype, ForeignKey, NotNull, PrimaryKey, Unique}
 use Rattle.sqlite_schema.specs.declared.schema.Keys.{Keys}
@@ -32,11 +31,11 @@ use Rattle.sqlite_schema.specs.declared.schema.Reference.{Reference}
 use Rattle.sqlite_sql.specs.Catalog.{entry_of}
 use Rattle.sqlite_sql.specs.Ops.{fits_i64}
 use Rattle.sqlite_trees.proofs.ListLemmas.{all_both, all_weaker}
-use Rattle.sqlite_trees.specs.View.{IsStorable, IsStorableRow}
+use Rattle.sqlite_trees.specs.View.{IsStorable}
 use Rattle.sqlite_value.specs.Order.{bytes, number}
 use Rattle.version_tables.specs.Healthy.{IsShort}
 use Rattle.version_tables.specs.Represents.{Version, stored}
-use Rattle.version_tables.specs.Tables.{IsApart, Others, definition_table, is_own_name, meta_table, schema_with, version_index, version_table}
+use Rattle.version_tables.specs.Tables.{IsApart, Others, definition_table, is_own_name, meta_table, schema_with, version_table}
 use Rattle.version_tables.proofs.Apart.{IsKeyOf, parent_of}
 use Rattle.version_tables.proofs.Clashes.{each}
 use Rattle.version_tables.proofs.Numbers.{number_from}

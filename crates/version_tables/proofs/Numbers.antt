@@ -1,11 +1,10 @@
 -- The numbers that the database gives to rows of bt_version that are added, where its rows stand in the order of theirs.
-use Rattle.std.proofs.Common.{◌≡◌, ◌∙◌, ℕ, ℤ, pos, zero, suc, ◌+◌, ◌-◌, ◌≤◌, ◌<◌, ◌+ℤ◌, ◌<ℤ◌, ◌≤ℤ◌, List, [], ◌∷◌, ◌++◌, map, filter, fold, length, Bool, true, false, Some, refl, sym, ap, subst, arith, Less}
+use Rattle.std.proofs.Common.{◌≡◌, ◌∙◌, ℕ, ℤ, pos, suc, ◌+◌, ◌-◌, ◌≤◌, ◌<◌, ◌+ℤ◌, ◌<ℤ◌, ◌≤ℤ◌, List, [], ◌∷◌, ◌++◌, map, filter, fold, length, Bool, true, false, Some, refl, sym, ap, subst, arith, Less}
 use Rattle.std.specs.Prelude.{slice_get, option_map}
 use Rattle.std.specs.List.{AllByRecursion}
 use Rattle.std.proofs.lemmas.Int.{ints}
-use Rattle.std.proofs.lemmas.Bool.Decides.{nat_tests}
 use Rattle.std.proofs.lemmas.List.Sums.{fold-append}
-use Rattle.period_core.specs.Encoding.{greatest_integer, greatest_number, least_integer}
+use Rattle.period_core.specs.Encoding.{greatest_integer, least_integer}
 use Rattle.sqlite.specs.Edit.{are_fresh, id_in, is_taken, next_rowid, numbered, put_all}
 use Rattle.sqlite.specs.Order.{Row}
 use Rattle.sqlite.specs.Rows.{last_id}
@@ -14,7 +13,6 @@ use Rattle.sqlite.specs.Tree.{IsTable, put_row, rowid}
 use Rattle.sqlite.specs.View.{is_int}
 use Rattle.sqlite.specs.declared.types.Value.TheVariants.{Int, Null}
 use Rattle.sqlite_rules.proofs.TableLemmas.{int_is, next_after}
-use Rattle.sqlite_sql.specs.Ops.{fits_i64}
 use Rattle.sqlite_trees.proofs.ListLemmas.{all-filter, all_weaker, ascending-filter}
 use Rattle.sqlite_trees.proofs.TreeLemmas.{IsTable-put_row, all-put_row}
 use Rattle.sqlite_value.specs.Order.{value_cmp}

@@ -1,18 +1,21 @@
 -- Versions of which no two have one key, in any order and in part.
-use Rattle.std.proofs.Common.{◌≡◌, ◌∙◌, ◌++◌, ◌∷◌, ◌+◌, ◌≤◌, ℕ, pos, List, [], Some, map, length, refl, sym, ap, subst, append_assoc, arith}
-use Rattle.std.specs.Prelude.{false}
+use Rattle.std.proofs.Common.{◌≡◌, ◌∙◌, ◌++◌, ◌∷◌, ◌+◌, ◌≤◌, ◌==◌, ℕ, List, [], Bool, true, false, cond, Ordering, Less, Equal, Greater, map, filter, length, refl, sym, ap, subst, append_assoc, arith}
+use Rattle.std.specs.Cmp.Lexicographic.{slice_cmp}
 use Rattle.std.specs.List.{AllByRecursion}
+use Rattle.std.specs.Ordering.{int_cmp, is_eq, nat_cmp}
+use Rattle.std.proofs.lemmas.Bool.{and_parts}
+use Rattle.std.proofs.lemmas.Bool.Decides.{Decides-eqb}
+use Rattle.std.proofs.lemmas.Map.Lookups.{exact_signed}
+use Rattle.std.proofs.lemmas.Map.Text.{is_eq-slice_cmp}
+use Rattle.std.proofs.lemmas.Slice.Eq.{bytes_eq-Decides}
 use Rattle.std.specs.List.Sorted.{IsPermutation}
-use Rattle.std.proofs.lemmas.Int.{ints}
 use Rattle.std.proofs.lemmas.List.{map-append}
 use Rattle.std.proofs.lemmas.List.Sorted.{IsPermutation-append_comm, IsPermutation-append_left, IsPermutation-append_right, IsPermutation-cons, IsPermutation-middle, IsPermutation-refl, IsPermutation-trans}
 use Rattle.sqlite.specs.Effect.{Database}
-use Rattle.sqlite.specs.Tree.{IsAscending}
-use Rattle.sqlite_trees.proofs.ListLemmas.{all-permutation, all_weaker, along_permutation}
-use Rattle.version_tables.specs.Healthy.{CanAdd, HaveOwnKeys, HaveRoomFor, IsHealthy, IsShort}
+use Rattle.sqlite_trees.proofs.ListLemmas.{all-permutation, along_permutation}
+use Rattle.version_tables.specs.Healthy.{CanAdd, HaveOwnKeys, IsHealthy, IsShort}
 use Rattle.version_tables.specs.Represents.{Records, Version, all_added, same_key}
 use Rattle.version_tables.proofs.Clashes.{same_key-turned}
-use Rattle.version_tables.proofs.Goes.{rid}
 use Rattle.version_tables.proofs.Numbers.{less_room}
 
 pub own_along : (xs ys : List Version) → IsPermutation xs ys → HaveOwnKeys xs → HaveOwnKeys ys
@@ -55,3 +58,48 @@ healthy_less few many db less healthy = record { sound = healthy.sound; bare = h
 
 pub healthy_still : (left : ℕ) (db : Database) → IsHealthy (0 + left) db → IsHealthy left db
 healthy_still left db = healthy_less left (0 + left) db (omega arith)
+
+pub healthy_none : (left : ℕ) (db : Database) → IsHealthy left db → IsHealthy (0 + left) db
+healthy_none left db = healthy_less (0 + left) left db (omega arith)
+
+-- ---- one key
+
+pub key_parts : (k v : Version) → same_key k v ≡ true → (v.table ≡ k.table) × (v.values ≡ k.values) × (v.start ≡ k.start) × (v.from ≡ k.from)
+key_parts k v same =
+    let table = and_parts (v.table == k.table) _ same in
+    let values = and_parts (is_eq (slice_cmp nat_cmp v.values k.values)) _ table.1 in
+    let start = and_parts (is_eq (int_cmp v.start k.start)) _ values.1 in (
+      (Decides-eqb v.table k.table).0 table.0,
+      (bytes_eq-Decides v.values k.values).0 (sym (is_eq-slice_cmp v.values k.values) ∙ values.0),
+      exact_signed v.start k.start (is_equal (int_cmp v.start k.start) start.0),
+      exact_signed v.from k.from (is_equal (int_cmp v.from k.from) start.1),
+    )
+  where
+    is_equal : (o : Ordering) → is_eq o ≡ true → o ≡ Equal
+    is_equal Less h = absurd cc
+    is_equal Equal h = refl
+    is_equal Greater h = absurd cc
+
+-- a version of the key is of one key with the same versions
+pub key_same : (k v w : Version) → same_key k v ≡ true → same_key k w ≡ same_key v w
+key_same k v w same = let p = key_parts k v same in rw (p.0, p.1, p.2, p.3) refl
+
+none_other : (k v : Version) → same_key k v ≡ true → (vs : List Version) → AllByRecursion (λ w. same_key v w ≡ false) vs → filter (same_key k) vs ≡ []
+none_other k v same [] apart = refl
+none_other k v same (w ∷ vs) apart = let one = key_same k v w same ∙ apart.0 in rw one (none_other k v same vs apart.1)
+
+pub one_of_key : (k : Version) (vs : List Version) → HaveOwnKeys vs → length (filter (same_key k) vs) ≤ 1
+one_of_key k [] own = omega arith
+one_of_key k (v ∷ vs) own = go (same_key k v) refl (one_of_key k vs own.1)
+  where
+    go : (b : Bool) → same_key k v ≡ b → length (filter (same_key k) vs) ≤ 1 → length (cond b (v ∷ filter (same_key k) vs) (filter (same_key k) vs)) ≤ 1
+    go true is rest = let none = ap length (none_other k v is vs own.0) in omega (arith, none)
+    go false is rest = rest
+
+pub none_of_key : (k : Version) (vs : List Version) → length (filter (same_key k) vs) ≡ 0 → AllByRecursion (λ w. same_key k w ≡ false) vs
+none_of_key k [] none = tt
+none_of_key k (v ∷ vs) none = go (same_key k v) refl none (none_of_key k vs)
+  where
+    go : (b : Bool) → same_key k v ≡ b → length (cond b (v ∷ filter (same_key k) vs) (filter (same_key k) vs)) ≡ 0 → (length (filter (same_key k) vs) ≡ 0 → AllByRecursion (λ w. same_key k w ≡ false) vs) → AllByRecursion (λ w. same_key k w ≡ false) (v ∷ vs)
+    go true is none rest = absurd (omega (arith, none))
+    go false is none rest = (is, rest none)

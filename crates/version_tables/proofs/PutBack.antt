@@ -1,23 +1,22 @@
 -- Why UPDATE and DELETE of versions fail, and that they leave a database as healthy as it was.
-use Rattle.std.proofs.Common.{◌≡◌, ◌∙◌, inl, inr, ℕ, ℤ, pos, ◌<◌, ◌≤◌, ◌+ℤ◌, ◌≤ℤ◌, List, [], ◌∷◌, ◌++◌, map, filter, Bool, true, false, not, cond, None, Some, Ok, Err, Result, refl, sym, ap, subst, subst₂, arith, length, Less}
-use Rattle.std.specs.Prelude.{Option}
-use Rattle.std.specs.List.{AllByRecursion, list_all, list_any}
+use Rattle.std.proofs.Common.{◌≡◌, ◌∙◌, ℕ, ℤ, pos, ◌+ℤ◌, ◌≤ℤ◌, List, [], ◌∷◌, ◌++◌, map, filter, Bool, true, false, not, cond, refl, sym, ap, subst, arith, Less}
+use Rattle.std.specs.List.{AllByRecursion, list_any}
 use Rattle.std.specs.List.Sorted.{IsPermutation}
 use Rattle.std.proofs.lemmas.List.{map-append}
 use Rattle.std.proofs.lemmas.List.Sorted.{IsPermutation-append, IsPermutation-append_right, IsPermutation-cons, IsPermutation-map, IsPermutation-middle, IsPermutation-refl, IsPermutation-sym, IsPermutation-trans}
 use Rattle.std.proofs.lemmas.Int.{ints}
 use Rattle.period_core.specs.Encoding.{greatest_integer, least_integer}
 use Rattle.sqlite.specs.Cast.{cast}
-use Rattle.sqlite.specs.Edit.{are_fresh, edit_of, is_taken, put_all, without_all}
+use Rattle.sqlite.specs.Edit.{are_fresh, is_taken, put_all}
 use Rattle.sqlite.specs.Effect.{Database}
 use Rattle.sqlite.specs.Kind.TheVariants.{Integer}
 use Rattle.sqlite.specs.Order.{Row}
-use Rattle.sqlite.specs.Tree.{IsAscending, IsTable, Trees, put_row, rowid}
+use Rattle.sqlite.specs.Tree.{IsTable, put_row, rowid}
 use Rattle.sqlite.specs.View.{is_int}
 use Rattle.sqlite.specs.declared.types.Value.TheVariants.{Int}
 use Rattle.sqlite_rules.proofs.TableLemmas.{int_is}
 use Rattle.sqlite_sql.specs.Ops.{fits_i64}
-use Rattle.sqlite_trees.proofs.ListLemmas.{all-append, all-filter, all-permutation, all_both, all_from_map, all_weaker, ascending-filter, ascending-map, ascending_from_map}
+use Rattle.sqlite_trees.proofs.ListLemmas.{all-filter, all-permutation, all_both, all_from_map, all_weaker, ascending-filter, ascending-map, ascending_from_map}
 use Rattle.sqlite_value.specs.Order.{column, value_cmp}
 use Rattle.std.specs.Ordering.{is_eq}
 use Rattle.version_tables.specs.Healthy.{HaveRoomFor, IsShort}

@@ -1,6 +1,6 @@
 -- Why a statement that writes rows fails inside a transaction: it is out of memory, or there was a fault, where the
 -- database allows what it writes.
-use Rattle.std.proofs.Common.{◌≡◌, ◌∙◌, inl, inr, ℕ, suc, zero, ◌<◌, ◌&&◌, List, [], ◌∷◌, ◌++◌, length, Bool, true, false, Option, Some, None, Ok, Err, Result, IfErr, OnOk, refl, sym, ap, subst, append-nil, length-append, arith, true≢false}
+use Rattle.std.proofs.Common.{◌≡◌, ◌∙◌, inl, inr, ℕ, suc, zero, ◌<◌, List, [], ◌∷◌, length, Bool, true, false, Option, Some, None, Ok, Err, Result, IfErr, OnOk, refl, sym, ap, subst, append-nil, length-append, arith, true≢false}
 use Rattle.std.specs.Prelude.{IsSome, if◌then◌else◌}
 use Rattle.std.specs.List.{AllByRecursion}
 use Rattle.sqlite.specs.Command.{Command}
@@ -14,7 +14,7 @@ use Rattle.sqlite.specs.Rowids.TheVariants.{Above, Chosen, Given}
 use Rattle.sqlite.specs.Rows.{Deletes, Edited, Inserts, Task, Updates, Written, count_of, rowids_for, stamped}
 use Rattle.sqlite.specs.Source.{Source}
 use Rattle.sqlite.specs.Source.TheVariants.{Values}
-use Rattle.sqlite.specs.State.{EndsScope, Escapes, Executes, ExecutesIn, ExecutesInside, Fails, IsMisplaced, IsNotRun, IsStatement, RunsAlone, State, is_pragma, mode_of, shows_rows, text_of}
+use Rattle.sqlite.specs.State.{EndsScope, Escapes, Executes, ExecutesIn, ExecutesInside, IsMisplaced, IsNotRun, IsStatement, RunsAlone, State, is_pragma, mode_of, shows_rows, text_of}
 use Rattle.sqlite.specs.Tree.{Trees}
 use Rattle.sqlite.specs.Clock.{timed}
 use Rattle.sqlite.specs.Query.{Query}
@@ -24,7 +24,7 @@ use Rattle.sqlite.specs.declared.error.Error.{Error}
 use Rattle.sqlite.specs.declared.run.Mode.{Mode}
 use Rattle.sqlite.proofs.Callers.{IsPlain, command_of}
 use Rattle.sqlite_resolve.specs.declared.compiled.Compiled.{Compiled}
-use Rattle.sqlite_rules.specs.Action.{Leads, works}
+use Rattle.sqlite_rules.specs.Action.{Leads}
 use Rattle.sqlite_rules.specs.Edit.{Edit, IsOversized, IsRefused, taken_by}
 use Rattle.sqlite_rules.specs.Lists.{Has}
 use Rattle.sqlite_rules.specs.declared.error.Refusal.{Refusal}

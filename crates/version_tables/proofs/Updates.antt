@@ -1,6 +1,6 @@
 -- What UPDATE of versions does, whatever columns it sets: of those of which its tests are true, and
 -- of those with a key.
-use Rattle.std.proofs.Common.{◌≡◌, ◌<◌, inl, inr, ℕ, pos, List, [], ◌∷◌, ◌++◌, map, drop, filter, length, Bool, true, false, not, ◌==◌, ◌≤◌, None, Ok, Err, refl, sym, ap, subst, subst₂, ◌∙◌, arith}
+use Rattle.std.proofs.Common.{◌≡◌, ◌<◌, inl, inr, ℕ, pos, List, [], ◌∷◌, ◌++◌, map, drop, filter, length, Bool, true, false, not, ◌≤◌, None, Ok, Err, refl, sym, ap, subst, subst₂, ◌∙◌, arith}
 use Rattle.std.specs.Prelude.{unwrap_or}
 use Rattle.std.specs.List.{list_all, AllByRecursion}
 use Rattle.std.specs.List.Sorted.{IsPermutation}
@@ -32,10 +32,6 @@ use Rattle.sqlite_rules.specs.Calls.{ids_of}
 use Rattle.version_tables.specs.Tables.{Others, schema_with, version_table}
 use Rattle.version_tables.specs.Represents.{Version, Records, Represents, changed, defined, meta_shown, table_shown, version_shown, HaveDistinctRowids, stored, same_key}
 use Rattle.std.specs.Prelude.{Option}
-use Rattle.std.specs.Cmp.Lexicographic.{slice_cmp}
-use Rattle.std.specs.Ordering.{is_eq, nat_cmp}
-use Rattle.std.proofs.lemmas.Map.Text.{is_eq-slice_cmp}
-use Rattle.std.proofs.lemmas.Slice.Eq.{bytes_eq-Decides}
 use Rattle.sqlite.specs.Cast.{cast}
 use Rattle.sqlite.specs.Kind.TheVariants.{Integer}
 use Rattle.sqlite.specs.Rows.{Edited, Task, Updates}
@@ -56,7 +52,7 @@ use Rattle.version_tables.specs.Steps.{HasReason}
 use Rattle.version_tables.specs.Tables.{IsApart}
 use Rattle.version_tables.proofs.Allowed.{others_same, refers_kept, version_allowed, version_edit, version_sized}
 use Rattle.version_tables.proofs.Clashes.{rows_apart, same_key-turned, unique_kept, with_same}
-use Rattle.version_tables.proofs.OwnKeys.{own_along}
+use Rattle.version_tables.proofs.OwnKeys.{key_parts, own_along}
 use Rattle.version_tables.proofs.PutBack.{fresh_back, keyed_back, own_back, room_back, rows_show, split}
 use Rattle.version_tables.proofs.Reasons.{IsOne, NeverOverflows}
 use Rattle.version_tables.proofs.Refusals.{fails_inside, not_concluded, not_stopped, not_updated, query_given}
@@ -261,13 +257,6 @@ own_mapped f same (x ∷ xs) ys own = (mapped_apart f same x xs ys own.0, own_ma
 pub own_changed : (k : Version) (f : Version → Version) → ((a b : Version) → same_key (f a) b ≡ same_key a b) → (m : Records) → HaveOwnKeys m.versions → HaveOwnKeys (changed k f m).versions
 own_changed k f same m own = own_mapped f same (filter (same_key k) m.versions) _ (own_along _ _ (split (same_key k) m.versions) own)
 
--- a version of the key has its values
-pub key_values : (k v : Version) → same_key k v ≡ true → v.values ≡ k.values
-key_values k v same =
-    let parts = and_parts (v.table == k.table) _ same in
-    let bytes = and_parts (is_eq (slice_cmp nat_cmp v.values k.values)) _ parts.1 in
-    (bytes_eq-Decides v.values k.values).0 (sym (is_eq-slice_cmp v.values k.values) ∙ bytes.0)
-
 -- ---- why UPDATE by the key fails, and that the database stays healthy
 
 module _ (text : List ℕ) (columns : List Term) (k : Version) (more : Row) (f : Version → Version) (body : Row → Row)
@@ -326,7 +315,7 @@ module _ (text : List ℕ) (columns : List Term) (k : Version) (more : Row) (f :
         let low : 2 < 4 = omega arith in
         let news = map again rows in
         let own_rows = own_back (db 2) was.untied was.keyed keyed_rows body news spared back spared_is f body-stored count healthy.room (rows_show old.now m was)
-        (λ r v taken shows. subst IsShort (sym (values_kept v ∙ key_values k v (sym (has_key-stored k v) ∙ ap (has_key k) (sym shows) ∙ taken))) short) in
+        (λ r v taken shows. subst IsShort (sym (values_kept v ∙ (key_parts k v (sym (has_key-stored k v) ∙ ap (has_key k) (sym shows) ∙ taken)).1)) short) in
         let shown = put_shows by_key columns (key_and k more) (same_key k) (has_key k) (λ _. Unit {0}) f body (has_key-row k more) (has_key-stored k) body_is (λ v _. body-stored v) old.now m every was rows a fresh in
         let after = put_all spared news in
         let keyed = keyed_back (db 2) was.untied was.keyed keyed_rows body news spared back spared_is in

@@ -1,9 +1,11 @@
 //! A store that has been opened, and is not in use yet.
 
-ghost use Rattle.std.specs.Prelude.{◌≡◌, ◌≢◌, ◌⊎◌, [], false, IfErr, IfOk, IsOk};
+ghost use Rattle.std.specs.Prelude.{◌≡◌, ◌≢◌, ◌⊎◌, ◌≤◌, ℕ, [], false, IfErr, IfOk, IsOk};
 ghost use Rattle.period_core.specs.declared.refusal.Refusal.TheVariants.{BadStore};
+ghost use Rattle.period_core.specs.Encoding.{greatest_number};
 ghost use Rattle.period_core.specs.Moments.{first_moment};
 ghost use Rattle.sqlite.specs.Held.{state};
+ghost use Rattle.version_tables.specs.Healthy.{IsHealthy};
 ghost use Rattle.version_tables.specs.Making.{HasCounters};
 ghost use Rattle.version_tables.specs.Presence.{HasNoStoreTable};
 ghost use Rattle.version_tables.specs.Represents.{HaveOwnRowids};
@@ -131,6 +133,10 @@ impl<S: Alter> VersionStore<S> {
             → HasCounters (state S.Store connection).now.schema
             → IsMadeBehind (state S.Store connection)
             (state S.Store found.0.store.connection)) }
+        ensures healthy { IfOk result (λ found. IsUsable S.Store found.0.store.connection
+            → (state S.Store connection).now.schema ≡ no_schema
+            → (count : ℕ) → count ≤ greatest_number
+            → IsHealthy count (state S.Store found.0.store.connection).now) }
         ensures good { IfOk result (λ found. IsUsable S.Store found.0.store.connection
             → IsOurs (state S.Store connection).now.schema
             → HasNoStoreTable (state S.Store connection).now.schema

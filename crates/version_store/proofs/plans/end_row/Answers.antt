@@ -1,5 +1,8 @@
-use Rattle.std.proofs.Common.{◌≡◌, ◌||◌, refl, sym, ap, ◌∙◌, rules, w64, to_z, of_z}
+use Rattle.std.proofs.Common.{◌≡◌, ◌||◌, refl, subst, sym, ap, ◌∙◌, rules, w64, to_z, of_z}
 use Rattle.sqlite.specs.Held.{state}
+use Rattle.std.proofs.lemmas.Result.{err_from_is_err_and}
+use Rattle.version_tables.specs.Healthy.{IsShort}
+use Rattle.version_store.proofs.Standing.{caused_by}
 use Rattle.version_tables.proofs.Keeping.{leaves_same}
 use Rattle.version_store.specs.PendingRemovals.{is_pending}
 use Rattle.version_store.proofs.Leaves.{closes, notes, same_place}
@@ -45,3 +48,11 @@ returns-clause-made g c clean begun =
 
 pub returns-then-from-number-clause-others : goal.returns-then-from-number-clause-others
 returns-then-from-number-clause-others g c = leaves_same g.S.Store c.args.transaction.now.conn.now c.args.transaction.now.conn.now refl
+
+pub returns-in_err-end_version-clause-why : goal.returns-in_err-end_version-clause-why
+returns-in_err-end_version-clause-why g c clean begun healthy m was short =
+    let p = err_from_is_err_and c.from_residual-in_err-end_version.result c.from_residual-in_err-end_version.ensures.1 in
+    rw p.1 (caused_by (state g.S.Store c.args.transaction.now.conn.now) (state g.S.Store c.end_version.new.transaction.conn.now) _ _ p.2 (c.in_err-end_version.ensures.why clean begun healthy _ was.rows (subst IsShort (sym (c.as_slice.ensures.value ∙ c.in_ok-key.ensures.bytes)) short)))
+
+pub returns-clause-healthy : goal.returns-clause-healthy
+returns-clause-healthy g c clean begun left healthy m was = c.in_ok-end_version.ensures.healthy clean begun left healthy tt _ was.rows

@@ -1,6 +1,7 @@
-use Rattle.std.proofs.Common.{◌≡◌, length, IsTrue}
+use Rattle.std.proofs.Common.{◌≡◌, ℕ, length, IsTrue}
 use Rattle.sqlite.specs.State.{HasCleanDisk}
 use Rattle.sqlite.specs.Held.{state}
+use Rattle.version_tables.specs.Healthy.{IsHealthy}
 use Rattle.version_tables.specs.Keeping.{LeavesOthers}
 use Rattle.version_tables.specs.Steps.{CommitsNothing}
 use Rattle.version_store.specs.Contents.{Contents}
@@ -14,6 +15,7 @@ invariant-removals g l =
     (l.transaction.conn.ghost_name ≡ l.fn.transaction.conn.ghost_name) × CommitsNothing g.S.Store old now × LeavesOthers g.S.Store old now
     × (HasCleanDisk (state g.S.Store now) → IsTrue old.in_transaction → IsTrue now.in_transaction
     × ((c : Contents) → HasExcept (state g.S.Store old).now l.table l.moment l.fn.pending.keys c → HasExcept (state g.S.Store now).now l.table l.moment l.pending.keys c))
+    × ((left : ℕ) → HasCleanDisk (state g.S.Store now) → IsTrue old.in_transaction → IsHealthy left (state g.S.Store old).now → (c : Contents) → HasExcept (state g.S.Store old).now l.table l.moment l.fn.pending.keys c → IsHealthy left (state g.S.Store now).now)
 
 abbrev pub decreases-removals : goal.decreases-removals
 decreases-removals g l = length l.pending.keys

@@ -85,4 +85,4 @@ returns-in_err-insert_next-clause-why g c clean begun healthy records has can =
     let few : length batch ≤ length c.batches.rest.now + 0 = let long = length-append batch more in let size : length c.batches.rest.now ≡ length (batch ++ more) = ap length parts in omega (arith, long, size) in
     let why = c.in_err-insert_next.ensures.why clean mid.0 (healthy_less (length batch) (length c.batches.rest.now + 0) _ few sound.0) (all_added (map f done) records) (mid.1 records has) (sound.1, part) in
     let p = err_from_is_err_and c.from_residual.result c.from_residual.ensures.1 in
-    rw (p.1, p.2) (reason_then _ _ _ clean_mid was.1.survives step.inside.survives _ why)
+    rw (p.1, p.2) (reason_then _ _ _ _ clean_mid was.1.survives step.inside.survives why)

@@ -1,10 +1,12 @@
-use Rattle.std.proofs.Common.{rules, sym, subst, refl}
+use Rattle.std.proofs.Common.{◌+◌, length, rules, sym, subst, refl}
+use Rattle.sqlite.specs.Held.{state}
+use Rattle.version_tables.specs.Healthy.{IsHealthy}
 use Rattle.std.proofs.lemmas.Result.{err_from_is_err_and}
 use Rattle.period_core.specs.Moments.{IsMomentNumber}
-use Rattle.version_store.specs.StoreState.{StoreRepresents}
+use Rattle.version_store.specs.StoreState.{IsFailure, StoreRepresents, StoreState}
 use Rattle.version_store.proofs.Dated.{planned_dated}
 use Rattle.version_store.proofs.Keys.{keys_of}
-use Rattle.version_store.proofs.Standing.{stays}
+use Rattle.version_store.proofs.Standing.{failed_for, stays}
 use Rattle.version_store.proofs.store.VersionStore.apply.Goals as goal
 
 pub returns-clause-changes : goal.returns-clause-changes
@@ -29,3 +31,16 @@ pub returns-in_err-write_plan-clause-distinct : goal.returns-in_err-write_plan-c
 returns-in_err-write_plan-clause-distinct g k usable c stands =
     let was = subst (λ s. StoreRepresents g.S.Store s c) (sym k.self.view_is) stands in
     keys_of _ c was.now (k.schema-live.ensures.live (k.write_plan.ensures.usable usable).1).0
+
+pub returns-in_err-write_plan-clause-why : goal.returns-in_err-write_plan-clause-why
+returns-in_err-write_plan-clause-why g k usable c stands healthy can =
+    let was = subst (λ s. StoreRepresents g.S.Store s c) (sym k.self.view_is) stands in
+    let sound = subst (λ (s : StoreState _). IsHealthy (length k.args.plan.now.added) (state g.S.Store s.connection).now) (sym k.self.view_is) healthy in
+    let p = err_from_is_err_and k.from_residual.result k.from_residual.ensures.1 in
+    rw p.1 (subst (λ (s : StoreState _). IsFailure g.S.Store s.connection k.write_plan.new.connection p.0) k.self.view_is (failed_for g.S.Store k.self.inside.connection k.write_plan.new.connection _ p.0 p.2.1 (k.write_plan.ensures.usable usable).1 (k.in_err-write_plan.ensures.why usable.0 sound c was.now can)))
+
+pub returns-clause-healthy : goal.returns-clause-healthy
+returns-clause-healthy g k usable c stands left healthy =
+    let was = subst (λ s. StoreRepresents g.S.Store s c) (sym k.self.view_is) stands in
+    let sound = subst (λ (s : StoreState _). IsHealthy (length k.args.plan.now.added + left) (state g.S.Store s.connection).now) (sym k.self.view_is) healthy in
+    k.in_ok-write_plan.ensures.healthy usable.0 left sound c was.now
