@@ -183,8 +183,8 @@ module _ (c : Contents) (table : ℕ) (ended stay : List VersionRow) (added : Li
           let of : (v.table == table) ≡ true = nats_turned v.table table ∙ (and_parts (table == v.table) (is_eq (values_cmp row.values v.values) && (is_eq (int_cmp row.period.start v.start) && is_eq (int_cmp c.clock v.from))) same).0 in
           let lasts = moments.rise in
           let began = key.from in
-          let open : v.to ≡ forever = elim moments.past.1 [ inl past ↦ absurd (omega (arith, ints, lasts, began, past)) | inr is ↦ is ] in
-          let now : window_sees Now v.from v.to ≡ true = ap (λ (m : ℤ). window_sees Now v.from m) open ∙ int_same forever in
+          let current : v.to ≡ forever = elim moments.past.1 [ inl past ↦ absurd (omega (arith, ints, lasts, began, past)) | inr is ↦ is ] in
+          let now : window_sees Now v.from v.to ≡ true = ap (λ (m : ℤ). window_sees Now v.from m) current ∙ int_same forever in
           let seen : Contains (seen_of table Now c.versions) v = in_filter (λ (w : TableVersion). window_sees Now w.from w.to) (of_table table c.versions) v (in_filter (λ (w : TableVersion). w.table == table) c.versions v there of) now in
           let (it, member, is) = from_map (version_in table) (ended ++ stay) v (Contains-permutation (seen_of table Now c.versions) (map (version_in table) (ended ++ stay)) v split seen) in
           elim (Contains-append_cases ended stay it member) [
