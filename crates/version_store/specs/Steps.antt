@@ -1,11 +1,14 @@
 -- What a step inside a transaction makes, and what a whole transaction makes.
-use Rattle.std.specs.Prelude.{◌≡◌, IsTrue, OnOk, Result}
+use Rattle.std.specs.Prelude.{◌≡◌, ◌+◌, ℕ, IfErr, IsTrue, OnOk, Result}
 use Rattle.sqlite.specs.Store.{Ghosts}
 use Rattle.sqlite.specs.State.{HasCleanDisk}
 use Rattle.sqlite.specs.Held.{Held, state}
 use Rattle.version_tables.specs.Represents.{Records, Represents}
+use Rattle.version_tables.specs.Healthy.{IsHealthy}
 use Rattle.version_store.specs.Contents.{Contents}
+use Rattle.version_store.specs.Faults.{IsCaused}
 use Rattle.version_store.specs.Written.{Has}
+use Rattle.version_store.specs.declared.fault.StoreFault.{StoreFault}
 
 -- on Ok the transaction goes on, and the contents of the database are changed
 abbrev pub Carries : {S X E : Type 0} → Ghosts S → Held S → Held S → Result X E
@@ -31,3 +34,30 @@ CommitsWhere g old new result P change =
     → Represents (state g old).now records
     → OnOk result (Represents (state g new).now (change records)
     × ((state g new).committed ≡ (state g new).now))
+
+-- ---- why a change fails
+
+-- inside a transaction over a healthy database, with room for so many versions more, a fault has a
+-- cause where P holds of the records that it represents
+abbrev pub ChangeIsCaused : {S X : Type 0} → Ghosts S → Held S → Held S → Result X StoreFault → ℕ
+    → (Records → Type 0) → Type 0
+ChangeIsCaused g old new result count P =
+    HasCleanDisk (state g new) → IsTrue old.in_transaction → IsHealthy count (state g old).now
+    → (records : Records) → Represents (state g old).now records → P records
+    → IfErr result (IsCaused (state g old) (state g new))
+
+-- so has one of a whole transaction
+abbrev pub CommitIsCaused : {S X : Type 0} → Ghosts S → Held S → Held S → Result X StoreFault → ℕ
+    → (Records → Type 0) → Type 0
+CommitIsCaused g old new result count P =
+    HasCleanDisk (state g new) → IsHealthy count (state g old).now
+    → (records : Records) → Represents (state g old).now records → P records
+    → IfErr result (IsCaused (state g old) (state g new))
+
+-- on Ok a transaction leaves the database healthy, and so many versions use up room
+abbrev pub CommitsHealthy : {S X E : Type 0} → Ghosts S → Held S → Held S → Result X E → ℕ
+    → Type 0
+CommitsHealthy g old new result used =
+    HasCleanDisk (state g new) → (left : ℕ) → IsHealthy (used + left) (state g old).now
+    → (records : Records) → Represents (state g old).now records
+    → OnOk result (IsHealthy left (state g new).now)

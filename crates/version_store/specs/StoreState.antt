@@ -1,5 +1,5 @@
 -- What a store keeps in memory, and which contents it represents.
-use Rattle.std.specs.Prelude.{◌≡◌, ◌⊎◌, ℤ, IsTrue, OnErr, OnOk, Result, refl}
+use Rattle.std.specs.Prelude.{◌≡◌, ◌⊎◌, ◌+◌, ℕ, ℤ, IfErr, IsTrue, OnErr, OnOk, Result, refl}
 use Rattle.std.specs.Coded.{Coded, code_by, coded×, coded_ℤ}
 use Rattle.catalog_core.specs.contracts.table.catalog.Catalog.{the_row}
 use Rattle.catalog_core.specs.declared.table.catalog.Catalog.{Catalog}
@@ -13,6 +13,7 @@ use Rattle.sqlite.specs.Steps.{over_memory}
 use Rattle.sqlite_trees.specs.declared.memory.MemStore.{MemStore}
 use Rattle.sqlite.specs.Schema.{Schema}
 use Rattle.version_tables.specs.Forms.{form_number}
+use Rattle.version_tables.specs.Healthy.{IsHealthy}
 use Rattle.version_tables.specs.Keeping.{LeavesOthers}
 use Rattle.version_tables.specs.Making.{IsBegunIn}
 use Rattle.version_tables.specs.Presence.{HasEachStoreTable}
@@ -135,3 +136,20 @@ IsOpenRefusal refusal = (refusal ≡ BadStore) ⊎ IsStoreRefusal refusal
 -- follow them
 abbrev pub IsOurs : Schema → Type 0
 IsOurs schema = HasEachStoreTable schema → HasStoreTables schema
+
+-- over a healthy database, with room for so many versions more, a change of contents that P holds of
+-- is refused for memory or a fault of the database alone
+abbrev pub FailsForReason : {S X : Type 0} → Ghosts S → StoreState S → StoreState S
+    → Result X Refusal → ℕ → (Contents → Type 0) → Type 0
+FailsForReason g old new result count P =
+    IsUsable g new.connection → (c : Contents) → StoreRepresents g old c
+    → IsHealthy count (state g old.connection).now → P c
+    → IfErr result (IsFailure g old.connection new.connection)
+
+-- on Ok the database is left healthy, and so many versions use up room
+abbrev pub LeavesHealthy : {S X : Type 0} → Ghosts S → StoreState S → StoreState S
+    → Result X Refusal → ℕ → Type 0
+LeavesHealthy g old new result used =
+    IsUsable g new.connection → (c : Contents) → StoreRepresents g old c
+    → (left : ℕ) → IsHealthy (used + left) (state g old.connection).now
+    → OnOk result (IsHealthy left (state g new.connection).now)

@@ -8,6 +8,7 @@ ghost use Rattle.catalog_core.specs.table.TableWords.{has_date_period, has_disti
 ghost use Rattle.catalog_core.specs.declared.table.TableDef.{TableDef};
 ghost use Rattle.period_core.specs.Moments.{first_moment, forever};
 ghost use Rattle.sqlite.specs.Held.{state};
+ghost use Rattle.version_tables.specs.Healthy.{IsShort};
 ghost use Rattle.version_tables.specs.Making.{HasCounters};
 ghost use Rattle.version_tables.specs.Presence.{HasNoStoreTable};
 ghost use Rattle.version_tables.specs.Steps.{IsAsBefore};
@@ -16,9 +17,11 @@ ghost use Rattle.version_store.specs.Changed.{planned, with_clock, with_table};
 ghost use Rattle.version_store.specs.Contents.{AreRowsOf, Contents, empty_contents};
 ghost use Rattle.version_store.specs.DistinctKeys.{HaveDistinctKeys};
 ghost use Rattle.version_store.specs.Scans.{AnswersRefusal, IsOwnRefusal, Visits, is_empty};
-ghost use Rattle.version_store.specs.StoreState.{Changes, IsFailure, IsMadeBehind, IsOnlyRead};
+ghost use Rattle.version_store.specs.StoreState.{Changes, FailsForReason, IsFailure};
+ghost use Rattle.version_store.specs.StoreState.{IsMadeBehind, IsOnlyRead, LeavesHealthy};
 ghost use Rattle.version_store.specs.StoreState.{IsStoreRefusal, IsUsable, SparesOthers, StaysOnErr};
 ghost use Rattle.version_store.specs.StoreState.{StoreRepresents};
+ghost use Rattle.version_store.specs.Written.{written_table};
 
 use crate::fault::refusal_of;
 use crate::scans::{scan_rows, table_rows};
@@ -136,7 +139,8 @@ impl<S: Alter> VersionStore<S> {
 
     /// Adds a table to fewer than 64; its number is then the number of tables. Its application
     /// period is over two different DATE columns, and no two of its columns share a name. On `Err`
-    /// nothing is changed.
+    /// nothing is changed. Over a healthy database it is refused for memory or a fault alone, if the
+    /// bytes of the definition are short.
     pub fn add_table(&mut self, alloc: Global, definition: TableDef) -> Result<(), Refusal>
         requires room { length self.old.catalog.tables < most_tables }
         requires dated { has_date_period definition ≡ true }
@@ -151,6 +155,9 @@ impl<S: Alter> VersionStore<S> {
         ensures usable { IsUsable S.Store self.new.connection
             → IsUsable S.Store self.old.connection }
         ensures named { IfErr result IsStoreRefusal }
+        ensures why { FailsForReason S.Store self.old self.new result 0
+            (λ _. IsShort (written_table definition)) }
+        ensures healthy { LeavesHealthy S.Store self.old self.new result 0 }
     {
         let bytes = encode_def(alloc, &definition)?;
         let number = self.catalog.len() as u32 + 1;
@@ -165,7 +172,7 @@ impl<S: Alter> VersionStore<S> {
     }
 
     /// Sets the clock to a moment that is not before it, and before FOREVER. On `Err` nothing is
-    /// changed.
+    /// changed. Over a healthy database it is refused for memory or a fault alone.
     pub fn advance(&mut self, moment: Moment) -> Result<(), Refusal>
         requires later { self.old.clock ≤ℤ moment }
         requires before_the_end { moment <ℤ forever }
@@ -178,6 +185,8 @@ impl<S: Alter> VersionStore<S> {
         ensures usable { IsUsable S.Store self.new.connection
             → IsUsable S.Store self.old.connection }
         ensures named { IfErr result IsStoreRefusal }
+        ensures why { FailsForReason S.Store self.old self.new result 0 (λ _. Unit {0}) }
+        ensures healthy { LeavesHealthy S.Store self.old self.new result 0 }
     {
         write_clock(&mut self.connection, moment)?;
         self.clock = moment;

@@ -6,8 +6,10 @@ ghost use Rattle.version_tables.specs.Moves.{AreInSeconds, moved};
 ghost use Rattle.version_tables.specs.Represents.{with_definition};
 ghost use Rattle.version_store.specs.Changed.{planned, with_clock};
 ghost use Rattle.version_store.specs.StoreState.{IsUsable, StaysOnErr};
-ghost use Rattle.version_store.specs.Steps.{Carries, Commits, CommitsWhere};
-ghost use Rattle.version_tables.specs.Steps.{CommitsNothing, ChangesWhere};
+ghost use Rattle.version_store.specs.Steps.{Carries, ChangeIsCaused, CommitIsCaused, Commits};
+ghost use Rattle.version_store.specs.Steps.{CommitsHealthy, CommitsWhere};
+ghost use Rattle.version_tables.specs.Healthy.{IsShort};
+ghost use Rattle.version_tables.specs.Steps.{CommitsNothing, ChangesWhere, StaysHealthy};
 
 use crate::fault::StoreFault;
 use crate::plans::put_plan;
@@ -54,6 +56,10 @@ fn put_table<S: Alter>(
     ensures others { OnOk result
         (LeavesOthers S.Store transaction.old.conn.now transaction.new.conn.now) }
     ensures inside { CommitsNothing S.Store transaction.old.conn.now transaction.new.conn.now }
+    ensures why { ChangeIsCaused S.Store transaction.old.conn.now transaction.new.conn.now
+        result 0 (λ records. (number ≡ length records.tables + 1) × IsShort definition.now) }
+    ensures healthy { StaysHealthy S.Store transaction.old.conn.now transaction.new.conn.now
+        result 0 (λ _. Unit {0}) }
 {
     insert_definition(transaction, number, definition)?;
     Ok(())
@@ -70,6 +76,10 @@ fn put_clock<S: Alter>(
     ensures others { OnOk result
         (LeavesOthers S.Store transaction.old.conn.now transaction.new.conn.now) }
     ensures inside { CommitsNothing S.Store transaction.old.conn.now transaction.new.conn.now }
+    ensures why { ChangeIsCaused S.Store transaction.old.conn.now transaction.new.conn.now
+        result 0 (λ _. Unit {0}) }
+    ensures healthy { StaysHealthy S.Store transaction.old.conn.now transaction.new.conn.now
+        result 0 (λ _. Unit {0}) }
 {
     set_clock(transaction, moment.number())?;
     Ok(())
@@ -88,6 +98,9 @@ pub(crate) fn write_table<S: Alter>(
     ensures none { StaysOnErr S.Store connection.old connection.new result }
     ensures usable { IsUsable S.Store connection.new → IsUsable S.Store connection.old }
     ensures mode { connection.new.in_transaction ≡ false }
+    ensures why { CommitIsCaused S.Store connection.old connection.new result 0
+        (λ records. (number ≡ length records.tables + 1) × IsShort definition.now) }
+    ensures healthy { CommitsHealthy S.Store connection.old connection.new result 0 }
 {
     // For the proof alone: whether a transaction is open is known by this call.
     let _settled = connection.is_autocommit();
@@ -108,6 +121,8 @@ pub(crate) fn write_clock<S: Alter>(
     ensures none { StaysOnErr S.Store connection.old connection.new result }
     ensures usable { IsUsable S.Store connection.new → IsUsable S.Store connection.old }
     ensures mode { connection.new.in_transaction ≡ false }
+    ensures why { CommitIsCaused S.Store connection.old connection.new result 0 (λ _. Unit {0}) }
+    ensures healthy { CommitsHealthy S.Store connection.old connection.new result 0 }
 {
     // For the proof alone: whether a transaction is open is known by this call.
     let _settled = connection.is_autocommit();

@@ -12,7 +12,7 @@ use Rattle.version_store.proofs.row_checks.read_table.Goals as goal
 pub returns-in_err-definition-clause-bad : goal.returns-in_err-definition-clause-bad
 returns-in_err-definition-clause-bad c =
     let p = err_from_is_err_and c.from_residual.result c.from_residual.ensures.1 in
-    rw p.1 (λ bad d is. c.in_err-definition.ensures.malformed (p.2 bad) (encodes c.args.catalog.now.tables c.args.row.now c.in-Some.bytes.now d is c.in-Some.ensures))
+    rw p.1 (λ bad d is. c.in_err-definition.ensures.malformed (p.2.1 bad) (encodes c.args.catalog.now.tables c.args.row.now c.in-Some.bytes.now d is c.in-Some.ensures))
 
 pub returns-then-lawful-clause-dated : goal.returns-then-lawful-clause-dated
 returns-then-lawful-clause-dated c =

@@ -39,13 +39,13 @@ pub returns-in-Ok-clause-tabled : goal.returns-in-Ok-clause-tabled
 returns-in-Ok-clause-tabled g c = λ usable form d has. absurd (not_both_ways c.args.connection.schema (c.in-Missing.ensures.missing.0 refl) (store_is_whole c.args.connection.schema has.rows.schema))
 
 pub returns-in-Ok-clause-unchanged : goal.returns-in-Ok-clause-unchanged
-returns-in-Ok-clause-unchanged g c = λ usable. inl (c.in-Ok.ensures.empty, refl)
+returns-in-Ok-clause-unchanged g c = λ usable. inl (c.in-Ok.ensures.empty.0, refl)
 
 pub returns-in-Ok-clause-lawful : goal.returns-in-Ok-clause-lawful
-returns-in-Ok-clause-lawful g c = subst (AreLawful []) (sym c.in-Ok.ensures.empty) tt
+returns-in-Ok-clause-lawful g c = subst (AreLawful []) (sym c.in-Ok.ensures.empty.0) tt
 
 pub returns-in-Ok-clause-empty : goal.returns-in-Ok-clause-empty
-returns-in-Ok-clause-empty g c = λ none. (c.in-Ok.ensures.empty, refl)
+returns-in-Ok-clause-empty g c = λ none. (c.in-Ok.ensures.empty.0, c.in-Ok.ensures.empty.1, refl)
 
 pub returns-in-Partial-clause-bad : goal.returns-in-Partial-clause-bad
 returns-in-Partial-clause-bad g c = λ usable _. (
@@ -139,3 +139,19 @@ returns-in-Ok-clause-others g c = λ usable clean has. absurd (not_both_ways c.a
 
 pub returns-in-Some-clause-others : goal.returns-in-Some-clause-others
 returns-in-Some-clause-others g c = spares_same g.S.Store c.args.connection c.inspect.new.connection (λ usable. (c.in-Ok-inspect.ensures.same usable.0).now usable.1)
+
+-- ---- why a good store is refused
+
+pub returns-in-Err-clause-why : goal.returns-in-Err-clause-why
+returns-in-Err-clause-why g c = λ usable good own. absurd (not_both_ways c.args.connection.schema (c.in-Missing.ensures.missing.0 refl) (store_is_whole c.args.connection.schema good.tables_there))
+
+pub returns-in-Partial-clause-why : goal.returns-in-Partial-clause-why
+returns-in-Partial-clause-why g c = λ usable good own. absurd (partial_whole (c.in-Partial.ensures.whole.1 (store_is_whole c.args.connection.schema good.tables_there)))
+
+pub returns-in-Err-inspect-clause-why : goal.returns-in-Err-inspect-clause-why
+returns-in-Err-inspect-clause-why g c = λ usable good own. elim (c.in-Err-inspect.ensures.why usable.0 usable.1 good own) [ inl memory ↦ inl (c.from.ensures.2 memory) | inr fault ↦ inr fault ]
+
+pub returns-in-None-clause-why : goal.returns-in-None-clause-why
+returns-in-None-clause-why g c = λ usable good own.
+    let n : to_z w64 (of_z w64 c.in-Ok-inspect.number) ≡ c.in-Ok-inspect.number = search rules in
+    no_clock c.in-Ok-inspect.form c.in-Ok-inspect.number c.in-Ok-inspect.ensures.clock (rw n at c.in-None.ensures)
