@@ -36,7 +36,7 @@ both_ways true b f g = sym (f refl)
 both_ways false true f g = g refl
 both_ways false false f g = refl
 
-pub nats_turned : (a b : ℕ) → nat_eq a b ≡ nat_eq b a
+nats_turned : (a b : ℕ) → nat_eq a b ≡ nat_eq b a
 nats_turned a b = both_ways (nat_eq a b) (nat_eq b a) (λ h. grind (arith, nat_tests, h)) (λ h. grind (arith, nat_tests, h))
 
 pub same_turned : (a b : TableVersion) → same_version a b ≡ same_version b a

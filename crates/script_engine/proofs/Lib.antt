@@ -6,7 +6,6 @@ mod Answering
 mod ChangeRefusals
 mod ColumnValues
 mod Changed
-mod DistinctAfter
 mod CheckSteps
 mod PieceFacts
 mod PieceSteps

@@ -1,11 +1,11 @@
 -- Which refusals a statement may get, from those that its parts give.
-use Rattle.std.proofs.Common.{◌≡◌, ◌≤◌, ◌++◌, ◌∷◌, ◌⊎◌, ℕ, Bool, true, false, List, [], map, refl, ap, subst, inl, inr, nat_le, arith}
+use Rattle.std.proofs.Common.{◌≡◌, ◌≤◌, ◌++◌, ◌∷◌, ◌⊎◌, ℕ, Bool, true, false, List, [], map, refl, sym, ◌∙◌, ap, subst, inl, inr, nat_le, arith}
 use Rattle.std.proofs.lemmas.Int.{ints}
 use Rattle.std.specs.List.{list_all, list_any}
 use Rattle.period_core.specs.Codes.{code_of}
 use Rattle.period_core.specs.Leasts.{MayAnswer, NoneApplies}
 use Rattle.period_core.specs.declared.refusal.Refusal.{Refusal}
-use Rattle.period_core.specs.declared.refusal.Refusal.TheVariants.{EmptyPeriod}
+use Rattle.period_core.specs.declared.refusal.Refusal.TheVariants.{EmptyPeriod, Memory, Store}
 use Rattle.period_core.specs.declared.row.PeriodRow.{PeriodRow}
 use Rattle.period_core.specs.declared.version.VersionRow.{VersionRow}
 use Rattle.catalog_core.specs.RefusalConditions.{Holds, RefusalCondition}
@@ -16,7 +16,9 @@ use Rattle.catalog_core.specs.declared.change.Action.{Action}
 use Rattle.catalog_core.specs.declared.change.Action.TheVariants.{Delete, Insert, Update}
 use Rattle.catalog_core.specs.declared.change.InsertedRow.{InsertedRow}
 use Rattle.catalog_core.specs.declared.change.Plan.{Plan}
+use Rattle.sqlite.specs.Held.{Held, state}
 use Rattle.sqlite.specs.Store.{Ghosts}
+use Rattle.version_tables.specs.Steps.{HasFault}
 use Rattle.sql_statements.specs.Trees.{Statement}
 use Rattle.version_store.specs.StoreState.{IsFailure}
 use Rattle.script_engine.specs.engine.EngineState.{EngineState}
@@ -99,3 +101,8 @@ may_answer-empty conditions holds none held = inl (record {
 pub failed_query : {S : Type 0} (g : Ghosts S) (old new : EngineState S) (s : Statement) (refusal : Refusal) → IsFailure g old.connection new.connection refusal → MayRefuseQuery g old new s refusal
 failed_query g old new s refusal (inl memory) = inl (inr memory)
 failed_query g old new s refusal (inr fault) = inr fault
+
+-- one that is a failure of the store comes of a fault
+pub by_fault : {S : Type 0} (g : Ghosts S) (old new : Held S) (refusal : Refusal) → IsFailure g old new refusal → refusal ≡ Store → HasFault (state g old) (state g new)
+by_fault g old new refusal (inl memory) told = let no : Store ≡ Memory = sym told ∙ memory in absurd cc
+by_fault g old new refusal (inr fault) told = fault

@@ -27,8 +27,8 @@ ghost use Rattle.script_engine.specs.engine.InMemory.{AreKeysIn, HaveRows, IsSam
 ghost use Rattle.script_engine.specs.engine.Opens.{Opens};
 ghost use Rattle.script_engine.specs.engine.Over.{StepOver};
 ghost use Rattle.script_engine.specs.engine.Planned.{IsResolved};
-ghost use Rattle.script_engine.specs.engine.Runs.{IsQuery, MayRefuseMoment, MayRefuseQuery};
-ghost use Rattle.script_engine.specs.engine.Runs.{StepsTo};
+ghost use Rattle.script_engine.specs.engine.Runs.{FailsOnFault, IsQuery, MayRefuseMoment};
+ghost use Rattle.script_engine.specs.engine.Runs.{MayRefuseQuery, StepsTo};
 ghost use Rattle.script_engine.specs.engine.Stored.{EngineRepresents, IsBadStore, KeepsOnErr};
 ghost use Rattle.script_engine.specs.engine.Stored.{WasUsable};
 ghost use Rattle.sql_statements.specs.Plain.{plain, plain_query, plain_stored};
@@ -241,7 +241,8 @@ impl<S: Alter> Engine<S> {
     }
 
     /// Moves the clock to a moment. An `Err` changes nothing: it is 13 for FOREVER, 40 for a
-    /// moment before the clock, whatever memory there is, and only for others 61 or 62.
+    /// moment before the clock, whatever memory there is, and only for others 61 or 62; over a
+    /// healthy database 62 only where there was a fault of it.
     pub fn at(&mut self, moment: Moment) -> Result<(), Refusal>
         ensures moved { IsUsable S.Store self.new.connection
             → (history : History) → EngineRepresents S.Store history self.old
@@ -253,6 +254,7 @@ impl<S: Alter> Engine<S> {
         ensures kept { KeepsOnErr S.Store self.old self.new result }
         ensures none_stored { StaysOnErr S.Store self.old.connection self.new.connection result }
         ensures refused { IfErr result (MayRefuseMoment self.old.clock moment) }
+        ensures why { FailsOnFault S.Store self.old self.new result 0 }
         ensures memory { OnErr result (IsSameInMemory self.old self.new) }
         ensures usable { WasUsable S.Store self.old.connection self.new.connection }
         ensures others { SparesOthers S.Store self.old.connection self.new.connection }

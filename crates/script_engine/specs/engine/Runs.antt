@@ -1,6 +1,6 @@
 -- Which outcomes a statement may have in a history, and which history follows.
 use Rattle.std.specs.Prelude.{◌≡◌, ◌⊎◌, ◌<◌, ◌<ℤ◌, ◌≤ℤ◌, ◌++◌, ◌∷◌, ℤ, [], Result, Ok, Err}
-use Rattle.std.specs.Prelude.{List, Some, int_lt, map}
+use Rattle.std.specs.Prelude.{ℕ, IfErr, List, Some, int_lt, map}
 use Rattle.period_core.specs.Codes.{code_of}
 use Rattle.period_core.specs.Leasts.{MayAnswer, NoneApplies}
 use Rattle.period_core.specs.Moments.{forever}
@@ -30,8 +30,10 @@ use Rattle.period_keys.specs.Lawful.{IsLawfulChange}
 use Rattle.sqlite.specs.Store.{Ghosts}
 use Rattle.sqlite.specs.Held.{state}
 use Rattle.version_tables.specs.Steps.{HasFault}
-use Rattle.version_store.specs.StoreState.{IsStoreRefusal}
-use Rattle.script_engine.specs.engine.EngineState.{EngineState}
+use Rattle.version_tables.specs.Healthy.{IsHealthy}
+use Rattle.version_store.specs.Contents.{Contents}
+use Rattle.version_store.specs.StoreState.{IsStoreRefusal, IsUsable, StoreRepresents}
+use Rattle.script_engine.specs.engine.EngineState.{EngineState, store_of}
 use Rattle.script_engine.specs.engine.Stored.{RepresentsSome}
 use Rattle.catalog_core.specs.declared.change.Change.{Change}
 use Rattle.catalog_core.specs.declared.query.AnswerColumn.{AnswerColumn}
@@ -105,6 +107,15 @@ abbrev pub MayRefuseQuery : {S : Type 0} → Ghosts S → EngineState S → Engi
 MayRefuseQuery g old new s refusal =
     MayAnswer (AppliesOver old.catalog.tables old.clock s) refusal
     ⊎ HasFault (state g old.connection) (state g new.connection)
+
+-- over a healthy database, with room for so many versions more, 62 comes of a fault of the database
+abbrev pub FailsOnFault : {S X : Type 0} → Ghosts S → EngineState S → EngineState S
+    → Result X Refusal → ℕ → Type 0
+FailsOnFault g old new result count =
+    IsUsable g new.connection → (c : Contents) → StoreRepresents g (store_of old) c
+    → IsHealthy count (state g old.connection).now
+    → IfErr result (λ refusal. refusal ≡ Store
+    → HasFault (state g old.connection) (state g new.connection))
 
 -- what a moment may be refused with: 13 for FOREVER, 40 for one before the clock, and only for a
 -- later one out of memory or another failure of the database

@@ -48,12 +48,15 @@ returns-clause-over g c =
     let pieces = map (spanned (lexemes_at c.in-Ok.pieces.text.now c.as_slice-tokens.result.now)) c.as_slice-spans.result.now in (
       c.in-Ok-open.engine,
       c.in-Ok-open.ensures.opened,
-      (record {
-        pieces = pieces;
-        cut = cut;
-        last = c.run_pieces.new.engine;
-        run = all_pieces (KeptStepOver g.S.Store g.K.PieceResult.result_of) c.in-Ok-open.engine pieces (record { kept = room }) results c.run_pieces.result c.run_pieces.new.listener c.run_pieces.new.engine c.in-Ok-with_capacity.ensures.items space heard over;
-      }, refl),
+      (
+        record {
+          pieces = pieces;
+          cut = cut;
+          last = c.run_pieces.new.engine;
+          run = all_pieces (KeptStepOver g.S.Store g.K.PieceResult.result_of) c.in-Ok-open.engine pieces (record { kept = room }) results c.run_pieces.result c.run_pieces.new.listener c.run_pieces.new.engine c.in-Ok-with_capacity.ensures.items space heard over;
+        },
+        refl,
+      ),
     )
 
 pub returns-clause-usable : goal.returns-clause-usable

@@ -12,6 +12,15 @@ use Rattle.script_engine.specs.engine.InMemory.{IsSameInMemory}
 use Rattle.catalog_core.specs.declared.table.catalog.Catalog.{Catalog}
 use Rattle.script_engine.specs.engine.InMemory.{FollowCatalog}
 use Rattle.script_engine.proofs.EndedAfter.{ended_later}
+use Rattle.std.specs.Prelude.{◌≡◌, IfErr}
+use Rattle.std.proofs.lemmas.Result.{IfErr-weaker}
+use Rattle.period_core.specs.declared.refusal.Refusal.TheVariants.{Store}
+use Rattle.sqlite.specs.Held.{state}
+use Rattle.version_tables.specs.Healthy.{IsHealthy}
+use Rattle.version_tables.specs.Steps.{HasFault}
+use Rattle.version_store.specs.StoreState.{StoreRepresents}
+use Rattle.script_engine.specs.engine.EngineState.{store_of}
+use Rattle.script_engine.proofs.Refused.{by_fault}
 use Rattle.script_engine.proofs.engine.Engine.at.Goals as goal
 
 pub returns-in-Some-2-clause-moved : goal.returns-in-Some-2-clause-moved
@@ -48,3 +57,11 @@ returns-in-Some-2-clause-kept g c = λ usable contents has.
     let new : EngineState g.row.S.Denot = engine_of c.advance.new.self tables ended in
     let was : HasContents g.S.Store (engine_of c.self.inside.store tables ended) contents = subst (λ (e : EngineState g.row.S.Denot). HasContents g.S.Store e contents) (sym c.self.view_is) has in
     on_err_weaker {Q = HasContents g.S.Store new contents} c.advance.result (λ stored. record { stored = stored; current = was.current; ended = was.ended }) (c.advance.ensures.changes usable contents was.stored).1
+
+pub returns-in-Some-2-clause-why : goal.returns-in-Some-2-clause-why
+returns-in-Some-2-clause-why g c = λ usable contents stands healthy.
+    let old : EngineState g.row.S.Denot = engine_of c.self.inside.store (map rows_by_key c.self.inside.tables.items) c.self.inside.ended.items in
+    let was = subst (λ (e : EngineState g.row.S.Denot). StoreRepresents g.S.Store (store_of e) contents) (sym c.self.view_is) stands in
+    let sound = subst (λ (e : EngineState g.row.S.Denot). IsHealthy 0 (state g.S.Store e.connection).now) (sym c.self.view_is) healthy in
+    subst (λ (e : EngineState g.row.S.Denot). IfErr c.advance.result (λ refusal. refusal ≡ Store → HasFault (state g.S.Store e.connection) (state g.S.Store c.advance.new.self.connection))) c.self.view_is
+    (IfErr-weaker c.advance.result _ _ (λ refusal why told. by_fault g.S.Store old.connection c.advance.new.self.connection refusal why told) (c.advance.ensures.why usable contents was sound tt))
