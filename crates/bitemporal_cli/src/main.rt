@@ -4,7 +4,7 @@
 #![tactic(auto)]
 
 use bitemporal_file::{Reporter, StoreFiles, is_called, run_file_program};
-use command_line::{Tracked, words_of};
+use command_line::{ScriptFiles, Tracked, words_of};
 use command_tool::run_program;
 use sqlite::Unknown;
 use std::env;
@@ -29,7 +29,14 @@ fn main(rt: HostRuntime) -> ExitCode {
                 &mut err,
             )
         }
-        words => run_program(alloc, words, &rt, &mut input, &mut rt.stdout(), &mut err),
+        words => run_program(
+            alloc,
+            words,
+            &mut ScriptFiles::new(&rt),
+            &mut input,
+            &mut rt.stdout(),
+            &mut err,
+        ),
     };
     ExitCode::from(status)
 }

@@ -1,10 +1,8 @@
 -- How runs of the program end.
-use Rattle.std.proofs.Common.{◌≡◌, ◌≤◌, ℕ, Bool, List, Option, None, Some, Result, Ok, Err, MatchResult, true, arith, inl, inr, refl, subst, sym}
+use Rattle.std.proofs.Common.{◌≡◌, ◌≤◌, ℕ, Bool, List, Option, None, Some, Result, Ok, Err, MatchResult, false, true, ◌||◌, arith, inl, inr, refl, subst, sym}
 use Rattle.std.specs.Io.KnownBytes.{Keeps}
 use Rattle.command_line.specs.Lines.{IsReported, MayBeReportedAs, fault_line}
 use Rattle.command_tool.specs.Program.{EndsWell, MayEndIn, MayEndSilently, ProgramRun}
-use Rattle.clap.specs.declared.error.Error.{Error}
-use Rattle.command_line.specs.declared.command.CommandFault.TheVariants.{Clap, Memory as OutOfMemory}
 use Rattle.command_line.specs.declared.command.Mode.{Mode}
 use Rattle.command_line.specs.declared.fault.RunFault.{RunFault}
 use Rattle.command_line.specs.declared.fault.RunFault.TheVariants.{Script, Memory, Words, Read, Write, NoStore, Locked, Unfinished}
@@ -36,31 +34,33 @@ ends_silently r fault status silent kept told =
     let bound : r.status ≤ 3 = omega (arith, status) in
     (bound, (λ other. absurd (other status)), (λ _. line_told r.mode r.script r.read_failed r.out_before r.out_after r.err_before r.err_after r.err_failed fault (inl (silent, kept)) told), (λ _. (status, kept)))
 
-silent_if_failed : (mode : Mode) (script : Option (List ℕ)) (read_failed : Bool) (fault : RunFault) → MayEndSilently mode script read_failed fault → MayEndSilently mode script true fault
-silent_if_failed mode script read_failed (Script refusal) may = may
-silent_if_failed mode script read_failed Memory may = may
-silent_if_failed mode script read_failed Words may = may
-silent_if_failed mode script read_failed Read may = refl
-silent_if_failed mode script read_failed Write may = may
-silent_if_failed mode script read_failed NoStore may = may
-silent_if_failed mode script read_failed Locked may = may
-silent_if_failed mode script read_failed Unfinished may = may
+silent_if_failed : (mode : Mode) (script : Option (List ℕ)) (read_failed failed : Bool) (fault : RunFault) → (read_failed ≡ true → failed ≡ true) → MayEndSilently mode script read_failed fault → MayEndSilently mode script failed fault
+silent_if_failed mode script read_failed failed (Script refusal) then may = may
+silent_if_failed mode script read_failed failed Memory then may = may
+silent_if_failed mode script read_failed failed Words then may = may
+silent_if_failed mode script read_failed failed Read then may = then may
+silent_if_failed mode script read_failed failed Write then may = may
+silent_if_failed mode script read_failed failed NoStore then may = may
+silent_if_failed mode script read_failed failed Locked then may = may
+silent_if_failed mode script read_failed failed Unfinished then may = may
 
--- a run ends well whatever is known of its reader
-pub ends_if_failed : (r : ProgramRun) → EndsWell r → EndsWell (record r { read_failed = true })
-ends_if_failed r (bound, reported, faulty, refused) = (bound, reported, (λ status. go (faulty status)), refused)
+-- a run whose reader has failed if this one has
+ends_if_failed : (r : ProgramRun) (failed : Bool) → (r.read_failed ≡ true → failed ≡ true) → EndsWell r → EndsWell (record r { read_failed = failed })
+ends_if_failed r failed then (bound, reported, faulty, refused) = (bound, reported, (λ status. go (faulty status)), refused)
   where
     go : (fault : RunFault) × MayEndIn r.mode r.script r.read_failed r.out_before r.out_after fault × IsReported r.err_failed r.err_before r.err_after (fault_line Bitemporal fault)
-        → (fault : RunFault) × MayEndIn r.mode r.script true r.out_before r.out_after fault × IsReported r.err_failed r.err_before r.err_after (fault_line Bitemporal fault)
-    go (fault, inl silent, line) = (fault, inl (silent_if_failed r.mode r.script r.read_failed fault silent.0, silent.1), line)
-    go (fault, inr failed, line) = (fault, inr failed, line)
+        → (fault : RunFault) × MayEndIn r.mode r.script failed r.out_before r.out_after fault × IsReported r.err_failed r.err_before r.err_after (fault_line Bitemporal fault)
+    go (fault, inl silent, line) = (fault, inl (silent_if_failed r.mode r.script r.read_failed failed fault then silent.0, silent.1), line)
+    go (fault, inr given, line) = (fault, inr given, line)
 
 -- a run over a script of these bytes
-pub ends_over : (r : ProgramRun) (script : Option (List ℕ)) → r.script ≡ script → EndsWell r → EndsWell (record r { script = script; read_failed = true })
-ends_over r script is ends = subst (λ (s : Option (List ℕ)). EndsWell (record r { script = s; read_failed = true })) is (ends_if_failed r ends)
+pub ends_over : (r : ProgramRun) (script : Option (List ℕ)) (failed : Bool) → r.script ≡ script → (r.read_failed ≡ true → failed ≡ true) → EndsWell r
+    → EndsWell (record r { script = script; read_failed = failed })
+ends_over r script failed is then ends = subst (λ (s : Option (List ℕ)). EndsWell (record r { script = s; read_failed = failed })) is (ends_if_failed r failed then ends)
 
-pub is_no_memory : (fault : Error) → Clap fault ≡ OutOfMemory → ⊥
-is_no_memory fault same = cc
+pub or_true : (b : Bool) → (b || true) ≡ true
+or_true false = refl
+or_true true = refl
 
 -- what a result is known to be
 pub at_ok : {T E : Type 0} (r : Result T E) (x : T) (P : T → Type 0) (Q : E → Type 0) → r ≡ Ok x → MatchResult r P Q → P x

@@ -156,7 +156,8 @@ abbrev pub script_of :
 script_of content_of input None = input
 script_of content_of input (Some name) = content_of name
 
--- whether the script may not be read: a named file may not open, the reader has failed or not
-abbrev pub may_fail : Bool → Option (List ℕ) → Bool
-may_fail read_failed None = read_failed
-may_fail read_failed (Some name) = true
+-- whether its reader failed: the file that is named did not open or a read of it failed, or else a
+-- read of the input
+abbrev pub failed_of : Bool → Bool → Option (List ℕ) → Bool
+failed_of input_failed files_failed None = input_failed
+failed_of input_failed files_failed (Some name) = files_failed
