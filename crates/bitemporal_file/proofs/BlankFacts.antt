@@ -7,7 +7,6 @@ use Rattle.std.proofs.lemmas.Bool.Decides.{Decides-eqb}
 use Rattle.std.proofs.lemmas.Slice.Eq.{starts_is}
 use Rattle.std.specs.Io.BufRead.{take_through}
 use Rattle.std.proofs.lemmas.Bool.{and_from, and_parts, cases_Bool, eqb-true, false_from_ne_true, ne_eqb}
-use Rattle.sql_statements.specs.declared.lexeme.Front.{Front}
 use Rattle.sql_statements.specs.declared.lexeme.Front.TheVariants as front
 use Rattle.sql_statements.specs.Lexemes.{Lexeme}
 use Rattle.sql_statements.specs.Lexis as lexis
@@ -189,6 +188,7 @@ unmarked bytes few = rw (false_from_ne_true (starts_with nat_eq bytes byte_order
   where
     begins : (bytes : List ℕ) → starts_with nat_eq bytes byte_order_mark ≡ true → bytes ≡ byte_order_mark ++ drop 3 bytes
     begins bytes is = (starts_is Decides-eqb bytes byte_order_mark (starts_with nat_eq bytes byte_order_mark) refl).0 is
+
     too_few : bytes ≡ byte_order_mark ++ drop 3 bytes → ⊥
     too_few is = omega (arith, few, ap length is, length-append byte_order_mark (drop 3 bytes))
 

@@ -289,8 +289,9 @@ pub leads-more : {K : Type 0} (IsStep : History → List Lexeme → K → Histor
 leads-more IsStep history [] more middle last same rest = subst (λ h. LeadsTo IsStep h more last) same rest
 leads-more IsStep history (run ∷ runs) more middle last (made, leads) rest = (made, leads-more IsStep made.last runs more middle last leads rest)
 
--- what an engine represents its database stands for
-pub stands_for : {S : Type 0} (g : Ghosts S) (history : History) (engine : EngineState S) (connection : Held S) → connection ≡ engine.connection → EngineRepresents g history engine → DatabaseRepresents history (state g connection).now
+-- what an engine represents its database stands for, and that is committed
+pub stands_for : {S : Type 0} (g : Ghosts S) (history : History) (engine : EngineState S) (connection : Held S) → connection ≡ engine.connection → EngineRepresents g history engine →
+    DatabaseRepresents history (state g connection).now × ((state g connection).committed ≡ (state g connection).now)
 stands_for {S = S} g history engine connection same represents =
     let said = subst (AreOfHistory history) (sym (same_units represents.contents)) represents.said in
-    subst (λ (held : Held S). DatabaseRepresents history (state g held).now) (sym same) (inr (Microseconds, represents.contents, represents.stored.now, said))
+    subst (λ (held : Held S). DatabaseRepresents history (state g held).now × ((state g held).committed ≡ (state g held).now)) (sym same) (inr (Microseconds, represents.contents, represents.stored.now, said), represents.stored.committed)

@@ -1,5 +1,5 @@
 -- Parts that are read and run one after the other.
-use Rattle.std.proofs.Common.{◌≡◌, ◌≤◌, ◌+◌, ◌++◌, ◌∷◌, ◌∙◌, ℕ, Bool, List, [], Option, None, Some, Ok, Err, All, add-zero, append_assoc, ap, arith, get_or, inl, inr, length, length-append, refl, subst, sym, take, false, true}
+use Rattle.std.proofs.Common.{◌≡◌, ◌≤◌, ◌+◌, ◌++◌, ◌∷◌, ◌∙◌, ℕ, Bool, List, [], Option, None, Some, Ok, Err, All, add-zero, append_assoc, ap, arith, get_or, inl, inr, length, length-append, refl, subst, sym, take, true}
 use Rattle.std.specs.Prelude.{◌<◌, ◌⊎◌, IfOk, IfSome, Result}
 use Rattle.period_core.specs.Codes.{code_of}
 use Rattle.period_core.specs.declared.refusal.Refusal.TheVariants.{BadToken, NotUtf8, ScriptTooLarge}
@@ -8,7 +8,7 @@ use Rattle.script_engine.specs.script.Script.{MayRefuseScript, ScriptApplies, mo
 use Rattle.std.specs.Io.KnownBytes.{Consumes, IsAtEnd, Keeps}
 use Rattle.std.proofs.KnownBytes.{Consumes-kept, Consumes-nil, Consumes-trans}
 use Rattle.std.proofs.lemmas.List.{append-nil}
-use Rattle.std.proofs.lemmas.List.Elements.{All-append, All-cons, All-head, All-nil, All-tail}
+use Rattle.std.proofs.lemmas.List.Elements.{All-append, All-cons, All-nil}
 use Rattle.period_core.specs.declared.refusal.Refusal.{Refusal}
 use Rattle.history_model.specs.Histories.{History}
 use Rattle.sqlite.specs.Store.{Ghosts}
@@ -24,7 +24,7 @@ use Rattle.bitemporal_file.specs.Parts.{EndsAtSemicolon, HasNoToken, IsUnfinishe
 use Rattle.bitemporal_file.specs.Reporting.{EndsWith, IsReportFault, TellsAll}
 use Rattle.bitemporal_file.specs.ScriptRuns.{ScriptRun, results_of}
 use Rattle.bitemporal_file.specs.Sessions.{ArePartsOf, IsSessionFault, LeadsThrough, PartStep, bytes_of, placed_at}
-use Rattle.bitemporal_file.proofs.RunFacts.{faulty_flow, is_none_of_script, its_fault, its_own}
+use Rattle.bitemporal_file.proofs.RunFacts.{faulty_flow, its_fault, its_own}
 use Rattle.bitemporal_file.proofs.Told.{ends_told, told_more}
 
 -- ---- one byte more

@@ -8,12 +8,9 @@ use Rattle.period_core.specs.declared.refusal.Refusal.{Refusal}
 use Rattle.sql_statements.specs.Lexemes.{Lexeme}
 use Rattle.history_model.specs.Histories.{History}
 use Rattle.command_line.specs.declared.fault.RunFault.{RunFault}
-use Rattle.command_line.specs.declared.file_command.Asked.{Asked}
 use Rattle.bitemporal_file.specs.Sessions.{LeadsThrough}
 use Rattle.bitemporal_file.specs.ScriptRuns.{LeadsTo}
-use Rattle.sqlite.specs.Held.{Held}
-use Rattle.sqlite.specs.Store.{Ghosts}
-use Rattle.bitemporal_file.specs.StoreRuns.{RunsAsked, RunsGiven, RunsScripts, RunsSession}
+use Rattle.bitemporal_file.specs.StoreRuns.{RunsGiven, RunsScripts, RunsSession}
 use Rattle.bitemporal_file.specs.declared.reporter.Reporter.{Reporter}
 
 -- what a reader has of which nothing was read yet
@@ -48,7 +45,6 @@ module _ {K W : Type 0} (IsStep : History → List Lexeme → K → History → 
   given_so Second so [] known old ended new (runs, parts, run, ends, led) = (runs, parts, run, ends, so (λ history last. LeadsThrough IsStep refused 0 history runs last) led)
   given_so Second so (reader ∷ readers) known old ended new (runs, are, run, ends, led) = (runs, are, run, ends, so (λ history last. LeadsTo IsStep history runs last) led)
 
--- what is known of the input, in other words
-pub runs_known : {S W : Type 0} (g : Ghosts S) (contents : W → Option (List ℕ)) (Opens Keeps : Held S → Type 0) (content_of : List ℕ → Option (List ℕ)) (known other : Option (List ℕ)) (asked : Asked) (old : Reporter W) (result : Result ℕ RunFault) (new : Reporter W) → other ≡ known →
-    RunsAsked g contents Opens Keeps content_of other asked old result new → RunsAsked g contents Opens Keeps content_of known asked old result new
-runs_known g contents Opens Keeps content_of known other asked old result new same ran = rw (← same) ran
+  -- what is known of the input, in other words
+  pub session_known : (known other : Option (List ℕ)) (old : Reporter W) (ended : Result Bool RunFault) (new : Reporter W) → other ≡ known → RunsSession IsStep refused contents text status First other old ended new → RunsSession IsStep refused contents text status First known old ended new
+  session_known known other old ended new same ran = rw (← same) ran

@@ -4,3 +4,4 @@ pub mod Parts
 pub mod Sessions
 pub mod StoreRuns
 pub mod StoreFiles
+pub mod Program

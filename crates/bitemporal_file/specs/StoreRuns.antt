@@ -1,12 +1,12 @@
 -- What the program does with a store: it opens it, runs what its command line asks for, and closes
 -- it.
-use Rattle.std.specs.Prelude.{◌≡◌, ◌⊎◌, ◌∷◌, ℕ, Bool, List, [], Option, Result, Ok, Err, IfErr}
-use Rattle.std.specs.Prelude.{IfOk, false, map, true, ⊤}
+use Rattle.std.specs.Prelude.{◌≡◌, ◌⊎◌, ◌∷◌, ℕ, Bool, List, [], Option, Result, Ok, Err, false}
+use Rattle.std.specs.Prelude.{map, true}
 use Rattle.std.specs.String.{string_bytes}
 use Rattle.sqlite.specs.Held.{Held, state}
 use Rattle.sqlite.specs.Store.{Ghosts}
 use Rattle.period_core.specs.declared.refusal.Refusal.{Refusal}
-use Rattle.period_core.specs.declared.refusal.Refusal.TheVariants.{BadStore, Store}
+use Rattle.period_core.specs.declared.refusal.Refusal.TheVariants.{BadStore}
 use Rattle.sql_statements.specs.Lexemes.{Lexeme}
 use Rattle.history_model.specs.Histories.{History}
 use Rattle.statement_reports.specs.AuditedReport.{entry_text}
@@ -19,15 +19,13 @@ use Rattle.script_engine.specs.engine.Stored.{RepresentsSome}
 use Rattle.script_engine.specs.script.AuditedRuns.{AuditedPieceStep}
 use Rattle.script_engine.specs.script.Script.{PieceStep}
 use Rattle.command_line.specs.declared.fault.RunFault.{RunFault}
-use Rattle.command_line.specs.Lines.{IsReported, MayBeReportedAs, fault_line}
-use Rattle.command_line.specs.declared.fault.ProgramName.TheVariants.{BitemporalFile}
-use Rattle.command_line.specs.declared.fault.RunFault.TheVariants.{Locked, Memory, NoStore, Read}
-use Rattle.command_line.specs.declared.fault.RunFault.TheVariants.{Script, Unfinished, Words, Write}
+use Rattle.command_line.specs.declared.fault.RunFault.TheVariants.{Script}
 use Rattle.command_line.specs.declared.file_command.Asked.{Asked}
 use Rattle.bitemporal_file.specs.Reporting.{EndsWith, entry_status, refused_entry, result_status}
 use Rattle.bitemporal_file.specs.ScriptRuns.{AreOfReaders, AreRun, Ends, LeadsTo, ScriptRun}
 use Rattle.bitemporal_file.specs.ScriptRuns.{results_of}
 use Rattle.bitemporal_file.specs.Sessions.{ArePartsOf, LeadsThrough}
+use Rattle.bitemporal_file.specs.StoreFiles.{Filing, IsItsFault}
 use Rattle.bitemporal_file.specs.declared.reporter.Reporter.{Reporter}
 
 -- whatever history the engine represented, it represents one to which that led, where its disk
@@ -39,12 +37,13 @@ LeadsEngine g old new Led =
     → RepresentsSome g (Led history) new
 
 -- whatever history the database stood for as it was opened, it stands for one to which that led as
--- it is closed, where its disk returned what was written
+-- it is closed, and that is committed, where its disk returned what was written
 abbrev pub LeadsDatabase : {S : Type 0} → Ghosts S → Held S → Held S
     → (History → History → Type 0) → Type 0
 LeadsDatabase g opened closed Led =
     IsUsable g closed → (history : History) → DatabaseRepresents history (state g opened).now
     → (last : History) × Led history last × DatabaseRepresents last (state g closed).now
+    × ((state g closed).committed ≡ (state g closed).now)
 
 -- the database is refused as a store for this cause, and stays as it was
 pub record RefusesStore {S : Type 0} (g : Ghosts S) (opened : Held S) (refusal : Refusal)
@@ -92,69 +91,46 @@ RunsAs g contents true readers known old opened ended closed new =
     RunsGiven AuditedPieceStep refused_entry contents entry_text entry_status
     (LeadsDatabase g opened closed) readers known old ended new
 
--- why there is no connection: the file does not open, another program has it, it is no database,
--- its disk is at fault, or memory is out
-abbrev pub MayNotOpen : RunFault → Type 0
-MayNotOpen (Script refusal) = (refusal ≡ BadStore) ⊎ (refusal ≡ Store)
-MayNotOpen Memory = ⊤
-MayNotOpen Words = ⊥
-MayNotOpen Read = ⊥
-MayNotOpen Write = ⊥
-MayNotOpen NoStore = ⊤
-MayNotOpen Locked = ⊤
-MayNotOpen Unfinished = ⊥
-
--- how the store is opened and closed, and what is run in between; where it is used, others have in
--- its database what they had
-abbrev pub Uses : {S W : Type 0} → Ghosts S → (Held S → Type 0) → (Held S → Type 0)
-    → (Held S → Result Bool RunFault → Held S → Reporter W → Type 0)
-    → Reporter W → Result ℕ RunFault → Reporter W → Type 0
+-- how a store is opened and left, and what is run in between, or that nothing was; where it is used,
+-- others have in its database what they had
+abbrev pub Uses : {S T W : Type 0} → Ghosts S → Filing S → (Reporter W → Type 0)
+    → (Held S → Result T RunFault → Held S → Reporter W → Type 0)
+    → Result ℕ RunFault → Reporter W → Type 0
 -- the run is reported whole, the status is the greatest of its statements', and the store is closed
 -- with all that is committed in it
-Uses {S} g Opens Keeps Runs old (Ok status) new =
-    (opened : Held S) × (closed : Held S) × Opens opened × Keeps closed
+Uses {S} {T} g files IsUntouched Runs (Ok status) new =
+    (opened : Held S) × (closed : Held S) × files.Opens opened × files.Keeps closed
     × SparesOthers g opened closed
-    × ((goes_on : Bool) × Runs opened (Ok goes_on) closed new) × (status ≡ new.worst)
+    × ((value : T) × Runs opened (Ok value) closed new) × (status ≡ new.worst)
 -- nothing was run, since there is no connection, or since its database is no store; or the run
--- ended in the fault, or the store was not closed
-Uses {S} g Opens Keeps Runs old (Err fault) new =
-    (MayNotOpen fault × (new.out ≡ old.out))
-    ⊎ ((opened : Held S) × Opens opened
-    × (((refusal : Refusal) × (left : Held S) × RefusesStore g opened refusal left
-    × (fault ≡ Script refusal) × (new.out ≡ old.out))
-    ⊎ ((ended : Result Bool RunFault) × (closed : Held S) × SparesOthers g opened closed
-    × Runs opened ended closed new × IfErr ended (λ cause. cause ≡ fault))))
+-- ended in the fault, or else the store was not closed
+Uses {S} {T} g files IsUntouched Runs (Err fault) new =
+    (files.Fails fault × IsUntouched new)
+    ⊎ ((opened : Held S) × (left : Held S) × files.Opens opened × files.Leaves left
+    × (((refusal : Refusal) × RefusesStore g opened refusal left × (fault ≡ Script refusal)
+    × IsUntouched new)
+    ⊎ ((ended : Result T RunFault) × SparesOthers g opened left × Runs opened ended left new
+    × IsItsFault (files.Unclosed left) ended fault)))
 
--- what is asked for is run over a store: how it is opened and how it is closed, which bytes the
--- names of scripts have, and what is known of the input
-abbrev pub RunsAsked : {S W : Type 0} → Ghosts S → (W → Option (List ℕ)) → (Held S → Type 0)
-    → (Held S → Type 0) → (List ℕ → Option (List ℕ)) → Option (List ℕ) → Asked → Reporter W
-    → Result ℕ RunFault → Reporter W → Type 0
-RunsAsked g contents Opens Keeps content_of known asked old =
-    Uses g Opens Keeps
-    (RunsAs g contents asked.audits (map content_of (map string_bytes asked.files.items)) known
-    (record old { stops = asked.stops }))
-    old
+-- what is asked for is run over a store: how its files are opened and left, which bytes the names
+-- of scripts have, and what is known of the input, which is read only where the store is used
+abbrev pub RunsAsked : {S I W : Type 0} → Ghosts S → (W → Option (List ℕ)) → Filing S
+    → (List ℕ → Option (List ℕ)) → (I → Option (List ℕ)) → Asked → Reporter W → I
+    → Result ℕ RunFault → Reporter W → I → Type 0
+RunsAsked g contents files content_of remaining asked old unread result new input =
+    Uses g files (λ reporter. (reporter ≡ old) × (input ≡ unread))
+    (RunsAs g contents asked.audits (map content_of (map string_bytes asked.files.items))
+    (remaining unread) old)
+    result new
 
--- the tables are listed: the report has no statement, and a store that was listed is closed with
--- all that is committed in it, and with what others have in its database
-pub record Lists {S W : Type 0} (g : Ghosts S) (Opens Keeps : Held S → Type 0) (old : Reporter W)
-    (ended : Result ℕ RunFault) (new : Reporter W) : Type 0 where
+-- the tables of an open store are listed: no statement is reported, and the history stays
+pub record ListsTables {S T W : Type 0} (g : Ghosts S) (old : Reporter W) (opened : Held S)
+    (ended : Result T RunFault) (closed : Held S) (new : Reporter W) : Type 0 where
   pub unreported : new ≡ record old { out = new.out }
-  pub closed : IfOk ended (λ status. (status ≡ 0)
-      × (opened : Held S) × (closed : Held S) × Opens opened × Keeps closed
-      × SparesOthers g opened closed)
-  -- there is no connection, its database is no store, or the list was not whole
-  pub failed : IfErr ended (λ fault. MayNotOpen fault
-      ⊎ ((opened : Held S) × Opens opened
-      × (((refusal : Refusal) × (left : Held S) × RefusesStore g opened refusal left
-      × (fault ≡ Script refusal))
-      ⊎ ((closed : Held S) × SparesOthers g opened closed))))
+  pub same : LeadsDatabase g opened closed (λ history last. last ≡ history)
 
--- how the program exits, and what standard error gets: nothing; or with status 2 the line of a
--- fault, whole unless a write failed
-abbrev pub ExitsAs : Result ℕ RunFault → ℕ → Bool → Option (List ℕ) → Option (List ℕ) → Type 0
-ExitsAs (Ok status) exit err_failed old new = (exit ≡ status) × (new ≡ old)
-ExitsAs (Err fault) exit err_failed old new =
-    (exit ≡ 2) × (told : RunFault) × MayBeReportedAs fault told
-    × IsReported err_failed old new (fault_line BitemporalFile told)
+-- those of a store are listed
+abbrev pub Lists : {S W : Type 0} → Ghosts S → Filing S → Reporter W → Result ℕ RunFault
+    → Reporter W → Type 0
+Lists {S} {W} g files old result new =
+    Uses g files (λ reporter. reporter ≡ old) (ListsTables {T = Unit {0}} g old) result new

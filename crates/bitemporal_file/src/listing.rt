@@ -2,9 +2,10 @@
 //! columns, its periods, its key and its references.
 
 ghost use Rattle.std.specs.Prelude.{◌≡◌, IfErr, IfOk, false};
-ghost use Rattle.version_store.specs.StoreState.{SparesOthers};
-ghost use Rattle.script_engine.specs.engine.Stored.{WasUsable};
-ghost use Rattle.bitemporal_file.specs.StoreRuns.{RefusesStore};
+ghost use Rattle.version_store.specs.StoreState.{IsUsable, SparesOthers};
+ghost use Rattle.history_model.specs.Histories.{History};
+ghost use Rattle.script_engine.specs.engine.Stored.{EngineRepresents, WasUsable};
+ghost use Rattle.bitemporal_file.specs.StoreRuns.{LeadsDatabase, RefusesStore};
 
 use catalog_core::{Catalog, Column, ColumnKind, Reference, TableDef};
 use command_line::RunFault;
@@ -118,6 +119,9 @@ fn push_clock<S: Alter>(text: &mut String, engine: &Engine<S>) -> Result<(), All
 }
 
 fn text_of<S: Alter>(alloc: Global, engine: &mut Engine<S>) -> Result<String, RunFault>
+    ensures same { IsUsable S.Store engine.new.connection
+        → (history : History) → EngineRepresents S.Store history engine.old
+        → EngineRepresents S.Store history engine.new }
     ensures usable { WasUsable S.Store engine.old.connection engine.new.connection }
     ensures others { SparesOthers S.Store engine.old.connection engine.new.connection }
 {
@@ -147,6 +151,9 @@ fn list_tables<S: Alter, W: Write>(
     engine: &mut Engine<S>,
     out: &mut W,
 ) -> Result<(), RunFault>
+    ensures same { IsUsable S.Store engine.new.connection
+        → (history : History) → EngineRepresents S.Store history engine.old
+        → EngineRepresents S.Store history engine.new }
     ensures usable { WasUsable S.Store engine.old.connection engine.new.connection }
     ensures others { SparesOthers S.Store engine.old.connection engine.new.connection }
 {
@@ -165,10 +172,12 @@ pub fn list_store<S: Alter, W: Write>(
     out: &mut W,
 ) -> Result<(Result<(), RunFault>, Connection<S>), (Refusal, Connection<S>)>
     requires { connection.in_transaction ≡ false }
+    ensures same { IfOk result (λ ended.
+        LeadsDatabase S.Store connection ended.1 (λ history last. last ≡ history)) }
     ensures others { IfOk result (λ ended. SparesOthers S.Store connection ended.1) }
     ensures closed { IfOk result (λ ended. ended.1.in_transaction ≡ false) }
     ensures refused { IfErr result (λ failed.
-        RefusesStore S.Store connection failed.0 failed.1) }
+        RefusesStore S.Store connection failed.0 failed.1 × (out.new ≡ out.old)) }
 {
     let mut engine = Engine::open(alloc, connection)?;
     let listed = list_tables(alloc, &mut engine, out);

@@ -6,21 +6,43 @@ ghost use Rattle.version_store.specs.StoreState.{SparesOthers};
 ghost use Rattle.script_engine.specs.engine.Stored.{WasUsable};
 ghost use Rattle.sqlite_wal.specs.Files.{image_at};
 ghost use Rattle.bitemporal_file.specs.Reporting.{IsUnused};
-ghost use Rattle.bitemporal_file.specs.StoreFiles.{Finds, IsInFiles};
+ghost use Rattle.bitemporal_file.specs.declared.stores.StoreEnd.TheVariants.{Unopened};
+ghost use Rattle.bitemporal_file.specs.StoreFiles.{IsInFiles, IsItsFault, IsLeftAs, IsUnclosedFor};
+ghost use Rattle.bitemporal_file.specs.StoreFiles.{filing};
 ghost use Rattle.bitemporal_file.specs.StoreRuns.{LeadsDatabase, LeadsEngine, RefusesStore};
-ghost use Rattle.bitemporal_file.specs.StoreRuns.{RunsAs, RunsAsked, RunsGiven};
+ghost use Rattle.bitemporal_file.specs.StoreRuns.{RunsAs, RunsAsked, RunsGiven, RunsSession};
 
 use crate::reporter::{Reported, Reporter};
 use crate::runs::run_all;
 use crate::session::run_parts;
-use crate::stores::{Filed, StoreFiles, close_store};
+use crate::stores::{Filed, StoreFiles};
 use command_line::{Asked, RunFault, Scripts};
 use period_core::Refusal;
 use script_engine::{Engine, Entry, Outcome, PieceResult};
 use sqlite::{Alter, Connection, Start};
 use sqlite_trees::store::Store;
 use std::alloc::Global;
-use std::io::{Read, Write};
+use std::io::{BufReader, Read, Write};
+
+// Runs a session of the input, which is read in blocks, and reports each statement.
+fn run_input<S: Alter, K: PieceResult<S> + Reported + Drop, R: Read, W: Write>(
+    alloc: Global,
+    engine: &mut Engine<S>,
+    input: &mut R,
+    reporter: &mut Reporter<W>,
+) -> Result<bool, RunFault>
+    requires { reporter.old.fault ≡ None }
+    ensures ran { RunsSession K.is_step K.refused W.contents K.text K.status_of
+        (LeadsEngine S.Store engine.old engine.new) (R.remaining input.old)
+        reporter.old result reporter.new }
+    ensures usable { WasUsable S.Store engine.old.connection engine.new.connection }
+    ensures others { SparesOthers S.Store engine.old.connection engine.new.connection }
+{
+    let Ok(mut blocks) = BufReader::new(alloc, input) else {
+        return Err(RunFault::Memory);
+    };
+    run_parts::<S, K, _, W>(alloc, engine, &mut blocks, reporter)
+}
 
 // Runs the scripts in files, or else a session of the input, and reports each statement.
 fn run_files<S: Alter, K: PieceResult<S> + Reported + Drop, Q: Scripts, R: Read, W: Write>(
@@ -41,7 +63,7 @@ fn run_files<S: Alter, K: PieceResult<S> + Reported + Drop, Q: Scripts, R: Read,
     ensures others { SparesOthers S.Store engine.old.connection engine.new.connection }
 {
     if files.is_empty() {
-        return run_parts::<S, K, R, W>(alloc, engine, input, reporter);
+        return run_input::<S, K, R, W>(alloc, engine, input, reporter);
     }
     run_all::<S, K, Q, W>(alloc, engine, scripts, files, reporter)
 }
@@ -107,30 +129,32 @@ fn run_opened<S: Alter, Q: Scripts, R: Read, W: Write>(
 /// Closes the store after what was done over it. Where that failed before any statement was run,
 /// and the store is new, no file of it stays.
 pub(crate) fn end_over<S: Start, T: Drop, W>(
-    stores: &StoreFiles<'_, S>,
+    stores: &mut StoreFiles<'_, S>,
     name: &str,
     report: &Reporter<W>,
     ended: Result<T, RunFault>,
     connection: Connection<Filed<S>>,
 ) -> Result<(), RunFault>
-    ensures kept { OnOk result (IsInFiles connection) }
+    ensures kept { OnOk result (IsInFiles stores.new.end connection) }
+    ensures left { IsLeftAs stores.new.end connection }
     ensures whole { OnOk result ((value : T) × (ended ≡ Ok value)) }
-    ensures fault { IfErr result (λ fault. IfErr ended (λ cause. cause ≡ fault)) }
+    ensures fault { IfErr result (IsItsFault (IsUnclosedFor stores.new.end connection) ended) }
 {
     match ended {
-        Ok(_) => close_store(connection),
+        Ok(_) => stores.close_store(connection),
         Err(fault) if report.is_unused && stores.is_new() => {
             stores.give_up(name, report, connection);
             Err(fault)
         }
         Err(fault) => {
-            let _ = close_store(connection);
+            let _ = stores.close_store(connection);
             Err(fault)
         }
     }
 }
 
-/// Runs what is asked for over the store that is named. Gives the exit status.
+/// Runs what is asked for over the store that is named, with `--stop` as the report has it. Gives
+/// the exit status.
 pub(crate) fn run_over<S: Start, Q: Scripts, R: Read, W: Write>(
     alloc: Global,
     stores: &mut StoreFiles<'_, S>,
@@ -139,15 +163,16 @@ pub(crate) fn run_over<S: Start, Q: Scripts, R: Read, W: Write>(
     input: &mut R,
     reporter: &mut Reporter<W>,
 ) -> Result<u8, RunFault>
-    requires { IsUnused reporter.old }
-    ensures ran { RunsAsked ⟦<Filed<S> as Store>⟧ W.contents (Finds (image_at S.Start)) IsInFiles
-        (Q.content scripts.now) (R.remaining input.old) asked.now
-        reporter.old result reporter.new }
+    requires unused { IsUnused reporter.old }
+    requires unopened { stores.old.end ≡ Unopened }
+    ensures ran { RunsAsked ⟦<Filed<S> as Store>⟧ W.contents
+        (filing (image_at S.Start) stores.new.end)
+        (Q.content scripts.now) R.remaining asked.now
+        reporter.old input.old result reporter.new input.new }
     ensures low { reporter.old.worst ≤ 3 → IfOk result (λ status. status ≤ 3) }
 {
     let name = asked.store.as_str();
     let connection = stores.open_store(name, true)?;
-    reporter.stops = asked.stops;
     match run_opened::<Filed<S>, Q, R, W>(alloc, connection, scripts, asked, input, reporter) {
         Ok((ended, connection)) => {
             end_over(stores, name, reporter, ended, connection)?;

@@ -2,34 +2,50 @@
 
 ghost use Rattle.std.specs.Prelude.{◌≡◌, ◌≤◌, ◌⊎◌, ℕ, IfOk, Result, false, map, true};
 ghost use Rattle.std.specs.String.{string_bytes};
-ghost use Rattle.clap.specs.Words.{matches_of};
 ghost use Rattle.sqlite_wal.specs.Files.{image_at};
-ghost use Rattle.command_line.specs.FileCommand.{Asks, bitemporal_file};
+ghost use Rattle.command_line.specs.CommandFaults.{IsShown};
+ghost use Rattle.command_line.specs.declared.command.CommandFault.{CommandFault};
 ghost use Rattle.command_line.specs.declared.fault.RunFault.{RunFault};
 ghost use Rattle.command_line.specs.declared.file_command.Asked.{Asked};
+ghost use Rattle.bitemporal_file.specs.Program.{AskNothingFor, ExitsAs, IsAskedBy, last_component};
+ghost use Rattle.bitemporal_file.specs.Program.{names_program};
 ghost use Rattle.bitemporal_file.specs.Reporting.{IsUnused};
-ghost use Rattle.bitemporal_file.specs.StoreFiles.{Finds, IsInFiles};
-ghost use Rattle.bitemporal_file.specs.StoreRuns.{ExitsAs, Lists, RunsAsked};
+ghost use Rattle.bitemporal_file.specs.declared.stores.StoreEnd.TheVariants.{Unopened};
+ghost use Rattle.bitemporal_file.specs.StoreFiles.{filing};
+ghost use Rattle.bitemporal_file.specs.StoreRuns.{Lists, RunsAsked};
 
 use crate::listing::list_store;
 use crate::over::{end_over, run_over};
 use crate::reporter::Reporter;
 use crate::stores::{Filed, StoreFiles};
-use command_line::{
-    Asked, CommandFault, ProgramName, RunFault, Scripts, Tracked, asked_by, end_in, show,
-};
+use command_line::{Asked, ProgramName, RunFault, Scripts, Tracked, asked_by, end_in, show};
 use sqlite::Start;
 use sqlite_trees::store::Store;
 use std::alloc::Global;
-use std::io::{BufReader, Read, Write};
+use std::io::{Read, Write};
 
 const NAME: &str = "bitemporal_file";
 
-/// Whether the words of a command line call this program: whether its name is at the end of the
-/// first.
-pub fn is_called(words: &[String]) -> bool {
+// The last component of a path.
+fn component_of(path: &[u8]) -> &[u8]
+    ensures { result.now ≡ last_component path.now }
+{
+    let mut start = 0;
+    for (i, byte) in path.iter().enumerate() {
+        if *byte == b'/' {
+            start = i + 1;
+        }
+    }
+    &path[start..]
+}
+
+/// Whether the words of a command line call this program: whether the last component of the first,
+/// which is the path of a program, begins with its name.
+pub fn is_called(words: &[String]) -> bool
+    ensures { result ≡ names_program (map string_bytes words.now) }
+{
     match words.first() {
-        Some(word) => word.as_str().ends_with(NAME),
+        Some(word) => component_of(word.as_str().as_bytes()).starts_with(NAME.as_bytes()),
         None => false,
     }
 }
@@ -41,8 +57,9 @@ fn list_asked<S: Start, W: Write>(
     asked: &Asked,
     reporter: &mut Reporter<W>,
 ) -> Result<u8, RunFault>
-    requires { IsUnused reporter.old }
-    ensures lists { Lists ⟦<Filed<S> as Store>⟧ (Finds (image_at S.Start)) IsInFiles
+    requires unused { IsUnused reporter.old }
+    requires unopened { stores.old.end ≡ Unopened }
+    ensures lists { Lists ⟦<Filed<S> as Store>⟧ (filing (image_at S.Start) stores.new.end)
         reporter.old result reporter.new }
     ensures low { IfOk result (λ status. status ≤ 3) }
 {
@@ -69,23 +86,23 @@ fn run_asked<S: Start, Q: Scripts, R: Read, W: Write>(
     input: &mut Tracked<R>,
     reporter: &mut Reporter<W>,
 ) -> Result<u8, RunFault>
-    requires { IsUnused reporter.old }
+    requires unused { IsUnused reporter.old }
+    requires unopened { stores.old.end ≡ Unopened }
     ensures listed { asked.now.lists ≡ true
-        → Lists ⟦<Filed<S> as Store>⟧ (Finds (image_at S.Start)) IsInFiles
+        → Lists ⟦<Filed<S> as Store>⟧ (filing (image_at S.Start) stores.new.end)
         reporter.old result reporter.new × (input.new ≡ input.old) }
     ensures ran { asked.now.lists ≡ false
-        → RunsAsked ⟦<Filed<S> as Store>⟧ W.contents (Finds (image_at S.Start)) IsInFiles
-        (Q.content scripts.now) (R.remaining input.old.inner) asked.now
-        reporter.old result reporter.new }
+        → RunsAsked ⟦<Filed<S> as Store>⟧ W.contents (filing (image_at S.Start) stores.new.end)
+        (Q.content scripts.now) (λ unread. R.remaining unread.inner) asked.now
+        (record reporter.old { stops = asked.now.stops }) input.old
+        result reporter.new input.new }
     ensures low { reporter.old.worst ≤ 3 → IfOk result (λ status. status ≤ 3) }
 {
     if asked.lists {
         return list_asked::<S, W>(alloc, stores, asked, reporter);
     }
-    let Ok(mut input) = BufReader::new(alloc, input) else {
-        return Err(RunFault::Memory);
-    };
-    run_over::<S, Q, _, W>(alloc, stores, scripts, asked, &mut input, reporter)
+    reporter.stops = asked.stops;
+    run_over::<S, Q, Tracked<R>, W>(alloc, stores, scripts, asked, input, reporter)
 }
 
 /// Does what the words ask for: runs scripts over the store that they name, those in files or a
@@ -101,33 +118,37 @@ pub fn run_file_program<S: Start, Q: Scripts, R: Read, W: Write, E: Write>(
     report: &mut Reporter<W>,
     err: &mut Tracked<E>,
 ) -> u8
-    requires { IsUnused report.old }
+    requires unused { IsUnused report.old }
+    requires unopened { stores.old.end ≡ Unopened }
     ensures status { result ≤ 3 }
 
-    // It shows a text or is out of memory, and opens and reads nothing; or it does what the words
-    // ask for. A run of scripts is from whatever history the store stood for: all results are of
-    // that run, the report is theirs, and the store stands for the history to which they led: so
-    // it is for the next run. What others have in its database stays. Where the tables are listed
-    // no statement is reported, and no input is read.
-    ensures runs { ((result ≤ 2) × (stores.new ≡ stores.old) × (input.new ≡ input.old)
+    // The words ask for nothing that runs: it shows why or is out of memory, and opens and reads
+    // nothing. Or it does what they ask for. A run of scripts is from whatever history the store
+    // stood for: all results are of that run, the report is theirs, and the store stands for the
+    // history to which they led: so it is for the next run. What others have in its database stays.
+    // Where the tables are listed no statement is reported, no input is read, and the history is
+    // the same.
+    ensures runs { ((fault : CommandFault) × AskNothingFor (map string_bytes words.now) fault
+        × IsShown ProgramName.BitemporalFile fault result
+        (W.contents report.old.out) (W.contents report.new.out) err.new.has_failed
+        (E.contents err.old.inner) (E.contents err.new.inner)
+        × (stores.new ≡ stores.old) × (input.new ≡ input.old)
         × (report.new ≡ record report.old { out = report.new.out }))
-        ⊎ ((asked : Asked) × Asks (matches_of bitemporal_file (map string_bytes words.now)) asked
+        ⊎ ((asked : Asked) × IsAskedBy (map string_bytes words.now) asked
         × (ended : Result ℕ RunFault) × ExitsAs ended result err.new.has_failed
         (E.contents err.old.inner) (E.contents err.new.inner)
         × (asked.lists ≡ true
-        → Lists ⟦<Filed<S> as Store>⟧ (Finds (image_at S.Start)) IsInFiles
+        → Lists ⟦<Filed<S> as Store>⟧ (filing (image_at S.Start) stores.new.end)
         report.old ended report.new × (input.new ≡ input.old))
         × (asked.lists ≡ false
-        → RunsAsked ⟦<Filed<S> as Store>⟧ W.contents (Finds (image_at S.Start)) IsInFiles
-        (Q.content scripts.now) (R.remaining input.old.inner) asked report.old ended report.new)) }
+        → RunsAsked ⟦<Filed<S> as Store>⟧ W.contents (filing (image_at S.Start) stores.new.end)
+        (Q.content scripts.now) (λ unread. R.remaining unread.inner) asked
+        (record report.old { stops = asked.stops }) input.old ended report.new input.new)) }
 {
     let program = ProgramName::BitemporalFile;
     let asked = match asked_by(alloc, words) {
         Ok(asked) => asked,
-        Err(CommandFault::Clap(fault)) => {
-            return show(alloc, program, &fault, &mut report.out, err);
-        }
-        Err(CommandFault::Memory) => return end_in(alloc, program, err, RunFault::Memory),
+        Err(fault) => return show(alloc, program, &fault, &mut report.out, err),
     };
     match run_asked::<S, Q, R, W>(alloc, stores, scripts, &asked, input, report) {
         Ok(status) => status,

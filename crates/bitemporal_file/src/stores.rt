@@ -2,13 +2,15 @@
 
 ghost use Rattle.std.specs.Prelude.{◌≡◌, IfErr, IfOk, OnOk, false, true};
 ghost use Rattle.sqlite_wal.specs.Files.{image_at};
-ghost use Rattle.bitemporal_file.specs.StoreFiles.{Finds, IsInFiles};
-ghost use Rattle.bitemporal_file.specs.StoreRuns.{MayNotOpen};
+ghost use Rattle.bitemporal_file.specs.declared.stores.StoreEnd.TheVariants.{Unopened};
+ghost use Rattle.bitemporal_file.specs.StoreFiles.{FailsToOpen, Finds, IsInFiles, IsLeftAs};
+ghost use Rattle.bitemporal_file.specs.StoreFiles.{IsUnclosedFor, closing_told, fault_told};
 
 use crate::reporter::Reporter;
 use command_line::RunFault;
 use period_core::Refusal;
-use sqlite::{Connection, Error, ErrorCode, FileFrom, FileStore, Start};
+use sqlite::{Connection, Error, ErrorCode, FileFrom, FileStore, Files, Leftover, Start};
+use sqlite_disk::Disk;
 use std::fs;
 use std::io::ErrorKind;
 use std::mem::ManuallyDrop;
@@ -24,7 +26,7 @@ struct Present {
 
 // Why a database did not open.
 fn fault_of(error: Error) -> RunFault
-    ensures { MayNotOpen result }
+    ensures { result ≡ fault_told error }
 {
     match error {
         Error::SqliteFailure(ErrorCode::DatabaseBusy) => RunFault::Locked,
@@ -33,6 +35,16 @@ fn fault_of(error: Error) -> RunFault
         Error::SqliteFailure(ErrorCode::NotADatabase | ErrorCode::DatabaseCorrupt) => {
             RunFault::Script(Refusal::BadStore)
         }
+        _ => RunFault::Script(Refusal::Store),
+    }
+}
+
+// Why a connection was not closed.
+fn closing_fault(error: Error) -> RunFault
+    ensures { result ≡ closing_told error }
+{
+    match error {
+        Error::SqliteFailure(ErrorCode::OutOfMemory) => RunFault::Memory,
         _ => RunFault::Script(Refusal::Store),
     }
 }
@@ -90,30 +102,67 @@ fn files_there(rt: &HostRuntime, name: &str) -> Present {
 /// A database in files of which `S` says what they held.
 pub(crate) type Filed<S> = FileStore<FileFrom<S>>;
 
-/// The database files of the system, of which one is opened by its name, and closed or given up.
-/// What they hold at first is what `S` stands for, whatever that is: a program has `Unknown`.
+/// What became of the files of a store.
+pub enum StoreEnd<D: Disk> {
+    /// None was opened.
+    Unopened,
+    /// They did not open as a database. What is left of them stays open and locked until the
+    /// process ends.
+    Refused(ManuallyDrop<Leftover<D>>),
+    /// There is a connection.
+    Opened,
+    /// The connection was given up, and stays open and locked until the process ends.
+    GivenUp(ManuallyDrop<Connection<FileStore<D>>>),
+    /// The connection was closed.
+    Closed(Files<D>),
+    /// What is left where the connection could not be closed.
+    Unclosed(FileStore<D>),
+}
+
+impl<D: Disk + Drop> Drop for StoreEnd<D> {
+    fn drop(self) {
+        match self {
+            StoreEnd::Unopened | StoreEnd::Opened => {}
+            StoreEnd::Refused(_left) => {}
+            StoreEnd::GivenUp(_connection) => {}
+            StoreEnd::Closed(_files) => {}
+            StoreEnd::Unclosed(_store) => {}
+        }
+    }
+}
+
+/// Database files, of which one is opened by its name, and closed or given up. At first they hold
+/// what `S` stands for, whatever that is: a program has `Unknown`.
 #[derive(Drop)]
-pub struct StoreFiles<'a, S: Start> {
+pub struct FilesOf<'a, S: Start, D: Disk> {
     rt: &'a HostRuntime,
     start: Option<S>,
     before: Present,
+    /// What became of the files that were opened.
+    pub(crate) end: StoreEnd<D>,
 }
 
-impl<'a, S: Start> StoreFiles<'a, S> {
+/// The database files of the system.
+pub type StoreFiles<'a, S> = FilesOf<'a, S, FileFrom<S>>;
+
+impl<'a, S: Start> FilesOf<'a, S, FileFrom<S>> {
     /// The files of the system, of which none is open.
-    pub fn new(rt: &'a HostRuntime, start: S) -> StoreFiles<'a, S> {
-        StoreFiles {
+    pub fn new(rt: &'a HostRuntime, start: S) -> StoreFiles<'a, S>
+        ensures { result.end ≡ Unopened }
+    {
+        FilesOf {
             rt,
             start: Some(start),
             before: Present {
                 store: true,
                 log: true,
             },
+            end: StoreEnd::Unopened,
         }
     }
 }
 
-impl<S: Start> StoreFiles<'_, S> {
+impl<S: Start> FilesOf<'_, S, FileFrom<S>> {
     /// A connection to the database of that name. Where it is not there, it is made, if it may be.
     /// On `Err` there is no file that was not there before. Only one is ever opened.
     pub(crate) fn open_store(
@@ -121,9 +170,10 @@ impl<S: Start> StoreFiles<'_, S> {
         name: &str,
         may_make: bool,
     ) -> Result<Connection<Filed<S>>, RunFault>
+        requires { self.old.end ≡ Unopened }
         ensures settled { IfOk result (λ connection. connection.in_transaction ≡ false) }
         ensures opened { IfOk result (Finds (image_at S.Start)) }
-        ensures refused { IfErr result MayNotOpen }
+        ensures refused { IfErr result (FailsToOpen (image_at S.Start) self.new.end) }
     {
         self.before = files_there(self.rt, name);
         if !may_make && !self.before.store {
@@ -133,12 +183,16 @@ impl<S: Start> StoreFiles<'_, S> {
             return Err(RunFault::NoStore);
         };
         match Connection::open_from(self.rt, name, false, start) {
-            Ok(connection) => Ok(connection),
+            Ok(connection) => {
+                self.end = StoreEnd::Opened;
+                Ok(connection)
+            }
             Err((error, left)) => {
                 let fault = fault_of(error);
-                // The files stay open and locked until the process ends, which is soon: so no
-                // other program has them when they are removed.
-                let _left = ManuallyDrop::new(left);
+                if let Some(left) = left {
+                    self.end = StoreEnd::Refused(ManuallyDrop::new(left));
+                }
+                // While the files are open and locked no other program has them.
                 if fault != RunFault::Locked {
                     remove_new(self.rt, name, self.before);
                 }
@@ -155,27 +209,33 @@ impl<S: Start> StoreFiles<'_, S> {
     /// Gives a connection up, as the program ends and its report has no statement: no file is left
     /// that was not there before.
     pub(crate) fn give_up<W>(
-        &self,
+        &mut self,
         name: &str,
         report: &Reporter<W>,
         connection: Connection<Filed<S>>,
     )
         requires { report.now.is_unused ≡ true }
+        ensures { IsLeftAs self.new.end connection }
     {
-        let _connection = ManuallyDrop::new(connection);
+        self.end = StoreEnd::GivenUp(ManuallyDrop::new(connection));
         remove_new(self.rt, name, self.before);
     }
-}
 
-/// Closes a connection, with all that is committed in its database file.
-pub(crate) fn close_store<S: Start>(connection: Connection<Filed<S>>) -> Result<(), RunFault>
-    ensures { OnOk result (IsInFiles connection) }
-{
-    match connection.close_files() {
-        Ok(_) => Ok(()),
-        Err((_, store)) => {
-            drop(store.close());
-            Err(RunFault::Script(Refusal::Store))
+    /// Closes a connection, with all that is committed in its database file.
+    pub(crate) fn close_store(&mut self, connection: Connection<Filed<S>>) -> Result<(), RunFault>
+        ensures kept { OnOk result (IsInFiles self.new.end connection) }
+        ensures left { IsLeftAs self.new.end connection }
+        ensures fault { IfErr result (IsUnclosedFor self.new.end connection) }
+    {
+        match connection.close_files() {
+            Ok(files) => {
+                self.end = StoreEnd::Closed(files);
+                Ok(())
+            }
+            Err((error, store)) => {
+                self.end = StoreEnd::Unclosed(store);
+                Err(closing_fault(error))
+            }
         }
     }
 }

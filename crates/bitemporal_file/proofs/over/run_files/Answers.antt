@@ -5,8 +5,8 @@ use Rattle.bitemporal_file.proofs.over.run_files.Goals as goal
 
 pub returns-then-is_empty-clause-ran : goal.returns-then-is_empty-clause-ran
 returns-then-is_empty-clause-ran g c =
-    given_session g.K.PieceResult.is_step g.K.Reported.refused g.W.Write.contents g.K.Reported.text g.K.Reported.status_of (LeadsEngine g.S.Store c.args.engine.now c.run_parts.new.engine) string_bytes (g.Q.Scripts.content c.args.scripts.now) c.args.files.now _ c.args.reporter.now c.run_parts.result c.run_parts.new.reporter
-    (sym c.is_empty.ensures ∙ c.if-is_empty.true) c.run_parts.ensures.ran
+    given_session g.K.PieceResult.is_step g.K.Reported.refused g.W.Write.contents g.K.Reported.text g.K.Reported.status_of (LeadsEngine g.S.Store c.args.engine.now c.run_input.new.engine) string_bytes (g.Q.Scripts.content c.args.scripts.now) c.args.files.now _ c.args.reporter.now c.run_input.result c.run_input.new.reporter
+    (sym c.is_empty.ensures ∙ c.if-is_empty.true) c.run_input.ensures.ran
 
 pub returns-clause-ran : goal.returns-clause-ran
 returns-clause-ran g c =

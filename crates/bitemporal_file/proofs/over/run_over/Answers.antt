@@ -3,22 +3,28 @@ use Rattle.std.proofs.lemmas.Result.{err_from_is_err_and}
 use Rattle.bitemporal_file.proofs.over.run_over.Goals as goal
 
 pub run_opened-requires-clause-fresh : goal.run_opened-requires-clause-fresh
-run_opened-requires-clause-fresh g c = c.requires.fault
+run_opened-requires-clause-fresh g c = c.requires.unused.fault
 
 pub give_up-requires : goal.give_up-requires
 give_up-requires g c =
     let (refuses, reporter, input) = c.in-Err.ensures.refused in
-    (λ k. (reporter k).is_unused) ∙ c.requires.unused
+    (λ k. (reporter k).is_unused) ∙ c.requires.unused.unused
 
 pub returns-in_err-connection-clause-ran : goal.returns-in_err-connection-clause-ran
 returns-in_err-connection-clause-ran g c =
     let p = err_from_is_err_and c.from_residual.result c.from_residual.ensures.1 in
-    rw (p.1, p.2) (inl (c.in_err-connection.ensures.refused, refl))
+    rw (p.1, p.2) (inl (c.in_err-connection.ensures.refused, (refl, refl)))
 
 pub returns-in_err-end_over-in-Ok-clause-ran : goal.returns-in_err-end_over-in-Ok-clause-ran
 returns-in_err-end_over-in-Ok-clause-ran g c =
     let p = err_from_is_err_and c.from_residual-in_err-end_over-in-Ok.result c.from_residual-in_err-end_over-in-Ok.ensures.1 in
-    rw (p.1, p.2) (inr (c.in_ok-connection.connection, c.in_ok-connection.ensures.opened, inr (c.in-Ok.ended, c.in-Ok.connection, c.in-Ok.ensures.others, c.in-Ok.ensures.ran, c.in_err-end_over-in-Ok.ensures.fault)))
+    rw (p.1, p.2) (inr (
+      c.in_ok-connection.connection,
+      c.in-Ok.connection,
+      c.in_ok-connection.ensures.opened,
+      c.in_err-end_over-in-Ok.ensures.left,
+      inr (c.in-Ok.ended, c.in-Ok.ensures.others, c.in-Ok.ensures.ran, c.in_err-end_over-in-Ok.ensures.fault),
+    ))
 
 pub returns-in_ok-end_over-in-Ok-clause-ran : goal.returns-in_ok-end_over-in-Ok-clause-ran
 returns-in_ok-end_over-in-Ok-clause-ran g c =
@@ -29,4 +35,4 @@ returns-in_ok-end_over-in-Ok-clause-ran g c =
 pub returns-in-Err-clause-ran : goal.returns-in-Err-clause-ran
 returns-in-Err-clause-ran g c =
     let (refuses, reporter, input) = c.in-Err.ensures.refused in
-    inr (c.in_ok-connection.connection, c.in_ok-connection.ensures.opened, inl (c.in-Err.refusal, c.in-Err.connection, refuses, refl, λ k. (reporter k).out))
+    inr (c.in_ok-connection.connection, c.in-Err.connection, c.in_ok-connection.ensures.opened, c.give_up.ensures, inl (c.in-Err.refusal, refuses, refl, (reporter, input)))

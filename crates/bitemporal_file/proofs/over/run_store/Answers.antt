@@ -14,7 +14,8 @@ returns-clause-ran g c =
     let engine_usable = subst (IsUsable g.S.Store) c.close_at_exit.ensures.same usable in
     let opened = c.in_ok-engine.ensures.opened (c.run_files-ended.ensures.usable engine_usable) history stands in
     let (last, leads, represents) = led engine_usable history opened in
-    (last, leads, stands_for g.S.Store last c.run_files-ended.new.engine c.close_at_exit.result c.close_at_exit.ensures.same represents))
+    let (now, committed) = stands_for g.S.Store last c.run_files-ended.new.engine c.close_at_exit.result c.close_at_exit.ensures.same represents in
+    (last, leads, now, committed))
     _ _ c.args.reporter.now c.run_files-ended.result c.run_files-ended.new.reporter c.run_files-ended.ensures.ran
 
 pub returns-clause-others : goal.returns-clause-others

@@ -1,11 +1,11 @@
-use Rattle.std.proofs.Common.{◌≡◌, ◌≢◌, ◌≤◌, ◌<◌, ◌+◌, ◌++◌, ◌∷◌, ◌∙◌, ℕ, List, [], None, Ok, ap, arith, length, refl, rules, subst, sym, true}
-use Rattle.std.specs.Io.KnownBytes.{Consumes, IsAtEnd}
+use Rattle.std.proofs.Common.{◌≡◌, ◌≢◌, ◌≤◌, ◌+◌, ◌++◌, ◌∷◌, ◌∙◌, ℕ, List, [], ap, arith, length, refl, rules, sym}
+use Rattle.std.specs.Io.KnownBytes.{Consumes}
 use Rattle.std.proofs.KnownBytes.{Consumes-trans}
 use Rattle.std.proofs.lemmas.List.{length-append}
-use Rattle.bitemporal_file.specs.declared.parts.Place.TheVariants.{BehindDash, Outside, Ended}
+use Rattle.bitemporal_file.specs.declared.parts.Place.TheVariants.{Outside, Ended}
 use Rattle.bitemporal_file.specs.Parts.{HasNoToken, IsUnfinished, place_after, place_behind}
 use Rattle.script_engine.specs.script.Script.{most_bytes}
-use Rattle.bitemporal_file.proofs.BlankFacts.{blank-next, blank-none, is_blank_so_far, none-blank}
+use Rattle.bitemporal_file.proofs.BlankFacts.{blank-next, blank-none, none-blank}
 use Rattle.bitemporal_file.proofs.SessionFacts.{all-read, place-more}
 use Rattle.bitemporal_file.proofs.parts.read_part.Goals as goal
 

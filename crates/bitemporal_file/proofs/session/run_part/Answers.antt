@@ -1,7 +1,6 @@
-use Rattle.std.proofs.Common.{◌≡◌, ◌∷◌, ◌∙◌, List, [], refl, subst, sym}
+use Rattle.std.proofs.Common.{◌≡◌, ◌∷◌, ◌∙◌, List, [], refl, subst}
 use Rattle.version_store.proofs.Beside.{spares_same}
 use Rattle.period_core.specs.declared.refusal.Refusal.TheVariants.{ScriptTooLarge}
-use Rattle.script_engine.specs.script.Listening.{IsFrontRunBy}
 use Rattle.script_engine.specs.script.Script.{MayRefuseScript}
 use Rattle.std.specs.Prelude.{IfOk}
 use Rattle.bitemporal_file.specs.Reporting.{TellsAll}

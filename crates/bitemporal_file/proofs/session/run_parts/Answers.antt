@@ -1,5 +1,4 @@
-use Rattle.std.proofs.Common.{◌≡◌, ◌+◌, ◌++◌, ◌∷◌, ◌∙◌, Bool, [], Err, Ok, ap, arith, inl, inr, length, refl, rules, subst, sym, true, false}
-use Rattle.std.specs.Io.KnownBytes.{Consumes}
+use Rattle.std.proofs.Common.{◌≡◌, ◌+◌, ◌++◌, ◌∷◌, Bool, [], Err, Ok, ap, arith, inl, inr, refl, rules, subst, sym, true, false}
 use Rattle.std.proofs.KnownBytes.{Consumes-nil}
 use Rattle.std.proofs.lemmas.List.Elements.{All-nil}
 use Rattle.std.proofs.lemmas.Result.{err_from_is_err_and}
@@ -9,7 +8,7 @@ use Rattle.version_store.proofs.Beside.{spares_same, spares_then}
 use Rattle.script_engine.specs.engine.EngineState.{EngineState}
 use Rattle.script_engine.specs.engine.Stored.{EngineRepresents}
 use Rattle.bitemporal_file.specs.Reporting.{EndsWith, TellsAll}
-use Rattle.bitemporal_file.specs.ScriptRuns.{AreRun, ScriptRun, results_of}
+use Rattle.bitemporal_file.specs.ScriptRuns.{ScriptRun, results_of}
 use Rattle.bitemporal_file.proofs.RunFacts.{all_ran, more_ran, one_ran, whole_more}
 use Rattle.bitemporal_file.proofs.SessionFacts.{all_more, bytes-length, failed_told, faulty_told, one_run, parts_ended, parts_failed, quiet_told, ran_further, read_fault, report_fault, taken-part, told_fault, told_part, told_unfinished, unread_fault}
 use Rattle.bitemporal_file.proofs.Told.{nothing_told}
@@ -42,8 +41,7 @@ returns-in_err-part-clause-ran g c =
 
 pub returns-in_default-clause-ran : goal.returns-in_default-clause-ran
 returns-in_default-clause-ran g c =
-    let (runs, ended, wholes, taken, start, told, did) = c.parts.invariant.ran in
-    (
+    let (runs, ended, wholes, taken, start, told, did) = c.parts.invariant.ran in (
       runs,
       parts_ended _ _ runs true ended taken (λ on. c.in_ok-part.ensures.none (ap Ok c.in_default.is)),
       all_ran runs (Ok true) c.parts.reporter.fault wholes,
@@ -128,8 +126,7 @@ returns-in-None-clause-ran g c =
 
 pub returns-clause-ran : goal.returns-clause-ran
 returns-clause-ran g c =
-    let (runs, ended, wholes, taken, start, told, did) = c.parts.invariant.ran in
-    (
+    let (runs, ended, wholes, taken, start, told, did) = c.parts.invariant.ran in (
       runs,
       parts_failed _ _ runs Read ended taken (λ is. let no : ⊥ = cc in absurd no) tt,
       all_ran runs (Err Read) c.parts.reporter.fault wholes,

@@ -1,4 +1,0 @@
-use Rattle.bitemporal_file.proofs.stores.StoreFiles.open_store.Goals as goal
-
-pub returns-in-Ok-clause-opened : goal.returns-in-Ok-clause-opened
-returns-in-Ok-clause-opened g c clean = (c.in-Ok.ensures.opened clean, c.in-Ok.ensures.found clean)

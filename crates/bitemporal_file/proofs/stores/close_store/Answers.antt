@@ -1,4 +1,0 @@
-use Rattle.bitemporal_file.proofs.stores.close_store.Goals as goal
-
-pub returns-in-Ok : goal.returns-in-Ok
-returns-in-Ok g c = (c.in-Ok.field-0, c.in-Ok.ensures.copied)
