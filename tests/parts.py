@@ -39,6 +39,10 @@ POSTGRESQL = Package('PostgreSQL', has_postgresql, 'apt-get install postgresql')
 SQLITE = Package('sqlite3', on_path('sqlite3'), 'apt-get install sqlite3')
 CHROMIUM = Package('Chromium', on_path('chromium-headless-shell', 'chromium', 'chromium-browser'),
                    'apt-get install chromium-headless-shell')
+MANDOC = Package('mandoc', on_path('mandoc'), 'apt-get install mandoc')
+ZSH = Package('zsh', on_path('zsh'), 'apt-get install zsh')
+DPKG = Package('dpkg-deb', on_path('dpkg-deb'), 'apt-get install dpkg')
+LINTIAN = Package('lintian', on_path('lintian'), 'apt-get install lintian')
 DASK = Package('Dask', has_dask, 'apt-get install python3-distributed')
 
 
@@ -75,6 +79,8 @@ PARTS = [
     Part('tests/pages', 20, needs=(POSTGRESQL,)),
     # The launcher, and the quick build beside the proved one.
     Part('tests/builds', 600, wants_proved=True, **BUILDS),
+    # What is installed, and the packages.
+    Part('tests/installed', 15, needs=(MANDOC, ZSH, DPKG, LINTIAN)),
     # Stores in files, and memory, disks and writers that fail.
     Part('tests/stores', 300, **BUILDS),
     Part('tests/store_program', 30),

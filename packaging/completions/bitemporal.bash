@@ -1,22 +1,25 @@
 # Completions of bitemporal and bitemporal_file for bash.
 
-# The words of the last argument that begin as what is written, and files: WORDS [PATTERN]
+# The words that begin as what is written; where that is no option, files of an ending too, or all:
+# WORDS [ENDING]
 _bitemporal_complete() {
     local word=${COMP_WORDS[COMP_CWORD]}
-    COMPREPLY=()
-    if [[ $word == -* || -z ${2-} ]]; then
+    if [[ $word == -* || $# = 1 ]]; then
         mapfile -t COMPREPLY < <(compgen -W "$1" -- "$word")
+    elif [[ $2 ]]; then
+        compopt -o filenames 2> /dev/null
+        mapfile -t COMPREPLY < <(compgen -d -- "$word"; compgen -f -X "!*$2" -- "$word")
     else
         compopt -o filenames 2> /dev/null
-        mapfile -t COMPREPLY < <(compgen -d -- "$word"; compgen -f -X "!$2" -- "$word")
+        mapfile -t COMPREPLY < <(compgen -f -- "$word")
     fi
 }
 
 _bitemporal() {
     case $COMP_CWORD,${COMP_WORDS[1]} in
         1,*) _bitemporal_complete 'run check help --help --version' ;;
-        *,run) _bitemporal_complete '--audit --help' '*.sql' ;;
-        *,check) _bitemporal_complete '--help' '*.sql' ;;
+        *,run) _bitemporal_complete '--audit --help' '.sql' ;;
+        *,check) _bitemporal_complete '--help' '.sql' ;;
         2,help) _bitemporal_complete 'run check help' ;;
         *) COMPREPLY=() ;;
     esac
@@ -29,9 +32,9 @@ _bitemporal_file() {
         [[ ${COMP_WORDS[place]} == -* ]] || names=$((names + 1))
     done
     if ((names)); then
-        _bitemporal_complete '--audit --stop --tables --help' '*.sql'
+        _bitemporal_complete '--audit --stop --tables --help' '.sql'
     else
-        _bitemporal_complete '--audit --stop --tables --help --version' '*'
+        _bitemporal_complete '--audit --stop --tables --help --version' ''
     fi
 }
 
