@@ -50,14 +50,13 @@ DASK = Package('Dask', has_dask, 'apt-get install python3-distributed')
 class Part:
     """A test program with its words. `seconds` of a processor, of which only the order depends;
     gigabytes of memory, and processors, that it takes at most; what it needs for all that it tries;
-    whether --quick runs it; and whether it compares with the proved build."""
+    and whether --quick runs it."""
     words: str
     seconds: int = 1
     gigabytes: float = 0.5
     processors: int = 1
     needs: tuple[Package, ...] = ()
     is_quick: bool = True
-    wants_proved: bool = False
 
 
 # A program that `rt try` builds, which some tests run over their own main.
@@ -78,7 +77,7 @@ PARTS = [
     Part('tests/examples', 5),
     Part('tests/pages', 20, needs=(POSTGRESQL,)),
     # The launcher, and the quick build beside the proved one.
-    Part('tests/builds', 600, wants_proved=True, **BUILDS),
+    Part('tests/builds', 600, **BUILDS),
     # What is installed, and the packages.
     Part('tests/installed', 15, needs=(MANDOC, ZSH, DPKG, LINTIAN)),
     # Stores in files, and memory, disks and writers that fail.
