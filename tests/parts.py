@@ -1,5 +1,5 @@
-"""The parts of tests/all: the test programs of the repository, what each takes, and the packages that
-some of what they try needs."""
+"""The parts of tests/all: the test programs of the repository, what each takes, and the packages
+that some of what they try needs."""
 import dataclasses
 import glob
 import shutil

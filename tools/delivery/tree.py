@@ -57,8 +57,8 @@ class Tree:
     def copy_folder(self, source: pathlib.Path, name: str) -> None:
         for file in sorted(source.rglob('*')):
             if file.is_file() and '__pycache__' not in file.parts:
-                is_program = os.access(file, os.X_OK)
-                self.copy(file, f'{name}/{file.relative_to(source)}', 0o755 if is_program else 0o644)
+                mode = 0o755 if os.access(file, os.X_OK) else 0o644
+                self.copy(file, f'{name}/{file.relative_to(source)}', mode)
 
 
 def lay(tree: Tree, kind: str, completions: str = 'share/zsh/site-functions') -> None:
@@ -127,8 +127,8 @@ def made_from(kind: str) -> str:
 
 
 def remove(top: pathlib.Path) -> int:
-    """Removes what was installed at a prefix, and the folders that this leaves empty. Gives how many
-    files there were."""
+    """Removes what was installed at a prefix, and the folders that this leaves empty. Gives how
+    many files there were."""
     names = (top / LIST).read_text(encoding='utf-8').splitlines()
     for name in names:
         (top / name).unlink(missing_ok=True)
