@@ -4,22 +4,34 @@ import pathlib
 import subprocess
 
 ROOT = pathlib.Path(__file__).resolve().parent.parent
-# Another program may be named by BITEMPORAL, in place of the proved one.
-PROGRAM = os.environ.get('BITEMPORAL', ROOT / 'crates/bitemporal_cli/out/bitemporal_cli')
+OUT = ROOT / 'crates/bitemporal_cli/out'
+PROVED, QUICK = OUT / 'bitemporal_cli', OUT / 'bitemporal_unproved'
+# Another program may be named by BITEMPORAL, in place of a build of the repository.
+PROGRAM = os.environ.get('BITEMPORAL', PROVED)
 
 
 def build():
-    """Proves and builds the program where it is not of the sources as they are."""
-    if 'BITEMPORAL' not in os.environ:
-        subprocess.run([ROOT / 'bitemporal', '--prove'], check=True)
+    """Has PROGRAM be the proved build, where that is of the sources as they are; else the quick
+    one, which is made where it is not there."""
+    global PROGRAM  # pylint: disable=global-statement
+    if 'BITEMPORAL' in os.environ:
+        return
+    looked = subprocess.run([ROOT / 'tools/build', 'proved', '--sources', '--only-look'],
+                            check=False)
+    PROGRAM = PROVED if looked.returncode == 0 else QUICK
+    if not is_proved():
+        subprocess.run([ROOT / 'tools/build', 'quick'], check=True)
+
+
+def is_proved():
+    """Whether it is the proved build that is tested."""
+    return pathlib.Path(PROGRAM).resolve() == PROVED
 
 
 def either_build():
-    """The proved program, or else the quick build, which is made where it is not there."""
-    if 'BITEMPORAL' in os.environ or pathlib.Path(PROGRAM).exists():
-        return pathlib.Path(PROGRAM)
-    subprocess.run([ROOT / 'tools/build', 'quick'], check=True)
-    return ROOT / 'crates/bitemporal_cli/out/bitemporal_unproved'
+    """The file of the program, which is made where it is not there."""
+    build()
+    return pathlib.Path(PROGRAM)
 
 
 def scripts(folder=ROOT / 'tests/scripts'):
@@ -40,10 +52,10 @@ def got(words, given=b'', **how):
     how.setdefault('stdout', subprocess.PIPE)
     how.setdefault('stderr', subprocess.PIPE)
     try:
-        run = subprocess.run(['bitemporal', *words], executable=PROGRAM, timeout=60,
+        run = subprocess.run(['bitemporal', *words], executable=PROGRAM, timeout=300,
                              check=False, **how)
     except subprocess.TimeoutExpired:
-        return 'none within a minute', b'', b''
+        return 'none within five minutes', b'', b''
     return run.returncode, run.stdout, run.stderr
 
 

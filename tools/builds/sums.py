@@ -14,8 +14,8 @@ import shutil
 ROOT = pathlib.Path(__file__).resolve().parent.parent.parent
 PROGRAM = 'bitemporal_cli'
 OUT = ROOT / 'crates' / PROGRAM / 'out'
-# The main with which the quick build is made.
-QUICK_MAIN = ROOT / 'tools/quick_main.rs'
+# How the quick build is made, and what is linked with it.
+QUICK_PARTS = ['tools/builds/quick.py', 'tools/builds/fault.c']
 
 
 def repository_crates():
@@ -91,7 +91,7 @@ class Build:
 
 
 PROVED = Build(OUT / PROGRAM, ['src', 'specs'], [])
-QUICK = Build(OUT / 'bitemporal_unproved', ['src'], [QUICK_MAIN.relative_to(ROOT)])
+QUICK = Build(OUT / 'bitemporal_unproved', ['src'], QUICK_PARTS)
 
 
 def folders(parts):

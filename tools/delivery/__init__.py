@@ -1,0 +1,1 @@
+"""What is installed of the program, and the packages of it."""
