@@ -22,7 +22,7 @@ pub enum Word {
 
 impl Word {
     /// The word as a report prints it.
-    pub fn name(self) -> &'static str
+    pub(crate) fn name(self) -> &'static str
         ensures { result.now ≡ word_text self }
     {
         match self {

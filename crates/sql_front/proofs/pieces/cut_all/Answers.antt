@@ -1,6 +1,5 @@
-use Rattle.std.proofs.Common.{◌≡◌, get_or, length, map, sym, ap, ◌∙◌}
-use Rattle.std.specs.List.{All}
-use Rattle.sql_front.specs.Pieces.{HasPieces, IsWithin, is_semicolon, spanned}
+use Rattle.std.proofs.Common.{◌≡◌, get_or, sym, ap, ◌∙◌}
+use Rattle.sql_front.specs.Pieces.{is_semicolon}
 use Rattle.sql_front.proofs.PiecesFacts.{AreCut, cut_start, cut_token, cut_piece, cut_empty, cut_last, cut_all}
 use Rattle.sql_front.proofs.pieces.cut_all.Goals.{then-is_semicolon, then-start-i+in_ok-push, else-start-i, else-is_semicolon, then-start-tokens+in_ok-push-2, else-start-tokens}
 use Rattle.sql_front.proofs.pieces.cut_all.Given.{Over}
