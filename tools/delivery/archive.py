@@ -110,7 +110,7 @@ def as_debian_wants(release: Release, laid: tree.Tree) -> None:
 
 
 def indented(text: str) -> str:
-    """A text as a field of Debian's has it: each line a space further, an empty one with a point."""
+    """A text as a field of Debian's has it: each line a space further, or a point."""
     return '\n'.join(f' {line}' if line else ' .' for line in text.strip().splitlines())
 
 
