@@ -1,6 +1,6 @@
 -- Why the steps of a plan fail, and that a plan that can be made meets nothing else.
-use Rattle.std.proofs.Common.{◌≡◌, ◌∙◌, ◌++◌, ◌∷◌, ◌+◌, ◌-◌, ◌<◌, ◌≤◌, ◌||◌, ℕ, ℤ, zero, suc, List, [], Bool, true, false, not, cond, Result, Ok, Err, IfErr, IsTrue, filter, map, take, drop, get_or, length, refl, sym, ap, ap₂, subst, append_assoc, append-nil, arith}
-use Rattle.std.specs.List.{All, AllByRecursion, list_any}
+use Rattle.std.proofs.Common.{◌≡◌, ◌∙◌, ◌++◌, ◌∷◌, ◌<◌, ◌||◌, ℕ, ℤ, zero, suc, List, [], Bool, true, false, not, cond, Result, Ok, Err, IfErr, filter, map, take, drop, get_or, length, refl, sym, ap, ap₂, subst, append_assoc, arith}
+use Rattle.std.specs.List.{All, AllByRecursion}
 use Rattle.std.specs.List.Sorted.{IsPermutation}
 use Rattle.std.proofs.lemmas.List.{map-append}
 use Rattle.std.proofs.lemmas.List.Sorted.{IsPermutation-append_comm, IsPermutation-append_right, IsPermutation-sym, IsPermutation-trans}

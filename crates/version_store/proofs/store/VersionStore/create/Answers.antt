@@ -1,4 +1,4 @@
-use Rattle.std.proofs.Common.{ap, refl, subst, sym, w64}
+use Rattle.std.proofs.Common.{ap, refl, subst, sym}
 use Rattle.sqlite.specs.Does.{lacks_sequence}
 use Rattle.sqlite.specs.Held.{state}
 use Rattle.version_tables.specs.Presence.{HasNoStoreTable}
