@@ -7,7 +7,7 @@ ghost use Rattle.sql_statements.specs.Lexis as lexis;
 ghost use Rattle.sql_statements.specs.Lexis.{line_feed, quoted_size};
 
 /// Whether a byte is white space.
-pub(crate) fn is_blank(byte: u8) -> bool
+pub fn is_blank(byte: u8) -> bool
     ensures { result ≡ lexis.is_blank byte }
 {
     (9..=13).contains(&byte) || byte == b' '
