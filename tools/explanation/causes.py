@@ -70,9 +70,9 @@ IN_STATEMENTS = {
                   " columns are set by the clock.",
     (27, Update): CHANGED_DAYS,
     (27, Delete): CHANGED_DAYS,
-    (27, Stored): "Write a period predicate for it: EP CONTAINS DATE '2024-01-01', or EP OVERLAPS"
-                  " PERIOD (DATE '2024-01-01', DATE '2024-04-01'). What was recorded at a moment is"
-                  " asked by FOR SYSTEM_TIME, right after the table's name.",
+    (27, Stored): "Write a period predicate for it: {period} CONTAINS DATE '2024-01-01', or {period}"
+                  " OVERLAPS PERIOD (DATE '2024-01-01', DATE '2024-04-01'). What was recorded at a"
+                  " moment is asked by FOR SYSTEM_TIME, right after the table's name.",
     (27, Sequenced): "Leave it out: each row of an answer has its days without being asked for"
                      " them. For an answer for some days alone join a table with one row that holds"
                      f" on these days: {recipe('An answer for some days alone')}. What was recorded"
@@ -85,6 +85,7 @@ IN_STATEMENTS = {
 }
 
 
-def what_to_do(code, tree):
-    """What is to do about a refusal of a statement."""
-    return IN_STATEMENTS.get((code, type(tree)), WHAT_TO_DO[code])
+def what_to_do(code, tree, tables):
+    """What is to do about a refusal of a statement over these tables."""
+    what = IN_STATEMENTS.get((code, type(tree)), WHAT_TO_DO[code])
+    return what.replace('{period}', tables[tree.table].period.name) if '{period}' in what else what

@@ -86,7 +86,7 @@ class Explainer:
             what = f'Mend its CREATE TABLE, statement {refused.number} at' \
                    f' {self.places.shown(refused.tokens[0].offset)}, which is refused.'
         else:
-            what = what_to_do(code, statement.tree)
+            what = what_to_do(code, statement.tree, refusal.tables)
         if code in (24, 25) and all(IS_NEW_NAME in why for _, why in causes):
             what = NO_PARTNERS if code == 24 else f'{what} {NO_PARTNERS}'
         yield f'What to do: {what}'

@@ -1,6 +1,6 @@
 """Mends of a statement without the right syntax. Each is tried: it is shown only where the
 statement with it goes on past its place. Then what is wrong next is looked for, in the mended
-statement."""
+statement. No mend makes a statement change more than what was asked."""
 import collections
 import difflib
 
@@ -18,6 +18,9 @@ KINDS = {'number': '0', 'text': "'"}
 # What nobody leaves out by mistake, and names and values, which have a guess of their own.
 NO_GUESS = {A_NAME, A_NUMBER, A_TEXT, THE_END, 'NOT', '+', '-', '.', '<', '<=', '<>', '>', '>=',
             'CONTAINS', 'EQUALS', 'IMMEDIATELY', 'OVERLAPS', 'PRECEDES', 'SUCCEEDS'}
+CHANGES = ('UPDATE', 'DELETE')
+# What a guess may put into a change: it takes no condition away, and adds no row.
+IN_CHANGES = {'FROM', 'SET', 'WHERE', 'FOR', 'PORTION', 'OF', 'TO', 'DATE'}
 
 # What is put in the place of the tokens from `start` on and before `end`, and the sentence; where
 # `put` is None nothing is tried. Where no slip names the edit, it has to reach as many tokens more.
@@ -58,13 +61,15 @@ class Mending:
                 return
             self.rounds += 1
             yield Advice(self.offsets[edit.start], edit.what)
-            if edit.put in (None, CUT):
+            if edit.put is None:
                 return
             self.tokens, self.offsets = self.with_edit(edit)
             self.parsed = parsed(self.tokens)
 
     def with_edit(self, edit):
         """The tokens with an edit, and their offsets. New tokens are far from all others."""
+        if edit.put == CUT:
+            return self.tokens[:edit.start], self.offsets[:edit.start + 1]
         new = [token._replace(offset=token.offset + self.rounds * 10 ** 8)
                for token in lexed(edit.put)]
         tokens = [*self.tokens[:edit.start], *new, *self.tokens[edit.end:]]
@@ -76,10 +81,14 @@ class Mending:
         """How much is right with an edit: whether all of it, and how many tokens then are left."""
         if edit.put == CUT:
             found = parsed(self.tokens[:edit.start])
-            return found.tree is not None, len(self.tokens) - edit.start
+            is_right = found.tree is not None
+            if is_right and is_change(self.tokens):  # what follows might be a part of it
+                rest = parsed(self.tokens[edit.start:])
+                is_right = found.tree.where is not None and rest.tree is not None
+            return is_right, len(self.tokens) - edit.start
         tokens, _ = self.with_edit(edit)
         if not tokens:
-            return False, 1
+            return False, len(self.tokens) + 1
         found = parsed(tokens)
         if found.stop is None:
             return found.tree is not None, 0
@@ -108,7 +117,8 @@ class Mending:
         text = ' '.join(words) + ' '
         left = len(self.tokens) - self.stop
         for slip in SLIPS:
-            if slip.expects and slip.expects not in self.parsed.expected:
+            if slip.expects and slip.expects not in self.parsed.expected or \
+                    is_change(self.tokens) and not slip.in_changes:
                 continue
             found = slip.pattern.search(text)
             edit = self.edit_of(slip, found, text) if found else None
@@ -141,20 +151,34 @@ class Mending:
         return first - (first > self.stop), last - (last > self.stop)
 
     def period(self):
-        """The period that the statement declares, or EP."""
+        """The period that the statement declares, or that of its first table, or EP."""
         for one, two, name in zip(self.tokens, self.tokens[1:], self.tokens[2:]):
             if (one.word, two.word) == ('PERIOD', 'FOR') and name.is_name:
                 return name.text
-        return 'EP'
+        tables = (self.tables[token.word] for token in self.tokens if token.word in self.tables)
+        return next((table.period.name for table in tables), 'EP')
 
     # Mends that no slip names.
 
     def guess(self):
         """The edit of a token or two that reaches the furthest."""
-        found = [(self.reached(edit), number, edit) for number, edit in enumerate(self.guesses())]
+        found = [(self.reached(edit), number, edit) for number, edit in enumerate(self.guesses())
+                 if self.keeps(edit)]
         found = [((not is_right, rest, number), edit) for (is_right, rest), number, edit in found
                  if is_right or rest <= len(self.tokens) - self.stop - edit.further]
         return min(found, default=(None, None), key=lambda it: it[0])[1]
+
+    def keeps(self, edit):
+        """Whether a guess leaves a change as it was asked for, and makes none of what was none."""
+        if is_change(self.tokens):
+            if edit.put == 'WHERE' and edit.start == edit.end:
+                return self.stop < len(self.tokens) and self.tokens[self.stop].is_name
+            return edit.put in IN_CHANGES or edit.put.endswith('_') or edit.put in ('A', '0')
+        if edit.put not in CHANGES and not (edit.start == 0 and edit.put == ''):
+            return True
+        word = self.tokens[0].word
+        return edit.end == 1 and edit.put != '' and abs(len(word) - len(edit.put)) < 2 and \
+            not difflib.get_close_matches(word, ['SELECT'], 1, LIKE)
 
     def guesses(self):
         stop, expected = self.stop, self.parsed.expected
@@ -184,6 +208,11 @@ class Mending:
             if what in expected:
                 what = 'a value' if A_TEXT in expected and A_NAME not in expected else what
                 yield Edit(stop, stop, put, f'Write {what} {where}.')
+
+
+def is_change(tokens):
+    """Whether these are of a statement that takes rows out or makes others of them."""
+    return tokens[0].word in CHANGES
 
 
 def begins_statement(tokens):

@@ -4,9 +4,11 @@ Each call gets the groups of the slip's pattern, as texts of the statement's own
 tables that are there; it gives what is put in the place of the group `out`, or a pair of this and
 of what the sentence has for it.
 """
+import datetime
 import re
 
 from profile_sql.lexis import lexed
+from profile_sql.literals import date_of
 
 
 def columns_of_star(groups, tables):
@@ -84,3 +86,38 @@ def like(groups, tables):
     if groups.get('no'):
         return f"({left} < '{start}' OR {left} >= '{after}')"
     return f"({left} >= '{start}' AND {left} < '{after}')"
+
+
+def same_as_like(groups, tables):
+    """A comparison that is met by the same texts, where there is one."""
+    pattern = groups['text'][1:-1]
+    start = pattern.rstrip('%')
+    if groups.get('any') or re.search('[%_]', start) or not start or \
+            pattern != start and not start[-1].isalnum():
+        return None, 'ask which texts there are, and compare with each of them by ='
+    condition = like(groups, tables)
+    return condition, f'compare by = and by <, such as {condition}'
+
+
+def portion(groups, tables):
+    """What names the days of a change in the place of a period predicate. Nothing is put."""
+    found = re.fullmatch(r"(\w+) (?:CONTAINS DATE '(.*)'|OVERLAPS PERIOD ?\(DATE '(.*)', ?DATE '(.*)'\))",
+                         groups['out'])
+    first, end = (found[2] or found[3], found[4] or day_after(found[2])) if found else (None, None)
+    if not end:
+        return None, f'Ask for the rows by SELECT * .. WHERE {groups["out"]}, and name each by its key.'
+    return None, (f"Name the days after the table's name, in place of {groups['out']}: FOR PORTION OF"
+                  f" {found[1]} FROM DATE '{first}' TO DATE '{end}'.")
+
+
+def day_after(text):
+    day = date_of(text)
+    return str(day + datetime.timedelta(1)) if day and day < datetime.date.max else None
+
+
+def days_of_others(groups, tables):
+    """The WHERE of a stored query for the days that another database takes after FOR."""
+    days = f'CONTAINS DATE {groups["day"]}' if groups['day'] else \
+        f'OVERLAPS PERIOD (DATE {groups["start"]}, DATE {groups["end"]})'
+    more = f' AND ({groups["where"]})' if groups['where'] else ''
+    return f'WHERE {groups["period"]} {days}{more}'

@@ -4,9 +4,12 @@ A pattern is over the tokens with a space after each: words in upper case, 0 for
 text; and `@ ` is before the first token that no statement can have there. The group `out` (else
 nothing, at that place) is replaced by `put`, a template or a call of rewriting.py. In `put` and in
 what to do, {out} and the other groups are the statement's own tokens, {put} is what is put there,
-{period} the period that the statement declares or else EP. Where `put` is None nothing is put. A
+{period} the period of the statement's table or else EP. Where `put` is None nothing is put. A
 slip is shown only where the statement with the mend goes on past it; `expects` is one of the tokens
 that could be there.
+
+No mend of an UPDATE or a DELETE may change more than its words ask. So these have slips of their
+own, CHANGES, and of the others those alone whose mends ask the same.
 """
 import collections
 import re
@@ -16,7 +19,7 @@ from profile_sql.literals import FIRST_MOMENT, FOREVER
 from . import rewriting
 from .texts import recipe
 
-Slip = collections.namedtuple('Slip', 'pattern put what expects')
+Slip = collections.namedtuple('Slip', 'pattern put what expects in_changes')
 
 NAME = r"[A-Z_]\w*"
 COLUMN = rf"{NAME} (?:\. {NAME} )?"
@@ -29,6 +32,8 @@ NUMBER_TYPES = "NUMERIC|DECIMAL|DEC|NUMBER|FLOAT|REAL|DOUBLE PRECISION|DOUBLE|MO
 OTHER_TYPES = "TIME|DATETIME|TIMESTAMPTZ|INTERVAL|UUID|JSON|JSONB|BLOB|BYTEA|VARBINARY|BINARY"
 WINDOW = (r"FOR SYSTEM_TIME (?:AS OF TIMESTAMP ' |FROM TIMESTAMP ' TO TIMESTAMP ' "
           r"|BETWEEN TIMESTAMP ' AND TIMESTAMP ' )")
+NOW = r"(?:NOW|GETDATE|SYSDATE|CURRENT_TIMESTAMP|CURRENT_DATE|LOCALTIMESTAMP) (?:\( \) )?"
+OTHER_DAYS = r"(?:VALID_TIME|APPLICATION_TIME|BUSINESS_TIME) "
 SPAN = rf"(?:PERIOD \( DATE ' , DATE ' \) |{COLUMN})"
 PREDICATE = (rf"(?:CONTAINS (?:DATE ' |{SPAN})"
              rf"|(?:OVERLAPS|EQUALS|(?:IMMEDIATELY )?(?:PRECEDES|SUCCEEDS)) {SPAN})")
@@ -48,6 +53,12 @@ NO_SUBQUERY = ("Leave out {out}: there are no subqueries. Where the column is in
                f" DISTINCT .. FROM .., which applies on each day by itself. {EVER}")
 NO_OUTER_JOIN = ("Leave out {out}: joins are inner. The rows without a partner come by UNION:"
                  f" {recipe('Rows without a partner')}.")
+CHANGE = r"^(?:UPDATE|DELETE) (?:.* )?"
+SIGN = r"(?:=|<>|<|>|<=|>=)"
+LEAVE_OUT = "Leave out {out}."
+NO_COMMA = "Leave out the comma: a list doesn't end with one."
+NO_SHARE = ("There is no {word} in a change: it is of all rows that its WHERE names. Name there those"
+            " that are meant.")
 FROM_A_FILE = ("Leave it out, and put the rows into INSERTs: tools/load makes these of a CSV file,"
                f" as {recipe('Load an export with corrections')} shows.")
 
@@ -55,9 +66,15 @@ BEGINNINGS = [
     (r"^@ (?P<word>BEGIN|COMMIT|ROLLBACK|START|SAVEPOINT|END) ", None,
      "Leave out {word}: each statement is a transaction of its own."),
     (r"^@ (?:COPY|LOAD DATA|\. IMPORT) ", None, FROM_A_FILE),
-    (r"^@ (?P<word>DROP|TRUNCATE|ALTER) ", None,
-     "Leave out {word}: a script begins without tables, and nothing of it remains. DELETE FROM"
-     " takes out rows."),
+    (r"^@ DROP ", None,
+     "Leave this statement out: no statement takes a table away. A new store has none, and no more"
+     " has a script that is run without a store."),
+    (r"^@ ALTER ", None,
+     "Leave this statement out: a table keeps the columns that it was made with. Make another table"
+     " with those that are wanted, and insert its rows."),
+    (r"^(?P<out>@ TRUNCATE (?:TABLE )?)(?P<table>\w+) $", "DELETE FROM",
+     "Write DELETE FROM {table}: it takes all rows out that hold now. What was recorded of them is"
+     " kept."),
     (r"^@ (?P<out>)\( ", "VALIDTIME", "Begin a query in parentheses with VALIDTIME."),
     (r"^CREATE @ (?!TABLE )(?P<word>\S+ )", None,
      "Write TABLE after CREATE: there are no views, indexes and schemas."),
@@ -79,6 +96,8 @@ BEGINNINGS = [
      "Write DISTINCT after each SELECT of a sequenced query."),
     (rf"^(?!@ )(?:\S+ )+@ (?P<word>{STATEMENT})", CUT,
      "With {word} another statement begins: put a semicolon before it."),
+    (rf"^AT @ {NOW}", None,
+     "Write the moment itself: AT TIMESTAMP '2024-01-01 00:00:00'. The clock goes by AT alone."),
     (r"^AT @ (?=' )", "TIMESTAMP",
      "Write a moment after AT: AT TIMESTAMP '2024-01-01 00:00:00'."),
     (r"^AT @ (?P<out>(?:DATE ' |0 - 0 - 0 ))", "TIMESTAMP '2024-01-01 00:00:00'",
@@ -109,7 +128,7 @@ DEFINITIONS = [
      "Write the key as an element of its own: PRIMARY KEY ({column}, {period} WITHOUT OVERLAPS)."),
     (r"@ (?P<out>(?P<word>AUTO_INCREMENT|AUTOINCREMENT|UNIQUE|NULL) )", "", "Leave out {word}.",
      "NOT"),
-    (rf"@ (?P<out>DEFAULT (?:{LITERAL}|NULL |{NAME} (?:\( \) )?))", "", "Leave out {out}.", "NOT"),
+    (rf"@ (?P<out>DEFAULT (?:{LITERAL}|NULL |{NAME} (?:\( \) )?))", "", LEAVE_OUT, "NOT"),
     (r"@ (?P<out>CHECK \( (?:[^()]|\([^()]*\))*\) )", "",
      "Leave out CHECK: no constraint but keys and references is checked.", ""),
     (r"@ (?P<out>REFERENCES \w+ (?:\( \w+ \) )?)", "",
@@ -142,6 +161,33 @@ DEFINITIONS = [
      "Write WITH SYSTEM VERSIONING after the last parenthesis of CREATE TABLE.", "WITH"),
 ]
 
+# What a mend of an UPDATE or a DELETE must not take for granted: nothing is put there.
+ASKED = [
+    (r"^DELETE @ HISTORY ", None,
+     "Leave this statement out: what was recorded is kept, and no statement takes it away. (Without"
+     " HISTORY it would take out the rows that hold now.)"),
+    (r"^(?:DELETE @ |UPDATE )(?P<word>TOP) ", None, NO_SHARE),
+    (rf"{CHANGE}@ (?P<word>ORDER|LIMIT|OFFSET|FETCH) ", None, NO_SHARE),
+    (rf"{CHANGE}WHERE (?:.* )?(?P<out>(?:{COLUMN}@ (?:NOT )?IN |EXISTS @ |{SIGN} (?:ALL |ANY |SOME )?@ )"
+     r"\( (?:SELECT|VALIDTIME|\() .*\) )", None,
+     "There are no subqueries, and without {out} other rows would change. Ask for the values first,"
+     " and compare with each of them."),
+    (rf"{CHANGE}WHERE (?:.* )?(?:(?P<out>{COLUMN}@ IS (?:NOT )?NULL )|@ NULL )", None,
+     "No column holds NULL. Compare with the value that is stored in its place, where there is one:"
+     " '' or DATE '9999-12-31'."),
+    (rf"{CHANGE}(?P<out>(?P<left>{COLUMN})@ (?P<no>NOT )?(?P<any>I?)LIKE (?P<text>' ))",
+     rewriting.same_as_like, "There is no LIKE: {put}."),
+    (rf"{CHANGE}WHERE (?:.* )?(?P<word>(?!IN |EXISTS |ALL |ANY |SOME ){NAME}) @ \( ", None,
+     "There is no {word}: columns and literals are compared as they are."),
+    (rf"{CHANGE}WHERE (?:.* )?@ [-+*] ", None,
+     "There is no arithmetic: compare a column with the value itself."),
+    (rf"{CHANGE}WHERE (?:.* )?0 @ \. 0 ", None,
+     "Numbers have no fraction: write the number in the unit of its column, such as cents."),
+    (rf"{CHANGE}(?P<word>AND|OR|WHERE|NOT) @ $", None, "Write what follows {word}."),
+    (rf"{CHANGE}(?P<out>@ PERIOD \( DATE ' , DATE ' \) {PREDICATE}|{COLUMN}@ {PREDICATE})",
+     rewriting.portion, "There are no period predicates in a change. {put}"),
+]
+
 CHANGES = [
     (r"VALUES (?P<out>\( @ (?P<rows>\( .*\) )\) )$", "{rows}",
      "Leave out the parentheses around all rows."),
@@ -160,23 +206,27 @@ CHANGES = [
      "Write a whole number: numbers have no fraction. Money is kept in its smallest unit, such as"
      " cents: {put} for {out}."),
     (r"\) @ (?=\( )", ",", "Write a comma between two rows.", ","),
-    (rf"SET (?:.* , )?{NAME} = @ (?P<out>(?!NULL )(?:{NAME} |\().*?)(?=, {NAME} = |WHERE |$)", "0",
+    (rf"SET (?:.* , )?{NAME} = @ (?P<out>(?!NULL |WHERE )(?:{NAME} |\( {INNER}\) ){INNER})"
+     rf"(?=, {NAME} = |WHERE |$)", "0",
      "SET gives literals: write the new value in place of {out}, in an UPDATE for each old value."),
-    (rf"SET (?:.* , )?{NAME} = (?:0|') @ (?P<out>[-+*] (?:0|{COLUMN}))", "",
+    (rf"SET (?:.* , )?{NAME} = (?:0|') @ (?P<out>[-+*] (?:0 |{COLUMN}))(?=, {NAME} = |WHERE |$)", "",
      "SET gives literals: write the new value itself."),
     (rf"(?:VALUES.*) @ (?P<out>{NAME} (?:\( [^()]*\) )?)(?=[,)])", "0",
      "A value is a number, a text in single quotes or a date, DATE '2024-01-01'. {out} is none.",
      "a number"),
     (r"(?:FROM|TO) @ (?P<out>)(?P<text>' )", "DATE", A_DATE, "DATE"),
-    (r"@ (?P<out>(?:RETURNING|ON CONFLICT|ON DUPLICATE) .*)$", "", "Leave out {out}."),
+    (r"PORTION OF \w+ FROM DATE ' TO @ (?P<out>NULL )", "DATE '9999-12-31'",
+     "Write {put} for NULL: it is the end of a period that is open.", "DATE"),
+    (r"^(?:UPDATE|DELETE FROM) \w+ @ (?P<out>(?:AS )?(?!SET |WHERE |FOR |HISTORY )[A-Z_]\w* )"
+     r"(?=SET |WHERE |FOR )", "",
+     "Leave out {out}, also before columns: the table of a change has no other name."),
+    (rf"@ (?P<out>RETURNING (?:\* |{COLUMN}(?:, {COLUMN})*))$", "", LEAVE_OUT),
+    (r"^INSERT .*@ (?P<out>ON (?:CONFLICT|DUPLICATE) .*)$", "", LEAVE_OUT),
     (r"^(?:UPDATE|DELETE FROM) (?P<out>(?P<table>\w+) (?P<rest>(?:SET|WHERE) .*?)@ "
      r"(?P<portion>FOR PORTION OF \w+ FROM DATE ' TO DATE ' ))", "{table} {portion} {rest}",
      "Write {portion} right after the table's name."),
     (r"^UPDATE .* @ (?P<out>(?P<where>WHERE .*?)(?P<set>SET .*))$", "{set} {where}",
      "Write SET before WHERE."),
-    (rf"^(?:UPDATE|DELETE) .*?(?P<out>@ PERIOD \( DATE ' , DATE ' \) {PREDICATE}"
-     rf"|{COLUMN}@ {PREDICATE})", "A = A",
-     "Leave out {out}: the days of a change are named by FOR PORTION OF, after the table's name."),
 ]
 
 QUERIES = [
@@ -195,6 +245,15 @@ QUERIES = [
     (r"AS @ (?P<out>' )", "A", "Write the new name without quotes.", "a name"),
     (r"(?P<out>MINUS @ )SELECT ", "EXCEPT", "Write EXCEPT for MINUS."),
     (r"FOR @ (?P<out>SYSTEM TIME )", "SYSTEM_TIME", "Write SYSTEM_TIME, one word."),
+    (rf"(?P<out>FOR SYSTEM_TIME AS OF @ {NOW})", "",
+     "Leave out {out}: without it a query asks for what is recorded now."),
+    (rf"^SELECT \* FROM (?P<table>\w+) (?P<out>FOR @ {OTHER_DAYS}(?P<days>AS OF (?:DATE )?(?P<day>' )"
+     rf"|FROM (?:DATE )?(?P<start>' )TO (?:DATE )?(?P<end>' ))(?:WHERE (?P<where>.*))?)$",
+     rewriting.days_of_others, "Name the days so: {put}."),
+    (rf"(?P<out>FOR @ {OTHER_DAYS}(?:ALL|AS OF (?:DATE |TIMESTAMP )?'"
+     r"|(?:FROM|BETWEEN) (?:DATE |TIMESTAMP )?' (?:TO|AND) (?:DATE |TIMESTAMP )?') )", "",
+     "Leave out {out}: each row of an answer has its days. For some days alone, join a table with"
+     f" one row that holds on these days: {recipe('An answer for some days alone')}."),
     (rf"^SELECT \* FROM (?P<table>\w+) (?P<out>@ (?:AS )?(?P<new>{NAME}) )(?=WHERE |$)", "",
      "Leave out {out}, also before columns: the table of SELECT * has no other name."),
     (r"(?:DISTINCT|,) @ (?P<out>(?:[-+] )?0 |' |DATE ' )", "A",
@@ -238,9 +297,18 @@ QUERIES = [
      "{from} {where}", "Write FROM before WHERE."),
 ]
 
-CONDITIONS = [
+# Conditions whose mends ask the same.
+SAME_CONDITIONS = [
     (rf"(?P<out>(?P<left>{COLUMN})@ (?P<no>NOT )?IN \( (?P<items>(?:{LITERAL}|, )+)\) )",
      rewriting.comparisons, "There is no IN: write {put}."),
+    (rf"(?P<out>(?P<left>{COLUMN})@ (?P<no>NOT )?"
+     rf"BETWEEN (?P<low>{OPERAND})AND (?P<high>{OPERAND}))", rewriting.between,
+     "BETWEEN is for FOR SYSTEM_TIME alone: write {put}."),
+    (r"(?P<out>= @ = )", "=", "Write = for ==."),
+    (r"(?P<out>, )@ WHERE ", "", NO_COMMA),
+]
+
+CONDITIONS = [
     (rf"^(?P<out>(?P<query>VALIDTIME SELECT DISTINCT (?P<left>{COLUMN})FROM {NAME} "
      rf"(?:WHERE (?:(?!OR )\S+ )*(?=AND {COLUMN}@))?)"
      rf"(?:WHERE|AND) {COLUMN}@ NOT IN \( SELECT (?:DISTINCT )?(?P<inner>[^()]*)\) )$",
@@ -250,9 +318,6 @@ CONDITIONS = [
      NO_SUBQUERY),
     (r"(?P<out>EXISTS @ \( (?:SELECT|VALIDTIME) .*\) )", "A = A", NO_SUBQUERY),
     (r"(?:=|<>|<|>|<=|>=) @ (?P<out>\( (?:SELECT|VALIDTIME) .*\) )", "A", NO_SUBQUERY),
-    (rf"(?P<out>(?P<left>{COLUMN})@ (?P<no>NOT )?"
-     rf"BETWEEN (?P<low>{OPERAND})AND (?P<high>{OPERAND}))", rewriting.between,
-     "BETWEEN is for FOR SYSTEM_TIME alone: write {put}."),
     (rf"(?P<out>(?P<left>{COLUMN})@ (?P<no>NOT )?I?LIKE (?P<text>' ))", rewriting.like,
      "There is no LIKE: compare by = and by <, such as {put}."),
     (rf"(?P<out>(?P<left>{COLUMN})@ IS NULL )", rewriting.meant,
@@ -263,7 +328,6 @@ CONDITIONS = [
     (r"(?:=|<>|<|>|<=|>=) @ (?P<out>NULL )", "''",
      "No column holds NULL: store a value that means it, such as '' or DATE '9999-12-31', and"
      " compare with it."),
-    (r"(?P<out>= @ = )", "=", "Write = for ==."),
     (rf"VALIDTIME .*(?P<out>@ PERIOD \( DATE ' , DATE ' \) {PREDICATE}"
      rf"|(?:(?<=WHERE )|(?<=AND )|(?<=OR )|(?<=NOT )|(?<=\( )|(?<=ON )){COLUMN}@ {PREDICATE})",
      "A = A", CALENDAR),
@@ -271,11 +335,12 @@ CONDITIONS = [
     (rf"@ (?P<out>[-+*] (?:0|'|{NAME}) )", "", NO_ARITHMETIC, "AND"),
     (r"(?:=|<>|<|>|<=|>=) (?P<out>(?:ALL|ANY|SOME) @ \( .*\) )", "A", NO_SUBQUERY),
     (r"(?P<out>(?P<word>AND|OR|WHERE|NOT) )@ $", "", "Leave out {word}, or write what follows."),
-    (r"(?P<out>, )@ (?:(?:\)|FROM|WHERE|WITH) |$)", "",
-     "Leave out the comma: a list doesn't end with one."),
+    (r"(?P<out>, )@ (?:(?:\)|FROM|WITH) |$)", "", NO_COMMA),
 ]
 
 # Each pattern begins with a token.
-SLIPS = [Slip(re.compile(rf"(?<![^ ])(?:{pattern})"), put, what, (*expects, "")[0])
-         for slips in (BEGINNINGS, DEFINITIONS, CHANGES, QUERIES, CONDITIONS)
+SLIPS = [Slip(re.compile(rf"(?<![^ ])(?:{pattern})"), put, what, (*expects, "")[0], in_changes)
+         for slips, in_changes in ((BEGINNINGS, True), (DEFINITIONS, False), (ASKED, True),
+                                   (CHANGES, True), (QUERIES, False), (SAME_CONDITIONS, True),
+                                   (CONDITIONS, False))
          for pattern, put, what, *expects in slips]
