@@ -91,8 +91,8 @@ RunsAs g contents true readers known old opened ended closed new =
     RunsGiven AuditedPieceStep refused_entry contents entry_text entry_status
     (LeadsDatabase g opened closed) readers known old ended new
 
--- how a store is opened and left, and what is run in between, or that nothing was; where it is used,
--- others have in its database what they had
+-- how a store is opened and left, and what is run in between, or that nothing was; where it is
+-- used, others have in its database what they had
 abbrev pub Uses : {S T W : Type 0} → Ghosts S → Filing S → (Reporter W → Type 0)
     → (Held S → Result T RunFault → Held S → Reporter W → Type 0)
     → Result ℕ RunFault → Reporter W → Type 0

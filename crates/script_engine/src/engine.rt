@@ -392,8 +392,8 @@ impl<S: Alter> Engine<S> {
             → IfErr result (MayRefuseQuery S.Store self.old self.new
             (statement.sequenced (plain_query query.now))) }
         ensures kept { KeepsOnErr S.Store self.old self.new result }
-        ensures over { StepOver S.Store self.old (statement.sequenced (plain_query query.now)) result
-            self.new }
+        ensures over { StepOver S.Store self.old
+            (statement.sequenced (plain_query query.now)) result self.new }
         ensures others { SparesOthers S.Store self.old.connection self.new.connection }
     {
         let query = resolve_sequenced(alloc, self.store.catalog(), query)?;

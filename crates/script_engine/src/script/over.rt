@@ -25,9 +25,9 @@ pub fn run_over<S: Alter, K: PieceResult<S>, L: Listener<K>>(
     script: &[u8],
     listener: &mut L,
 ) -> Result<bool, Refusal>
-    // What is passed on are the results of a run of the script's first pieces: whatever the database
-    // holds, from the engine as it was to the engine as it is; and from whatever history the engine
-    // represents to one that it represents then.
+    // The listener gets the results of a run of the script's first pieces: whatever the database
+    // holds, from the engine as it was to the engine as it is; and from whatever history the
+    // engine represents to one that it represents then.
     ensures run { IfOk result (λ goes_on. (results : List K)
         × HearsAll L.hears 1 listener.old results goes_on listener.new
         × ((made : IsFrontRunBy (KeptStepOver S.Store K.result_of) engine.old script.now results
