@@ -1,13 +1,9 @@
 //! Where the scripts of a command line are: the files that their names open.
 
-ghost use Rattle.std.specs.Prelude.{◌≡◌, ◌⊎◌, ◌≤◌, ◌+◌, ◌||◌, ℕ, List, None, Option, IfErr};
-ghost use Rattle.std.specs.Prelude.{IfOk, IfSome, false, length, true};
-ghost use Rattle.command_line.specs.Reading.{read_of};
+ghost use Rattle.std.specs.Prelude.{◌≡◌, ◌||◌, ℕ, List, None, Option, IfErr, IfOk, false, true};
 
 use crate::fault::RunFault;
-use crate::script_reader::read_script;
 use crate::tracked::Tracked;
-use std::alloc::Global;
 use std::fs::File;
 use std::io;
 use std::io::Read;
@@ -80,27 +76,5 @@ impl<'a, S: Scripts> ScriptFiles<'a, S> {
         ensures noted { self.new.has_failed ≡ (self.old.has_failed || script.now.has_failed) }
     {
         self.has_failed = self.has_failed || script.has_failed();
-    }
-
-    /// Reads the script in the file of this name, which may have at most `most` bytes, and at most
-    /// one byte more.
-    pub fn read_named(
-        &mut self,
-        alloc: Global,
-        name: &str,
-        most: usize,
-    ) -> Result<Vec<u8>, RunFault>
-        ensures same { self.new.scripts ≡ self.old.scripts }
-        ensures bytes { IfOk result (λ text. IfSome (S.content self.old.scripts.now name.now)
-            (λ all. text.items ≡ read_of most all)) }
-        ensures bounded { IfOk result (λ text. length text.items ≤ most + 1) }
-        ensures refused { IfErr result (λ fault. (fault ≡ RunFault.Memory)
-            ⊎ ((fault ≡ RunFault.Read) × (self.new.has_failed ≡ true))) }
-        ensures stays { self.old.has_failed ≡ true → self.new.has_failed ≡ true }
-    {
-        let mut script = self.open(name)?;
-        let read = read_script(alloc, &mut script, most);
-        self.note(&script);
-        read
     }
 }
