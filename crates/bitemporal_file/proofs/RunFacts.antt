@@ -285,9 +285,9 @@ module _ {N T : Type 0} (f : N → T) (content : T → Option (List ℕ)) where
 
 -- ---- histories
 
-pub leads-more : {K : Type 0} (IsStep : History → List Lexeme → K → History → Type 0) (history : History) (runs more : List (ScriptRun K)) (middle last : History) → LeadsTo IsStep history runs middle → LeadsTo IsStep middle more last → LeadsTo IsStep history (runs ++ more) last
-leads-more IsStep history [] more middle last same rest = subst (λ h. LeadsTo IsStep h more last) same rest
-leads-more IsStep history (run ∷ runs) more middle last (made, leads) rest = (made, leads-more IsStep made.last runs more middle last leads rest)
+pub leads-more : {H K : Type 0} (IsStep : H → List Lexeme → K → H → Type 0) (opening : H) (runs more : List (ScriptRun K)) (middle last : H) → LeadsTo IsStep opening runs middle → LeadsTo IsStep middle more last → LeadsTo IsStep opening (runs ++ more) last
+leads-more IsStep opening [] more middle last same rest = subst (λ h. LeadsTo IsStep h more last) same rest
+leads-more IsStep opening (run ∷ runs) more middle last (made, leads) rest = (made, leads-more IsStep made.last runs more middle last leads rest)
 
 -- what an engine represents its database stands for, and that is committed
 pub stands_for : {S : Type 0} (g : Ghosts S) (history : History) (engine : EngineState S) (connection : Held S) → connection ≡ engine.connection → EngineRepresents g history engine →

@@ -88,14 +88,20 @@ module _ {K : Type 0} where
   taken-part known middle left runs run first last =
       subst (Consumes known left) (sym (bytes-one runs run)) (Consumes-trans known middle left (bytes_of runs) run.script first last)
 
-  pub leads-further : (IsStep : History → List Lexeme → K → History → Type 0) (refused : Refusal → K) (start : ℕ) (history : History) (runs : List (ScriptRun K)) (middle : History) (run : ScriptRun K) (last : History) →
-      LeadsThrough IsStep refused start history runs middle → PartStep IsStep refused (start + length (bytes_of runs)) middle run last → LeadsThrough IsStep refused start history (runs ++ run ∷ []) last
-  leads-further IsStep refused start history [] middle run last same step =
+  pub leads-further : {H : Type 0} (IsStep : H → List Lexeme → K → H → Type 0) (refused : Refusal → K) (start : ℕ) (opening : H) (runs : List (ScriptRun K)) (middle : H) (run : ScriptRun K) (last : H) →
+      LeadsThrough IsStep refused start opening runs middle → PartStep IsStep refused (start + length (bytes_of runs)) middle run last → LeadsThrough IsStep refused start opening (runs ++ run ∷ []) last
+  leads-further {H = H} IsStep refused start opening [] middle run last same step =
       let here = subst (λ s. PartStep IsStep refused s middle run last) (add-zero start) step in
-      (last, subst (λ (h : History). PartStep IsStep refused start h run last) same here, refl)
-  leads-further IsStep refused start history (first ∷ runs) middle run last (next, began, rest) step =
+      (last, subst (λ (h : H). PartStep IsStep refused start h run last) same here, refl)
+  leads-further IsStep refused start opening (first ∷ runs) middle run last (next, began, rest) step =
       let behind : start + length (first.script ++ bytes_of runs) ≡ (start + length first.script) + length (bytes_of runs) = omega (arith, length-append first.script (bytes_of runs)) in
       (next, began, leads-further IsStep refused (start + length first.script) next runs middle run last rest (subst (λ s. PartStep IsStep refused s middle run last) behind step))
+
+  pub over_further : {H : Type 0} (IsStep : H → List Lexeme → K → H → Type 0) (refused : Refusal → K) (start : ℕ) (opening : H) (runs : List (ScriptRun K)) (middle : H) (run : ScriptRun K) (last : H) → start ≡ length (bytes_of runs) →
+      LeadsThrough IsStep refused 0 opening runs middle → PartStep IsStep refused start middle run last → LeadsThrough IsStep refused 0 opening (runs ++ run ∷ []) last
+  over_further IsStep refused start opening runs middle run last begins did step =
+      let here : start ≡ 0 + length (bytes_of runs) = omega (arith, begins) in
+      leads-further IsStep refused 0 opening runs middle run last did (subst (λ s. PartStep IsStep refused s middle run last) here step)
 
   -- ---- how parts end
 
@@ -188,16 +194,24 @@ pub run_made : {S K : Type 0} (g : Ghosts S) (IsStep : History → List Lexeme �
 run_made g IsStep refused start history bytes script results goes_on engine same ran =
     let (made, after) = rw same at ran in (made.last, inl (made, refl), after)
 
-module _ {S K W : Type 0} (g : Ghosts S) (IsStep : History → List Lexeme → K → History → Type 0) (refused : Refusal → K) (contents : W → Option (List ℕ)) (text : ℕ → K → List ℕ) (status : K → ℕ) where
+-- a part that was run over an engine
+pub over_made : {H K : Type 0} (IsStep : H → List Lexeme → K → H → Type 0) (refused : Refusal → K) (start : ℕ) (opening : H) (bytes script : List ℕ) (results : List K) (goes_on : Bool) (last : H) → bytes ≡ script →
+    (made : IsFrontRunBy IsStep opening bytes results goes_on) × (made.last ≡ last) →
+    PartStep IsStep refused start opening (record { script = script; results = results; is_whole = goes_on }) last
+over_made IsStep refused start opening bytes script results goes_on last same ran =
+    let (made, is) = rw same at ran in inl (made, sym is)
+
+module _ {S K W : Type 0} (g : Ghosts S) (IsStep : History → List Lexeme → K → History → Type 0) (IsStepOver : EngineState S → List Lexeme → K → EngineState S → Type 0) (refused : Refusal → K) (contents : W → Option (List ℕ)) (text : ℕ → K → List ℕ) (status : K → ℕ) where
   -- a part that was refused as a whole, and whether the session goes on
   pub refused_part : (old new : Reporter W) (before after : EngineState S) (start : ℕ) (script : List ℕ) (refusal : Refusal) (result : Result Bool RunFault) → MayRefuseScript script refusal → after ≡ before →
       IfOk result (λ goes_on. TellsAll contents text status old (refused (placed_at start refusal) ∷ []) goes_on new) →
       IfOk result (λ goes_on. (results : List K) × TellsAll contents text status old results goes_on new
+      × PartStep IsStepOver refused start before (record { script = script; results = results; is_whole = goes_on }) after
       × (IsUsable g after.connection → (history : History) → EngineRepresents g history before
       → RepresentsSome g (PartStep IsStep refused start history (record { script = script; results = results; is_whole = goes_on })) after))
   refused_part old new before after start script refusal (Err fault) may same told = tt
   refused_part old new before after start script refusal (Ok goes_on) may same told =
-      (refused (placed_at start refusal) ∷ [], told, λ usable history stands. (history, inr (refusal, may, refl, refl), subst (EngineRepresents g history) (sym same) stands))
+      (refused (placed_at start refusal) ∷ [], told, inr (refusal, may, refl, same), λ usable history stands. (history, inr (refusal, may, refl, refl), subst (EngineRepresents g history) (sym same) stands))
 
 module _ {S K : Type 0} (g : Ghosts S) (IsStep : History → List Lexeme → K → History → Type 0) (refused : Refusal → K) where
   pub ran_further : (old middle new : EngineState S) (start : ℕ) (runs : List (ScriptRun K)) (run : ScriptRun K) → start ≡ length (bytes_of runs) → WasUsable g middle.connection new.connection →

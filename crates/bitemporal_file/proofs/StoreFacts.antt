@@ -23,10 +23,10 @@ buffered remaining reader inner within empty capacity =
     nothing_before None = refl
     nothing_before (Some bytes) = refl
 
-module _ {K W X : Type 0} (IsStep : History → List Lexeme → K → History → Type 0) (refused : Refusal → K) (contents : W → Option (List ℕ)) (text : ℕ → K → List ℕ) (status : K → ℕ) (First : (History → History → Type 0) → Type 0) where
+module _ {E K W X : Type 0} (IsStep : History → List Lexeme → K → History → Type 0) (IsStepOver : E → List Lexeme → K → E → Type 0) (refused : Refusal → K) (contents : W → Option (List ℕ)) (text : ℕ → K → List ℕ) (status : K → ℕ) (First : (History → History → Type 0) → Type 0) (FirstOver : (E → E → Type 0) → Type 0) where
   -- no script is named
-  pub given_session : (bytes : X → List ℕ) (content : List ℕ → Option (List ℕ)) (files : List X) (known : Option (List ℕ)) (old : Reporter W) (ended : Result Bool RunFault) (new : Reporter W) → (length files == 0) ≡ true → RunsSession IsStep refused contents text status First known old ended new →
-      RunsGiven IsStep refused contents text status First (map content (map bytes files)) known old ended new
+  pub given_session : (bytes : X → List ℕ) (content : List ℕ → Option (List ℕ)) (files : List X) (known : Option (List ℕ)) (old : Reporter W) (ended : Result Bool RunFault) (new : Reporter W) → (length files == 0) ≡ true → RunsSession IsStep IsStepOver refused contents text status First FirstOver known old ended new →
+      RunsGiven IsStep IsStepOver refused contents text status First FirstOver (map content (map bytes files)) known old ended new
   given_session bytes content [] known old ended new none run = run
   given_session bytes content (file ∷ files) known old ended new none run =
       let is : length (file ∷ files) ≡ 0 = eqb-true (length (file ∷ files)) 0 none in
@@ -34,17 +34,17 @@ module _ {K W X : Type 0} (IsStep : History → List Lexeme → K → History �
 
   -- one is
   pub given_scripts : (bytes : X → List ℕ) (content : List ℕ → Option (List ℕ)) (files : List X) (known : Option (List ℕ)) (old : Reporter W) (ended : Result Bool RunFault) (new : Reporter W) → (length files == 0) ≡ false →
-      RunsScripts IsStep refused contents text status First (map content (map bytes files)) old ended new → RunsGiven IsStep refused contents text status First (map content (map bytes files)) known old ended new
+      RunsScripts IsStep IsStepOver refused contents text status First FirstOver (map content (map bytes files)) old ended new → RunsGiven IsStep IsStepOver refused contents text status First FirstOver (map content (map bytes files)) known old ended new
   given_scripts bytes content [] known old ended new some run = let no : ⊥ = cc in absurd no
   given_scripts bytes content (file ∷ files) known old ended new some run = run
 
-module _ {K W : Type 0} (IsStep : History → List Lexeme → K → History → Type 0) (refused : Refusal → K) (contents : W → Option (List ℕ)) (text : ℕ → K → List ℕ) (status : K → ℕ) (First : (History → History → Type 0) → Type 0) where
+module _ {E K W : Type 0} (IsStep : History → List Lexeme → K → History → Type 0) (IsStepOver : E → List Lexeme → K → E → Type 0) (refused : Refusal → K) (contents : W → Option (List ℕ)) (text : ℕ → K → List ℕ) (status : K → ℕ) (First : (History → History → Type 0) → Type 0) (FirstOver : (E → E → Type 0) → Type 0) where
   -- what its steps led to, in other words
-  pub given_so : (Second : (History → History → Type 0) → Type 0) → ((Led : History → History → Type 0) → First Led → Second Led) → (readers : List (Option (List ℕ))) (known : Option (List ℕ)) (old : Reporter W) (ended : Result Bool RunFault) (new : Reporter W) →
-      RunsGiven IsStep refused contents text status First readers known old ended new → RunsGiven IsStep refused contents text status Second readers known old ended new
-  given_so Second so [] known old ended new (runs, parts, run, ends, led) = (runs, parts, run, ends, so (λ history last. LeadsThrough IsStep refused 0 history runs last) led)
-  given_so Second so (reader ∷ readers) known old ended new (runs, are, run, ends, led) = (runs, are, run, ends, so (λ history last. LeadsTo IsStep history runs last) led)
+  pub given_so : (Second : (History → History → Type 0) → Type 0) (SecondOver : (E → E → Type 0) → Type 0) → ((Led : History → History → Type 0) → First Led → Second Led) → ((Led : E → E → Type 0) → FirstOver Led → SecondOver Led) → (readers : List (Option (List ℕ))) (known : Option (List ℕ)) (old : Reporter W) (ended : Result Bool RunFault) (new : Reporter W) →
+      RunsGiven IsStep IsStepOver refused contents text status First FirstOver readers known old ended new → RunsGiven IsStep IsStepOver refused contents text status Second SecondOver readers known old ended new
+  given_so Second SecondOver so over [] known old ended new (runs, parts, run, ends, led, did) = (runs, parts, run, ends, so (λ history last. LeadsThrough IsStep refused 0 history runs last) led, over (λ first last. LeadsThrough IsStepOver refused 0 first runs last) did)
+  given_so Second SecondOver so over (reader ∷ readers) known old ended new (runs, are, run, ends, led, did) = (runs, are, run, ends, so (λ history last. LeadsTo IsStep history runs last) led, over (λ first last. LeadsTo IsStepOver first runs last) did)
 
   -- what is known of the input, in other words
-  pub session_known : (known other : Option (List ℕ)) (old : Reporter W) (ended : Result Bool RunFault) (new : Reporter W) → other ≡ known → RunsSession IsStep refused contents text status First other old ended new → RunsSession IsStep refused contents text status First known old ended new
+  pub session_known : (known other : Option (List ℕ)) (old : Reporter W) (ended : Result Bool RunFault) (new : Reporter W) → other ≡ known → RunsSession IsStep IsStepOver refused contents text status First FirstOver other old ended new → RunsSession IsStep IsStepOver refused contents text status First FirstOver known old ended new
   session_known known other old ended new same ran = rw (← same) ran

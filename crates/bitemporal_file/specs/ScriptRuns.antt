@@ -4,7 +4,6 @@ use Rattle.std.specs.Prelude.{Ok, Err}
 use Rattle.std.specs.Prelude.{All, IfSome, false, length, true}
 use Rattle.std.specs.Io.KnownBytes.{Appends}
 use Rattle.sql_statements.specs.Lexemes.{Lexeme}
-use Rattle.history_model.specs.Histories.{History}
 use Rattle.script_engine.specs.script.Listening.{IsFrontRunBy}
 use Rattle.command_line.specs.Reading.{read_of}
 use Rattle.period_core.specs.declared.refusal.Refusal.{Refusal}
@@ -20,12 +19,13 @@ pub record ScriptRun (K : Type 0) : Type 0 where
   pub results : List K
   pub is_whole : Bool
 
--- the results are those of the scripts, each run from the history to which the one before it led
-abbrev pub LeadsTo : {K : Type 0} → (History → List Lexeme → K → History → Type 0)
-    → History → List (ScriptRun K) → History → Type 0
-LeadsTo IsStep history [] last = last ≡ history
-LeadsTo IsStep history (run ∷ runs) last =
-    (made : IsFrontRunBy IsStep history run.script run.results run.is_whole)
+-- the results are those of the scripts, each run from the state to which the one before it led, as
+-- a history
+abbrev pub LeadsTo : {H K : Type 0} → (H → List Lexeme → K → H → Type 0)
+    → H → List (ScriptRun K) → H → Type 0
+LeadsTo IsStep opening [] last = last ≡ opening
+LeadsTo IsStep opening (run ∷ runs) last =
+    (made : IsFrontRunBy IsStep opening run.script run.results run.is_whole)
     × LeadsTo IsStep made.last runs last
 
 -- the scripts are the first that the readers have, each of the bytes that are known of it

@@ -2,7 +2,6 @@
 use Rattle.std.specs.Prelude.{◌≡◌, ◌⊎◌, ◌+◌, ◌++◌, ◌∷◌, ℕ, Bool, List, [], Option, Result}
 use Rattle.std.specs.Prelude.{All, Err, IfErr, IfSome, Ok, length, true, ⊤}
 use Rattle.std.specs.Io.KnownBytes.{Consumes}
-use Rattle.history_model.specs.Histories.{History}
 use Rattle.sql_statements.specs.Lexemes.{Lexeme}
 use Rattle.period_core.specs.declared.refusal.Refusal.{Refusal}
 use Rattle.period_core.specs.declared.refusal.Refusal.TheVariants.{BadToken}
@@ -20,22 +19,22 @@ placed_at start (BadToken offset) = BadToken (start + offset)
 placed_at start other = other
 
 -- a part that begins at this byte is run as a script of its own; or it is refused as a whole, which
--- is its one result, and the history stays
-abbrev pub PartStep : {K : Type 0} → (History → List Lexeme → K → History → Type 0)
-    → (Refusal → K) → ℕ → History → ScriptRun K → History → Type 0
-PartStep IsStep refused start history run last =
-    ((made : IsFrontRunBy IsStep history run.script run.results run.is_whole)
+-- is its one result, and the state stays, as a history
+abbrev pub PartStep : {H K : Type 0} → (H → List Lexeme → K → H → Type 0)
+    → (Refusal → K) → ℕ → H → ScriptRun K → H → Type 0
+PartStep IsStep refused start opening run last =
+    ((made : IsFrontRunBy IsStep opening run.script run.results run.is_whole)
     × (last ≡ made.last))
     ⊎ ((refusal : Refusal) × MayRefuseScript run.script refusal
-    × (run.results ≡ refused (placed_at start refusal) ∷ []) × (last ≡ history))
+    × (run.results ≡ refused (placed_at start refusal) ∷ []) × (last ≡ opening))
 
--- the results are those of the parts, each run from the history to which the one before it led, and
+-- the results are those of the parts, each run from the state to which the one before it led, and
 -- the first of them begins at this byte
-abbrev pub LeadsThrough : {K : Type 0} → (History → List Lexeme → K → History → Type 0)
-    → (Refusal → K) → ℕ → History → List (ScriptRun K) → History → Type 0
-LeadsThrough IsStep refused start history [] last = last ≡ history
-LeadsThrough IsStep refused start history (run ∷ runs) last =
-    (middle : History) × PartStep IsStep refused start history run middle
+abbrev pub LeadsThrough : {H K : Type 0} → (H → List Lexeme → K → H → Type 0)
+    → (Refusal → K) → ℕ → H → List (ScriptRun K) → H → Type 0
+LeadsThrough IsStep refused start opening [] last = last ≡ opening
+LeadsThrough {H} IsStep refused start opening (run ∷ runs) last =
+    (middle : H) × PartStep IsStep refused start opening run middle
     × LeadsThrough IsStep refused (start + length run.script) middle runs last
 
 -- the bytes of the parts, one after the other

@@ -174,6 +174,7 @@ pub fn list_store<S: Alter, W: Write>(
     requires { connection.in_transaction ≡ false }
     ensures same { IfOk result (λ ended.
         LeadsDatabase S.Store connection ended.1 (λ history last. last ≡ history)) }
+    ensures usable { IfOk result (λ ended. WasUsable S.Store connection ended.1) }
     ensures others { IfOk result (λ ended. SparesOthers S.Store connection ended.1) }
     ensures closed { IfOk result (λ ended. ended.1.in_transaction ≡ false) }
     ensures refused { IfErr result (λ failed.

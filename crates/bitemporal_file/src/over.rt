@@ -5,11 +5,13 @@ ghost use Rattle.std.specs.String.{string_bytes};
 ghost use Rattle.version_store.specs.StoreState.{SparesOthers};
 ghost use Rattle.script_engine.specs.engine.Stored.{WasUsable};
 ghost use Rattle.sqlite_wal.specs.Files.{image_at};
+ghost use Rattle.script_engine.specs.script.Script.{KeptStepOver};
 ghost use Rattle.bitemporal_file.specs.Reporting.{IsUnused};
 ghost use Rattle.bitemporal_file.specs.declared.stores.StoreEnd.TheVariants.{Unopened};
 ghost use Rattle.bitemporal_file.specs.StoreFiles.{IsInFiles, IsItsFault, IsLeftAs, IsUnclosedFor};
 ghost use Rattle.bitemporal_file.specs.StoreFiles.{filing};
-ghost use Rattle.bitemporal_file.specs.StoreRuns.{LeadsDatabase, LeadsEngine, RefusesStore};
+ghost use Rattle.bitemporal_file.specs.StoreRuns.{LeadsDatabase, LeadsEngine, LeadsOver};
+ghost use Rattle.bitemporal_file.specs.StoreRuns.{RefusesStore};
 ghost use Rattle.bitemporal_file.specs.StoreRuns.{RunsAs, RunsAsked, RunsGiven, RunsSession};
 
 use crate::reporter::{Reported, Reporter};
@@ -32,8 +34,9 @@ fn run_input<S: Alter, K: PieceResult<S> + Reported + Drop, R: Read, W: Write>(
     reporter: &mut Reporter<W>,
 ) -> Result<bool, RunFault>
     requires { reporter.old.fault ≡ None }
-    ensures ran { RunsSession K.is_step K.refused W.contents K.text K.status_of
-        (LeadsEngine S.Store engine.old engine.new) (R.remaining input.old)
+    ensures ran { RunsSession K.is_step (KeptStepOver S.Store K.result_of) K.refused
+        W.contents K.text K.status_of (LeadsEngine S.Store engine.old engine.new)
+        (λ Led. Led engine.old engine.new) (R.remaining input.old)
         reporter.old result reporter.new }
     ensures usable { WasUsable S.Store engine.old.connection engine.new.connection }
     ensures others { SparesOthers S.Store engine.old.connection engine.new.connection }
@@ -54,8 +57,9 @@ fn run_files<S: Alter, K: PieceResult<S> + Reported + Drop, Q: Scripts, R: Read,
     reporter: &mut Reporter<W>,
 ) -> Result<bool, RunFault>
     requires { reporter.old.fault ≡ None }
-    ensures ran { RunsGiven K.is_step K.refused W.contents K.text K.status_of
-        (LeadsEngine S.Store engine.old engine.new)
+    ensures ran { RunsGiven K.is_step (KeptStepOver S.Store K.result_of) K.refused
+        W.contents K.text K.status_of (LeadsEngine S.Store engine.old engine.new)
+        (λ Led. Led engine.old engine.new)
         (map (Q.content scripts.now) (map string_bytes files.now)) (R.remaining input.old)
         reporter.old result reporter.new }
     ensures low { reporter.old.worst ≤ 3 → reporter.new.worst ≤ 3 }
@@ -81,10 +85,12 @@ fn run_store<S: Alter, K: PieceResult<S> + Reported + Drop, Q: Scripts, R: Read,
     requires settled { connection.in_transaction ≡ false }
     requires fresh { reporter.old.fault ≡ None }
     ensures ran { IfOk result (λ ended.
-        RunsGiven K.is_step K.refused W.contents K.text K.status_of
-        (LeadsDatabase S.Store connection ended.1)
+        RunsGiven K.is_step (KeptStepOver S.Store K.result_of) K.refused
+        W.contents K.text K.status_of (LeadsDatabase S.Store connection ended.1)
+        (LeadsOver S.Store connection ended.1)
         (map (Q.content scripts.now) (map string_bytes files.now)) (R.remaining input.old)
         reporter.old ended.0 reporter.new) }
+    ensures usable { IfOk result (λ ended. WasUsable S.Store connection ended.1) }
     ensures others { IfOk result (λ ended. SparesOthers S.Store connection ended.1) }
     ensures closed { IfOk result (λ ended. ended.1.in_transaction ≡ false) }
     ensures low { reporter.old.worst ≤ 3 → reporter.new.worst ≤ 3 }
@@ -111,6 +117,7 @@ fn run_opened<S: Alter, Q: Scripts, R: Read, W: Write>(
     ensures ran { IfOk result (λ ended. RunsAs S.Store W.contents asked.now.audits
         (map (Q.content scripts.now) (map string_bytes asked.now.files.items))
         (R.remaining input.old) reporter.old connection ended.0 ended.1 reporter.new) }
+    ensures usable { IfOk result (λ ended. WasUsable S.Store connection ended.1) }
     ensures others { IfOk result (λ ended. SparesOthers S.Store connection ended.1) }
     ensures low { reporter.old.worst ≤ 3 → reporter.new.worst ≤ 3 }
     ensures refused { IfErr result (λ failed.

@@ -5,6 +5,7 @@ ghost use Rattle.std.specs.String.{string_bytes};
 ghost use Rattle.version_store.specs.StoreState.{IsUsable, SparesOthers};
 ghost use Rattle.history_model.specs.Histories.{History};
 ghost use Rattle.script_engine.specs.engine.Stored.{EngineRepresents, RepresentsSome, WasUsable};
+ghost use Rattle.script_engine.specs.script.Script.{KeptStepOver};
 ghost use Rattle.bitemporal_file.specs.ScriptRuns.{AreOfReaders, AreRun, Ends, LeadsTo, ScriptRun};
 
 use crate::reporter::{Reported, Reporter};
@@ -28,6 +29,7 @@ fn run_script<S: Alter, K: PieceResult<S> + Reported + Drop, R: Read, W: Write>(
         × AreRun runs result reporter.new.fault
         × Ends W.contents K.text K.status_of (R.remaining input.old.inner ∷ [])
         reporter.old runs result reporter.new
+        × LeadsTo (KeptStepOver S.Store K.result_of) engine.old runs engine.new
         × (IsUsable S.Store engine.new.connection
         → (history : History) → EngineRepresents S.Store history engine.old
         → RepresentsSome S.Store (LeadsTo K.is_step history runs) engine.new) }
@@ -59,6 +61,7 @@ fn run_named<S: Alter, K: PieceResult<S> + Reported + Drop, Q: Scripts, W: Write
         × AreRun runs result reporter.new.fault
         × Ends W.contents K.text K.status_of (Q.content scripts.now name.now ∷ [])
         reporter.old runs result reporter.new
+        × LeadsTo (KeptStepOver S.Store K.result_of) engine.old runs engine.new
         × (IsUsable S.Store engine.new.connection
         → (history : History) → EngineRepresents S.Store history engine.old
         → RepresentsSome S.Store (LeadsTo K.is_step history runs) engine.new) }
@@ -87,6 +90,7 @@ pub(crate) fn run_all<S: Alter, K: PieceResult<S> + Reported + Drop, Q: Scripts,
         (runs : List (ScriptRun K)) × AreOfReaders readers runs
         × AreRun runs result reporter.new.fault
         × Ends W.contents K.text K.status_of readers reporter.old runs result reporter.new
+        × LeadsTo (KeptStepOver S.Store K.result_of) engine.old runs engine.new
         × (IsUsable S.Store engine.new.connection
         → (history : History) → EngineRepresents S.Store history engine.old
         → RepresentsSome S.Store (LeadsTo K.is_step history runs) engine.new) }

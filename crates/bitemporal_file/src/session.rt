@@ -5,6 +5,7 @@ ghost use Rattle.version_store.specs.StoreState.{IsUsable, SparesOthers};
 ghost use Rattle.history_model.specs.Histories.{History};
 ghost use Rattle.command_line.specs.declared.fault.RunFault.TheVariants.{Read as NotRead};
 ghost use Rattle.script_engine.specs.engine.Stored.{EngineRepresents, RepresentsSome, WasUsable};
+ghost use Rattle.script_engine.specs.script.Script.{KeptStepOver};
 ghost use Rattle.bitemporal_file.specs.Parts.{IsPartOf};
 ghost use Rattle.bitemporal_file.specs.Reporting.{EndsWith, TellsAll};
 ghost use Rattle.bitemporal_file.specs.ScriptRuns.{AreRun, ScriptRun, results_of};
@@ -64,6 +65,8 @@ fn run_part<S: Alter, K: PieceResult<S> + Reported + Drop, W: Write>(
     ensures ran { (script : List ℕ) → IsPartOf script part.now → IfOk result (λ goes_on.
         (results : List K)
         × TellsAll W.contents K.text K.status_of reporter.old results goes_on reporter.new
+        × PartStep (KeptStepOver S.Store K.result_of) K.refused start engine.old
+        (record { script = script; results = results; is_whole = goes_on }) engine.new
         × (IsUsable S.Store engine.new.connection
         → (history : History) → EngineRepresents S.Store history engine.old
         → RepresentsSome S.Store (PartStep K.is_step K.refused start history
@@ -95,6 +98,7 @@ pub(crate) fn run_parts<S: Alter, K: PieceResult<S> + Reported + Drop, R: Read, 
     ensures ran { (runs : List (ScriptRun K)) × ArePartsOf (R.remaining input.old) runs result
         × AreRun runs result reporter.new.fault
         × EndsWith W.contents K.text K.status_of reporter.old (results_of runs) result reporter.new
+        × LeadsThrough (KeptStepOver S.Store K.result_of) K.refused 0 engine.old runs engine.new
         × (IsUsable S.Store engine.new.connection
         → (history : History) → EngineRepresents S.Store history engine.old
         → RepresentsSome S.Store

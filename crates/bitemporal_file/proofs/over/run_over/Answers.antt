@@ -23,14 +23,14 @@ returns-in_err-end_over-in-Ok-clause-ran g c =
       c.in-Ok.connection,
       c.in_ok-connection.ensures.opened,
       c.in_err-end_over-in-Ok.ensures.left,
-      inr (c.in-Ok.ended, c.in-Ok.ensures.others, c.in-Ok.ensures.ran, c.in_err-end_over-in-Ok.ensures.fault),
+      inr (c.in-Ok.ended, c.in-Ok.ensures.usable, c.in-Ok.ensures.others, c.in-Ok.ensures.ran, c.in_err-end_over-in-Ok.ensures.fault),
     ))
 
 pub returns-in_ok-end_over-in-Ok-clause-ran : goal.returns-in_ok-end_over-in-Ok-clause-ran
 returns-in_ok-end_over-in-Ok-clause-ran g c =
     let (goes_on, whole) = c.in_ok-end_over-in-Ok.ensures.whole in
     let ran = rw whole at c.in-Ok.ensures.ran in
-    (c.in_ok-connection.connection, c.in-Ok.connection, c.in_ok-connection.ensures.opened, c.in_ok-end_over-in-Ok.ensures.kept, c.in-Ok.ensures.others, (goes_on, ran), refl)
+    (c.in_ok-connection.connection, c.in-Ok.connection, c.in_ok-connection.ensures.opened, c.in_ok-end_over-in-Ok.ensures.kept, c.in-Ok.ensures.usable, c.in-Ok.ensures.others, (goes_on, ran), refl)
 
 pub returns-in-Err-clause-ran : goal.returns-in-Err-clause-ran
 returns-in-Err-clause-ran g c =

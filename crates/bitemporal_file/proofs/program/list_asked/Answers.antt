@@ -15,7 +15,7 @@ returns-in_err-end_over-in-Ok-clause-lists g c =
       c.in-Ok.connection,
       c.in_ok-connection.ensures.opened,
       c.in_err-end_over-in-Ok.ensures.left,
-      inr (c.in-Ok.listed, c.in-Ok.ensures.others, record { unreported = refl; same = c.in-Ok.ensures.same }, c.in_err-end_over-in-Ok.ensures.fault),
+      inr (c.in-Ok.listed, c.in-Ok.ensures.usable, c.in-Ok.ensures.others, record { unreported = refl; same = c.in-Ok.ensures.same }, c.in_err-end_over-in-Ok.ensures.fault),
     ))
 
 pub returns-in_ok-end_over-in-Ok-clause-lists : goal.returns-in_ok-end_over-in-Ok-clause-lists
@@ -25,7 +25,7 @@ returns-in_ok-end_over-in-Ok-clause-lists g c =
       c.in-Ok.connection,
       c.in_ok-connection.ensures.opened,
       c.in_ok-end_over-in-Ok.ensures.kept,
-      c.in-Ok.ensures.others,
+      c.in-Ok.ensures.usable, c.in-Ok.ensures.others,
       (value, record { unreported = refl; same = c.in-Ok.ensures.same }),
       sym c.requires.unused.worst,
     )

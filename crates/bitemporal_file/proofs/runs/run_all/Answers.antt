@@ -2,6 +2,7 @@ use Rattle.std.proofs.Common.{◌≡◌, ◌<◌, ◌+◌, ◌++◌, ◌∷◌, 
 use Rattle.std.proofs.lemmas.Result.{err_from_is_err_and}
 use Rattle.version_store.proofs.Beside.{spares_same, spares_then}
 use Rattle.command_line.specs.declared.fault.RunFault.{RunFault}
+use Rattle.script_engine.specs.script.Script.{KeptStepOver}
 use Rattle.bitemporal_file.specs.ScriptRuns.{AreOfReaders, AreRun, Ends}
 use Rattle.std.proofs.lemmas.List.Elements.{All-nil}
 use Rattle.bitemporal_file.proofs.RunFacts.{all_ran, ends_more, ends_within, known-all, known-next, leads-more, more_ran, none_yet, quiet_of, readers-more, readers-within, whole_ran}
@@ -12,7 +13,7 @@ loop-name-init g c = record {
   quiet = c.requires;
   usable = λ usable. usable;
   others = spares_same g.S.Store c.args.engine.now.connection c.args.engine.now.connection (λ usable. refl);
-  ran = ([], tt, All-nil _, none_yet g.W.Write.contents g.K.Reported.text g.K.Reported.status_of c.args.reporter.now c.requires, λ usable history stands. (history, refl, stands));
+  ran = ([], tt, All-nil _, none_yet g.W.Write.contents g.K.Reported.text g.K.Reported.status_of c.args.reporter.now c.requires, refl, λ usable history stands. (history, refl, stands));
 }
 
 pub loop-name-preserved : goal.loop-name-preserved
@@ -25,8 +26,8 @@ loop-name-preserved g c =
     let i = c.loop-name.name-index in
     let old = c.args.reporter.now in
     let new = c.run_named.new.reporter in
-    let (runs, are, wholes, ends, did) = c.loop-name.invariant.ran in
-    let (more, its, run, last, went) = c.run_named.ensures.ran in
+    let (runs, are, wholes, ends, over, did) = c.loop-name.invariant.ran in
+    let (more, its, run, last, stepped, went) = c.run_named.ensures.ran in
     let name = c.name-item.result in
     let inside : i < length names = omega arith in
     let readers = map content (map string_bytes (take i names)) in
@@ -48,6 +49,7 @@ loop-name-preserved g c =
         subst (λ (rs : List (Option (List ℕ))). AreOfReaders rs (runs ++ more)) (sym next) (readers-more contents text status readers known runs more count are its_known),
         whole_ran runs more c.run_named.result new.fault wholes run whole quiet,
         subst (λ (rs : List (Option (List ℕ))). Ends contents text status rs old (runs ++ more) (Ok true) new) (sym next) (ends_more contents text status readers known old runs c.loop-name.reporter more (Ok true) new c.loop-name.invariant.quiet ends last_whole),
+        leads-more (KeptStepOver g.S.Store g.K.PieceResult.result_of) c.args.engine.now runs more c.loop-name.engine c.run_named.new.engine over stepped,
         λ usable history stands.
             let (middle, leads, represents) = did (c.run_named.ensures.usable usable) history stands in
             let (after, leads_on, represents_after) = went usable middle represents in
@@ -65,8 +67,8 @@ returns-in_err-goes_on-clause-ran g c =
     let i = c.loop-name.name-index in
     let old = c.args.reporter.now in
     let new = c.run_named.new.reporter in
-    let (runs, are, wholes, ends, did) = c.loop-name.invariant.ran in
-    let (more, its, run, last, went) = c.run_named.ensures.ran in
+    let (runs, are, wholes, ends, over, did) = c.loop-name.invariant.ran in
+    let (more, its, run, last, stepped, went) = c.run_named.ensures.ran in
     let name = c.name-item.result in
     let inside : i < length names = omega arith in
     let readers = map content (map string_bytes (take i names)) in
@@ -87,6 +89,7 @@ returns-in_err-goes_on-clause-ran g c =
       subst (λ (rs : List (Option (List ℕ))). AreOfReaders rs (runs ++ more)) all (readers-within contents text status (readers ++ known ∷ []) rest (runs ++ more) (readers-more contents text status readers known runs more count are its_known)),
       more_ran runs more (Err c.in_err-goes_on.field-0.0) new.fault wholes (subst (λ (ended : Result Bool RunFault). AreRun more ended new.fault) whole run),
       subst (λ (rs : List (Option (List ℕ))). Ends contents text status rs old (runs ++ more) (Err c.in_err-goes_on.field-0.0) new) all (ends_within contents text status (readers ++ known ∷ []) rest old (runs ++ more) (Err c.in_err-goes_on.field-0.0) new (λ on. let no : ⊥ = cc in no) met),
+      leads-more (KeptStepOver g.S.Store g.K.PieceResult.result_of) c.args.engine.now runs more c.loop-name.engine c.run_named.new.engine over stepped,
       λ usable history stands.
           let (middle, leads, represents) = did (c.run_named.ensures.usable usable) history stands in
           let (after, leads_on, represents_after) = went usable middle represents in
@@ -103,8 +106,8 @@ returns-then-not-goes_on-clause-ran g c =
     let i = c.loop-name.name-index in
     let old = c.args.reporter.now in
     let new = c.run_named.new.reporter in
-    let (runs, are, wholes, ends, did) = c.loop-name.invariant.ran in
-    let (more, its, run, last, went) = c.run_named.ensures.ran in
+    let (runs, are, wholes, ends, over, did) = c.loop-name.invariant.ran in
+    let (more, its, run, last, stepped, went) = c.run_named.ensures.ran in
     let name = c.name-item.result in
     let inside : i < length names = omega arith in
     let readers = map content (map string_bytes (take i names)) in
@@ -123,6 +126,7 @@ returns-then-not-goes_on-clause-ran g c =
       subst (λ (rs : List (Option (List ℕ))). AreOfReaders rs (runs ++ more)) all (readers-within contents text status (readers ++ known ∷ []) rest (runs ++ more) (readers-more contents text status readers known runs more count are its_known)),
       more_ran runs more (Ok false) new.fault wholes (subst (λ (ended : Result Bool RunFault). AreRun more ended new.fault) whole run),
       subst (λ (rs : List (Option (List ℕ))). Ends contents text status rs old (runs ++ more) (Ok false) new) all (ends_within contents text status (readers ++ known ∷ []) rest old (runs ++ more) (Ok false) new (λ on. let no : ⊥ = cc in no) met),
+      leads-more (KeptStepOver g.S.Store g.K.PieceResult.result_of) c.args.engine.now runs more c.loop-name.engine c.run_named.new.engine over stepped,
       λ usable history stands.
           let (middle, leads, represents) = did (c.run_named.ensures.usable usable) history stands in
           let (after, leads_on, represents_after) = went usable middle represents in
@@ -136,13 +140,14 @@ returns-clause-ran g c =
     let status = g.K.Reported.status_of in
     let content = g.Q.Scripts.content c.args.scripts.now in
     let names = c.args.names.now in
-    let (runs, are, wholes, ends, did) = c.loop-name.invariant.ran in
+    let (runs, are, wholes, ends, over, did) = c.loop-name.invariant.ran in
     let all = take_all c.loop-name.name-index names (omega arith) in
     let known = ap (λ ns. map content (map string_bytes ns)) all in (
       runs,
       subst (λ (rs : List (Option (List ℕ))). AreOfReaders rs runs) known are,
       all_ran runs (Ok true) c.loop-name.reporter.fault wholes,
       subst (λ (rs : List (Option (List ℕ))). Ends contents text status rs c.args.reporter.now runs (Ok true) c.loop-name.reporter) known ends,
+      over,
       did,
     )
 

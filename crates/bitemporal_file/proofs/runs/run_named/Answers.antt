@@ -7,11 +7,12 @@ pub returns-in-Ok-clause-ran : goal.returns-in-Ok-clause-ran
 returns-in-Ok-clause-ran g c =
     let content : Option (List ℕ) = g.Q.Scripts.content c.args.scripts.now c.args.name.now in
     let same : g.Q.Script.Read.remaining c.new-file.result.inner ≡ content = search rules in
-    let (runs, are, run, ends, did) = c.run_script.ensures.ran in (
+    let (runs, are, run, ends, over, did) = c.run_script.ensures.ran in (
       runs,
       subst (λ (known : Option (List ℕ)). AreOfReaders (known ∷ []) runs) same are,
       run,
       subst (λ (known : Option (List ℕ)). Ends g.W.Write.contents g.K.Reported.text g.K.Reported.status_of (known ∷ []) c.args.reporter.now runs c.run_script.result c.run_script.new.reporter) same ends,
+      over,
       did,
     )
 
@@ -21,5 +22,6 @@ returns-in-Err-clause-ran g c = (
   tt,
   none_ran _ _,
   none_run g.W.Write.contents g.K.Reported.text g.K.Reported.status_of _ c.args.reporter.now c.args.reporter.now.next _ c.requires (λ refusal is. let no : ⊥ = cc in absurd no),
+  refl,
   λ usable history stands. (history, refl, stands),
 )

@@ -16,30 +16,33 @@ returns-in_err-script-clause-ran g c =
       tt,
       none_ran _ _,
       none_run g.W.Write.contents g.K.Reported.text g.K.Reported.status_of _ c.args.reporter.now 1 c.in_err-script.field-0.0 c.requires (λ refusal is. absurd (read_fault_is_plain _ c.in_err-script.field-0.0 refusal c.in_err-script.ensures.refused is)),
+      refl,
       λ usable history stands. (history, refl, stands),
     )
 
 pub returns-in-Some-clause-ran : goal.returns-in-Some-clause-ran
 returns-in-Some-clause-ran g c =
-    let (results, heard, ran) = c.in-Ok.ensures.run in
+    let (results, heard, over, ran) = c.in-Ok.ensures.run in
     let script = c.as_slice.result.now in
     let told = all_told g.W.Write.contents g.K.Reported.text g.K.Reported.status_of 1 (record c.args.reporter.now { next = 1 }) results c.in-Ok.goes_on c.run_over.new.listener c.requires heard in (
       one g.W.Write.contents g.K.Reported.text g.K.Reported.status_of script results c.in-Ok.goes_on,
       (read_bytes (g.R.Read.remaining c.args.input.now.inner) script c.in_ok-script.script.items c.as_slice.ensures.value c.in_ok-script.ensures.bytes, tt),
       one_ran _ _ _ (λ quiet on. let no : ⊥ = cc in absurd no),
       one_faulty g.W.Write.contents g.K.Reported.text g.K.Reported.status_of _ script c.args.reporter.now results c.in-Ok.goes_on c.run_over.new.listener c.in-Some.fault c.in-Some.is told,
+      (over.0, sym over.1),
       λ usable history stands. let (made, after) = ran usable history stands in (made.last, (made, refl), after),
     )
 
 pub returns-in-Ok-clause-ran : goal.returns-in-Ok-clause-ran
 returns-in-Ok-clause-ran g c =
-    let (results, heard, ran) = c.in-Ok.ensures.run in
+    let (results, heard, over, ran) = c.in-Ok.ensures.run in
     let script = c.as_slice.result.now in
     let told = all_told g.W.Write.contents g.K.Reported.text g.K.Reported.status_of 1 (record c.args.reporter.now { next = 1 }) results c.in-Ok.goes_on c.run_over.new.listener c.requires heard in (
       one g.W.Write.contents g.K.Reported.text g.K.Reported.status_of script results c.in-Ok.goes_on,
       (read_bytes (g.R.Read.remaining c.args.input.now.inner) script c.in_ok-script.script.items c.as_slice.ensures.value c.in_ok-script.ensures.bytes, tt),
       one_ran _ _ _ (λ quiet on. went_on c.in-Ok.goes_on on),
       one_ended g.W.Write.contents g.K.Reported.text g.K.Reported.status_of _ script c.args.reporter.now results c.in-Ok.goes_on c.run_over.new.listener c.in-None.is told,
+      (over.0, sym over.1),
       λ usable history stands. let (made, after) = ran usable history stands in (made.last, (made, refl), after),
     )
 
@@ -53,5 +56,6 @@ returns-clause-ran g c =
       tt,
       none_ran _ _,
       subst (λ (new : _). Ends g.W.Write.contents g.K.Reported.text g.K.Reported.status_of (g.R.Read.remaining c.args.input.now.inner ∷ []) c.args.reporter.now [] (Err (Script refusal)) new) (sym reporter) whole,
+      engine,
       λ usable history stands. (history, refl, subst (EngineRepresents g.S.Store history) (sym engine) stands),
     )
