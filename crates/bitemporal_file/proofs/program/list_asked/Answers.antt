@@ -25,7 +25,8 @@ returns-in_ok-end_over-in-Ok-clause-lists g c =
       c.in-Ok.connection,
       c.in_ok-connection.ensures.opened,
       c.in_ok-end_over-in-Ok.ensures.kept,
-      c.in-Ok.ensures.usable, c.in-Ok.ensures.others,
+      c.in-Ok.ensures.usable,
+      c.in-Ok.ensures.others,
       (value, record { unreported = refl; same = c.in-Ok.ensures.same }),
       sym c.requires.unused.worst,
     )
