@@ -84,7 +84,7 @@ pub(crate) enum Part {
 }
 
 impl Part {
-    /// How many bytes it has.
+    /// The number of its bytes.
     pub(crate) fn len(&self) -> usize
         ensures { (bytes : List ℕ) → IsPartOf bytes self.now → result ≡ length bytes }
     {

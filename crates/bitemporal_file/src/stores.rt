@@ -102,7 +102,7 @@ fn files_there(rt: &HostRuntime, name: &str) -> Present {
 /// A database in files of which `S` says what they held.
 pub(crate) type Filed<S> = FileStore<FileFrom<S>>;
 
-/// What became of the files of a store.
+/// The state in which the files of a store were left.
 pub enum StoreEnd<D: Disk> {
     /// None was opened.
     Unopened,
@@ -115,7 +115,7 @@ pub enum StoreEnd<D: Disk> {
     GivenUp(ManuallyDrop<Connection<FileStore<D>>>),
     /// The connection was closed.
     Closed(Files<D>),
-    /// What is left where the connection could not be closed.
+    /// A connection that could not be closed, and what is left of it.
     Unclosed(FileStore<D>),
 }
 
@@ -138,7 +138,7 @@ pub struct FilesOf<'a, S: Start, D: Disk> {
     rt: &'a HostRuntime,
     start: Option<S>,
     before: Present,
-    /// What became of the files that were opened.
+    /// The state in which the files that were opened were left.
     pub(crate) end: StoreEnd<D>,
 }
 

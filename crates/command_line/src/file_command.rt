@@ -121,7 +121,7 @@ fn asked_of(alloc: Global, matches: &ArgMatches<'_>) -> Result<Asked, AllocError
     })
 }
 
-// What stands beside `--tables`, as the usage names it, where that is set.
+// The argument that stands beside `--tables`, as the usage names it, where that is set.
 fn beside_tables(asked: &Asked) -> Option<&'static str>
     ensures alone { IsNone result → ListsAlone asked.now }
     ensures beside { IsSome result → (asked.now.lists ≡ true)
