@@ -1,4 +1,4 @@
--- What calls the program, what its words ask for, and how it exits.
+-- The words that call the program, what they ask for, and how it exits.
 use Rattle.std.specs.Prelude.{◌≡◌, ◌==◌, [], ◌∷◌, ℕ, Bool, List, Option, Result, Ok, Err, codes}
 use Rattle.std.specs.Prelude.{false, nat_eq}
 use Rattle.std.specs.List.{after_last, starts_with}

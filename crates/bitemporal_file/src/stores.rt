@@ -106,7 +106,7 @@ pub(crate) type Filed<S> = FileStore<FileFrom<S>>;
 pub enum StoreEnd<D: Disk> {
     /// None was opened.
     Unopened,
-    /// They did not open as a database. What is left of them stays open and locked until the
+    /// The files did not open as a database. What is left of them stays open and locked until the
     /// process ends.
     Refused(ManuallyDrop<Leftover<D>>),
     /// There is a connection.

@@ -51,7 +51,7 @@ pub fn run_program<S: Scripts, R: Read, W: Write, E: Write>(
           status = result;
         })) }
 
-    // Where clap finds a fault in the words, it is shown.
+    // A fault that clap finds in the words is shown.
     ensures shown { IfOk words (λ said. fault_of bitemporal (map string_bytes said.items) ≢ []
         → (fault : CommandFault)
         × IsToldFor (IsLineFault (map string_bytes said.items)) fault

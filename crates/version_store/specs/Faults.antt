@@ -1,4 +1,4 @@
--- What the faults of a store come from.
+-- The causes of a store's faults.
 use Rattle.std.specs.Prelude.{◌≡◌, ◌⊎◌, IsTrue}
 use Rattle.sqlite.specs.State.{State}
 use Rattle.version_tables.specs.Steps.{HasFault}

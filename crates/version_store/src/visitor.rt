@@ -24,7 +24,7 @@ pub trait RowVisitor {
     /// Which refusals it may answer.
     ghost may_refuse: { AnyRefusal → Type 0 };
 
-    /// Which refusal it has answered: `None` where it has refused no row.
+    /// The refusal that it has answered: `None` where it has refused no row.
     ghost answered: { Self → Option AnyRefusal → Type 0 };
 
     /// Takes a row, or refuses it. A refused row leaves the meaning, and no other follows it.

@@ -1,4 +1,4 @@
--- Which databases take a change of the three tables unless memory or the disk fails.
+-- Healthy databases: they take a change of the three tables unless memory or the disk fails.
 use Rattle.std.specs.Prelude.{◌≡◌, ◌≤◌, ◌+◌, ◌*◌, ◌^◌, ◌++◌, ◌+ℤ◌, ◌≤ℤ◌, ℕ, ℤ, pos}
 use Rattle.std.specs.Prelude.{false, List, drop, length}
 use Rattle.std.specs.List.{AllByRecursion}
